@@ -1,0 +1,13 @@
+//! The data of the compiler, and the definitions of the language that every contract above cites.
+#![tactic(auto)]
+
+pub mod builtin;
+pub mod copy;
+pub mod det;
+pub mod program;
+pub mod rule;
+pub mod run;
+pub mod same;
+pub mod value;
+
+pub use mc_base::{Copied, Memory, Row, Text};

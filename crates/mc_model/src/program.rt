@@ -1,0 +1,96 @@
+use crate::builtin::Builtin;
+use mc_base::{Row, Text};
+
+/// A name with its module and the number of its arguments; a function's result doesn't count.
+#[derive(Debug, PartialEq, Eq, Drop)]
+pub struct Name {
+    pub module: Text,
+    pub name: Text,
+    pub arity: u32,
+}
+
+/// A place in the sources: the file's number, and the line, counted from 1.
+#[derive(Clone, Copy, Debug, PartialEq, Eq)]
+pub struct Place {
+    pub file: u32,
+    pub line: u32,
+}
+
+/// A type. `Var` is a type variable, `Union` a union type, by its number, over its arguments, and `Io` the state of io.
+#[derive(Drop)]
+pub enum Ty {
+    Int,
+    Char,
+    Str,
+    Io,
+    Var(u32),
+    Union(u32, Row<Ty>),
+}
+
+/// A constructor: the union type that it belongs to, and its arguments' types over that type's parameters.
+#[derive(Drop)]
+pub struct Symbol {
+    pub name: Name,
+    pub of_type: u32,
+    pub args: Row<Ty>,
+}
+
+/// A union type: how many parameters it has, and its constructors in order.
+#[derive(Drop)]
+pub struct TypeDef {
+    pub name: Name,
+    pub params: u32,
+    pub symbols: Row<u32>,
+}
+
+/// A term of a clause: `Con` is a constructor over its arguments, `Apply` the application of a function.
+#[derive(Drop)]
+pub enum Expr {
+    Var(u32),
+    Int(i64),
+    Char(char),
+    Str(Text),
+    Con(u32, Row<Expr>),
+    Apply(u32, Row<Expr>),
+}
+
+/// A goal of a clause. `Disj` of an empty row is `fail`. The row in `Ite` holds the variables that are quantified over
+/// condition and then part.
+#[derive(Drop)]
+pub enum Goal {
+    True,
+    Conj(Row<Goal>),
+    Disj(Row<Goal>),
+    Ite(Row<u32>, Box<Goal>, Box<Goal>, Box<Goal>),
+    Not(Box<Goal>),
+    Some(Row<u32>, Box<Goal>),
+    Equal(Expr, Expr),
+    Call(u32, Row<Expr>),
+}
+
+/// A clause: the number of its variables, the head's arguments, and the body.
+#[derive(Drop)]
+pub struct Clause {
+    pub vars: u32,
+    pub head: Row<Expr>,
+    pub body: Goal,
+    pub place: Place,
+}
+
+/// A predicate, or a function, whose last type is its result's.
+#[derive(Drop)]
+pub struct Pred {
+    pub name: Name,
+    pub is_func: bool,
+    pub types: Row<Ty>,
+    pub clauses: Row<Clause>,
+    pub builtin: Option<Builtin>,
+}
+
+/// A program: its types, symbols and predicates, each named by its place.
+#[derive(Drop)]
+pub struct Program {
+    pub types: Row<TypeDef>,
+    pub symbols: Row<Symbol>,
+    pub preds: Row<Pred>,
+}
