@@ -1,1 +1,10 @@
+pub mod Good
+pub mod Insts
+pub mod Items
+pub mod Outcomes
+pub mod Programs
+pub mod Scheduled
+pub mod Stream
+pub mod Truth
+pub mod Types
 pub mod Values
