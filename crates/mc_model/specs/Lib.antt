@@ -1,9 +1,12 @@
+pub mod Flat
 pub mod Good
 pub mod Insts
 pub mod Items
+pub mod Normal
 pub mod Outcomes
 pub mod Programs
 pub mod Scheduled
+pub mod Scope
 pub mod Stream
 pub mod Truth
 pub mod Types
