@@ -1,5 +1,6 @@
 pub mod Flat
 pub mod Good
+pub mod Inclusion
 pub mod Insts
 pub mod Items
 pub mod Normal
