@@ -4,6 +4,7 @@ pub mod Inclusion
 pub mod Insts
 pub mod Items
 pub mod Normal
+pub mod Ordered
 pub mod Outcomes
 pub mod Programs
 pub mod Scheduled
