@@ -1,6 +1,7 @@
 pub mod Good
 pub mod Insts
 pub mod Items
+pub mod Laws
 pub mod Outcomes
 pub mod Programs
 pub mod Scheduled
