@@ -1,3 +1,4 @@
+pub mod Determinism
 pub mod Good
 pub mod Insts
 pub mod Items
