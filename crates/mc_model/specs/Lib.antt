@@ -1,8 +1,10 @@
+pub mod Determinism
 pub mod Flat
 pub mod Good
 pub mod Inclusion
 pub mod Insts
 pub mod Items
+pub mod Laws
 pub mod Normal
 pub mod Ordered
 pub mod Outcomes

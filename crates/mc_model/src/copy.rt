@@ -59,3 +59,52 @@ fn copy_values(alloc: Global, values: &[Value]) -> Result<Row<Value>, Memory>
     }
     Ok(row)
 }
+
+#[cfg(test)]
+mod tests {
+    use super::copy_value;
+    use crate::same::same_value;
+    use crate::value::Value;
+    use mc_base::{Memory, Row, Text};
+    use std::alloc::Global;
+
+    /// The list of the numbers from n - 1 down to 0, whose cells are constructors of two arguments.
+    fn countdown(alloc: Global, n: u32) -> Result<Value, Memory> {
+        let mut list = Value::Con(0, Row::new(alloc));
+        for k in 0..n {
+            let mut args = Row::new(alloc);
+            args.push(Value::Int(i64::from(k)))?;
+            args.push(list)?;
+            list = Value::Con(1, args);
+        }
+        Ok(list)
+    }
+
+    #[test]
+    fn long_lists(rt: HostRuntime) -> Result<(), Memory> {
+        let list = countdown(rt.alloc(), 1_000_000)?;
+        let copy = copy_value(rt.alloc(), &list)?;
+        assert!(rt; same_value(&list, &copy));
+        drop(list);
+        drop(copy);
+        Ok(())
+    }
+
+    #[test]
+    fn lists_that_differ(rt: HostRuntime) -> Result<(), Memory> {
+        let three = countdown(rt.alloc(), 3)?;
+        let four = countdown(rt.alloc(), 4)?;
+        assert!(rt; !same_value(&three, &four));
+        match four.into_args() {
+            Some(mut args) => {
+                let rest = args.pop();
+                assert!(rt; rest.is_some());
+                if let Some(rest) = rest {
+                    assert!(rt; same_value(&three, &rest));
+                }
+            }
+            None => assert!(rt; false),
+        }
+        Ok(())
+    }
+}

@@ -4,6 +4,7 @@
 pub mod builtin;
 pub mod copy;
 pub mod det;
+pub mod laws;
 pub mod program;
 pub mod rule;
 pub mod run;

@@ -1,3 +1,5 @@
+ghost use Rattle.std.specs.Prelude.{◌≡◌, ℕ, List, IfSome};
+
 use mc_base::{Row, Text};
 
 /// A value of a run. (Mercury Language Reference Manual, chapters Types and Semantics.)
@@ -44,7 +46,10 @@ impl Drop for Value {
 
 impl Value {
     /// The arguments of a constructor; None of any other value.
-    pub fn into_args(self) -> Option<Row<Value>> {
+    pub fn into_args(self) -> Option<Row<Value>>
+        ensures arguments { (symbol : ℕ) (args : List Value) → self ≡ Value.Con symbol args → result ≡ Some args }
+        ensures no_other { IfSome result (λ args. (symbol : ℕ) × (self ≡ Value.Con symbol args)) }
+    {
         match self {
             Value::Con(_, args) => Some(args),
             Value::Int(_) => None,
