@@ -88,6 +88,7 @@ abbrev pub source_of : Database → Question → Source
 source_of d q =
     record {
       symbols = constructor_at d;
+      symbols_of = λ u. from 0 (length d.constants);
       preds = λ k. get_or (map (predicate_of d) d.relations) k (query_predicate q.relation (length q.variables));
     }
 

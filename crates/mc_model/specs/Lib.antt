@@ -1,3 +1,5 @@
+pub mod Accepted
+pub mod Determined
 pub mod Determinism
 pub mod Flat
 pub mod Good
@@ -14,4 +16,5 @@ pub mod Scope
 pub mod Stream
 pub mod Truth
 pub mod Types
+pub mod Typing
 pub mod Values
