@@ -298,3 +298,6 @@ fn copied_refs(alloc: Global, refs: &[Ref]) -> Result<Row<Ref>, Memory>
     }
     Ok(row)
 }
+
+#[cfg(test)]
+mod tests;
