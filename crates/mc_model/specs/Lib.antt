@@ -10,6 +10,7 @@ pub mod Laws
 pub mod Normal
 pub mod Ordered
 pub mod Outcomes
+pub mod Printed
 pub mod Programs
 pub mod Scheduled
 pub mod Scope
