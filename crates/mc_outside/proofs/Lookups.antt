@@ -10,7 +10,6 @@ use Rattle.std.specs.FinMap.{get, get-insert}
 use Rattle.std.proofs.Math.Seq.{drop-cons}
 use Rattle.mc_outside.specs.Named.{by_name, File, HaveDistinctNames}
 
-
 pub by_name-more : (f : File) (fs : List File) (name : List ℕ) → get (by_name (f ∷ fs)) name ≡ cond (pointwise nat_eq name (string_bytes f.0)) (Some f.1.items) (get (by_name fs) name)
 by_name-more f fs name = get-insert nat_list_cmp_total (by_name fs) (string_bytes f.0) f.1.items name ∙ ap (λ b. cond b (Some f.1.items) (get (by_name fs) name)) (sym (texts_ties name (string_bytes f.0)))
 

@@ -41,7 +41,7 @@ pub record SinkState : Type 0 where
 abbrev pub files_code : Coded FilesState
 files_code =
     code_by (Held × (List ℕ × (ℕ × (ℕ × ℕ)))) (coded× (map.code (coded_list coded_ℕ) (coded_list coded_ℕ)) (coded× (coded_list coded_ℕ) (coded× coded_ℕ (coded× coded_ℕ coded_ℕ))))
-        (λ s. (s.held, (s.fail, (s.calls, (s.faults, s.absents))))) (λ p. record { held = p.0; fail = p.1.0; calls = p.1.1.0; faults = p.1.1.1.0; absents = p.1.1.1.1 }) (λ _. refl)
+    (λ s. (s.held, (s.fail, (s.calls, (s.faults, s.absents))))) (λ p. record { held = p.0; fail = p.1.0; calls = p.1.1.0; faults = p.1.1.1.0; absents = p.1.1.1.1 }) (λ _. refl)
 
 -- after a read of files in memory: nothing but the counts has changed
 abbrev pub FilesRead : {T : Type 0} → FilesState → FilesState → Result T FileAnswer → Type 0

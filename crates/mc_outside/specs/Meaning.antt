@@ -46,10 +46,16 @@ Takes (Some before) after (Ok count) buf =
 Takes (Some before) after (Err e) buf = StaysTold after
 Takes None after result buf = after ≡ None
 
+-- what was put is what was there before and some part of the front of a text, be it nothing or all of it; it stays
+-- untold where it was
+abbrev pub PutsFront : Option (List ℕ) → Option (List ℕ) → List ℕ → Type 0
+PutsFront (Some before) after text = (count : ℕ) × (count ≤ length text) × (after ≡ Some (before ++ take count text))
+PutsFront None after text = after ≡ None
+
 -- what was put after a put of a piece: the whole piece at the end, some part of its front where the sink failed,
 -- and nothing at want of memory
 abbrev pub Puts : {T : Type 0} → Option (List ℕ) → Option (List ℕ) → Result T PutFault → List ℕ → Type 0
 Puts (Some before) after (Ok u) piece = after ≡ Some (before ++ piece)
-Puts (Some before) after (Err put.Failed) piece = (count : ℕ) × (count ≤ length piece) × (after ≡ Some (before ++ take count piece))
+Puts (Some before) after (Err put.Failed) piece = PutsFront (Some before) after piece
 Puts (Some before) after (Err put.Memory) piece = after ≡ Some before
 Puts None after result piece = after ≡ None

@@ -97,8 +97,9 @@ impl Files for MemFiles {
                 self.absents = self.absents.saturating_add(1);
                 Err(FileAnswer::Absent)
             }
-            Some(bytes) => Vec::from_slice(alloc, front(bytes.as_slice(), READ_LIMIT))
-                .map_err(|_| FileAnswer::Memory),
+            Some(bytes) => Vec::from_slice(alloc, front(bytes.as_slice(), READ_LIMIT)).map_err(
+                |_| FileAnswer::Memory,
+            ),
         }
     }
 }

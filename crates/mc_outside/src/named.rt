@@ -7,7 +7,11 @@ pub fn front(bytes: &[u8], count: usize) -> &[u8]
     ensures bytes { result.now ≡ take count bytes.now }
     ensures short { length result.now ≤ count }
 {
-    if bytes.len() > count { &bytes[..count] } else { bytes }
+    if bytes.len() > count {
+        &bytes[..count]
+    } else {
+        bytes
+    }
 }
 
 /// The bytes of the first of the files with this name.
