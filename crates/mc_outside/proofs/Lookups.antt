@@ -1,11 +1,8 @@
 -- A look-up by name in a list of files.
-use Rattle.std.proofs.Common.{◌≡◌, ℕ, ◌+◌, ◌<◌, Bool, true, false, cond, List, [], ◌∷◌, length, drop, get_or, suc, add-one, All, ◌≢◌, Option, Some, sym, ap, ◌∙◌, nat_eq}
+use Rattle.std.proofs.Common.{◌≡◌, ℕ, ◌+◌, ◌<◌, cond, List, ◌∷◌, length, drop, get_or, suc, add-one, All, ◌≢◌, Some, sym, ap, ◌∙◌, nat_eq}
 use Rattle.std.specs.Prelude.{string_bytes}
 use Rattle.std.specs.Cmp.Lexicographic.{pointwise, texts_ties}
 use Rattle.std.proofs.lemmas.Cmp.{nat_list_cmp_total}
-use Rattle.std.specs.declared.vec.Vec.{Vec}
-use Rattle.std.specs.declared.string.String.{String}
-use Rattle.std.specs.declared.alloc.Global.{Global}
 use Rattle.std.specs.FinMap.{get, get-insert}
 use Rattle.std.proofs.Math.Seq.{drop-cons}
 use Rattle.mc_outside.specs.Named.{by_name, File, HaveDistinctNames}

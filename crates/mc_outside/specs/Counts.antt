@@ -1,9 +1,13 @@
 -- Counts of faults and of absent answers. Source: this project's profile.
-use Rattle.std.specs.Prelude.{◌≡◌, ℕ, ◌-◌, ◌^◌, ◌<◌, ◌⊎◌, Result, Ok, Err}
+use Rattle.std.specs.Prelude.{◌≡◌, ℕ, ◌+◌, ◌-◌, min, ◌^◌, ◌<◌, ◌⊎◌, Result, Ok, Err}
 use Rattle.mc_outside.specs.declared.traits.FileAnswer.{FileAnswer}
 use Rattle.mc_outside.specs.declared.traits.FileAnswer.TheVariants as file
 use Rattle.mc_outside.specs.declared.traits.PutFault.{PutFault}
 use Rattle.mc_outside.specs.declared.traits.PutFault.TheVariants as put
+
+-- a count that is one greater, or stands at its end
+abbrev pub raised : ℕ → ℕ
+raised count = min (count + 1) (2 ^ 64 - 1)
 
 -- a count rose in a call: it is greater after the call than before, or stands at its end after it
 abbrev pub Rose : ℕ → ℕ → Type 0

@@ -2,6 +2,7 @@
 //! in memory, which fail at the calls that their maker names.
 #![tactic(auto)]
 
+mod calls;
 mod memory;
 mod named;
 mod traits;

@@ -1,4 +1,4 @@
-use Rattle.mc_outside.proofs.InTurn.{Puts-front, PutsFront-longer, PutsFront-after}
+use Rattle.mc_outside.proofs.InTurn.{Puts-front, PutsFront-after}
 use Rattle.mc_outside.proofs.tests.put_both.Goals as goal
 
 pub returns-clause-part : goal.returns-clause-part
