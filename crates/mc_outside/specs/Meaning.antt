@@ -14,9 +14,13 @@ use Rattle.mc_outside.specs.declared.traits.PutFault.TheVariants as put
 abbrev pub Held : Type 0
 Held = map.FinMap (slice_cmp nat_cmp) (List ℕ)
 
+-- the most bytes of a file that are read: one more than 4 MiB
+abbrev pub read_limit : ℕ
+read_limit = 4194305
+
 -- as much of a file as is read: its first 4,194,305 bytes, or all of them where it is shorter
 abbrev pub first_part : List ℕ → List ℕ
-first_part bytes = take 4194305 bytes
+first_part bytes = take read_limit bytes
 
 -- the answer of a read of a name under which these bytes, or none, are held: a held file is never absent, and
 -- what isn't held is never read
