@@ -202,3 +202,117 @@ fn write_whole<W: Write>(writer: &mut W, piece: &[u8]) -> bool {
     }
     rest.is_empty() && writer.flush().is_ok()
 }
+
+#[cfg(test)]
+mod tests {
+    use super::*;
+    use std::test::Fail;
+
+    /// Takes one byte at a time, is interrupted before each, and takes nothing once it is full.
+    #[derive(Drop)]
+    struct Slow {
+        taken: Vec<u8>,
+        room: usize,
+        is_interrupted: bool,
+    }
+
+    impl Write for Slow {
+        fn write(&mut self, buf: &[u8]) -> io::Result<usize> {
+            self.is_interrupted = !self.is_interrupted;
+            if self.is_interrupted {
+                return Err(io::Error::from(ErrorKind::Interrupted));
+            }
+            if self.taken.len() >= self.room || buf.is_empty() {
+                return Ok(0);
+            }
+            self.taken.push(buf[0])?;
+            Ok(1)
+        }
+
+        fn flush(&mut self) -> io::Result<()> {
+            Ok(())
+        }
+    }
+
+    /// Fails at each call in one way.
+    #[derive(Drop)]
+    struct Refusing {
+        kind: ErrorKind,
+        tries: usize,
+    }
+
+    impl Read for Refusing {
+        fn read(&mut self, _buf: &mut [u8]) -> io::Result<usize> {
+            self.tries = self.tries.saturating_add(1);
+            Err(io::Error::from(self.kind))
+        }
+    }
+
+    impl Write for Refusing {
+        fn write(&mut self, buf: &[u8]) -> io::Result<usize> {
+            Ok(buf.len())
+        }
+
+        fn flush(&mut self) -> io::Result<()> {
+            Err(io::Error::from(self.kind))
+        }
+    }
+
+    #[test]
+    fn files_of_the_system_are_read(rt: HostRuntime) -> Result<(), Fail> {
+        let alloc = rt.alloc();
+        let name = "files_of_the_system_are_read.tmp";
+        fs::write(&rt, name, ":- module a.\n")?;
+        let mut files = RealFiles::new(rt);
+        assert_eq!(rt;
+            files.read(alloc, name)?.as_slice(),
+            b":- module a.\n".as_slice()
+        );
+        fs::remove_file(&rt, name)?;
+        assert_eq!(rt; files.read(alloc, name).err(), Some(FileAnswer::Absent));
+        assert_eq!(rt; files.absents.number, 1);
+        assert_eq!(rt; files.faults.number, 0);
+        assert_eq!(rt; files.read(alloc, ".").err(), Some(FileAnswer::Failed));
+        assert_eq!(rt; files.read(alloc, "a\0b").err(), Some(FileAnswer::Failed));
+        assert_eq!(rt; files.absents.number, 1);
+        assert_eq!(rt; files.faults.number, 2);
+        assert_eq!(rt; files.read(alloc, "/dev/zero")?.len(), 4_194_305);
+        Ok(())
+    }
+
+    #[test]
+    fn a_source_of_the_system_is_taken(rt: HostRuntime) {
+        let mut buf = [0; 2];
+        let mut source = RealSource::new(b"abc".as_slice());
+        assert_eq!(rt; source.take(&mut buf), Ok(2));
+        assert_eq!(rt; buf, [b'a', b'b']);
+        assert_eq!(rt; source.take(&mut buf), Ok(1));
+        assert_eq!(rt; source.take(&mut buf), Ok(0));
+        assert_eq!(rt; source.faults.number, 0);
+        for (kind, tries) in [(ErrorKind::Other, 1), (ErrorKind::Interrupted, RETRIES)] {
+            let mut source = RealSource::new(Refusing { kind, tries: 0 });
+            assert_eq!(rt; source.take(&mut buf), Err(Failed));
+            assert_eq!(rt; source.reader.tries, tries);
+            assert_eq!(rt; source.faults.number, 1);
+        }
+    }
+
+    #[test]
+    fn a_sink_of_the_system_is_put_to(rt: HostRuntime) {
+        let mut sink = RealSink::new(Slow {
+            taken: Vec::new(rt.alloc()),
+            room: 5,
+            is_interrupted: false,
+        });
+        assert_eq!(rt; sink.put(b"abc"), Ok(()));
+        assert_eq!(rt; sink.put(b""), Ok(()));
+        assert_eq!(rt; sink.put(b"defg"), Err(PutFault::Failed));
+        assert_eq!(rt; sink.writer.taken.as_slice(), b"abcde".as_slice());
+        assert_eq!(rt; sink.faults.number, 1);
+        let mut sink = RealSink::new(Refusing {
+            kind: ErrorKind::StorageFull,
+            tries: 0,
+        });
+        assert_eq!(rt; sink.put(b"abc"), Err(PutFault::Failed));
+    }
+}
