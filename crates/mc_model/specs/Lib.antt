@@ -10,6 +10,7 @@ pub mod Laws
 pub mod Normal
 pub mod Ordered
 pub mod Outcomes
+pub mod Output
 pub mod Printed
 pub mod Programs
 pub mod Scheduled
