@@ -20,9 +20,9 @@ fn write_bindings(out: &mut Text, names: &[Text], values: &[Text]) -> Result<(),
     requires { length names.now ≡ length values.now }
     ensures { OnOk result (out.new ≡ out.old ++ more_bindings names.now values.now) }
 {
-    for (name, value) in names.iter().zip(values.iter()) {
+    for (k, name) in names.iter().enumerate() {
         out.extend(b", ")?;
-        write_binding(out, name, value)?;
+        write_binding(out, name, &values[k])?;
     }
     Ok(())
 }

@@ -1,5 +1,6 @@
-ghost use Rattle.std.specs.Prelude.{◌≡◌, ◌++◌, ◌∷◌, [], OnOk, codes};
-ghost use Rattle.mc_model.specs.Printed.{escaped, in_quotes, is_bare, is_lower, is_word_byte, is_nil, name_text, constant_text, single_quote};
+ghost use Rattle.std.specs.Prelude.{◌≡◌, ◌<◌, ◌++◌, OnOk};
+ghost use Rattle.std.specs.List.{list_all};
+ghost use Rattle.mc_model.specs.Printed.{hex_digit, escaped, in_quotes, is_bare, is_word_byte, name_text, constant_text};
 
 use mc_base::{Memory, Text};
 
@@ -45,13 +46,19 @@ fn is_word_byte(byte: u8) -> bool
     byte.is_ascii_alphanumeric() || byte == b'_'
 }
 
+fn are_word_bytes(bytes: &[u8]) -> bool
+    ensures { result ≡ list_all is_word_byte bytes.now }
+{
+    bytes.iter().all(|byte| is_word_byte(*byte))
+}
+
 /// Whether a name begins with a letter in lower case and goes on with letters, digits and underscores.
 fn is_bare(name: &[u8]) -> bool
     ensures { result ≡ is_bare name.now }
 {
-    match name {
-        [] => false,
-        [first, rest @ ..] => first.is_ascii_lowercase() && rest.iter().all(|byte| is_word_byte(*byte)),
+    match name.split_first() {
+        Some((first, rest)) => first.is_ascii_lowercase() && are_word_bytes(rest),
+        None => false,
     }
 }
 

@@ -3,7 +3,7 @@ ghost use Rattle.mc_model.specs.Values.{Val, plain_value, vals};
 ghost use Rattle.mc_model.specs.Printed.{Names, names_of, name_at, printed, AllSymbolsBelow};
 ghost use Rattle.mc_values.specs.Heap.{IsLive, value_at};
 ghost use Rattle.mc_print.specs.Splits.{IsSplit};
-ghost use Rattle.mc_print.specs.Places.{lead, at_place, opening, fronts_text, last_place, closing, last_constant, IsEnd, is_list_front};
+ghost use Rattle.mc_print.specs.Places.{lead, at_place, opening, separator, fronts_text, last_place, closing, last_constant, IsEnd, is_list_front};
 
 use crate::name::{write_constant, write_name, write_quoted};
 use itoa::Buffer;
@@ -74,11 +74,16 @@ fn write_fronts(alloc: Global, out: &mut Text, front: &[Value], is_list: bool, p
 {
     for v in front {
         write_value(alloc, out, v, program)?;
-        if !is_list {
-            out.extend(b", ")?;
-        }
+        write_separator(out, is_list)?;
     }
     Ok(())
+}
+
+/// Writes what stands after an argument that isn't the last.
+fn write_separator(out: &mut Text, is_list: bool) -> Result<(), Memory>
+    ensures { OnOk result (out.new ≡ out.old ++ separator is_list) }
+{
+    if is_list { Ok(()) } else { out.extend(b", ") }
 }
 
 /// A constructor that has arguments, as its symbol, the arguments before the last one, and the last one.
