@@ -1,3 +1,4 @@
+pub mod Builtins
 pub mod Determinism
 pub mod Good
 pub mod Insts
@@ -5,6 +6,7 @@ pub mod Items
 pub mod Laws
 pub mod Outcomes
 pub mod Programs
+pub mod RowsOfBuiltins
 pub mod Scheduled
 pub mod Stream
 pub mod Truth
