@@ -1,4 +1,5 @@
 pub mod Accepted
+pub mod Builtins
 pub mod Determined
 pub mod Determinism
 pub mod Flat
@@ -13,6 +14,7 @@ pub mod Outcomes
 pub mod Output
 pub mod Printed
 pub mod Programs
+pub mod RowsOfBuiltins
 pub mod Scheduled
 pub mod Scope
 pub mod Stream

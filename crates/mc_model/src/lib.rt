@@ -6,6 +6,7 @@ pub mod copy;
 pub mod det;
 pub mod laws;
 pub mod program;
+pub mod rows;
 pub mod rule;
 pub mod run;
 pub mod same;
