@@ -1,6 +1,7 @@
-ghost use Rattle.std.specs.Prelude.{◌≡◌, ◌<◌, ◌⊎◌, ◌++◌, Some, None, IfSome, IfOk, IsErr, IsErrOf, OnOk, slice_get};
+ghost use Rattle.std.specs.Prelude.{◌≡◌, ◌<◌, ◌⊎◌, ◌++◌, ◌∷◌, ◌≢◌, [], Ok, IsOkUnless, Some, None, IfSome, IfOk, IsErr, IsErrOf, OnOk, slice_get};
 ghost use Rattle.std.specs.FinMap as finmap;
 ghost use Rattle.mc_outside.specs.Counts.{Rose};
+ghost use Rattle.mc_outside.specs.InMemory.{fresh};
 ghost use Rattle.mc_outside.specs.Meaning.{PutsFront};
 
 use crate::{
@@ -54,6 +55,26 @@ fn put_both<K: Sink>(out: &mut K, first: &[u8], second: &[u8]) -> Result<(), Put
     ensures part { PutsFront (K.written out.old) (K.written out.new) (first.now ++ second.now) }
     ensures failed { IsErrOf result PutFault.Failed → Rose (K.faults out.old) (K.faults out.new) }
     ensures seen { K.faults out.old < K.faults out.new → IsErrOf result PutFault.Failed }
+{
+    out.put(first)?;
+    out.put(second)
+}
+
+/// Puts two pieces in turn into a sink in memory: what a caller knows of a sink that it has made.
+fn put_in_memory(out: &mut MemSink, first: &[u8], second: &[u8]) -> Result<(), PutFault>
+    requires { out.old.calls ≡ fresh (2 ∷ []) }
+    ensures second_fails { result ≢ Ok tt }
+    ensures first_stands { IsErrOf result PutFault.Failed → out.new.written ≡ out.old.written ++ first.now }
+{
+    out.put(first)?;
+    out.put(second)
+}
+
+/// Puts two pieces in turn into a sink in memory of which no call fails.
+fn put_without_faults(out: &mut MemSink, first: &[u8], second: &[u8]) -> Result<(), PutFault>
+    requires { out.old.calls.fail ≡ [] }
+    ensures no_fault { IsOkUnless result PutFault.Memory }
+    ensures count { out.new.calls.faults ≡ out.old.calls.faults }
 {
     out.put(first)?;
     out.put(second)
@@ -134,6 +155,14 @@ fn a_refused_put_leaves_what_was_put(rt: HostRuntime) -> Result<(), Fail> {
     );
     assert_eq!(rt; put_both(&mut out, b"five", b"six"), Ok(()));
     assert_eq!(rt; out.bytes(), b"onefivesix".as_slice());
+    let mut out = MemSink::new(alloc, [2].to_vec(alloc)?);
+    assert_eq!(rt;
+        put_in_memory(&mut out, b"one", b"two"),
+        Err(PutFault::Failed)
+    );
+    let mut out = MemSink::new(alloc, Vec::new(alloc));
+    assert_eq!(rt; put_without_faults(&mut out, b"one", b"two"), Ok(()));
+    assert_eq!(rt; out.bytes(), b"onetwo".as_slice());
     Ok(())
 }
 

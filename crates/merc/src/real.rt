@@ -1,6 +1,8 @@
 //! The program's edge: files, a source and a sink of the system. They tell no meaning, so that nothing is claimed
 //! of which bytes come in or go out; what they promise of their counts is proved.
 ghost use Rattle.std.specs.Prelude.{◌≡◌, None, ◌≤◌, ◌<◌, ◌^◌, length, vec_len, IfOk};
+ghost use Rattle.std.specs.Bool.{OnTrue};
+ghost use Rattle.std.specs.Io.KnownBytes.{Appends};
 ghost use Rattle.mc_outside.specs.Counts.{Rose};
 
 use mc_outside::{Failed, FileAnswer, Files, PutFault, READ_LIMIT, Sink, Source};
@@ -184,15 +186,17 @@ impl<W: Write> Sink for RealSink<W> {
 }
 
 /// Writes and flushes the whole piece, and answers whether that was done.
-fn write_whole<W: Write>(writer: &mut W, piece: &[u8]) -> bool {
-    let mut rest = piece;
+fn write_whole<W: Write>(writer: &mut W, piece: &[u8]) -> bool
+    ensures { OnTrue result (Appends (W.contents writer.old) (W.contents writer.new) piece.now) }
+{
+    let mut done = 0;
     for _ in 0..piece.len().saturating_add(RETRIES) {
-        if rest.is_empty() {
+        if done == piece.len() {
             break;
         }
-        match writer.write(rest) {
+        match writer.write(&piece[done..]) {
             Ok(0) => return false,
-            Ok(count) => rest = &rest[count..],
+            Ok(count) => done += count,
             Err(error) => {
                 if error.kind() != ErrorKind::Interrupted {
                     return false;
@@ -200,7 +204,7 @@ fn write_whole<W: Write>(writer: &mut W, piece: &[u8]) -> bool {
             }
         }
     }
-    rest.is_empty() && writer.flush().is_ok()
+    done == piece.len() && writer.flush().is_ok()
 }
 
 #[cfg(test)]
