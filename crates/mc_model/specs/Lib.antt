@@ -6,7 +6,10 @@ pub mod Items
 pub mod Laws
 pub mod Outcomes
 pub mod Programs
+pub mod Rows
 pub mod RowsOfBuiltins
+pub mod RowsOfLists
+pub mod RowsOfRuns
 pub mod Scheduled
 pub mod Stream
 pub mod Truth
