@@ -94,3 +94,13 @@ pub struct Program {
     pub symbols: Row<Symbol>,
     pub preds: Row<Pred>,
 }
+
+/// What an occurrence of a name may stand for: a constructor, a function, a predicate, each by its number, or a
+/// character.
+#[derive(Clone, Copy, Debug, PartialEq, Eq)]
+pub enum Candidate {
+    Con(u32),
+    Func(u32),
+    Pred(u32),
+    Char(char),
+}

@@ -1,0 +1,4 @@
+pub mod Bodies
+pub mod Goods
+pub mod Runs
+pub mod Truths

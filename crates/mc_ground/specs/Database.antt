@@ -1,0 +1,154 @@
+-- A program of ground facts over one enumeration type, in the terms of the language: its clauses, its procedures and a
+-- query over it. (Mercury Language Reference Manual: Syntax, facts; Types, enumerations; Modes, `out`.)
+use Rattle.std.specs.Prelude.{ℕ, zero, suc, List, [], ◌∷◌, map, length, get_or, replicate, None, true, false}
+use Rattle.mc_model.specs.Values.{Val, con, no_vals}
+use Rattle.mc_model.specs.Programs.{TypeTerm, union_type, no_types, Expression, variable, made, no_expressions, expressions, Call, And, no_formulas, Constructor, ClauseForm, Predicate, Source}
+use Rattle.mc_model.specs.Scheduled as S
+use Rattle.mc_model.specs.Scheduled.{Node, node, Procedure}
+use Rattle.mc_model.specs.Insts.{InstNode, free, ground, unique, dead}
+use Rattle.mc_model.specs.Outcomes.{Outcome, fails}
+use Rattle.mc_model.specs.Good.{System}
+use Rattle.mc_model.specs.declared.builtin.Builtin.{Builtin}
+use Rattle.mc_model.specs.declared.det.Det.{Det}
+use Rattle.mc_model.specs.declared.det.Most.TheVariants.{Many}
+
+-- a predicate whose clauses are facts: its name, how many arguments it has, and for each fact the numbers of its constants
+pub record Relation : Type 0 where
+  pub name : List ℕ
+  pub arity : ℕ
+  pub rows : List (List ℕ)
+
+-- a module of facts: its name, the constants of its type, in order, and its predicates
+pub record Database : Type 0 where
+  pub module_name : List ℕ
+  pub constants : List (List ℕ)
+  pub relations : List Relation
+
+-- a query `p(V, ..)`: the predicate's number, and the variables' names
+pub record Question : Type 0 where
+  pub relation : ℕ
+  pub variables : List (List ℕ)
+
+abbrev pub no_relation : Relation
+no_relation = record { name = []; arity = 0; rows = [] }
+
+abbrev pub relation_at : Database → ℕ → Relation
+relation_at d k = get_or d.relations k no_relation
+
+-- n, n + 1, .. and so on, as many as that
+abbrev pub from : ℕ → ℕ → List ℕ
+from n zero = []
+from n (suc k) = n ∷ from (suc n) k
+
+-- a constant of the type
+abbrev pub constant_of : ℕ → Val
+constant_of s = con s no_vals
+
+-- the constructors: constants of the one type, whose number is 0
+abbrev pub constructor_at : Database → ℕ → Constructor
+constructor_at d k =
+    record {
+      name = record { module_name = d.module_name; bytes = get_or d.constants k []; arity = 0 };
+      of_type = 0;
+      args = [];
+    }
+
+-- a fact `p(c, ..).`: its head holds constants, and its body is `true`
+abbrev pub fact : List ℕ → ClauseForm
+fact row = record { head = map (λ s. made s no_expressions) row; body = And no_formulas }
+
+-- so many arguments of the type
+abbrev pub the_types : ℕ → List TypeTerm
+the_types n = replicate n (union_type 0 no_types)
+
+abbrev pub predicate_of : Database → Relation → Predicate
+predicate_of d r =
+    record {
+      name = record { module_name = d.module_name; bytes = r.name; arity = r.arity };
+      types = the_types r.arity;
+      clauses = map fact r.rows;
+      builtin = None;
+    }
+
+-- the query as a predicate without a name: its head holds its variables, and its body is the call
+abbrev pub variables_from : ℕ → ℕ → List Expression
+variables_from n k = map variable (from n k)
+
+abbrev pub query_predicate : ℕ → ℕ → Predicate
+query_predicate p n =
+    record {
+      name = record { module_name = []; bytes = []; arity = n };
+      types = the_types n;
+      clauses = record { head = variables_from 0 n; body = Call p (expressions (variables_from 0 n)) } ∷ [];
+      builtin = None;
+    }
+
+-- the predicates by number: those of the module, and then the query
+abbrev pub source_of : Database → Question → Source
+source_of d q =
+    record {
+      symbols = constructor_at d;
+      symbols_of = λ u. from 0 (length d.constants);
+      preds = λ k. get_or (map (predicate_of d) d.relations) k (query_predicate q.relation (length q.variables));
+    }
+
+-- `is nondet`
+abbrev pub nondet : Det
+nondet = record { can_fail = true; most = Many; committed = false }
+
+abbrev pub plain : S.Scheduled → Node
+plain s = node s [] nondet false
+
+-- a fact's body: each head variable is bound to its constant, in order
+abbrev pub bound_to : ℕ → List ℕ → List Node
+bound_to x [] = []
+bound_to x (s ∷ row) = plain (S.Build x s []) ∷ bound_to (suc x) row
+
+abbrev pub fact_body : List ℕ → Node
+fact_body row = plain (S.Conj (S.nodes (bound_to 0 row)))
+
+-- one fact's body, or the disjunction of several
+abbrev pub body_of : List (List ℕ) → Node
+body_of [] = plain (S.Disj S.no_nodes)
+body_of (row ∷ []) = fact_body row
+body_of (row ∷ rows) = plain (S.Disj (S.nodes (map fact_body (row ∷ rows))))
+
+-- a procedure all of whose arguments are `out`: `free` at the call, `ground` at an answer
+abbrev pub all_out : ℕ → ℕ → Node → Procedure
+all_out p n body =
+    record {
+      pred = p;
+      head = from 0 n;
+      first = replicate n 0;
+      last = replicate n 1;
+      body = body;
+      det = nondet;
+      var_types = the_types n;
+    }
+
+abbrev pub procedure_at : Database → ℕ → Procedure
+procedure_at d k = all_out k (relation_at d k).arity (body_of (relation_at d k).rows)
+
+-- the query's procedure calls the predicate's one procedure with its variables
+abbrev pub query_procedure : Database → Question → Procedure
+query_procedure d q =
+    all_out (length d.relations) (length q.variables) (plain (S.Call q.relation (from 0 (length q.variables)) [] false))
+
+-- the four nodes that stand for the builtin insts
+abbrev pub builtin_insts : ℕ → InstNode
+builtin_insts zero = free
+builtin_insts (suc zero) = ground
+builtin_insts (suc (suc zero)) = unique
+builtin_insts (suc (suc (suc k))) = dead
+
+abbrev pub no_outcomes : Builtin → List Val → Outcome
+no_outcomes op vs = fails
+
+abbrev pub system_of : Database → Question → System
+system_of d q =
+    record {
+      world = record { source = source_of d q; outcome = no_outcomes };
+      count = length d.relations;
+      procs = procedure_at d;
+      insts = builtin_insts;
+    }

@@ -1,0 +1,46 @@
+-- What is proved of every program of ground facts.
+use Rattle.std.specs.Prelude.{◌≡◌, ℕ, suc, ◌<◌, List, [], ◌∷◌, map, length, Option, Some, None}
+use Rattle.mc_model.specs.Values.{Val}
+use Rattle.mc_model.specs.Items.{Items, End, Answer, Called}
+use Rattle.mc_model.specs.Stream.{run_query}
+use Rattle.mc_model.specs.Good.{GoodProcedures, GoodQuery}
+use Rattle.mc_ground.specs.Database.{Relation, Database, Question, relation_at, constant_of, query_procedure, system_of}
+
+-- each row has so many constants
+abbrev pub Wide : ℕ → List (List ℕ) → Type 0
+Wide n [] = Unit {0}
+Wide n (row ∷ rows) = (length row ≡ n) × Wide n rows
+
+-- each fact has as many constants as its predicate has arguments
+abbrev pub Fits : List Relation → Type 0
+Fits [] = Unit {0}
+Fits (r ∷ rs) = Wide r.arity r.rows × Fits rs
+
+-- the query is of a predicate of the module, with a variable for each argument
+pub record Asks (d : Database) (q : Question) : Type 0 where
+  pub declared : q.relation < length d.relations
+  pub arguments : length q.variables ≡ (relation_at d q.relation).arity
+
+-- the answers of a list, and then its end
+abbrev pub answers_of : {A : Type 0} → List A → Items A
+answers_of [] = End
+answers_of (a ∷ more) = Answer a (answers_of more)
+
+-- what a fact answers
+abbrev pub answer_of : List ℕ → List (Option Val)
+answer_of row = map (λ s. Some (constant_of s)) row
+
+-- the facts that a query asks for
+abbrev pub rows_of : Database → Question → List (List ℕ)
+rows_of d q = (relation_at d q.relation).rows
+
+-- every run of a program of ground facts, and every run of a query over it, is good
+abbrev pub FactsAreGood : Type 0
+FactsAreGood = (d : Database) (q : Question) → Fits d.relations → Asks d q → GoodProcedures (system_of d q) × ((n h : ℕ) → GoodQuery (system_of d q) n h (query_procedure d q))
+
+-- with a budget and a height a query makes its one call, and answers each fact of its predicate in order
+abbrev pub FactsAreAnswered : Type 0
+FactsAreAnswered =
+    (d : Database) (q : Question) → Fits d.relations → Asks d q → (n h : ℕ) →
+    run_query (system_of d q).world.outcome (system_of d q).procs (suc n) (suc h) (query_procedure d q) ≡
+    Called (record { proc = q.relation; args = map (λ v. None) q.variables }) (answers_of (map answer_of (rows_of d q)))

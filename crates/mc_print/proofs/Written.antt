@@ -1,0 +1,138 @@
+-- How the text of a value falls into what is written from its front.
+use Rattle.std.proofs.Common.{◌≡◌, ℕ, ◌+◌, ◌<◌, List, [], ◌∷◌, ◌++◌, Bool, true, false, refl, ap, sym, ◌∙◌, nat_eq, reverse, append_assoc, map, subst, if◌then◌else◌}
+use Rattle.std.proofs.lemmas.List.{map-append, reverse-append}
+use Rattle.mc_model.specs.Values.{plain_value}
+use Rattle.mc_model.specs.declared.value.Value.{Value, Con}
+use Rattle.mc_values.proofs.Exact.{plain_value-Con}
+use Rattle.std.specs.Prelude.{codes}
+use Rattle.std.specs.Cmp.Lexicographic.{pointwise}
+use Rattle.mc_model.specs.Values.{Val, con, Vals, no_vals, val_then, vals}
+use Rattle.mc_model.specs.Printed.{printed, printed_tail, printed_tails, printed_more, name_at, name_text, is_cell, SymbolsBelow, AllSymbolsBelow}
+use Rattle.mc_print.specs.declared.value.Place.{Place}
+use Rattle.mc_print.specs.declared.value.Place.TheVariants.{Whole, Tail}
+use Rattle.mc_print.specs.Places.{lead, at_place, opening, separator, fronts_text, last_place, closing, is_list_front}
+
+append-nil : (xs : List ℕ) → xs ++ [] ≡ xs
+append-nil [] = refl
+append-nil (x ∷ xs) = ap (λ l. x ∷ l) (append-nil xs)
+
+-- the arguments after the first end with the last one
+more_fronts : (names : List (List ℕ)) (x : Val) (ws : List Val) (w : Val) → printed names x ++ printed_more names (vals (ws ++ (w ∷ []))) ≡ fronts_text names false (x ∷ ws) ++ printed names w
+more_fronts names x [] w =
+    ap (λ l. printed names x ++ (codes ", " ++ l)) (append-nil (printed names w)) ∙ sym (append_assoc (printed names x) (codes ", ") (printed names w))
+more_fronts names x (y ∷ ws) w =
+    ap (λ l. printed names x ++ (codes ", " ++ l)) (more_fronts names y ws w)
+    ∙ sym (append_assoc (printed names x) (codes ", " ++ fronts_text names false (y ∷ ws)) (printed names w))
+
+-- a constructor that is written with brackets
+bracketed : (names : List (List ℕ)) (name : List ℕ) (x : Val) (ws : List Val) (w : Val) → name_text name ++ (codes "(" ++ (printed names x ++ (printed_more names (vals (ws ++ (w ∷ []))) ++ codes ")"))) ≡ (name_text name ++ codes "(") ++ (fronts_text names false (x ∷ ws) ++ (printed names w ++ codes ")"))
+bracketed names name x ws w =
+    let X = printed names x in
+    let M = printed_more names (vals (ws ++ (w ∷ []))) in
+    let F = fronts_text names false (x ∷ ws) in
+    let W = printed names w in
+    let inner : X ++ (M ++ codes ")") ≡ F ++ (W ++ codes ")") =
+    sym (append_assoc X M (codes ")")) ∙ ap (λ l. l ++ codes ")") (more_fronts names x ws w) ∙ append_assoc F W (codes ")") in
+    ap (λ l. name_text name ++ (codes "(" ++ l)) inner ∙ sym (append_assoc (name_text name) (codes "(") (F ++ (W ++ codes ")")))
+
+-- two or more arguments before the last one are no list's
+no_cell : (name : List ℕ) (y : Val) (ws : List Val) (w : Val) → is_cell name (vals ((y ∷ ws) ++ (w ∷ []))) ≡ false
+no_cell name y [] w = refl
+no_cell name y (z ∷ ws) w = refl
+
+-- what is to be written for a constructor over these arguments and a last one
+abbrev pub parts : List (List ℕ) → Place → List ℕ → Bool → List Val → Val → List ℕ
+parts names place name is_list ws w = opening place name is_list ++ (fronts_text names is_list ws ++ (at_place names (last_place is_list) w ++ closing place is_list))
+
+bracketed_at : (names : List (List ℕ)) (place : Place) (name : List ℕ) (x : Val) (ws : List Val) (w : Val)
+  → lead place ++ (name_text name ++ (codes "(" ++ (printed names x ++ (printed_more names (vals (ws ++ (w ∷ []))) ++ codes ")")))) ≡ parts names place name false (x ∷ ws) w
+bracketed_at names Whole name x ws w = bracketed names name x ws w
+bracketed_at names Tail name x ws w =
+    ap (λ l. codes " | " ++ l) (bracketed names name x ws w)
+    ∙ sym (append_assoc (codes " | ") (name_text name ++ codes "(") (fronts_text names false (x ∷ ws) ++ (printed names w ++ codes ")")))
+
+alone : (names : List (List ℕ)) (place : Place) (s : ℕ) (w : Val) → at_place names place (con s (vals (w ∷ []))) ≡ parts names place (name_at names s) false [] w
+alone names Whole s w = sym (append_assoc (name_text (name_at names s)) (codes "(") (printed names w ++ codes ")"))
+alone names Tail s w =
+    ap (λ l. codes " | " ++ l) (sym (append_assoc (name_text (name_at names s)) (codes "(") (printed names w ++ codes ")")))
+    ∙ sym (append_assoc (codes " | ") (name_text (name_at names s) ++ codes "(") (printed names w ++ codes ")"))
+
+-- an element of a list and the list's tail
+element : (names : List (List ℕ)) (x w : Val) (after : List ℕ) → printed names x ++ (printed_tail names w ++ after) ≡ (printed names x ++ ([] ++ [])) ++ (printed_tail names w ++ after)
+element names x w after = ap (λ l. l ++ (printed_tail names w ++ after)) (sym (append-nil (printed names x)))
+
+pair : (names : List (List ℕ)) (place : Place) (name : List ℕ) (x w : Val) (is_list : Bool)
+  → (if is_list then opening place name true ++ (printed names x ++ (printed_tail names w ++ closing place true)) else lead place ++ (name_text name ++ (codes "(" ++ (printed names x ++ (printed_more names (vals (w ∷ [])) ++ codes ")")))))
+  ≡ parts names place name is_list (x ∷ []) w
+pair names place name x w true = ap (λ l. opening place name true ++ l) (element names x w (closing place true))
+pair names place name x w false = bracketed_at names place name x [] w
+
+-- a constructor is written from its front
+pub at_place-con : (names : List (List ℕ)) (place : Place) (s : ℕ) (ws : List Val) (w : Val)
+  → at_place names place (con s (vals (ws ++ (w ∷ [])))) ≡ parts names place (name_at names s) (is_list_front (name_at names s) ws) ws w
+at_place-con names place s [] w = alone names place s w
+at_place-con names Whole s (x ∷ []) w = pair names Whole (name_at names s) x w (pointwise nat_eq (name_at names s) (codes "[|]"))
+at_place-con names Tail s (x ∷ []) w =
+    ap (λ l. if pointwise nat_eq (name_at names s) (codes "[|]") then codes ", " ++ (printed names x ++ l) else codes " | " ++ (name_text (name_at names s) ++ (codes "(" ++ (printed names x ++ (printed_more names (vals (w ∷ [])) ++ codes ")"))))) (sym (append-nil (printed_tail names w)))
+    ∙ pair names Tail (name_at names s) x w (pointwise nat_eq (name_at names s) (codes "[|]"))
+at_place-con names Whole s (x ∷ y ∷ ws) w =
+    let name = name_at names s in
+    let rest = vals ((y ∷ ws) ++ (w ∷ [])) in
+    ap (λ b. if b then codes "[" ++ (printed names x ++ (printed_tails names rest ++ codes "]")) else name_text name ++ (codes "(" ++ (printed names x ++ (printed_more names rest ++ codes ")")))) (no_cell name y ws w)
+    ∙ bracketed_at names Whole name x (y ∷ ws) w
+at_place-con names Tail s (x ∷ y ∷ ws) w =
+    let name = name_at names s in
+    let rest = vals ((y ∷ ws) ++ (w ∷ [])) in
+    ap (λ b. if b then codes ", " ++ (printed names x ++ printed_tails names rest) else codes " | " ++ (name_text name ++ (codes "(" ++ (printed names x ++ (printed_more names rest ++ codes ")"))))) (no_cell name y ws w)
+    ∙ bracketed_at names Tail name x (y ∷ ws) w
+
+closing-reverse : (place : Place) (is_list : Bool) → reverse (closing place is_list) ≡ closing place is_list
+closing-reverse Whole true = refl
+closing-reverse Whole false = refl
+closing-reverse Tail true = refl
+closing-reverse Tail false = refl
+
+regrouped : (out o f a c r : List ℕ) → ((out ++ o) ++ f) ++ (a ++ (c ++ r)) ≡ out ++ ((o ++ (f ++ (a ++ c))) ++ r)
+regrouped out o f a c r = simp append_assoc
+
+-- one turn of the loop: what is written and what is still to be written are together what they were
+pub turned : (names : List (List ℕ)) (out out1 out2 goal name closers closers' : List ℕ) (place place' : Place) (s : ℕ) (ws : List Val) (w v : Val) (is_list : Bool)
+  → v ≡ con s (vals (ws ++ (w ∷ []))) → name ≡ name_at names s → is_list ≡ is_list_front name ws
+  → out1 ≡ out ++ opening place name is_list → out2 ≡ out1 ++ fronts_text names is_list ws
+  → closers' ≡ closers ++ closing place is_list → place' ≡ last_place is_list
+  → out ++ (at_place names place v ++ reverse closers) ≡ goal
+  → out2 ++ (at_place names place' w ++ reverse closers') ≡ goal
+turned names out out1 out2 goal name closers closers' place place' s ws w v is_list is at lists e1 e2 e3 e4 before =
+    let O = opening place name is_list in
+    let F = fronts_text names is_list ws in
+    let A = at_place names (last_place is_list) w in
+    let C = closing place is_list in
+    let R = reverse closers in
+    let after : reverse closers' ≡ C ++ R = ap reverse e3 ∙ reverse-append closers C ∙ ap (λ l. l ++ R) (closing-reverse place is_list) in
+    let whole : at_place names place v ≡ O ++ (F ++ (A ++ C)) =
+    ap (at_place names place) is ∙ at_place-con names place s ws w ∙ ap (λ n. parts names place n (is_list_front n ws) ws w) (sym at) ∙ ap (λ b. parts names place name b ws w) (sym lists) in
+    let written : out2 ≡ (out ++ O) ++ F = e2 ∙ ap (λ l. l ++ F) e1 in
+    let left : at_place names place' w ++ reverse closers' ≡ A ++ (C ++ R) = ap (λ p. at_place names p w ++ reverse closers') e4 ∙ ap (λ l. A ++ l) after in
+    ap (λ l. l ++ (at_place names place' w ++ reverse closers')) written
+    ∙ ap (λ l. ((out ++ O) ++ F) ++ l) left
+    ∙ regrouped out O F A C R
+    ∙ ap (λ l. out ++ (l ++ R)) (sym whole)
+    ∙ before
+
+-- the symbols of the parts
+pub symbols_fronts : (n : ℕ) (ws : List Val) (w : Val) → AllSymbolsBelow n (vals (ws ++ (w ∷ []))) → AllSymbolsBelow n (vals ws)
+symbols_fronts n [] w h = tt
+symbols_fronts n (x ∷ ws) w h = (h.0, symbols_fronts n ws w h.1)
+
+pub symbols_last : (n : ℕ) (ws : List Val) (w : Val) → AllSymbolsBelow n (vals (ws ++ (w ∷ []))) → SymbolsBelow n w
+symbols_last n [] w h = h.0
+symbols_last n (x ∷ ws) w h = symbols_last n ws w h.1
+
+-- the plain view of a value that is split
+pub plain_split : (v : Value) (s : ℕ) (front : List Value) (last : Value) → v ≡ Con s (front ++ (last ∷ [])) → plain_value v ≡ con s (vals (map plain_value front ++ (plain_value last ∷ [])))
+plain_split v s front last e = ap plain_value e ∙ plain_value-Con s (front ++ (last ∷ [])) ∙ ap (λ l. con s (vals l)) (map-append plain_value front (last ∷ []))
+
+pub named_parts : (n : ℕ) (v : Value) (s : ℕ) (front : List Value) (last : Value) → v ≡ Con s (front ++ (last ∷ [])) → SymbolsBelow n (plain_value v) → (s < n) × AllSymbolsBelow n (vals (map plain_value front)) × SymbolsBelow n (plain_value last)
+named_parts n v s front last e h =
+    let all = subst (SymbolsBelow n) (plain_split v s front last e) h in
+    (all.0, symbols_fronts n (map plain_value front) (plain_value last) all.1, symbols_last n (map plain_value front) (plain_value last) all.1)
