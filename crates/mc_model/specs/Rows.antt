@@ -1,15 +1,13 @@
 -- Words for programs that are written out as scheduled procedures, and for what their runs show.
-use Rattle.std.specs.Prelude.{◌≡◌, ℕ, zero, suc, Bool, true, false, List, [], ◌∷◌, map, Option, Some, None, ℤ, pos}
-use Rattle.mc_model.specs.Values.{Val, int, con, no_vals, val_then, vals}
+use Rattle.std.specs.Prelude.{◌≡◌, ℕ, zero, suc, true, false, List, [], ◌∷◌, map, Option, Some, pos}
+use Rattle.mc_model.specs.Values.{Val, int, con, no_vals, vals}
 use Rattle.mc_model.specs.Items.{Items, End, Stuck, Stopped, Answer, Called, Wrote, Read, Halt}
-use Rattle.mc_model.specs.Outcomes.{Outcome}
-use Rattle.mc_model.specs.Scheduled.{Label, Node, node, Scheduled, Conj, Disj, Switch, Not, Exists, Const, TestConst, Call, Apply, Nodes, nodes, Arms, no_arms, arm_then, Procedure}
+use Rattle.mc_model.specs.Scheduled.{Label, Node, node, Scheduled, Conj, Disj, Switch, Const, Call, Apply, nodes, Arms, no_arms, arm_then, Procedure}
 use Rattle.mc_model.specs.Builtins.{Library, outcome}
 use Rattle.mc_model.specs.Stream.{run_call, run_query}
 use Rattle.mc_model.specs.declared.builtin.Builtin.{Builtin}
 use Rattle.mc_model.specs.declared.det.Det.{Det}
-use Rattle.mc_model.specs.declared.det.Most.{Most}
-use Rattle.mc_model.specs.declared.det.Most.TheVariants.{Zero, One, Many}
+use Rattle.mc_model.specs.declared.det.Most.TheVariants.{One, Many}
 
 -- determinisms
 abbrev pub det : Det

@@ -1,9 +1,8 @@
 -- Programs over lists and facts, and what their queries answer.
-use Rattle.std.specs.Prelude.{◌≡◌, ◌≢◌, ℕ, List, [], ◌∷◌, ℤ, pos}
+use Rattle.std.specs.Prelude.{◌≢◌, ℕ, List, [], ◌∷◌, pos}
 use Rattle.mc_model.specs.Values.{Val, int, con, no_vals}
-use Rattle.mc_model.specs.Scheduled.{Label, for_symbol, Node, Scheduled, Not, Exists, Assign, Test, Build, Take, Const, TestConst, Procedure}
-use Rattle.mc_model.specs.Rows.{det, semidet, nondet, cc_nondet, goal, once, all_of, one_of, switch_on, call, apply, number, free_inst, ground_inst, procedure, query, nil, cell, list_of, ints, Shown, called, answered, shown, Ending, at_end, answers_of, calls_of, Shows, Answers, asked, plenty}
-use Rattle.mc_model.specs.declared.builtin.Builtin.{Builtin}
+use Rattle.mc_model.specs.Scheduled.{for_symbol, Node, Not, Exists, Assign, Build, Take, Procedure}
+use Rattle.mc_model.specs.Rows.{det, semidet, nondet, cc_nondet, goal, once, all_of, one_of, switch_on, call, apply, number, free_inst, ground_inst, procedure, query, nil, cell, ints, Shown, called, answered, shown, at_end, answers_of, Shows, Answers, asked, plenty}
 use Rattle.mc_model.specs.declared.builtin.Builtin.TheVariants as B
 
 -- Variables: the head's three, those of clauses, and fresh ones.

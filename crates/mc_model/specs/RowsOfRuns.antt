@@ -1,10 +1,9 @@
 -- Programs over numbers and io, and what their runs do with a budget and a depth.
-use Rattle.std.specs.Prelude.{◌≡◌, ◌≢◌, ℕ, true, false, List, [], ◌∷◌, ◌++◌, Option, Some, None, ℤ, pos, codes}
+use Rattle.std.specs.Prelude.{◌≡◌, ◌≢◌, ℕ, List, [], ◌∷◌, ◌++◌, Option, Some, None, pos, codes}
 use Rattle.mc_model.specs.Values.{Val, int, str, state}
 use Rattle.mc_model.specs.Items.{zero_divide, budget, too_deep, thrown, written}
-use Rattle.mc_model.specs.Scheduled.{Label, for_symbol, for_constant, Node, Scheduled, Ite, Exists, Assign, Build, Take, Const, TestConst, Procedure}
-use Rattle.mc_model.specs.Rows.{det, semidet, multi, nondet, goal, once, all_of, one_of, switch_on, call, apply, number, free_inst, ground_inst, procedure, query, nil, cell, Shown, called, answered, answer, wrote, shown, Ending, at_end, at_stop, ending, answers_of, calls_of, Shows, Answers, asked, started, plenty}
-use Rattle.mc_model.specs.declared.builtin.Builtin.{Builtin}
+use Rattle.mc_model.specs.Scheduled.{Label, for_symbol, for_constant, Node, Ite, Exists, Assign, Build, Take, Const, TestConst, Procedure}
+use Rattle.mc_model.specs.Rows.{det, semidet, multi, nondet, goal, once, all_of, one_of, switch_on, call, apply, number, free_inst, ground_inst, procedure, query, nil, cell, Shown, called, answered, wrote, at_end, at_stop, ending, answers_of, calls_of, Shows, asked, started, plenty}
 use Rattle.mc_model.specs.declared.builtin.Builtin.TheVariants as B
 
 -- Variables: the head's three, and others.
