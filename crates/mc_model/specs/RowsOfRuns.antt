@@ -46,6 +46,24 @@ t5 = 15
 abbrev t6 : ℕ
 t6 = 16
 
+abbrev total_text : ℕ
+total_text = 21
+
+abbrev sum_text : ℕ
+sum_text = 22
+
+abbrev line_end_text : ℕ
+line_end_text = 23
+
+abbrev sum_line : ℕ
+sum_line = 24
+
+abbrev whole_line : ℕ
+whole_line = 25
+
+abbrev one : ℕ
+one = 26
+
 abbrev int_is : ℕ → Shown
 int_is n = answered (int (pos n) ∷ [])
 
@@ -135,9 +153,9 @@ main =
     (goal (all_of
     (number t1 3 ∷ number t2 4 ∷ number t3 5 ∷ goal (Build t4 nil []) ∷ goal (Build t5 cell (t3 ∷ t4 ∷ [])) ∷ goal (Build t6 cell (t2 ∷ t5 ∷ [])) ∷ goal (Build xs cell (t1 ∷ t6 ∷ []))
     ∷ number z 0 ∷ call 1 (xs ∷ z ∷ x ∷ [])
-    ∷ text 21 (codes "Total: ") ∷ apply B.IntToString (x ∷ []) (22 ∷ []) ∷ text 23 (10 ∷ []) ∷ apply B.StringJoin (22 ∷ 23 ∷ []) (24 ∷ []) ∷ apply B.StringJoin (21 ∷ 24 ∷ []) (25 ∷ [])
-    ∷ apply B.WriteString (25 ∷ first ∷ []) (y ∷ [])
-    ∷ number 26 1 ∷ call 2 (26 ∷ y ∷ second ∷ []) ∷ [])))
+    ∷ text total_text (codes "Total: ") ∷ apply B.IntToString (x ∷ []) (sum_text ∷ []) ∷ text line_end_text (10 ∷ []) ∷ apply B.StringJoin (sum_text ∷ line_end_text ∷ []) (sum_line ∷ []) ∷ apply B.StringJoin (total_text ∷ sum_line ∷ []) (whole_line ∷ [])
+    ∷ apply B.WriteString (whole_line ∷ first ∷ []) (y ∷ [])
+    ∷ number one 1 ∷ call 2 (one ∷ y ∷ second ∷ []) ∷ [])))
 
 -- sum([], S, S).  sum([X | Xs], S0, S) :- sum(Xs, S0 + X, S).
 abbrev sum : Procedure
