@@ -1,14 +1,14 @@
 -- What each builtin does at its inputs. (Mercury Language Reference Manual: the library; this project's profile of
 -- numbers, which wrap at 64 bits, and of reading lines.)
-use Rattle.std.specs.Prelude.{ℕ, suc, ◌+◌, ◌^◌, Bool, true, false, cond, not, ◌&&◌, nat_eq, nat_lt, nat_le, List, [], ◌∷◌, ◌++◌, length, drop, ℤ, pos, negsuc, neg_ℤ, ◌+ℤ◌, ◌-ℤ◌, ◌*ℤ◌, int_lt, int_le, codes, encode_utf8}
+use Rattle.std.specs.Prelude.{ℕ, suc, ◌+◌, ◌^◌, Bool, true, cond, ◌&&◌, nat_eq, nat_lt, nat_le, List, [], ◌∷◌, ◌++◌, length, drop, ℤ, pos, negsuc, neg_ℤ, ◌+ℤ◌, ◌-ℤ◌, ◌*ℤ◌, int_lt, int_le, codes, encode_utf8}
 use Rattle.std.specs.Int.{w64, int_wrap, int_div_euclid}
 use Rattle.std.specs.Int.RustNames.{int_div, int_rem}
 use Rattle.std.specs.Ordering.{int_eq}
 use Rattle.std.specs.Fmt.{signed_decimal}
 use Rattle.std.specs.Str.{chars, is_utf8, all_ascii_digits}
 use Rattle.std.specs.Str.Parse.{without_leading_sign, signed_digits_value}
-use Rattle.mc_model.specs.Values.{Val, int, char, str, con, state, Vals, no_vals, val_then}
-use Rattle.mc_model.specs.Items.{Exc, zero_divide, error}
+use Rattle.mc_model.specs.Values.{Val, int, char, str, con, state, no_vals, val_then}
+use Rattle.mc_model.specs.Items.{zero_divide, error}
 use Rattle.mc_model.specs.Outcomes.{Outcome, fails, gives, throws, writes, reads, reads_and_throws}
 use Rattle.mc_model.specs.declared.builtin.Builtin.{Builtin}
 use Rattle.mc_model.specs.declared.builtin.Builtin.TheVariants as B

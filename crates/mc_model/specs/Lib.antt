@@ -14,7 +14,10 @@ pub mod Outcomes
 pub mod Output
 pub mod Printed
 pub mod Programs
+pub mod Rows
 pub mod RowsOfBuiltins
+pub mod RowsOfLists
+pub mod RowsOfRuns
 pub mod Scheduled
 pub mod Scope
 pub mod Stream

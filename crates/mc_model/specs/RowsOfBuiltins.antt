@@ -92,6 +92,7 @@ Comparisons =
     × (at_two B.IntAtMost (pos 1) (pos 0) ≡ fails)
     × (at_two B.IntAtLeast (pos 0) (pos 0) ≡ gives [])
     × (at_two B.IntAtLeast (minus 2) (minus 1) ≡ fails)
+    × (at_two B.IntAtMost (pos 0) (pos 0) ≢ at_two B.IntLess (pos 0) (pos 0))
 
 -- numbers and texts
 abbrev pub NumbersInTexts : Type 0
@@ -108,6 +109,7 @@ NumbersInTexts =
     × (at_text B.StringToInt (codes " 1") ≡ fails)
     × (at_int B.IntToString (minus 120) ≡ gives (str (codes "-120") ∷ []))
     × (at_int B.IntToString (pos 0) ≡ gives (str (codes "0") ∷ []))
+    × (at_text B.StringToInt (codes "9223372036854775808") ≢ number (minus least))
 
 -- the letter e with an acute accent: one character of two bytes
 abbrev pub accented : List ℕ
@@ -143,6 +145,7 @@ Writing =
     × (does B.Write (con 5 no_vals ∷ state [] 0 ∷ []) ≡ writes (codes "v") (state (codes "v") 0 ∷ []))
     × (does B.Nl (state [] 0 ∷ []) ≡ writes (10 ∷ []) (state (10 ∷ []) 0 ∷ []))
     × (at_text B.Error (codes "bad") ≡ throws (error (codes "bad")))
+    × (does B.Nl (state [] 0 ∷ []) ≢ writes (10 ∷ []) (state [] 0 ∷ []))
 
 -- the input `ab`, a line end, `cd`
 abbrev pub two_lines : List ℕ

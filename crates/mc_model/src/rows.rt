@@ -1,5 +1,8 @@
-//! Computed examples of the definitions. Each is the contract of a function that does nothing.
+//! Computed examples of the definitions: programs written out as scheduled procedures, and what their runs do. Each is
+//! the contract of a function that does nothing, and each group has an equation that does not hold.
 ghost use Rattle.mc_model.specs.RowsOfBuiltins.{NumbersWrap, DivisionRounds, DivisionAtItsEnds, Comparisons, NumbersInTexts, CharactersInTexts, Writing, Reading};
+ghost use Rattle.mc_model.specs.RowsOfLists.{Facts, Appends, Members, Queens};
+ghost use Rattle.mc_model.specs.RowsOfRuns.{Order, Budgets, Depths, Throws, Output};
 
 /// What builtins do at some inputs.
 pub fn builtins()
@@ -11,4 +14,45 @@ pub fn builtins()
     ensures characters_in_texts { CharactersInTexts }
     ensures writing { Writing }
     ensures reading { Reading }
+{}
+
+/// Facts, in order and as often as they are given.
+pub fn facts()
+    ensures { Facts }
+{}
+
+/// A predicate in two modes, in one of which its last argument is taken apart first.
+pub fn appends()
+    ensures { Appends }
+{}
+
+/// Negated, quantified and committed goals.
+pub fn members()
+    ensures { Members }
+{}
+
+/// Four queens on a board.
+pub fn queens()
+    ensures { Queens }
+{}
+
+/// A conjunction whose goals run in another order than they are written.
+pub fn order()
+    ensures { Order }
+{}
+
+/// Runs that a budget, or the depth, stops, and runs that they just allow.
+pub fn limits()
+    ensures budgets { Budgets }
+    ensures depths { Depths }
+{}
+
+/// A division by zero after an answer.
+pub fn throws()
+    ensures { Throws }
+{}
+
+/// What a program writes, with all the calls that it needs and with one less.
+pub fn output()
+    ensures { Output }
 {}

@@ -19,11 +19,11 @@ returns-clause-division_at_its_ends c = (refl, refl, refl, refl, refl, refl, ref
 
 pub returns-clause-comparisons : goal.returns-clause-comparisons
 unfolding int_wrap digits chars is_utf8 encode_utf8
-returns-clause-comparisons c = (refl, refl, refl, refl, refl, refl, refl, refl)
+returns-clause-comparisons c = (refl, refl, refl, refl, refl, refl, refl, refl, (λ e. cc))
 
 pub returns-clause-numbers_in_texts : goal.returns-clause-numbers_in_texts
 unfolding int_wrap digits chars is_utf8 encode_utf8
-returns-clause-numbers_in_texts c = (refl, refl, refl, refl, refl, refl, refl, refl, refl, refl, refl, refl)
+returns-clause-numbers_in_texts c = (refl, refl, refl, refl, refl, refl, refl, refl, refl, refl, refl, refl, (λ e. cc))
 
 pub returns-clause-characters_in_texts : goal.returns-clause-characters_in_texts
 unfolding int_wrap digits chars is_utf8 encode_utf8
@@ -31,7 +31,7 @@ returns-clause-characters_in_texts c = (refl, refl, refl, refl, refl, refl, refl
 
 pub returns-clause-writing : goal.returns-clause-writing
 unfolding int_wrap digits chars is_utf8 encode_utf8
-returns-clause-writing c = (refl, refl, refl, refl, refl, refl)
+returns-clause-writing c = (refl, refl, refl, refl, refl, refl, (λ e. cc))
 
 pub returns-clause-reading : goal.returns-clause-reading
 unfolding int_wrap digits chars is_utf8 encode_utf8
