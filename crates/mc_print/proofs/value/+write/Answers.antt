@@ -1,4 +1,4 @@
-use Rattle.std.proofs.Common.{rules, arith}
+use Rattle.std.proofs.Common.{arith}
 use Rattle.mc_print.proofs.Written.{turned, plain_split, named_parts}
 use Rattle.mc_print.proofs.value.+write.Goals as goal
 
