@@ -18,4 +18,4 @@ returns-clause-ok c =
     let b = (c.in_ok-variables.ensures {u = tt}).ok in
     let d = (c.in_ok-of_kind-2.ensures {u = tt}).ok in
     let f = (c.in_ok-of_kind-2.ensures {u = tt}).end refl in
-    (c.in_ok-of_kind-2.field-0.now, ?)
+    (c.in_ok-of_kind-2.field-0.now, cc (c.new-cursor.ensures, a, b, d, f, c.in_ok-name.ensures {u = tt}))
