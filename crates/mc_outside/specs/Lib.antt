@@ -1,0 +1,4 @@
+pub mod Counts
+pub mod InMemory
+pub mod Meaning
+pub mod Named
