@@ -1,3 +1,4 @@
 pub mod Runs
 pub mod Lanes
 pub mod CharLen
+pub mod ItemLaws
