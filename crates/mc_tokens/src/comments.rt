@@ -6,7 +6,7 @@ ghost use Rattle.mc_tokens.specs.Seen.{OpenComment};
 
 use crate::chars::{byte_at, char_len};
 use crate::classes::{Class, skip_class};
-use crate::quoting::{Halt, no_text};
+use crate::quoting::{Halt, no_text, unterminated};
 use crate::token::{FaultKind, TokenFault};
 
 // Passes the rest of a comment that ends with its line.
@@ -67,8 +67,11 @@ fn open_comment(text: &[u8], known: Option<usize>, to: usize) -> Option<usize>
 {
     let mut i = known?;
     while i < to && i < text.len() {
+        if text[i] == b'*' && byte_at(text, i + 1) == b'/' {
+            return None;
+        }
         let len = char_len(text, i);
-        if len == 0 || (text[i] == b'*' && byte_at(text, i + 1) == b'/') {
+        if len == 0 {
             return None;
         }
         i += len;
@@ -88,16 +91,15 @@ fn comment_rest(text: &[u8], start: usize, known: &mut Option<usize>) -> Result<
     let from = start + 2;
     *known = open_comment(text, *known, from);
     if *known == Some(from) {
-        return Err(Halt::TextEnds.fault(start));
+        return Err(unterminated(start));
     }
     match block_rest(text, from) {
         Ok(i) => Ok(i),
-        Err(halt) => {
-            if matches!(halt, Halt::TextEnds) {
-                *known = Some(from);
-            }
-            Err(halt.fault(start))
+        Err(Halt::TextEnds) => {
+            *known = Some(from);
+            Err(unterminated(start))
         }
+        Err(Halt::Bad(fault)) => Err(fault),
     }
 }
 

@@ -13,7 +13,7 @@ use crate::chars::{byte_at, char_len};
 use crate::classes::{Class, skip_class};
 use crate::comments::layout_rest;
 use crate::numbers::{Span, digits, fault};
-use crate::quoting::{Halt, open_quote, quote_rest};
+use crate::quoting::{Halt, open_quote, quote_rest, unterminated};
 use crate::seen::Seen;
 use crate::token::{FaultKind, Kind, Token, TokenFault};
 
@@ -55,16 +55,15 @@ fn quotes_end(
     let from = start + 1;
     *known = open_quote(text, quote, *known, from);
     if *known == Some(from) {
-        return Err(Halt::TextEnds.fault(start));
+        return Err(unterminated(start));
     }
     match quote_rest(text, quote, from) {
         Ok(end) => Ok(end),
-        Err(halt) => {
-            if matches!(halt, Halt::TextEnds) {
-                *known = Some(from);
-            }
-            Err(halt.fault(start))
+        Err(Halt::TextEnds) => {
+            *known = Some(from);
+            Err(unterminated(start))
         }
+        Err(Halt::Bad(fault)) => Err(fault),
     }
 }
 

@@ -1,8 +1,7 @@
 // The walk inside quotes.
-ghost use Rattle.std.specs.Prelude.{◌≡◌, ℕ, ◌+◌, ◌<◌, ◌≤◌, ◌++◌, length, drop, IfOk, IfErr, IfSome, Some, Ok, Err, is_some, false, if◌then◌else◌, get_or};
+ghost use Rattle.std.specs.Prelude.{◌≡◌, ℕ, ◌+◌, ◌<◌, ◌≤◌, ◌++◌, length, drop, IfOk, IfErr, IfSome, Some, None, Ok, Err, ◌==◌, ◌&&◌, is_some, false, if◌then◌else◌, get_or};
 ghost use lib.Utf8.{scalar};
 ghost use Rattle.mc_tokens.specs.Classes.{is_digit_of};
-ghost use Rattle.mc_tokens.specs.Spots as Spots;
 ghost use Rattle.mc_tokens.specs.Spots.{Plain, Digits, Exact, Backslash, is_simple, unescaped};
 ghost use Rattle.mc_tokens.specs.Contents.{contents, escaped};
 ghost use Rattle.mc_tokens.specs.Walks.{halted, quote_walk, quote_ends, escape_goes_on, turn_goes_on, Within, HaltPlaced, escape_bytes, StepsWithin};
@@ -19,18 +18,13 @@ pub enum Halt {
     Bad(TokenFault),
 }
 
-impl Halt {
-    // The fault, for a walk that began at start.
-    pub fn fault(self, start: usize) -> TokenFault
-        ensures { halted start self ≡ Spots.Faulty result.kind result.at }
-    {
-        match self {
-            Halt::TextEnds => TokenFault {
-                kind: FaultKind::Unterminated,
-                at: start,
-            },
-            Halt::Bad(fault) => fault,
-        }
+// A quote or a comment that began at start and in which the text ends.
+pub fn unterminated(start: usize) -> TokenFault
+    ensures { result ≡ record { kind = FaultKind.Unterminated; at = start } }
+{
+    TokenFault {
+        kind: FaultKind::Unterminated,
+        at: start,
     }
 }
 
@@ -139,15 +133,24 @@ fn numeral_end(
     ensures within { IfOk result (λ e. Within text.now i e.next) }
     ensures placed { IfErr result (HaltPlaced text.now at) }
 {
-    if text[i] == b'\\' && some {
-        if let Some(says) = char::from_u32(value) {
-            return Ok(Escape {
-                next: i + 1,
-                says: Some(says),
-            });
-        }
+    match numeral_says(text[i], value, some) {
+        Some(says) => Ok(Escape {
+            next: i + 1,
+            says: Some(says),
+        }),
+        None => Err(no_escape(text, at, i)),
     }
-    Err(no_escape(text, at, i))
+}
+
+// The character that such an escape names, if the byte b ends it.
+fn numeral_says(b: u8, value: u32, some: bool) -> Option<char>
+    ensures { result ≡ (if ((b == 92) && (some && scalar value)) then Some value else None) }
+{
+    if b == b'\\' && some {
+        char::from_u32(value)
+    } else {
+        None
+    }
 }
 
 // The rest of an escape with so many more hexadecimal digits and one, which stand from a place on.
@@ -177,7 +180,7 @@ fn exact(text: &[u8], at: usize, from: usize, more: u32) -> Result<Escape, Halt>
 
 // The end of such an escape, after its last digit.
 fn exact_end(at: usize, next: usize, value: u32) -> Result<Escape, Halt>
-    ensures { result ≡ if scalar value then Ok (record { next = next; says = Some value }) else Err (Halt.Bad (record { kind = FaultKind.BadChar; at = at })) }
+    ensures { result ≡ (if scalar value then Ok (record { next = next; says = Some value }) else Err (Halt.Bad (record { kind = FaultKind.BadChar; at = at }))) }
 {
     match char::from_u32(value) {
         Some(says) => Ok(Escape {
@@ -211,13 +214,19 @@ pub fn escape_at(text: &[u8], at: usize) -> Result<Escape, Halt>
             },
         });
     }
-    match b {
-        b'x' => numeral(text, 16, at, i + 1),
-        b'0'..=b'7' => numeral(text, 8, at, i),
-        b'u' => exact(text, at, i + 1, 3),
-        b'U' => exact(text, at, i + 1, 7),
-        _ => Err(no_escape(text, at, i)),
+    if b == b'x' {
+        return numeral(text, 16, at, i + 1);
     }
+    if is_digit_of(8, b) {
+        return numeral(text, 8, at, i);
+    }
+    if b == b'u' {
+        return exact(text, at, i + 1, 3);
+    }
+    if b == b'U' {
+        return exact(text, at, i + 1, 7);
+    }
+    Err(no_escape(text, at, i))
 }
 
 // One step of the walk inside quotes, between characters in place i.
