@@ -1,0 +1,10 @@
+pub mod Runs
+pub mod Lanes
+pub mod CharLen
+pub mod Turns
+pub mod Layouts
+pub mod Quotes
+pub mod Escapes
+pub mod Forms
+pub mod Spelled
+pub mod ItemLaws
