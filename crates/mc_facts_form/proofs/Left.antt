@@ -1,13 +1,11 @@
 -- The words from a place on, token by token.
-use Rattle.std.proofs.Common.{◌≡◌, ℕ, zero, suc, ◌+◌, ◌-◌, ◌<◌, ◌≤◌, Bool, true, false, cond, List, [], ◌∷◌, length, refl, sym, ap, ◌∙◌, arith}
+use Rattle.std.proofs.Common.{◌≡◌, ℕ, zero, suc, ◌+◌, ◌-◌, ◌<◌, ◌≤◌, Bool, true, false, cond, List, [], ◌∷◌, ◌++◌, length, refl, sym, ap, ◌∙◌, arith}
 use Rattle.std.specs.Prelude.{slice_range}
 use Rattle.mc_tokens.specs.Tokens.{Lexed, Tok, Fault, lexed}
 use Rattle.mc_tokens.specs.declared.token.Kind.{Kind}
-use Rattle.mc_facts_form.specs.Words.{Word, is_eof, word_then, left_within, left}
-
--- a token that isn't the end's is passed, within the text
-pub lexed-passes : (text : List ℕ) (at start stop : ℕ) (k e : Kind) → at ≤ length text → is_eof e ≡ false → lexed text at k ≡ Tok e start stop → (at < stop) × (stop ≤ length text)
-lexed-passes text at start stop k e inside more token = ?
+use Rattle.mc_tokens.specs.declared.token.Kind.TheVariants.{Eof}
+use Rattle.mc_facts_form.specs.Words.{Word, is_eof, word_then, left_within, left, Tokens, over, next}
+use Rattle.mc_facts_form.proofs.Progress.{lexed-passes}
 
 cond_same : {X : Type 0} (b : Bool) (x y z : X) → (b ≡ false → y ≡ z) → cond b x y ≡ cond b x z
 cond_same true x y z same = refl
@@ -19,25 +17,46 @@ word_then_same (Tok e start stop) text f g same =
 word_then_same (Fault kind place) text f g same = refl
 
 -- a bound above what is left changes nothing
-left_within_enough : (n m : ℕ) (text : List ℕ) (at : ℕ) (k : Kind) → at ≤ length text → length text - at < n → length text - at < m → left_within n text at k ≡ left_within m text at k
+left_within_enough : (n m : ℕ) (text : List ℕ) (at : ℕ) (k : Kind) → length text - at < n → length text - at < m → left_within n text at k ≡ left_within m text at k
 unfolding left_within
-left_within_enough zero m text at k inside low high = absurd (omega arith)
-left_within_enough (suc n) zero text at k inside low high = absurd (omega arith)
-left_within_enough (suc n) (suc m) text at k inside low high =
+left_within_enough zero m text at k low high = absurd (omega arith)
+left_within_enough (suc n) zero text at k low high = absurd (omega arith)
+left_within_enough (suc n) (suc m) text at k low high =
     word_then_same (lexed text at k) text (left_within n text) (left_within m text)
     (λ e start stop token more.
-      let passes = lexed-passes text at start stop k e inside more token in
-      left_within_enough n m text stop e passes.1 (omega arith) (omega arith))
+      let passes = lexed-passes text at start stop k e more token in
+      left_within_enough n m text stop e (omega arith) (omega arith))
 
-pub left-token : (text : List ℕ) (at start stop : ℕ) (k e : Kind) → at ≤ length text → lexed text at k ≡ Tok e start stop → left text at k ≡ (e, slice_range text start stop) ∷ cond (is_eof e) [] (left text stop e)
+pub left-token : (text : List ℕ) (at start stop : ℕ) (k e : Kind) → lexed text at k ≡ Tok e start stop → left text at k ≡ (e, slice_range text start stop) ∷ cond (is_eof e) [] (left text stop e)
 unfolding left left_within
-left-token text at start stop k e inside token =
+left-token text at start stop k e token =
     ap (λ o. word_then o text (left_within (length text - at) text)) token
     ∙ ap (λ ws. (e, slice_range text start stop) ∷ ws)
       (cond_same (is_eof e) [] (left_within (length text - at) text stop e) (left_within (suc (length text - stop)) text stop e)
-        (λ more. let passes = lexed-passes text at start stop k e inside more token in
-          left_within_enough (length text - at) (suc (length text - stop)) text stop e passes.1 (omega arith) (omega arith)))
+        (λ more. let passes = lexed-passes text at start stop k e more token in
+          left_within_enough (length text - at) (suc (length text - stop)) text stop e (omega arith) (omega arith)))
 
 pub left-fault : (text : List ℕ) (at place : ℕ) (k : Kind) (f : _) → lexed text at k ≡ Fault f place → left text at k ≡ []
 unfolding left left_within
 left-fault text at place k f token = ap (λ o. word_then o text (left_within (length text - at) text)) token
+
+-- the words of a text, and the end's word after them
+pub left-from_Tokens : {text : List ℕ} {at : ℕ} {k : Kind} {words : List Word} → Tokens text at k words → (end : List ℕ) × (left text at k ≡ words ++ (Eof, end) ∷ [])
+left-from_Tokens {text} {at} {k} (over {start = start} {stop = stop} token) = (slice_range text start stop, left-token text at start stop k Eof token)
+left-from_Tokens {text} {at} {k} (next {start = start} {stop = stop} {e = e} {words = words} more token rest) =
+    let r = left-from_Tokens rest in
+    (r.0, left-token text at start stop k e token
+      ∙ ap (λ b. (e, slice_range text start stop) ∷ cond b [] (left text stop e)) more
+      ∙ ap (λ ws. (e, slice_range text start stop) ∷ ws) r.1)
+
+Tokens_within : (n : ℕ) (text : List ℕ) (at : ℕ) (k : Kind) (words : List Word) (end : List ℕ) → left_within n text at k ≡ words ++ (Eof, end) ∷ [] → Tokens text at k words
+unfolding left_within
+Tokens_within zero text at k words end e = ?
+Tokens_within (suc n) text at k words end e = Tokens_then (lexed text at k) refl words e
+ where
+  Tokens_then : (o : Lexed) → lexed text at k ≡ o → (words : List Word) → word_then o text (left_within n text) ≡ words ++ (Eof, end) ∷ [] → Tokens text at k words
+  Tokens_then o is words e = ?
+
+pub Tokens-from_left : (text : List ℕ) (at : ℕ) (k : Kind) (words : List Word) (end : List ℕ) → left text at k ≡ words ++ (Eof, end) ∷ [] → Tokens text at k words
+unfolding left
+Tokens-from_left text at k words end e = Tokens_within (suc (length text - at)) text at k words end e

@@ -2,8 +2,11 @@
 //! reader that answers them.
 #![tactic(auto)]
 
+mod check;
 mod cursor;
 mod form;
 mod reading;
+mod text;
 
 pub use form::{Fact, FactsModule, FormFault, Goal, NotOfForm, Predicate};
+pub use text::{TEXT_LIMIT, facts_of, goal_of};
