@@ -1,5 +1,5 @@
 -- The words from a place on, token by token.
-use Rattle.std.proofs.Common.{◌≡◌, ℕ, zero, suc, ◌+◌, ◌-◌, ◌<◌, ◌≤◌, Bool, true, false, cond, List, [], ◌∷◌, ◌++◌, length, refl, sym, ap, ◌∙◌, arith}
+use Rattle.std.proofs.Common.{◌≡◌, ℕ, zero, suc, ◌+◌, ◌-◌, ◌<◌, ◌≤◌, Bool, true, false, cond, List, [], ◌∷◌, ◌++◌, length, refl, sym, ap, ◌∙◌, subst, arith}
 use Rattle.std.specs.Prelude.{slice_range}
 use Rattle.mc_tokens.specs.Tokens.{Lexed, Tok, Fault, lexed}
 use Rattle.mc_tokens.specs.declared.token.Kind.{Kind}
@@ -49,13 +49,31 @@ left-from_Tokens {text} {at} {k} (next {start = start} {stop = stop} {e = e} {wo
       ∙ ap (λ b. (e, slice_range text start stop) ∷ cond b [] (left text stop e)) more
       ∙ ap (λ ws. (e, slice_range text start stop) ∷ ws) r.1)
 
+no_end : (words : List Word) (w : Word) → [] ≡ words ++ w ∷ [] → ⊥
+no_end [] w e = cc
+no_end (v ∷ words) w e = cc
+
+Tokens_more : (text : List ℕ) (at start stop : ℕ) (k e : Kind) (rest words : List Word) (w : Word) (b : Bool) → is_eof e ≡ b → lexed text at k ≡ Tok e start stop →
+    ((words : List Word) → rest ≡ words ++ w ∷ [] → Tokens text stop e words) → cond b [] rest ≡ words ++ w ∷ [] → Tokens text at k ((e, slice_range text start stop) ∷ words)
+Tokens_more text at start stop k e rest words w true more token ih k' = absurd (no_end words w k')
+Tokens_more text at start stop k e rest words w false more token ih k' = next more token (ih words k')
+
+Tokens_then : (n : ℕ) (text : List ℕ) (at : ℕ) (k : Kind) (end : List ℕ) (ih : (at : ℕ) (k : Kind) (words : List Word) → left_within n text at k ≡ words ++ (Eof, end) ∷ [] → Tokens text at k words) →
+    (o : Lexed) → lexed text at k ≡ o → (words : List Word) → word_then o text (left_within n text) ≡ words ++ (Eof, end) ∷ [] → Tokens text at k words
+Tokens_then n text at k end ih (Fault kind place) token words e = absurd (no_end words (Eof, end) e)
+Tokens_then n text at k end ih (Tok e start stop) token [] same =
+    let h : (e, slice_range text start stop) ≡ (Eof, end) = cc in
+    over (token ∙ ap (λ (w : Word). Tok w.0 start stop) h)
+Tokens_then n text at k end ih (Tok e start stop) token (w ∷ words) same =
+    let h : (e, slice_range text start stop) ≡ w = cc in
+    let rest : cond (is_eof e) [] (left_within n text stop e) ≡ words ++ (Eof, end) ∷ [] = cc in
+    let P : Word → Type 0 = λ v. Tokens text at k (v ∷ words) in
+    subst P h (Tokens_more text at start stop k e (left_within n text stop e) words (Eof, end) (is_eof e) refl token (ih stop e) rest)
+
 Tokens_within : (n : ℕ) (text : List ℕ) (at : ℕ) (k : Kind) (words : List Word) (end : List ℕ) → left_within n text at k ≡ words ++ (Eof, end) ∷ [] → Tokens text at k words
 unfolding left_within
-Tokens_within zero text at k words end e = ?
-Tokens_within (suc n) text at k words end e = Tokens_then (lexed text at k) refl words e
- where
-  Tokens_then : (o : Lexed) → lexed text at k ≡ o → (words : List Word) → word_then o text (left_within n text) ≡ words ++ (Eof, end) ∷ [] → Tokens text at k words
-  Tokens_then o is words e = ?
+Tokens_within zero text at k words end e = absurd (no_end words (Eof, end) e)
+Tokens_within (suc n) text at k words end e = Tokens_then n text at k end (λ at k words. Tokens_within n text at k words end) (lexed text at k) refl words e
 
 pub Tokens-from_left : (text : List ℕ) (at : ℕ) (k : Kind) (words : List Word) (end : List ℕ) → left text at k ≡ words ++ (Eof, end) ∷ [] → Tokens text at k words
 unfolding left

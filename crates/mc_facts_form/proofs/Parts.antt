@@ -1,5 +1,5 @@
 -- Each part of a module of facts can be read back from the words that it is written in.
-use Rattle.std.proofs.Common.{◌≡◌, ◌≢◌, ℕ, zero, suc, ◌+◌, List, [], ◌∷◌, ◌++◌, append_assoc, refl, sym, ap, ◌∙◌, ◌⊎◌, inl, inr, arith, codes, add-one, get_or, subst, IsErrAnd, Result, Ok, Err}
+use Rattle.std.proofs.Common.{◌≡◌, ◌≢◌, ℕ, zero, suc, ◌+◌, List, [], ◌∷◌, ◌++◌, append_assoc, append-nil, refl, sym, ap, ◌∙◌, ◌⊎◌, inl, inr, arith, codes, add-one, get_or, subst, IsErrAnd, Result, Ok, Err}
 use Rattle.std.proofs.lemmas.List.{append_cancel_left}
 use Rattle.std.specs.List.{flat_map}
 use Rattle.mc_tokens.specs.declared.token.Kind.{Kind}
@@ -213,3 +213,37 @@ pub after_predicates : (type_name : List ℕ) (predicates : List Predicate) (wor
 after_predicates type_name predicates words others rest e =
     let both = cancels_list (predicate_words type_name) (predicate_cancels type_name) implementation (predicate_apart type_name) predicates others words rest e in
     (both.0, append_cancel_left implementation words rest both.1)
+
+-- the facts that stand before a text's end
+pub facts_cancel : (facts others : List Fact) (end end' : List ℕ) → flat_map fact_words facts ++ (Eof, end) ∷ [] ≡ flat_map fact_words others ++ (Eof, end') ∷ [] → facts ≡ others
+facts_cancel facts others end end' e = let r = resumed fact_words fact_cancels ((Eof, end') ∷ []) (fact_apart end') facts others ((Eof, end) ∷ []) [] e in alone r.0 r.1 r.2
+ where
+  alone : (zs : List Fact) → others ≡ facts ++ zs → (Eof, end) ∷ [] ≡ flat_map fact_words zs ++ (Eof, end') ∷ [] → facts ≡ others
+  alone [] same k = sym (same ∙ append-nil facts)
+  alone (z ∷ zs) same k = absurd (fact_apart end z (flat_map fact_words zs ++ (Eof, end') ∷ []) [] (sym (k ∙ append_assoc (fact_words z) (flat_map fact_words zs) ((Eof, end') ∷ []))))
+
+-- a module is written in one way
+pub spelled_cancels : (m n : FactsModule) (end end' : List ℕ) → spelled m ++ (Eof, end) ∷ [] ≡ spelled n ++ (Eof, end') ∷ [] → m ≡ n
+spelled_cancels m n end end' e =
+    let cw = constant_words m.constants in
+    let fp = flat_map (predicate_words m.type_name) m.predicates in
+    let ff = flat_map fact_words m.facts in
+    let tail = (Eof, end) ∷ [] in
+    let rest_n = flat_map fact_words n.facts ++ (Eof, end') ∷ [] in
+    let split = append_assoc cw (fp ++ (implementation ++ ff)) tail ∙ ap (λ ws. cw ++ ws) (append_assoc fp (implementation ++ ff) tail) in
+    let whole = sym (ap (λ ws. heading m.name ++ (type_head m.type_name ++ ws)) split) ∙ e in
+    let h = after_heading m.name m.type_name (cw ++ (fp ++ (implementation ++ (ff ++ tail)))) n ((Eof, end') ∷ []) whole in
+    let k = after_constants m.constants (fp ++ (implementation ++ (ff ++ tail))) n.constants (flat_map (predicate_words n.type_name) n.predicates ++ (implementation ++ rest_n)) h.2 in
+    let q = after_predicates m.type_name m.predicates (ff ++ tail) n.predicates rest_n
+        (k.1 ∙ ap (λ t. flat_map (predicate_words t) n.predicates ++ (implementation ++ rest_n)) (sym h.1)) in
+    let f = facts_cancel m.facts n.facts end end' q.1 in
+    λ i. record { name = h.0 i; type_name = h.1 i; constants = k.0 i; predicates = q.0 i; facts = f i }
+
+-- a goal is written in one way
+pub goal_cancels : (g h : Goal) (end end' : List ℕ) → goal_words g ++ (Eof, end) ∷ [] ≡ goal_words h ++ (Eof, end') ∷ [] → g ≡ h
+goal_cancels g h end end' e =
+    let rest_g = atom_rest Var g.variables ++ (Eof, end) ∷ [] in
+    let rest_h = atom_rest Var h.variables ++ (Eof, end') ∷ [] in
+    let name : g.name ≡ h.name = first_bytes (named g.name) (named h.name) rest_g rest_h e in
+    let both = atom_rest_cancels Var (λ k. cc) g.variables h.variables ((Eof, end) ∷ []) ((Eof, end') ∷ []) (tails (named g.name) (named h.name) rest_g rest_h e) in
+    λ i. record { name = name i; variables = both.0 i }
