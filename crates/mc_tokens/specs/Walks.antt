@@ -70,3 +70,8 @@ HaltPlaced text from (Bad f) = Placed text from f
 abbrev pub escape_bytes : Option ℕ → List ℕ
 escape_bytes None = []
 escape_bytes (Some c) = encode_utf8 c
+
+-- what the walk inside quotes q says from an escape on
+abbrev pub escape_contents : ℕ → List ℕ → Result Escape Halt → List ℕ
+escape_contents q text (Ok e) = escape_bytes e.says ++ contents q Plain 0 (drop e.next text)
+escape_contents q text (Err h) = []

@@ -3,6 +3,7 @@ ghost use Rattle.std.specs.Prelude.{◌≡◌, ◌≤◌, length, IfOk, IfErr, s
 ghost use Rattle.mc_tokens.specs.Tokens.{lexed};
 ghost use Rattle.mc_tokens.specs.Walks.{Placed, Within};
 ghost use Rattle.mc_tokens.specs.Items.{Passes};
+ghost use Rattle.mc_tokens.specs.Seen.{Holds};
 ghost use Rattle.mc_tokens.specs.Answers.{answer, InOrder, AsciiName};
 
 use crate::next::next_seen;
@@ -73,19 +74,32 @@ impl<'a> Walk<'a> {
         ensures within { Within self.old at result }
         ensures same { self.new ≡ self.old }
     {
-        let mut place = at;
-        let mut before = *after;
-        loop {
-            match self.next(place, &before) {
-                Ok(token) if token.kind.ends_item() => return token.end,
-                Ok(token) => {
-                    place = token.end;
-                    before = token.kind;
+        pass_item(self.text, at, *after, &mut self.seen)
+    }
+}
+
+// The place after an item's end, past faults.
+fn pass_item(text: &[u8], at: usize, after: Kind, seen: &mut Seen) -> usize
+    requires inside { at ≤ length text.now }
+    requires seen { Holds text.now seen.old }
+    ensures passes { Passes text.now at after result }
+    ensures within { Within text.now at result }
+    ensures seen { Holds text.now seen.new }
+{
+    let mut place = at;
+    let mut before = after;
+    loop {
+        match next_seen(text, place, before, seen) {
+            Ok(token) => {
+                place = token.end;
+                before = token.kind;
+                if before.ends_item() {
+                    return place;
                 }
-                Err(fault) => {
-                    place = fault.at + 1;
-                    before = Kind::Eof;
-                }
+            }
+            Err(fault) => {
+                place = fault.at + 1;
+                before = Kind::Eof;
             }
         }
     }
