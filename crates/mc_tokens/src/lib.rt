@@ -11,6 +11,8 @@ mod numbers;
 mod quoting;
 mod seen;
 mod spoken;
+#[cfg(test)]
+mod tests;
 mod token;
 mod walker;
 
