@@ -5,7 +5,7 @@ ghost use Rattle.mc_tokens.specs.Classes.{is_name_tail};
 ghost use Rattle.mc_tokens.specs.Tokens.{token, lexed, begun, names, is_int, word, quoted, paren, ends_item, dot, bang, other, first as first_of};
 ghost use Rattle.mc_tokens.specs.Spots.{quote_end};
 ghost use Rattle.mc_tokens.specs.Walks.{Placed, spot};
-ghost use Rattle.mc_tokens.specs.Answers.{span, answer, Ends, InOrder, AsciiName};
+ghost use Rattle.mc_tokens.specs.Answers.{span, answer, Ends, InOrder, NotEmpty, AsciiName};
 ghost use Rattle.mc_tokens.specs.Seen.{OpenQuote, Holds};
 
 use crate::begins::{First, begins, starts_var};
@@ -210,6 +210,7 @@ pub fn next_seen<'a>(
     ensures value { answer result ≡ lexed text.now at after }
     ensures text { IfOk result (λ t. t.text.now ≡ slice_range text.now t.start t.end) }
     ensures order { IfOk result (InOrder text.now at) }
+    ensures nonempty { IfOk result (λ t. NotEmpty t.kind t.start t.end) }
     ensures ascii { IfOk result (λ t. AsciiName t.kind t.text.now) }
     ensures placed { IfErr result (Placed text.now at) }
     ensures seen { Holds text.now seen.new }
@@ -238,6 +239,7 @@ pub fn next_token<'a>(text: &'a [u8], at: usize, after: &Kind) -> Result<Token<'
     ensures value { answer result ≡ lexed text.now at after.now }
     ensures text { IfOk result (λ t. t.text.now ≡ slice_range text.now t.start t.end) }
     ensures order { IfOk result (InOrder text.now at) }
+    ensures nonempty { IfOk result (λ t. NotEmpty t.kind t.start t.end) }
     ensures ascii { IfOk result (λ t. AsciiName t.kind t.text.now) }
     ensures placed { IfErr result (Placed text.now at) }
 {

@@ -4,7 +4,7 @@ ghost use Rattle.mc_tokens.specs.Tokens.{lexed};
 ghost use Rattle.mc_tokens.specs.Walks.{Placed, Within};
 ghost use Rattle.mc_tokens.specs.Items.{Passes};
 ghost use Rattle.mc_tokens.specs.Seen.{Holds};
-ghost use Rattle.mc_tokens.specs.Answers.{answer, InOrder, AsciiName};
+ghost use Rattle.mc_tokens.specs.Answers.{answer, InOrder, NotEmpty, AsciiName};
 
 use crate::next::next_seen;
 use crate::seen::Seen;
@@ -59,6 +59,7 @@ impl<'a> Walk<'a> {
         ensures value { answer result ≡ lexed self.old at after.now }
         ensures text { IfOk result (λ t. t.text.now ≡ slice_range self.old t.start t.end) }
         ensures order { IfOk result (InOrder self.old at) }
+        ensures nonempty { IfOk result (λ t. NotEmpty t.kind t.start t.end) }
         ensures ascii { IfOk result (λ t. AsciiName t.kind t.text.now) }
         ensures placed { IfErr result (Placed self.old at) }
         ensures same { self.new ≡ self.old }
