@@ -26,7 +26,7 @@ fn count(text: &[u8]) -> Counts
     loop {
         match walk.next(place, &after) {
             Ok(token) => {
-                if token.kind == Kind::Eof {
+                if let Kind::Eof = token.kind {
                     return counts;
                 }
                 counts.tokens += 1;
