@@ -1,5 +1,5 @@
 // The next token.
-ghost use Rattle.std.specs.Prelude.{◌≡◌, ◌+◌, ◌<◌, ◌≤◌, ◌^◌, length, drop, get_or, IfOk, IfErr, slice_range, cond, nat_eq};
+ghost use Rattle.std.specs.Prelude.{◌≡◌, ◌+◌, ◌<◌, ◌≤◌, ◌^◌, length, drop, get_or, IfOk, IfErr, slice_range, if◌then◌else◌, nat_eq};
 ghost use Rattle.std.specs.List.{prefix_len};
 ghost use Rattle.mc_tokens.specs.Classes.{is_name_tail};
 ghost use Rattle.mc_tokens.specs.Tokens.{token, lexed, begun, names, is_int, word, quoted, paren, ends_item, dot, bang, other, first as first_of};
@@ -193,7 +193,7 @@ fn token(text: &[u8], start: usize, before: Kind, seen: &mut Seen) -> Span
 
 // The kind of the token that ends at start.
 fn ending_at(start: usize, at: usize, after: Kind) -> Kind
-    ensures { result ≡ cond (nat_eq start at) after Kind.Eof }
+    ensures { result ≡ (if nat_eq start at then after else Kind.Eof) }
 {
     if start == at { after } else { Kind::Eof }
 }
