@@ -37,7 +37,8 @@ fn word(text: &[u8], start: usize, before: Kind, kind: Kind) -> Span
     }
 }
 
-// The place after the quotes that begin at start; known is the place, if any, from which no end of them is known to follow.
+// The place after the quotes that begin at start; known is the place, if any, from which no end of them is known to
+// follow.
 fn quotes_end(
     text: &[u8],
     start: usize,

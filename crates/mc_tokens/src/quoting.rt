@@ -274,17 +274,18 @@ pub fn quote_rest(text: &[u8], quote: u8, from: usize) -> Result<usize, Halt>
     Err(Halt::TextEnds)
 }
 
-// Moves the place from which no closing quote follows up to the first at or after to where the walk stands.
+// Moves the place from which no closing quote follows on along the walk, to the first place at or after `to`.
 pub fn open_quote(text: &[u8], quote: u8, known: Option<usize>, to: usize) -> Option<usize>
     requires known { OpenQuote quote text.now known }
     requires quote { 0 < quote }
-    ensures { OpenQuote quote text.now result }
+    ensures holds { OpenQuote quote text.now result }
+    ensures kept { is_some result ≡ is_some known }
 {
     let mut i = known?;
     while i < to && i < text.len() {
         match step_at(text, quote, i) {
             Ok(Step::On(next)) => i = next,
-            _ => return None,
+            _ => break,
         }
     }
     Some(i)
