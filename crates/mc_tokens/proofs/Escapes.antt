@@ -1,30 +1,24 @@
 -- Escapes: the walk through one, and what it says.
-use Rattle.std.proofs.Common.{◌≡◌, ℕ, zero, suc, ◌+◌, ◌-◌, ◌*◌, ◌<◌, ◌≤◌, min, Bool, true, false, cond, not, List, [], ◌∷◌, ◌++◌, length, get_or, drop, refl, sym, ap, ap₂, ◌∙◌, subst, ⊎_elim, Some, None, zero-add, arith, encode_utf8}
+use Rattle.std.proofs.Common.{◌≡◌, ℕ, zero, suc, ◌+◌, ◌-◌, ◌*◌, ◌<◌, ◌≤◌, min, Bool, true, false, cond, not, List, [], ◌∷◌, ◌++◌, length, get_or, drop, refl, sym, ap, ◌∙◌, ⊎_elim, Some, None, zero-add, arith, encode_utf8}
 use Rattle.std.specs.Prelude.{◌==◌, ◌&&◌, ◌||◌, ◌≢◌, nat_lt, Option}
 use lib.Utf8.{scalar, scalar_cases}
-use lib.Dec.{T, ltb→lt}
-use Rattle.std.proofs.lemmas.Bool.{eq-eqb, eqb-true}
-use Rattle.std.proofs.lemmas.Str.{encode_ascii}
-use Rattle.mc_tokens.specs.Classes.{between, hex_digit, hex_value, is_digit_of}
-use Rattle.mc_tokens.specs.Utf8.{at, char_len}
-use Rattle.mc_tokens.specs.Spots.{Spot, At, Faulty, Go, Stop, Plain, Backslash, Digits, Exact, is_simple, unescaped}
+use lib.Dec.{T}
+use Rattle.std.proofs.lemmas.Bool.{eqb-true}
+use Rattle.std.proofs.lemmas.List.{drop_all}
+use Rattle.mc_tokens.specs.Classes.{hex_digit, hex_value, is_digit_of}
+use Rattle.mc_tokens.specs.Spots.{Spot, Faulty, Quoting, Plain, Backslash, Digits, Exact, is_simple, unescaped}
 use Rattle.mc_tokens.specs.Contents.{contents, says, escaped}
-use Rattle.std.specs.Prelude.{Result, Ok, Err, IfOk}
+use Rattle.std.specs.Prelude.{Result, Ok, Err}
 use Rattle.std.proofs.Math.Nat.{mul-le-mul_left, mul-le-mul_right}
 use Rattle.std.proofs.str.Laws.{order}
 use Rattle.mc_tokens.specs.declared.quoting.Escape.{Escape}
 use Rattle.mc_tokens.specs.declared.quoting.Halt.{Halt}
 use Rattle.mc_tokens.specs.declared.quoting.Halt.TheVariants.{Bad}
-use Rattle.mc_tokens.specs.Walks.{quote_walk, escape_goes_on, escape_bytes}
+use Rattle.mc_tokens.specs.Walks.{quote_walk, escape_goes_on, escape_contents}
 use Rattle.mc_tokens.specs.declared.token.FaultKind.TheVariants.{BadChar}
 use Rattle.mc_tokens.proofs.CharLen.{drop-at}
 use Rattle.mc_tokens.proofs.Lanes.{each_below, each_below_at}
 use Rattle.mc_tokens.proofs.Quotes.{yes, no, left_true, right_true, on, halts, adds, simple_turn, x_turn, u_turn, long_turn, octal_turn, no_turn, digit_turn, end_turn, no_end_turn, more_turn, last_turn, bad_turn, no_digit_turn, nothing_more, scalar_cut}
-
--- what an escape says, from an earlier place of the walk
-pub says_by : (r : Result Escape Halt) (text : List ℕ) (from to : ℕ → List ℕ) → ((q : ℕ) → from q ≡ to q) → IfOk r (λ e. (q : ℕ) → to q ≡ escape_bytes e.says ++ contents q Plain 0 (drop e.next text)) → IfOk r (λ e. (q : ℕ) → from q ≡ escape_bytes e.says ++ contents q Plain 0 (drop e.next text))
-says_by (Ok e) text from to f h = λ q. f q ∙ h q
-says_by (Err x) text from to f h = tt
 
 -- an option by a test
 pub some_if : {A : Type 0} (t : Bool) (v w : A) → Some w ≡ cond t (Some v) None → (t ≡ true) × (w ≡ v)
@@ -45,9 +39,9 @@ cut_step zero v d limit = let e : 0 * min v limit ≡ 0 * v = omega arith in ap 
 cut_step (suc k) v d limit =
     ⊎_elim (λ lt. let e : min v limit ≡ v = omega arith in ap (λ w. min (suc k * w + d) limit) e)
     (λ le. let e : min v limit ≡ limit = omega arith in
-     let low : 1 * limit ≤ suc k * limit = mul-le-mul_right limit (omega arith) in
-     let high : suc k * limit ≤ suc k * v = mul-le-mul_left (suc k) le in
-     ap (λ w. min (suc k * w + d) limit) e ∙ above (suc k * limit + d) (suc k * v + d) (omega (arith, low)) (omega (arith, low, high)))
+    let low : 1 * limit ≤ suc k * limit = mul-le-mul_right limit (omega arith) in
+    let high : suc k * limit ≤ suc k * v = mul-le-mul_left (suc k) le in
+    ap (λ w. min (suc k * w + d) limit) e ∙ above (suc k * limit + d) (suc k * v + d) (omega (arith, low)) (omega (arith, low, high)))
     (order v limit)
   where
     above : (m n : ℕ) → limit ≤ m → limit ≤ n → min m limit ≡ min n limit
@@ -59,7 +53,7 @@ either true true h e = refl
 either true false h e = absurd h
 either false b h e = cc
 
-by_bytes : (p q : ℕ → Bool) → T (each_below (λ x. not (p x) || q x) 256) → (x : ℕ) → x < 256 → p x ≡ true → q x ≡ true
+pub by_bytes : (p q : ℕ → Bool) → T (each_below (λ x. not (p x) || q x) 256) → (x : ℕ) → x < 256 → p x ≡ true → q x ≡ true
 by_bytes p q h x l e = either (p x) (q x) (each_below_at (λ y. not (p y) || q y) 256 h x l) e
 
 pub escaped_small : (x : ℕ) → x < 256 → is_simple x ≡ true → nat_lt (escaped x) 128 ≡ true
@@ -124,6 +118,9 @@ module _ (q start s i : ℕ) (text : List ℕ) (h : i < length text) where
   pub no_walk : is_simple b ≡ false → b ≢ 120 → is_digit_of 8 b ≡ false → b ≢ 117 → b ≢ 85 → quote_walk q start (Backslash s) i (drop i text) ≡ unescaped s i (drop i text)
   no_walk e n d m k = halts q start (Backslash s) i text h (unescaped s i (b ∷ bs)) (no_turn q s i b bs e n d m k) ∙ here (unescaped s i)
 
+  pub no_says : is_simple b ≡ false → b ≢ 120 → is_digit_of 8 b ≡ false → b ≢ 117 → b ≢ 85 → contents q (Backslash 0) 0 (drop i text) ≡ []
+  no_says e n d m k = nothing_more q (Backslash 0) i text h (unescaped 0 0 (b ∷ bs)) (no_turn q 0 0 b bs e n d m k)
+
   -- digits before a closing backslash
   module _ (base v : ℕ) (some : Bool) where
     abbrev next : ℕ
@@ -150,6 +147,9 @@ module _ (q start s i : ℕ) (text : List ℕ) (h : i < length text) where
 
     pub no_end_walk : is_digit_of base b ≡ false → ((b == 92) && (some && scalar v)) ≡ false → quote_walk q start (Digits s base v some) i (drop i text) ≡ unescaped s i (drop i text)
     no_end_walk d t = halts q start (Digits s base v some) i text h (unescaped s i (b ∷ bs)) (no_end_turn q s i b bs base v some d t) ∙ here (unescaped s i)
+
+    pub no_end_says : is_digit_of base b ≡ false → ((b == 92) && (some && scalar v)) ≡ false → contents q (Digits 0 base v some) 0 (drop i text) ≡ []
+    no_end_says d t = nothing_more q (Digits 0 base v some) i text h (unescaped 0 0 (b ∷ bs)) (no_end_turn q 0 0 b bs base v some d t)
 
   -- an octal digit right after the backslash
   pub octal_walk : is_simple b ≡ false → b ≢ 120 → is_digit_of 8 b ≡ true → quote_walk q start (Backslash s) i (drop i text) ≡ quote_walk q start (Digits s 8 0 false) i (drop i text)
@@ -215,24 +215,23 @@ module _ (q start s i : ℕ) (text : List ℕ) (h : i < length text) where
         go true g = last_walk e z g ∙ sym (ap (escape_goes_on q start text) (yes (Err (Bad (record { kind = BadChar; at = s }))) (ap scalar f ∙ scalar_cut last ∙ g)))
         go false g = bad_walk e z g ∙ sym (ap (escape_goes_on q start text) (no (Ok (record { next = i + 1; says = Some w })) (ap scalar f ∙ scalar_cut last ∙ g)))
 
-    exact_says_in : hex_digit b ≡ true → more ≡ 0 → (w : ℕ) → w ≡ min last 1114112 → IfOk (ending w) (λ e. contents q (Exact 0 more v) 0 (drop i text) ≡ escape_bytes e.says ++ contents q Plain 0 (drop e.next text))
-    exact_says_in e z w f = go (scalar last) refl
+    pub exact_says : hex_digit b ≡ true → more ≡ 0 → (w : ℕ) → w ≡ min last 1114112 → contents q (Exact 0 more v) 0 (drop i text) ≡ escape_contents q text (ending w)
+    exact_says e z w f = go (scalar last) refl
       where
-        go : (t : Bool) → scalar last ≡ t → IfOk (ending w) (λ e. contents q (Exact 0 more v) 0 (drop i text) ≡ escape_bytes e.says ++ contents q Plain 0 (drop e.next text))
+        go : (t : Bool) → scalar last ≡ t → contents q (Exact 0 more v) 0 (drop i text) ≡ escape_contents q text (ending w)
         go true g =
-            subst (λ (r : Result Escape Halt). IfOk r (λ e. contents q (Exact 0 more v) 0 (drop i text) ≡ escape_bytes e.says ++ contents q Plain 0 (drop e.next text))) (sym (yes (Err (Bad (record { kind = BadChar; at = s }))) (ap scalar f ∙ scalar_cut last ∙ g)))
-            (last_says e z g ∙ ap (λ c. encode_utf8 c ++ contents q Plain 0 (drop (i + 1) text)) (sym (f ∙ scalar_same last g)))
+            last_says e z g ∙ ap (λ c. encode_utf8 c ++ contents q Plain 0 (drop (i + 1) text)) (sym (f ∙ scalar_same last g))
+            ∙ sym (ap (escape_contents q text) (yes (Err (Bad (record { kind = BadChar; at = s }))) (ap scalar f ∙ scalar_cut last ∙ g)))
         go false g =
-            subst (λ (r : Result Escape Halt). IfOk r (λ e. contents q (Exact 0 more v) 0 (drop i text) ≡ escape_bytes e.says ++ contents q Plain 0 (drop e.next text))) (sym (no (Ok (record { next = i + 1; says = Some w })) (ap scalar f ∙ scalar_cut last ∙ g))) tt
+            nothing_more q (Exact 0 more v) i text h (Faulty BadChar 0) (bad_turn q 0 0 b bs more v e z g)
+            ∙ sym (ap (escape_contents q text) (no (Ok (record { next = i + 1; says = Some w })) (ap scalar f ∙ scalar_cut last ∙ g)))
 
--- the same inside any quotes
-pub exact_says : (s i : ℕ) (text : List ℕ) (h : i < length text) (more v : ℕ) → hex_digit (get_or text i 0) ≡ true → more ≡ 0 → (w : ℕ) → w ≡ min (16 * v + hex_value (get_or text i 0)) 1114112
-    → IfOk (ending 0 0 s i text h more v w) (λ e. (q : ℕ) → contents q (Exact 0 more v) 0 (drop i text) ≡ escape_bytes e.says ++ contents q Plain 0 (drop e.next text))
-exact_says s i text h more v e z w f = together (ending 0 0 s i text h more v w) (λ q. exact_says_in q 0 s i text h more v e z w f)
-  where
-    together : (r : Result Escape Halt) → ((q : ℕ) → IfOk r (λ e. contents q (Exact 0 more v) 0 (drop i text) ≡ escape_bytes e.says ++ contents q Plain 0 (drop e.next text))) → IfOk r (λ e. (q : ℕ) → contents q (Exact 0 more v) 0 (drop i text) ≡ escape_bytes e.says ++ contents q Plain 0 (drop e.next text))
-    together (Ok e) g = g
-    together (Err x) g = tt
+    pub no_digit_says : hex_digit b ≡ false → contents q (Exact 0 more v) 0 (drop i text) ≡ []
+    no_digit_says e = nothing_more q (Exact 0 more v) i text h (unescaped 0 0 (b ∷ bs)) (no_digit_turn q 0 0 b bs more v e)
+
+-- at the text's end nothing more is said
+pub nothing_said : (q : ℕ) (m : Quoting) (i : ℕ) (text : List ℕ) → length text ≤ i → contents q m 0 (drop i text) ≡ []
+nothing_said q m i text l = ap (contents q m 0) (drop_all i text l)
 
 module _ (q start s i : ℕ) (text : List ℕ) (h : i < length text) where
   abbrev byte : ℕ
@@ -256,11 +255,8 @@ module _ (q start s i : ℕ) (text : List ℕ) (h : i < length text) where
     pub cut_says : contents q (Digits 0 base v some) 0 (drop i text) ≡ contents q (Digits 0 base (min v 1114112) some) 0 (drop i text)
     cut_says = go ((byte == 92) && (some && scalar v)) refl
       where
-        silent : (w : ℕ) → ((byte == 92) && (some && scalar w)) ≡ false → contents q (Digits 0 base w some) 0 (drop i text) ≡ []
-        silent w e = nothing_more q (Digits 0 base w some) i text h (unescaped 0 0 (byte ∷ rest)) (no_end_turn q 0 0 byte rest base w some d e)
-
         go : (t : Bool) → ((byte == 92) && (some && scalar v)) ≡ t → contents q (Digits 0 base v some) 0 (drop i text) ≡ contents q (Digits 0 base (min v 1114112) some) 0 (drop i text)
         go true e =
             let c = right_true some (scalar v) (right_true (byte == 92) (some && scalar v) e) in
             end_says q start s i text h base v some d e ∙ ap (λ c. encode_utf8 c ++ contents q Plain 0 (drop (i + 1) text)) (sym (scalar_same v c)) ∙ sym (end_says q start s i text h base (min v 1114112) some d (cut_end ∙ e))
-        go false e = silent v e ∙ sym (silent (min v 1114112) (cut_end ∙ e))
+        go false e = no_end_says q start s i text h base v some d e ∙ sym (no_end_says q start s i text h base (min v 1114112) some d (cut_end ∙ e))

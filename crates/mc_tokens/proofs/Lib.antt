@@ -6,5 +6,9 @@ pub mod Layouts
 pub mod Quotes
 pub mod Escapes
 pub mod Forms
+pub mod Begun
+pub mod Sayings
+pub mod Texts
+pub mod Ascii
 pub mod Spelled
 pub mod ItemLaws

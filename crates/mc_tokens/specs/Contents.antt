@@ -1,12 +1,11 @@
 -- What a token stands for.
 -- (The Mercury manual's chapter 'Syntax', 'Tokens', escapes and doubled quotes, in this project's profile.)
-use Rattle.std.specs.Prelude.{◌≡◌, ℕ, zero, suc, ◌+◌, ◌*◌, Bool, true, cond, ◌==◌, List, [], ◌∷◌, ◌++◌, length, take, drop, encode_utf8}
-use Rattle.std.specs.List.{list_all}
-use Rattle.mc_tokens.specs.Classes.{is_digit_of, hex_value, is_name_tail, is_symbol}
+use Rattle.std.specs.Prelude.{ℕ, zero, suc, ◌+◌, ◌*◌, cond, ◌==◌, List, [], ◌∷◌, ◌++◌, take, drop, encode_utf8}
+use Rattle.mc_tokens.specs.Classes.{is_digit_of, hex_value}
 use Rattle.mc_tokens.specs.Utf8.{char_len}
-use Rattle.mc_tokens.specs.Spots.{Spot, At, Turn, Go, Stop, Quoting, Plain, Backslash, Digits, Exact, is_simple, quote_turn, quote_end}
+use Rattle.mc_tokens.specs.Spots.{Go, Stop, Quoting, Plain, Backslash, Digits, Exact, is_simple, quote_turn}
 use Rattle.mc_tokens.specs.declared.token.Kind.{Kind}
-use Rattle.mc_tokens.specs.declared.token.Kind.TheVariants.{Name, Quoted, Var, Str}
+use Rattle.mc_tokens.specs.declared.token.Kind.TheVariants.{Quoted, Str}
 
 -- the byte that a letter or a mark after a backslash stands for
 abbrev pub escaped : ℕ → ℕ
@@ -39,9 +38,3 @@ abbrev pub stands_for : Kind → List ℕ → List ℕ
 stands_for Quoted bytes = contents 39 Plain 0 (drop 1 bytes)
 stands_for Str bytes = contents 34 Plain 0 (drop 1 bytes)
 stands_for _ bytes = bytes
-
--- the bytes of a name, a quoted name, a variable or a string are all of such a token
-abbrev pub IsWhole : Kind → List ℕ → Type 0
-IsWhole Quoted bytes = quote_end 39 0 (drop 1 bytes) ≡ At (length bytes)
-IsWhole Str bytes = quote_end 34 0 (drop 1 bytes) ≡ At (length bytes)
-IsWhole _ bytes = Unit {0}

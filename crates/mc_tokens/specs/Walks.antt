@@ -1,6 +1,6 @@
 -- What the walks of the crate answer, as the definitions have it.
-use Rattle.std.specs.Prelude.{◌≡◌, ℕ, ◌+◌, ◌<◌, ◌≤◌, ◌^◌, Option, Some, None, Result, Ok, Err, List, length, drop, IfOk, MatchResult, [], ◌∷◌, ◌++◌, encode_utf8}
-use Rattle.mc_tokens.specs.Spots.{Spot, At, Faulty, Layout, Between, Quoting, Plain, walk, layout, quote_turn}
+use Rattle.std.specs.Prelude.{ℕ, ◌<◌, ◌≤◌, Option, Some, None, Result, Ok, Err, List, length, drop, [], ◌++◌, encode_utf8}
+use Rattle.mc_tokens.specs.Spots.{Spot, At, Faulty, Between, Quoting, Plain, walk, layout, quote_turn}
 use Rattle.mc_tokens.specs.Contents.{contents}
 use Rattle.mc_tokens.specs.declared.token.FaultKind.TheVariants.{Unterminated}
 use Rattle.mc_tokens.specs.declared.token.TokenFault.{TokenFault}
@@ -70,3 +70,8 @@ HaltPlaced text from (Bad f) = Placed text from f
 abbrev pub escape_bytes : Option ℕ → List ℕ
 escape_bytes None = []
 escape_bytes (Some c) = encode_utf8 c
+
+-- what the walk inside quotes q says from an escape on
+abbrev pub escape_contents : ℕ → List ℕ → Result Escape Halt → List ℕ
+escape_contents q text (Ok e) = escape_bytes e.says ++ contents q Plain 0 (drop e.next text)
+escape_contents q text (Err h) = []

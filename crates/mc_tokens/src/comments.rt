@@ -1,5 +1,5 @@
 // The walk over blanks and comments.
-ghost use Rattle.std.specs.Prelude.{◌≡◌, ℕ, ◌+◌, ◌<◌, ◌≤◌, length, drop, IfOk, IfErr};
+ghost use Rattle.std.specs.Prelude.{◌≡◌, ℕ, ◌+◌, ◌<◌, ◌≤◌, length, drop, IfOk, IfErr, is_some};
 ghost use Rattle.mc_tokens.specs.Spots.{Line, Block, Between, layout};
 ghost use Rattle.mc_tokens.specs.Walks.{spot, goes_on, comment_goes_on, Within, Placed, HaltPlaced};
 ghost use Rattle.mc_tokens.specs.Seen.{OpenComment};
@@ -60,26 +60,28 @@ fn block_rest(text: &[u8], from: usize) -> Result<usize, Halt>
     }
 }
 
-// Moves the place from which no */ follows up to the first character at or after to.
+// Moves the place from which no */ follows on along the text, to the first character at or after `to`.
 fn open_comment(text: &[u8], known: Option<usize>, to: usize) -> Option<usize>
     requires { OpenComment text.now known }
-    ensures { OpenComment text.now result }
+    ensures holds { OpenComment text.now result }
+    ensures kept { is_some result ≡ is_some known }
 {
     let mut i = known?;
     while i < to && i < text.len() {
         if text[i] == b'*' && byte_at(text, i + 1) == b'/' {
-            return None;
+            break;
         }
         let len = char_len(text, i);
         if len == 0 {
-            return None;
+            break;
         }
         i += len;
     }
     Some(i)
 }
 
-// Passes a comment that began at start with a slash and a star; known is the place, if any, from which no end is known to follow.
+// Passes a comment that began at start with a slash and a star; known is the place, if any, from which no end is
+// known to follow.
 fn comment_rest(text: &[u8], start: usize, known: &mut Option<usize>) -> Result<usize, TokenFault>
     requires inside { start + 1 < length text.now }
     requires known { OpenComment text.now known.old }

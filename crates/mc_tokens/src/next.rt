@@ -1,11 +1,11 @@
 // The next token.
-ghost use Rattle.std.specs.Prelude.{◌≡◌, ◌+◌, ◌<◌, ◌≤◌, ◌^◌, length, drop, get_or, IfOk, IfErr, slice_range, cond, nat_eq};
+ghost use Rattle.std.specs.Prelude.{◌≡◌, ◌+◌, ◌<◌, ◌≤◌, ◌^◌, length, drop, get_or, IfOk, IfErr, slice_range, if◌then◌else◌, nat_eq};
 ghost use Rattle.std.specs.List.{prefix_len};
 ghost use Rattle.mc_tokens.specs.Classes.{is_name_tail};
 ghost use Rattle.mc_tokens.specs.Tokens.{token, lexed, begun, names, is_int, word, quoted, paren, ends_item, dot, bang, other, first as first_of};
 ghost use Rattle.mc_tokens.specs.Spots.{quote_end};
 ghost use Rattle.mc_tokens.specs.Walks.{Placed, spot};
-ghost use Rattle.mc_tokens.specs.Answers.{span, answer, Ends, InOrder, AsciiName};
+ghost use Rattle.mc_tokens.specs.Answers.{span, answer, Ends, InOrder, NotEmpty, AsciiName};
 ghost use Rattle.mc_tokens.specs.Seen.{OpenQuote, Holds};
 
 use crate::begins::{First, begins, starts_var};
@@ -37,7 +37,8 @@ fn word(text: &[u8], start: usize, before: Kind, kind: Kind) -> Span
     }
 }
 
-// The place after the quotes that begin at start; known is the place, if any, from which no end of them is known to follow.
+// The place after the quotes that begin at start; known is the place, if any, from which no end of them is known to
+// follow.
 fn quotes_end(
     text: &[u8],
     start: usize,
@@ -193,7 +194,7 @@ fn token(text: &[u8], start: usize, before: Kind, seen: &mut Seen) -> Span
 
 // The kind of the token that ends at start.
 fn ending_at(start: usize, at: usize, after: Kind) -> Kind
-    ensures { result ≡ cond (nat_eq start at) after Kind.Eof }
+    ensures { result ≡ (if nat_eq start at then after else Kind.Eof) }
 {
     if start == at { after } else { Kind::Eof }
 }
@@ -210,6 +211,7 @@ pub fn next_seen<'a>(
     ensures value { answer result ≡ lexed text.now at after }
     ensures text { IfOk result (λ t. t.text.now ≡ slice_range text.now t.start t.end) }
     ensures order { IfOk result (InOrder text.now at) }
+    ensures nonempty { IfOk result (λ t. NotEmpty t.kind t.start t.end) }
     ensures ascii { IfOk result (λ t. AsciiName t.kind t.text.now) }
     ensures placed { IfErr result (Placed text.now at) }
     ensures seen { Holds text.now seen.new }
@@ -238,6 +240,7 @@ pub fn next_token<'a>(text: &'a [u8], at: usize, after: &Kind) -> Result<Token<'
     ensures value { answer result ≡ lexed text.now at after.now }
     ensures text { IfOk result (λ t. t.text.now ≡ slice_range text.now t.start t.end) }
     ensures order { IfOk result (InOrder text.now at) }
+    ensures nonempty { IfOk result (λ t. NotEmpty t.kind t.start t.end) }
     ensures ascii { IfOk result (λ t. AsciiName t.kind t.text.now) }
     ensures placed { IfErr result (Placed text.now at) }
 {

@@ -72,8 +72,8 @@ fn is_too_large(text: &[u8], from: usize, end: usize) -> bool
     value_of(&text[from..end], 10).is_none()
 }
 
-// A place up to which each place from start on begins too large a number, of the digits up to the end. From the first digit
-// other than 0 they are too many as from start, and in a long run mostly from nearly each place.
+// A place before which each place from start on begins too large a number, of the digits up to the end. From the first
+// digit other than 0 they spell the same number as from start; in a long run, mostly too large a one from nearly each place.
 fn large_end(text: &[u8], start: usize, end: usize) -> usize
     requires range { (start < end) × (end ≤ length text.now) }
     requires digits { EachDigit 10 (slice_range text.now start end) }

@@ -1,10 +1,10 @@
 // The walk inside quotes.
-ghost use Rattle.std.specs.Prelude.{◌≡◌, ℕ, ◌+◌, ◌<◌, ◌≤◌, ◌++◌, length, drop, IfOk, IfErr, IfSome, Some, None, Ok, Err, ◌==◌, ◌&&◌, is_some, false, if◌then◌else◌, get_or};
+ghost use Rattle.std.specs.Prelude.{◌≡◌, ℕ, ◌+◌, ◌<◌, ◌≤◌, length, drop, IfOk, IfErr, IfSome, Some, None, Ok, Err, ◌==◌, ◌&&◌, is_some, false, if◌then◌else◌, get_or};
 ghost use lib.Utf8.{scalar};
 ghost use Rattle.mc_tokens.specs.Classes.{is_digit_of};
 ghost use Rattle.mc_tokens.specs.Spots.{Plain, Digits, Exact, Backslash, is_simple, unescaped};
 ghost use Rattle.mc_tokens.specs.Contents.{contents, escaped};
-ghost use Rattle.mc_tokens.specs.Walks.{halted, quote_walk, quote_ends, escape_goes_on, turn_goes_on, Within, HaltPlaced, escape_bytes, StepsWithin};
+ghost use Rattle.mc_tokens.specs.Walks.{halted, quote_walk, quote_ends, escape_goes_on, turn_goes_on, Within, HaltPlaced, escape_contents, StepsWithin};
 ghost use Rattle.mc_tokens.specs.Seen.{OpenQuote};
 
 use crate::chars::{byte_at, char_len};
@@ -98,7 +98,7 @@ fn numeral(text: &[u8], base: u32, at: usize, from: usize) -> Result<Escape, Hal
     requires base { base ≤ 16 }
     requires range { (at < from) × (from ≤ length text.now) }
     ensures value { (q start : ℕ) → quote_walk q start (Digits at base 0 false) from (drop from text.now) ≡ escape_goes_on q start text.now result }
-    ensures says { IfOk result (λ e. (q : ℕ) → contents q (Digits 0 base 0 false) 0 (drop from text.now) ≡ escape_bytes e.says ++ contents q Plain 0 (drop e.next text.now)) }
+    ensures says { (q : ℕ) → contents q (Digits 0 base 0 false) 0 (drop from text.now) ≡ escape_contents q text.now result }
     ensures within { IfOk result (λ e. Within text.now from e.next) }
     ensures placed { IfErr result (HaltPlaced text.now at) }
 {
@@ -129,7 +129,7 @@ fn numeral_end(
     requires range { (at < i) × (i < length text.now) }
     requires stops { is_digit_of base (get_or text.now i 0) ≡ false }
     ensures value { (q start : ℕ) → quote_walk q start (Digits at base value some) i (drop i text.now) ≡ escape_goes_on q start text.now result }
-    ensures says { IfOk result (λ e. (q : ℕ) → contents q (Digits 0 base value some) 0 (drop i text.now) ≡ escape_bytes e.says ++ contents q Plain 0 (drop e.next text.now)) }
+    ensures says { (q : ℕ) → contents q (Digits 0 base value some) 0 (drop i text.now) ≡ escape_contents q text.now result }
     ensures within { IfOk result (λ e. Within text.now i e.next) }
     ensures placed { IfErr result (HaltPlaced text.now at) }
 {
@@ -157,7 +157,7 @@ fn numeral_says(b: u8, value: u32, some: bool) -> Option<char>
 fn exact(text: &[u8], at: usize, from: usize, more: u32) -> Result<Escape, Halt>
     requires { (at < from) × (from ≤ length text.now) }
     ensures value { (q start : ℕ) → quote_walk q start (Exact at more 0) from (drop from text.now) ≡ escape_goes_on q start text.now result }
-    ensures says { IfOk result (λ e. (q : ℕ) → contents q (Exact 0 more 0) 0 (drop from text.now) ≡ escape_bytes e.says ++ contents q Plain 0 (drop e.next text.now)) }
+    ensures says { (q : ℕ) → contents q (Exact 0 more 0) 0 (drop from text.now) ≡ escape_contents q text.now result }
     ensures within { IfOk result (λ e. Within text.now from e.next) }
     ensures placed { IfErr result (HaltPlaced text.now at) }
 {
@@ -195,7 +195,7 @@ fn exact_end(at: usize, next: usize, value: u32) -> Result<Escape, Halt>
 pub fn escape_at(text: &[u8], at: usize) -> Result<Escape, Halt>
     requires { at < length text.now }
     ensures value { (q start : ℕ) → quote_walk q start (Backslash at) (at + 1) (drop (at + 1) text.now) ≡ escape_goes_on q start text.now result }
-    ensures says { IfOk result (λ e. (q : ℕ) → contents q (Backslash 0) 0 (drop (at + 1) text.now) ≡ escape_bytes e.says ++ contents q Plain 0 (drop e.next text.now)) }
+    ensures says { (q : ℕ) → contents q (Backslash 0) 0 (drop (at + 1) text.now) ≡ escape_contents q text.now result }
     ensures within { IfOk result (λ e. Within text.now (at + 1) e.next) }
     ensures placed { IfErr result (HaltPlaced text.now at) }
 {
@@ -274,17 +274,18 @@ pub fn quote_rest(text: &[u8], quote: u8, from: usize) -> Result<usize, Halt>
     Err(Halt::TextEnds)
 }
 
-// Moves the place from which no closing quote follows up to the first at or after to where the walk stands.
+// Moves the place from which no closing quote follows on along the walk, to the first place at or after `to`.
 pub fn open_quote(text: &[u8], quote: u8, known: Option<usize>, to: usize) -> Option<usize>
     requires known { OpenQuote quote text.now known }
     requires quote { 0 < quote }
-    ensures { OpenQuote quote text.now result }
+    ensures holds { OpenQuote quote text.now result }
+    ensures kept { is_some result ≡ is_some known }
 {
     let mut i = known?;
     while i < to && i < text.len() {
         match step_at(text, quote, i) {
             Ok(Step::On(next)) => i = next,
-            _ => return None,
+            _ => break,
         }
     }
     Some(i)

@@ -1,7 +1,7 @@
 // What a walk over a text has found out.
 
-// A run of decimal digits from a place to its end. From each place of the run before `large` the digits up to the end are known
-// to spell a number above 2^63.
+// A run of decimal digits from a place to its end. From each place of the run before `large` the digits up to the end
+// are known to spell a number above 2^63.
 #[derive(Clone, Copy)]
 pub struct Run {
     pub from: usize,

@@ -1,18 +1,23 @@
 // What tokens stand for.
-ghost use Rattle.std.specs.Prelude.{◌≡◌, ◌<◌, ◌++◌, IfOk, OnOk, drop, encode_utf8};
+ghost use Rattle.std.specs.Prelude.{◌≡◌, ◌<◌, ◌++◌, IfOk, OnOk, drop};
 ghost use Rattle.mc_tokens.specs.Spots.{Plain};
 ghost use Rattle.mc_tokens.specs.Contents.{contents, stands_for};
+ghost use Rattle.mc_tokens.specs.Walks.{escape_bytes};
 ghost use Rattle.mc_tokens.specs.Answers.{IsUtf8Text};
 
-use crate::quoting::{Step, escape_at, step_at};
+use crate::chars::{byte_at, char_len};
+use crate::quoting::escape_at;
 use crate::token::{Kind, Token};
 use mc_base::{Memory, Text};
 use std::alloc::Global;
 
-// Puts a character at the end of a text.
-fn push_char(text: &mut Text, c: char) -> Result<(), Memory>
-    ensures { OnOk result (text.new ≡ text.old ++ encode_utf8 c) }
+// Puts what an escape says at the end of a text.
+fn push_said(text: &mut Text, says: Option<char>) -> Result<(), Memory>
+    ensures { OnOk result (text.new ≡ text.old ++ escape_bytes says) }
 {
+    let Some(c) = says else {
+        return Ok(());
+    };
     let mut buffer = [0; 4];
     text.extend(c.encode_utf8(&mut buffer).as_bytes())
 }
@@ -26,24 +31,25 @@ fn spoken(alloc: Global, bytes: &[u8], quote: u8) -> Result<Text, Memory>
     let mut i = 1;
     while i < bytes.len() {
         let b = bytes[i];
-        if b == b'\\' && b != quote {
-            let Ok(escape) = escape_at(bytes, i) else {
-                break;
-            };
-            if let Some(c) = escape.says {
-                push_char(&mut text, c)?;
+        if b == quote {
+            if byte_at(bytes, i + 1) != quote {
+                return Ok(text);
             }
+            text.push(quote)?;
+            i += 2;
+        } else if b == b'\\' {
+            let Ok(escape) = escape_at(bytes, i) else {
+                return Ok(text);
+            };
+            push_said(&mut text, escape.says)?;
             i = escape.next;
         } else {
-            let Ok(Step::On(next)) = step_at(bytes, quote, i) else {
-                break;
-            };
-            if b == quote {
-                text.push(quote)?;
-            } else {
-                text.extend(&bytes[i..next])?;
+            let len = char_len(bytes, i);
+            if len == 0 {
+                return Ok(text);
             }
-            i = next;
+            text.extend(&bytes[i..i + len])?;
+            i += len;
         }
     }
     Ok(text)

@@ -3,7 +3,8 @@ ghost use Rattle.std.specs.Prelude.{◌≡◌, ◌≤◌, length, IfOk, IfErr, s
 ghost use Rattle.mc_tokens.specs.Tokens.{lexed};
 ghost use Rattle.mc_tokens.specs.Walks.{Placed, Within};
 ghost use Rattle.mc_tokens.specs.Items.{Passes};
-ghost use Rattle.mc_tokens.specs.Answers.{answer, InOrder, AsciiName};
+ghost use Rattle.mc_tokens.specs.Seen.{Holds};
+ghost use Rattle.mc_tokens.specs.Answers.{answer, InOrder, NotEmpty, AsciiName};
 
 use crate::next::next_seen;
 use crate::seen::Seen;
@@ -58,6 +59,7 @@ impl<'a> Walk<'a> {
         ensures value { answer result ≡ lexed self.old at after.now }
         ensures text { IfOk result (λ t. t.text.now ≡ slice_range self.old t.start t.end) }
         ensures order { IfOk result (InOrder self.old at) }
+        ensures nonempty { IfOk result (λ t. NotEmpty t.kind t.start t.end) }
         ensures ascii { IfOk result (λ t. AsciiName t.kind t.text.now) }
         ensures placed { IfErr result (Placed self.old at) }
         ensures same { self.new ≡ self.old }
@@ -73,19 +75,32 @@ impl<'a> Walk<'a> {
         ensures within { Within self.old at result }
         ensures same { self.new ≡ self.old }
     {
-        let mut place = at;
-        let mut before = *after;
-        loop {
-            match self.next(place, &before) {
-                Ok(token) if token.kind.ends_item() => return token.end,
-                Ok(token) => {
-                    place = token.end;
-                    before = token.kind;
+        pass_item(self.text, at, *after, &mut self.seen)
+    }
+}
+
+// The place after an item's end, past faults.
+fn pass_item(text: &[u8], at: usize, after: Kind, seen: &mut Seen) -> usize
+    requires inside { at ≤ length text.now }
+    requires seen { Holds text.now seen.old }
+    ensures passes { Passes text.now at after result }
+    ensures within { Within text.now at result }
+    ensures seen { Holds text.now seen.new }
+{
+    let mut place = at;
+    let mut before = after;
+    loop {
+        match next_seen(text, place, before, seen) {
+            Ok(token) => {
+                place = token.end;
+                before = token.kind;
+                if before.ends_item() {
+                    return place;
                 }
-                Err(fault) => {
-                    place = fault.at + 1;
-                    before = Kind::Eof;
-                }
+            }
+            Err(fault) => {
+                place = fault.at + 1;
+                before = Kind::Eof;
             }
         }
     }

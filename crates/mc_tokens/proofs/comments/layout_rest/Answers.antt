@@ -1,4 +1,4 @@
-use Rattle.std.proofs.Common.{◌≡◌, ◌+◌, ◌<◌, ◌≤◌, length, get_or, drop, sym, ap, ◌∙◌, arith}
+use Rattle.std.proofs.Common.{sym, ◌∙◌, arith}
 use Rattle.std.proofs.lemmas.Result.{err_from_is_err_and}
 use Rattle.mc_tokens.specs.Classes.{is_blank}
 use Rattle.mc_tokens.proofs.CharLen.{inside, run_stop}
@@ -21,6 +21,7 @@ loop-i-preserved-then-b-eq37 c =
           ∙ begins_line _ text (inside text _ (omega (arith, c.byte_at-b.ensures, c.if-b-eq37.true))) (sym c.byte_at-b.ensures ∙ c.if-b-eq37.true) ∙ c.in_ok-i.ensures.value;
       above = omega (arith, c.in_ok-i.ensures.within.0);
       bound = c.in_ok-i.ensures.within.1;
+      known = c.loop-i.invariant.known;
     }
 
 pub returns-in_err-i-2-clause-value : goal.returns-in_err-i-2-clause-value
@@ -38,6 +39,7 @@ loop-i-preserved c =
           ∙ begins_block _ text (inside text _ (omega (arith, c.byte_at.ensures, c.if-byte_at-eq42.true))) (sym c.byte_at-b.ensures ∙ c.if-b-eq47.true) (sym c.byte_at.ensures ∙ c.if-byte_at-eq42.true) ∙ c.in_ok-i-2.ensures.value;
       above = omega (arith, c.in_ok-i-2.ensures.within.0);
       bound = c.in_ok-i-2.ensures.within.1;
+      known = c.in_ok-i-2.ensures.known;
     }
 
 pub returns-else-b-eq47-clause-value : goal.returns-else-b-eq47-clause-value
