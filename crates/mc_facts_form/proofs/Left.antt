@@ -1,5 +1,5 @@
 -- The words from a place on, token by token.
-use Rattle.std.proofs.Common.{◌≡◌, ℕ, zero, suc, ◌+◌, ◌-◌, ◌<◌, ◌≤◌, Bool, true, false, cond, List, [], ◌∷◌, ◌++◌, length, refl, sym, ap, ◌∙◌, subst, arith}
+use Rattle.std.proofs.Common.{◌≡◌, ℕ, zero, suc, ◌-◌, ◌<◌, Bool, true, false, cond, List, [], ◌∷◌, ◌++◌, length, refl, ap, ◌∙◌, subst, arith}
 use Rattle.std.specs.Prelude.{slice_range}
 use Rattle.mc_tokens.specs.Tokens.{Lexed, Tok, Fault, lexed}
 use Rattle.mc_tokens.specs.declared.token.Kind.{Kind}
@@ -24,17 +24,17 @@ left_within_enough (suc n) zero text at k low high = absurd (omega arith)
 left_within_enough (suc n) (suc m) text at k low high =
     word_then_same (lexed text at k) text (left_within n text) (left_within m text)
     (λ e start stop token more.
-      let passes = lexed-passes text at start stop k e more token in
-      left_within_enough n m text stop e (omega arith) (omega arith))
+    let passes = lexed-passes text at start stop k e more token in
+    left_within_enough n m text stop e (omega arith) (omega arith))
 
 pub left-token : (text : List ℕ) (at start stop : ℕ) (k e : Kind) → lexed text at k ≡ Tok e start stop → left text at k ≡ (e, slice_range text start stop) ∷ cond (is_eof e) [] (left text stop e)
 unfolding left left_within
 left-token text at start stop k e token =
     ap (λ o. word_then o text (left_within (length text - at) text)) token
     ∙ ap (λ ws. (e, slice_range text start stop) ∷ ws)
-      (cond_same (is_eof e) [] (left_within (length text - at) text stop e) (left_within (suc (length text - stop)) text stop e)
-        (λ more. let passes = lexed-passes text at start stop k e more token in
-          left_within_enough (length text - at) (suc (length text - stop)) text stop e (omega arith) (omega arith)))
+    (cond_same (is_eof e) [] (left_within (length text - at) text stop e) (left_within (suc (length text - stop)) text stop e)
+    (λ more. let passes = lexed-passes text at start stop k e more token in
+    left_within_enough (length text - at) (suc (length text - stop)) text stop e (omega arith) (omega arith)))
 
 pub left-fault : (text : List ℕ) (at place : ℕ) (k : Kind) (f : _) → lexed text at k ≡ Fault f place → left text at k ≡ []
 unfolding left left_within
@@ -44,10 +44,12 @@ left-fault text at place k f token = ap (λ o. word_then o text (left_within (le
 pub left-from_Tokens : {text : List ℕ} {at : ℕ} {k : Kind} {words : List Word} → Tokens text at k words → (end : List ℕ) × (left text at k ≡ words ++ (Eof, end) ∷ [])
 left-from_Tokens {text} {at} {k} (over {start = start} {stop = stop} token) = (slice_range text start stop, left-token text at start stop k Eof token)
 left-from_Tokens {text} {at} {k} (next {start = start} {stop = stop} {e = e} {words = words} more token rest) =
-    let r = left-from_Tokens rest in
-    (r.0, left-token text at start stop k e token
-      ∙ ap (λ b. (e, slice_range text start stop) ∷ cond b [] (left text stop e)) more
-      ∙ ap (λ ws. (e, slice_range text start stop) ∷ ws) r.1)
+    let r = left-from_Tokens rest in (
+      r.0,
+      left-token text at start stop k e token
+          ∙ ap (λ b. (e, slice_range text start stop) ∷ cond b [] (left text stop e)) more
+          ∙ ap (λ ws. (e, slice_range text start stop) ∷ ws) r.1,
+    )
 
 no_end : (words : List Word) (w : Word) → [] ≡ words ++ w ∷ [] → ⊥
 no_end [] w e = cc

@@ -3,4 +3,4 @@ pub mod Left
 pub mod Sequences
 pub mod Parts
 pub mod Sets
-pub mod Tests
+pub mod Decided

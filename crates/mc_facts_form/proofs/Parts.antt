@@ -3,7 +3,7 @@ use Rattle.std.proofs.Common.{◌≡◌, ◌≢◌, ℕ, zero, suc, ◌+◌, Lis
 use Rattle.std.proofs.lemmas.List.{append_cancel_left}
 use Rattle.std.specs.List.{flat_map}
 use Rattle.mc_tokens.specs.declared.token.Kind.{Kind}
-use Rattle.mc_tokens.specs.declared.token.Kind.TheVariants.{Name, Var, OpenCt, Close, Comma, End, Eof}
+use Rattle.mc_tokens.specs.declared.token.Kind.TheVariants.{Name, Var, Close, Comma, End, Eof}
 use Rattle.mc_facts_form.specs.declared.form.Predicate.{Predicate}
 use Rattle.mc_facts_form.specs.declared.form.Fact.{Fact}
 use Rattle.mc_facts_form.specs.declared.form.FactsModule.{FactsModule}
@@ -51,7 +51,7 @@ listed_cancels kind separator last apart closes (x ∷ xs) (y ∷ ys) a b e =
     let name : x ≡ y = first_bytes (kind, x) (kind, y) rest_x rest_y e in
     let rest : rest_x ≡ rest_y = tails (kind, x) (kind, y) rest_x rest_y e in
     let both = cancels_list (other kind separator) (other_cancels kind separator) (last ∷ []) (other_apart kind separator last apart)
-        xs ys a b (sym (append_assoc (others kind separator xs) (last ∷ []) a) ∙ rest ∙ append_assoc (others kind separator ys) (last ∷ []) b) in
+    xs ys a b (sym (append_assoc (others kind separator xs) (last ∷ []) a) ∙ rest ∙ append_assoc (others kind separator ys) (last ∷ []) b) in
     (ap (λ n. n ∷ xs) name ∙ ap (λ ns. y ∷ ns) both.0, tails last last a b both.1)
 
 pub comma-ne-closing : comma ≢ closing
@@ -63,7 +63,7 @@ atom_rest_cancels kind closes xs ys a b e =
     let yw = listed kind comma closing ys in
     let e1 = tails opening opening ((xw ++ full_stop ∷ []) ++ a) ((yw ++ full_stop ∷ []) ++ b) e in
     let both = listed_cancels kind comma closing comma-ne-closing closes xs ys (full_stop ∷ a) (full_stop ∷ b)
-        (sym (append_assoc xw (full_stop ∷ []) a) ∙ e1 ∙ append_assoc yw (full_stop ∷ []) b) in
+    (sym (append_assoc xw (full_stop ∷ []) a) ∙ e1 ∙ append_assoc yw (full_stop ∷ []) b) in
     (both.0, tails full_stop full_stop a b both.1)
 
 pub fact_cancels : Cancels fact_words
@@ -124,7 +124,7 @@ signature_cancels type_name p q a b e =
     let name : p.name ≡ q.name = first_bytes (named p.name) (named q.name) rest_p rest_q e in
     let rest = tails opening opening ((pw ++ nondet_end) ++ a) ((qw ++ nondet_end) ++ b) (tails (named p.name) (named q.name) rest_p rest_q e) in
     let both = arguments_cancels type_name p.arguments q.arguments (named (codes "is") ∷ named (codes "nondet") ∷ full_stop ∷ a) (named (codes "is") ∷ named (codes "nondet") ∷ full_stop ∷ b)
-        (sym (append_assoc pw nondet_end a) ∙ rest ∙ append_assoc qw nondet_end b) in
+    (sym (append_assoc pw nondet_end a) ∙ rest ∙ append_assoc qw nondet_end b) in
     (λ i. record { name = name i; arguments = both.0 i }, cc (both.1))
 
 pub predicate_cancels : (type_name : List ℕ) → Cancels (predicate_words type_name)
@@ -196,9 +196,11 @@ after_heading name type_name words m rest e =
     let ff = flat_map fact_words m.facts in
     let name_word : named name ≡ named m.name = cc in
     let type_word : named type_name ≡ named m.type_name = cc in
-    let after : words ≡ (cw ++ (fp ++ (implementation ++ ff))) ++ rest = cc in
-    (ap (λ (w : Word). w.1) name_word, ap (λ (w : Word). w.1) type_word,
-      after ∙ append_assoc cw (fp ++ (implementation ++ ff)) rest ∙ ap (λ ws. cw ++ ws) (append_assoc fp (implementation ++ ff) rest))
+    let after : words ≡ (cw ++ (fp ++ (implementation ++ ff))) ++ rest = cc in (
+      ap (λ (w : Word). w.1) name_word,
+      ap (λ (w : Word). w.1) type_word,
+      after ∙ append_assoc cw (fp ++ (implementation ++ ff)) rest ∙ ap (λ ws. cw ++ ws) (append_assoc fp (implementation ++ ff) rest),
+    )
 
 -- what follows its constants
 pub after_constants : (constants : List (List ℕ)) (words : List Word) (others : List (List ℕ)) (rest : List Word) →
@@ -217,10 +219,10 @@ after_predicates type_name predicates words others rest e =
 -- the facts that stand before a text's end
 pub facts_cancel : (facts others : List Fact) (end end' : List ℕ) → flat_map fact_words facts ++ (Eof, end) ∷ [] ≡ flat_map fact_words others ++ (Eof, end') ∷ [] → facts ≡ others
 facts_cancel facts others end end' e = let r = resumed fact_words fact_cancels ((Eof, end') ∷ []) (fact_apart end') facts others ((Eof, end) ∷ []) [] e in alone r.0 r.1 r.2
- where
-  alone : (zs : List Fact) → others ≡ facts ++ zs → (Eof, end) ∷ [] ≡ flat_map fact_words zs ++ (Eof, end') ∷ [] → facts ≡ others
-  alone [] same k = sym (same ∙ append-nil facts)
-  alone (z ∷ zs) same k = absurd (fact_apart end z (flat_map fact_words zs ++ (Eof, end') ∷ []) [] (sym (k ∙ append_assoc (fact_words z) (flat_map fact_words zs) ((Eof, end') ∷ []))))
+  where
+    alone : (zs : List Fact) → others ≡ facts ++ zs → (Eof, end) ∷ [] ≡ flat_map fact_words zs ++ (Eof, end') ∷ [] → facts ≡ others
+    alone [] same k = sym (same ∙ append-nil facts)
+    alone (z ∷ zs) same k = absurd (fact_apart end z (flat_map fact_words zs ++ (Eof, end') ∷ []) [] (sym (k ∙ append_assoc (fact_words z) (flat_map fact_words zs) ((Eof, end') ∷ []))))
 
 -- a module is written in one way
 pub spelled_cancels : (m n : FactsModule) (end end' : List ℕ) → spelled m ++ (Eof, end) ∷ [] ≡ spelled n ++ (Eof, end') ∷ [] → m ≡ n
@@ -235,7 +237,7 @@ spelled_cancels m n end end' e =
     let h = after_heading m.name m.type_name (cw ++ (fp ++ (implementation ++ (ff ++ tail)))) n ((Eof, end') ∷ []) whole in
     let k = after_constants m.constants (fp ++ (implementation ++ (ff ++ tail))) n.constants (flat_map (predicate_words n.type_name) n.predicates ++ (implementation ++ rest_n)) h.2 in
     let q = after_predicates m.type_name m.predicates (ff ++ tail) n.predicates rest_n
-        (k.1 ∙ ap (λ t. flat_map (predicate_words t) n.predicates ++ (implementation ++ rest_n)) (sym h.1)) in
+    (k.1 ∙ ap (λ t. flat_map (predicate_words t) n.predicates ++ (implementation ++ rest_n)) (sym h.1)) in
     let f = facts_cancel m.facts n.facts end end' q.1 in
     λ i. record { name = h.0 i; type_name = h.1 i; constants = k.0 i; predicates = q.0 i; facts = f i }
 

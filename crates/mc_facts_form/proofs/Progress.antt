@@ -1,11 +1,10 @@
 -- A token that isn't the end's ends after the place from which it was looked for.
-use Rattle.std.proofs.Common.{◌≡◌, ℕ, zero, suc, ◌+◌, ◌-◌, ◌<◌, ◌≤◌, Bool, true, false, cond, List, [], ◌∷◌, length, drop, refl, sym, ap, ◌∙◌, subst, arith, take, ◌*◌, ◌^◌, ◌&&◌, ◌||◌, ◌==◌, nat_eq, nat_lt, length-drop}
+use Rattle.std.proofs.Common.{◌≡◌, ℕ, zero, suc, ◌+◌, ◌<◌, ◌≤◌, Bool, true, false, cond, List, [], ◌∷◌, length, drop, refl, sym, ap, ◌∙◌, subst, arith, take, ◌^◌, ◌&&◌, ◌||◌, ◌==◌, nat_eq, nat_lt, length-drop}
 use Rattle.std.specs.List.{prefix_len}
 use Rattle.mc_tokens.specs.Classes.{is_digit_of, is_name_tail, is_symbol, is_lower, starts_var}
 use Rattle.mc_tokens.specs.Utf8.{at, char_len}
-use Rattle.std.proofs.lemmas.Grind.{common_steps}
 use Rattle.mc_tokens.specs.Spots.{Spot, At, Faulty, Turn, Go, Stop, walk, Layout, Between, Line, Block, layout_turn, layout_end, layout, Quoting, Plain, Backslash, Digits, Exact, quote_turn, quote_end}
-use Rattle.mc_tokens.specs.Tokens.{Lexed, Tok, Fault, token, token_from, lexed, begun, digits, of_form, form, number, decimal, based, word, paren, dot, bang, other, quoted, first, spelled, is_int, names, is_var, ends_item}
+use Rattle.mc_tokens.specs.Tokens.{Lexed, Tok, Fault, token, token_from, lexed, begun, digits, of_form, form, number, decimal, quoted, first, spelled, is_int, names, is_var, ends_item}
 use Rattle.mc_tokens.specs.declared.begins.First.{First}
 use Rattle.mc_tokens.specs.declared.begins.First.TheVariants.{Lower, Upper, Digit, Symbol, Quote, DoubleQuote, Paren, CloseParen, Square, CloseSquare, Semicolon, Bang, Other}
 use Rattle.mc_tokens.specs.declared.begins.First.TheVariants as F
@@ -13,7 +12,7 @@ use Rattle.mc_tokens.specs.declared.begins.Form.{Form}
 use Rattle.mc_tokens.specs.declared.begins.Form.TheVariants.{Based, Character, Decimal}
 use Rattle.mc_tokens.specs.declared.token.FaultKind.TheVariants.{Unterminated, LeftOut, BadChar, NotUtf8, IntTooLarge}
 use Rattle.mc_tokens.specs.declared.token.Kind.{Kind}
-use Rattle.mc_tokens.specs.declared.token.Kind.TheVariants.{Name, Quoted, Var, Int, Str, Open, OpenCt, Close, ListOpen, ListClose, Bar, Comma, Dot, End, Eof}
+use Rattle.mc_tokens.specs.declared.token.Kind.TheVariants.{Name, Quoted, Var, Int, Str, Open, OpenCt, Dot, End, Eof}
 use Rattle.mc_facts_form.specs.Words.{is_eof}
 
 module _ {M : Type 0} (turn : M → ℕ → ℕ → List ℕ → Turn M) (ends : M → ℕ → Spot)
@@ -72,7 +71,7 @@ quoted-passes k (Faulty kind place) start rises = tt
 decimal-passes : (start n : ℕ) (bs : List ℕ) → 0 < n → Passes start (decimal start n bs)
 decimal-passes start n bs some =
     cond-passes ((at bs n == 46) && is_digit_of 10 (at bs (n + 1))) start (Fault LeftOut start) (number 10 start (start + n) (take n bs)) tt
-      (number-passes 10 start (start + n) (take n bs) (omega arith))
+    (number-passes 10 start (start + n) (take n bs) (omega arith))
 
 of_form-passes : (f : Form) (start : ℕ) (bs : List ℕ) → 0 < prefix_len (is_digit_of 10) bs → Passes start (of_form f start bs)
 of_form-passes (Based base) start bs some =
@@ -100,7 +99,7 @@ first-digit : (b : ℕ) → first b ≡ Digit → is_digit_of 10 b ≡ true
 unfolding is_digit_first
 first-digit b e =
     digit_of (is_lower b) (starts_var b) (is_digit_of 10 b) (cond (is_symbol b) Symbol (cond (b == 39) Quote (cond (b == 34) DoubleQuote (cond (b == 40) Paren (cond (b == 41) CloseParen (cond (b == 91) Square (cond (b == 93) CloseSquare (cond (b == 124) F.Bar (cond (b == 44) F.Comma (cond (b == 46) F.Dot (cond (b == 59) Semicolon (cond (b == 33) Bang (cond ((b == 96) || (b == 123) || (b == 125)) F.LeftOut Other)))))))))))))
-      (none (is_symbol b) Symbol (cond (b == 39) Quote (cond (b == 34) DoubleQuote (cond (b == 40) Paren (cond (b == 41) CloseParen (cond (b == 91) Square (cond (b == 93) CloseSquare (cond (b == 124) F.Bar (cond (b == 44) F.Comma (cond (b == 46) F.Dot (cond (b == 59) Semicolon (cond (b == 33) Bang (cond ((b == 96) || (b == 123) || (b == 125)) F.LeftOut Other)))))))))))) refl (none (b == 39) Quote (cond (b == 34) DoubleQuote (cond (b == 40) Paren (cond (b == 41) CloseParen (cond (b == 91) Square (cond (b == 93) CloseSquare (cond (b == 124) F.Bar (cond (b == 44) F.Comma (cond (b == 46) F.Dot (cond (b == 59) Semicolon (cond (b == 33) Bang (cond ((b == 96) || (b == 123) || (b == 125)) F.LeftOut Other))))))))))) refl (none (b == 34) DoubleQuote (cond (b == 40) Paren (cond (b == 41) CloseParen (cond (b == 91) Square (cond (b == 93) CloseSquare (cond (b == 124) F.Bar (cond (b == 44) F.Comma (cond (b == 46) F.Dot (cond (b == 59) Semicolon (cond (b == 33) Bang (cond ((b == 96) || (b == 123) || (b == 125)) F.LeftOut Other)))))))))) refl (none (b == 40) Paren (cond (b == 41) CloseParen (cond (b == 91) Square (cond (b == 93) CloseSquare (cond (b == 124) F.Bar (cond (b == 44) F.Comma (cond (b == 46) F.Dot (cond (b == 59) Semicolon (cond (b == 33) Bang (cond ((b == 96) || (b == 123) || (b == 125)) F.LeftOut Other))))))))) refl (none (b == 41) CloseParen (cond (b == 91) Square (cond (b == 93) CloseSquare (cond (b == 124) F.Bar (cond (b == 44) F.Comma (cond (b == 46) F.Dot (cond (b == 59) Semicolon (cond (b == 33) Bang (cond ((b == 96) || (b == 123) || (b == 125)) F.LeftOut Other)))))))) refl (none (b == 91) Square (cond (b == 93) CloseSquare (cond (b == 124) F.Bar (cond (b == 44) F.Comma (cond (b == 46) F.Dot (cond (b == 59) Semicolon (cond (b == 33) Bang (cond ((b == 96) || (b == 123) || (b == 125)) F.LeftOut Other))))))) refl (none (b == 93) CloseSquare (cond (b == 124) F.Bar (cond (b == 44) F.Comma (cond (b == 46) F.Dot (cond (b == 59) Semicolon (cond (b == 33) Bang (cond ((b == 96) || (b == 123) || (b == 125)) F.LeftOut Other)))))) refl (none (b == 124) F.Bar (cond (b == 44) F.Comma (cond (b == 46) F.Dot (cond (b == 59) Semicolon (cond (b == 33) Bang (cond ((b == 96) || (b == 123) || (b == 125)) F.LeftOut Other))))) refl (none (b == 44) F.Comma (cond (b == 46) F.Dot (cond (b == 59) Semicolon (cond (b == 33) Bang (cond ((b == 96) || (b == 123) || (b == 125)) F.LeftOut Other)))) refl (none (b == 46) F.Dot (cond (b == 59) Semicolon (cond (b == 33) Bang (cond ((b == 96) || (b == 123) || (b == 125)) F.LeftOut Other))) refl (none (b == 59) Semicolon (cond (b == 33) Bang (cond ((b == 96) || (b == 123) || (b == 125)) F.LeftOut Other)) refl (none (b == 33) Bang (cond ((b == 96) || (b == 123) || (b == 125)) F.LeftOut Other) refl (none ((b == 96) || (b == 123) || (b == 125)) F.LeftOut Other refl refl))))))))))))) e
+    (none (is_symbol b) Symbol (cond (b == 39) Quote (cond (b == 34) DoubleQuote (cond (b == 40) Paren (cond (b == 41) CloseParen (cond (b == 91) Square (cond (b == 93) CloseSquare (cond (b == 124) F.Bar (cond (b == 44) F.Comma (cond (b == 46) F.Dot (cond (b == 59) Semicolon (cond (b == 33) Bang (cond ((b == 96) || (b == 123) || (b == 125)) F.LeftOut Other)))))))))))) refl (none (b == 39) Quote (cond (b == 34) DoubleQuote (cond (b == 40) Paren (cond (b == 41) CloseParen (cond (b == 91) Square (cond (b == 93) CloseSquare (cond (b == 124) F.Bar (cond (b == 44) F.Comma (cond (b == 46) F.Dot (cond (b == 59) Semicolon (cond (b == 33) Bang (cond ((b == 96) || (b == 123) || (b == 125)) F.LeftOut Other))))))))))) refl (none (b == 34) DoubleQuote (cond (b == 40) Paren (cond (b == 41) CloseParen (cond (b == 91) Square (cond (b == 93) CloseSquare (cond (b == 124) F.Bar (cond (b == 44) F.Comma (cond (b == 46) F.Dot (cond (b == 59) Semicolon (cond (b == 33) Bang (cond ((b == 96) || (b == 123) || (b == 125)) F.LeftOut Other)))))))))) refl (none (b == 40) Paren (cond (b == 41) CloseParen (cond (b == 91) Square (cond (b == 93) CloseSquare (cond (b == 124) F.Bar (cond (b == 44) F.Comma (cond (b == 46) F.Dot (cond (b == 59) Semicolon (cond (b == 33) Bang (cond ((b == 96) || (b == 123) || (b == 125)) F.LeftOut Other))))))))) refl (none (b == 41) CloseParen (cond (b == 91) Square (cond (b == 93) CloseSquare (cond (b == 124) F.Bar (cond (b == 44) F.Comma (cond (b == 46) F.Dot (cond (b == 59) Semicolon (cond (b == 33) Bang (cond ((b == 96) || (b == 123) || (b == 125)) F.LeftOut Other)))))))) refl (none (b == 91) Square (cond (b == 93) CloseSquare (cond (b == 124) F.Bar (cond (b == 44) F.Comma (cond (b == 46) F.Dot (cond (b == 59) Semicolon (cond (b == 33) Bang (cond ((b == 96) || (b == 123) || (b == 125)) F.LeftOut Other))))))) refl (none (b == 93) CloseSquare (cond (b == 124) F.Bar (cond (b == 44) F.Comma (cond (b == 46) F.Dot (cond (b == 59) Semicolon (cond (b == 33) Bang (cond ((b == 96) || (b == 123) || (b == 125)) F.LeftOut Other)))))) refl (none (b == 124) F.Bar (cond (b == 44) F.Comma (cond (b == 46) F.Dot (cond (b == 59) Semicolon (cond (b == 33) Bang (cond ((b == 96) || (b == 123) || (b == 125)) F.LeftOut Other))))) refl (none (b == 44) F.Comma (cond (b == 46) F.Dot (cond (b == 59) Semicolon (cond (b == 33) Bang (cond ((b == 96) || (b == 123) || (b == 125)) F.LeftOut Other)))) refl (none (b == 46) F.Dot (cond (b == 59) Semicolon (cond (b == 33) Bang (cond ((b == 96) || (b == 123) || (b == 125)) F.LeftOut Other))) refl (none (b == 59) Semicolon (cond (b == 33) Bang (cond ((b == 96) || (b == 123) || (b == 125)) F.LeftOut Other)) refl (none (b == 33) Bang (cond ((b == 96) || (b == 123) || (b == 125)) F.LeftOut Other) refl (none ((b == 96) || (b == 123) || (b == 125)) F.LeftOut Other refl refl))))))))))))) e
 
 some_digits : (b : ℕ) (bs : List ℕ) → is_digit_of 10 b ≡ true → 0 < prefix_len (is_digit_of 10) (b ∷ bs)
 some_digits b bs e = subst (λ (t : Bool). 0 < cond t (1 + prefix_len (is_digit_of 10) bs) 0) (sym e) (omega arith)
@@ -115,7 +114,7 @@ begun-passes before start b bs Quote e = quoted-passes Quoted (quote_end 39 star
 begun-passes before start b bs DoubleQuote e = quoted-passes Str (quote_end 34 start bs) start (quote-rises 34 start bs)
 begun-passes before start b bs Paren e =
     cond-passes (names before) start (Tok OpenCt start (start + 1)) (cond (is_var before) (Fault LeftOut start) (Tok Open start (start + 1))) (λ more. omega arith)
-      (cond-passes (is_var before) start (Fault LeftOut start) (Tok Open start (start + 1)) tt (λ more. omega arith))
+    (cond-passes (is_var before) start (Fault LeftOut start) (Tok Open start (start + 1)) tt (λ more. omega arith))
 begun-passes before start b bs CloseParen e = λ more. omega arith
 begun-passes before start b bs Square e = λ more. omega arith
 begun-passes before start b bs CloseSquare e = λ more. omega arith
@@ -123,7 +122,7 @@ begun-passes before start b bs F.Bar e = λ more. omega arith
 begun-passes before start b bs F.Comma e = λ more. omega arith
 begun-passes before start b bs F.Dot e =
     cond-passes (names before && (is_lower (at bs 0) || (at bs 0 == 39))) start (Tok Dot start (start + 1)) (cond (ends_item bs) (Tok End start (start + 1)) (Fault BadChar start)) (λ more. omega arith)
-      (cond-passes (ends_item bs) start (Tok End start (start + 1)) (Fault BadChar start) (λ more. omega arith) tt)
+    (cond-passes (ends_item bs) start (Tok End start (start + 1)) (Fault BadChar start) (λ more. omega arith) tt)
 begun-passes before start b bs Semicolon e = λ more. omega arith
 begun-passes before start b bs Bang e =
     cond-passes (((at bs 0 == 46) || (at bs 0 == 58)) && starts_var (at bs 1)) start (Tok Name start (start + 2)) (Tok Name start (start + 1)) (λ more. omega arith) (λ more. omega arith)

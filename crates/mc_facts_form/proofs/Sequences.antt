@@ -18,7 +18,7 @@ module _ {X W : Type 0} (show : X → List W) (cancels : Cancels show) (finish :
   resumed (x ∷ xs) [] a b e = absurd (apart x (flat_map show xs ++ a) b (sym (append_assoc (show x) (flat_map show xs) a) ∙ e))
   resumed (x ∷ xs) (y ∷ ys) a b e =
       let both = cancels x y (flat_map show xs ++ a) (flat_map show ys ++ (finish ++ b))
-          (sym (append_assoc (show x) (flat_map show xs) a) ∙ e ∙ append_assoc (show y) (flat_map show ys) (finish ++ b)) in
+      (sym (append_assoc (show x) (flat_map show xs) a) ∙ e ∙ append_assoc (show y) (flat_map show ys) (finish ++ b)) in
       let more = resumed xs ys a b both.1 in
       let first : y ∷ ys ≡ x ∷ ys = ap (λ z. z ∷ ys) (sym both.0) in
       (more.0, first ∙ ap (λ zs. x ∷ zs) more.1, more.2)
@@ -27,15 +27,15 @@ module _ {X W : Type 0} (show : X → List W) (cancels : Cancels show) (finish :
   pub next_part : (xs ys : List X) (a b : List W) → flat_map show xs ++ a ≡ flat_map show ys ++ (finish ++ b) →
       (a ≡ finish ++ b) ⊎ ((z : X) × (rest : List W) × (a ≡ show z ++ rest))
   next_part xs ys a b e = next_of _ (resumed xs ys a b e).2
-   where
-    next_of : (zs : List X) → a ≡ flat_map show zs ++ (finish ++ b) → (a ≡ finish ++ b) ⊎ ((z : X) × (rest : List W) × (a ≡ show z ++ rest))
-    next_of [] k = inl k
-    next_of (z ∷ zs) k = inr (z, flat_map show zs ++ (finish ++ b), k ∙ append_assoc (show z) (flat_map show zs) (finish ++ b))
+    where
+      next_of : (zs : List X) → a ≡ flat_map show zs ++ (finish ++ b) → (a ≡ finish ++ b) ⊎ ((z : X) × (rest : List W) × (a ≡ show z ++ rest))
+      next_of [] k = inl k
+      next_of (z ∷ zs) k = inr (z, flat_map show zs ++ (finish ++ b), k ∙ append_assoc (show z) (flat_map show zs) (finish ++ b))
 
   -- a finished list is written in one way
   pub cancels_list : (xs ys : List X) (a b : List W) → flat_map show xs ++ (finish ++ a) ≡ flat_map show ys ++ (finish ++ b) → (xs ≡ ys) × (finish ++ a ≡ finish ++ b)
   cancels_list xs ys a b e = let r = resumed xs ys (finish ++ a) b e in alone r.0 r.1 r.2
-   where
-    alone : (zs : List X) → ys ≡ xs ++ zs → finish ++ a ≡ flat_map show zs ++ (finish ++ b) → (xs ≡ ys) × (finish ++ a ≡ finish ++ b)
-    alone [] same k = (sym (same ∙ append-nil xs), k)
-    alone (z ∷ zs) same k = absurd (apart z (flat_map show zs ++ (finish ++ b)) a (sym (k ∙ append_assoc (show z) (flat_map show zs) (finish ++ b))))
+    where
+      alone : (zs : List X) → ys ≡ xs ++ zs → finish ++ a ≡ flat_map show zs ++ (finish ++ b) → (xs ≡ ys) × (finish ++ a ≡ finish ++ b)
+      alone [] same k = (sym (same ∙ append-nil xs), k)
+      alone (z ∷ zs) same k = absurd (apart z (flat_map show zs ++ (finish ++ b)) a (sym (k ∙ append_assoc (show z) (flat_map show zs) (finish ++ b))))

@@ -1,11 +1,10 @@
 -- Lists of names and of signatures, and the sets of what they have.
-use Rattle.std.proofs.Common.{◌≡◌, ◌≢◌, ℕ, ◌+◌, ◌<◌, ◌≤◌, Bool, true, false, cond, not, ◌&&◌, ◌||◌, ◌==◌, List, [], ◌∷◌, ◌++◌, length, get_or, take, map, All, Contains, AllPairs, bytes_eq, nat_eq, refl, sym, ap, ◌∙◌, subst, arith, Decides, IsTrue, ⊎_elim}
+use Rattle.std.proofs.Common.{◌≡◌, ◌≢◌, ℕ, ◌+◌, ◌<◌, ◌≤◌, Bool, true, false, cond, ◌||◌, List, [], ◌∷◌, ◌++◌, length, get_or, take, map, AllPairs, bytes_eq, refl, sym, ap, ◌∙◌, subst, arith}
 use Rattle.std.proofs.lemmas.Grind.{common_steps}
-use Rattle.std.specs.List.{list_any, list_all}
+use Rattle.std.specs.List.{list_any}
 use Rattle.std.specs.Cmp.{IsEquivalence, on_equiv, and_equiv}
 use Rattle.std.specs.Cmp.Lexicographic.{nat_list_eq_equiv}
 use Rattle.std.proofs.lemmas.Slice.Eq.{bytes_eq-Decides}
-use Rattle.std.proofs.lemmas.Bool.Decides.{eqb_tells}
 use Rattle.std.proofs.lemmas.Map.Views.{Contains-from_any, list_any-from_Contains}
 use Rattle.std.proofs.lemmas.List.Quantifiers.{all_pairs_push}
 use Rattle.std.proofs.lemmas.List.Folds.{list_any_more}
@@ -42,9 +41,9 @@ distinct_more {K} eq laws xs i x inside here apart none =
     let P : List K → Type 0 = λ ys. AllPairs (λ a b. a ≢ b) ys in
     let at_end : take (i + 1) xs ≡ take i xs ++ x ∷ [] = take_more xs i x inside ∙ ap (λ y. take i xs ++ y ∷ []) (sym here) in
     subst P (sym at_end) (all_pairs_push (λ a b. a ≢ b) (take i xs) x apart
-      (λ k d h e.
-        let same = get_or_default (take i xs) k x d h ∙ e in
-        let found = list_any-from_Contains laws x (take i xs) (k, h, same) in cc))
+    (λ k d h e.
+    let same = get_or_default (take i xs) k x d h ∙ e in
+    let found = list_any-from_Contains laws x (take i xs) (k, h, same) in cc))
 
 -- a list with an element that stood before has a repeat
 pub repeated : {K : Type 0} (eq : K → K → Bool) → ((x y : K) → eq x y ≡ true → x ≡ y) → (xs : List K) (i : ℕ) (x : K) → i < length xs → x ≡ get_or xs i x →

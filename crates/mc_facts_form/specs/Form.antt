@@ -1,13 +1,13 @@
 -- The form of a module of ground facts, and of a goal over it.
-use Rattle.std.specs.Prelude.{zero, suc, ◌≡◌, ℕ, ◌≤◌, ◌<◌, ◌^◌, Bool, true, false, IsTrue, List, [], ◌∷◌, ◌++◌, map, length, replicate, codes, All, Contains, nat_le, ◌&&◌}
-use Rattle.std.specs.List.{flat_map, AllPairs}
-use Rattle.mc_facts_form.specs.Words.{Word, Tokens}
+use Rattle.std.specs.Prelude.{zero, suc, ℕ, List, [], ◌∷◌, ◌++◌, codes}
+use Rattle.std.specs.List.{flat_map}
+use Rattle.mc_facts_form.specs.Words.{Word}
 use Rattle.mc_facts_form.specs.declared.form.FactsModule.{FactsModule}
 use Rattle.mc_facts_form.specs.declared.form.Predicate.{Predicate}
 use Rattle.mc_facts_form.specs.declared.form.Fact.{Fact}
 use Rattle.mc_facts_form.specs.declared.form.Goal.{Goal}
 use Rattle.mc_tokens.specs.declared.token.Kind.{Kind}
-use Rattle.mc_tokens.specs.declared.token.Kind.TheVariants.{Name, Var, OpenCt, Close, Comma, End, Eof}
+use Rattle.mc_tokens.specs.declared.token.Kind.TheVariants.{Name, Var, OpenCt, Close, Comma, End}
 
 -- a name's word
 abbrev pub named : List ℕ → Word

@@ -1,8 +1,8 @@
 -- The tokens of a text as words: kinds with their bytes.
-use Rattle.std.specs.Prelude.{◌≡◌, ℕ, zero, suc, ◌+◌, ◌-◌, Bool, true, false, cond, List, [], ◌∷◌, length, slice_range}
+use Rattle.std.specs.Prelude.{◌≡◌, ℕ, zero, suc, ◌-◌, Bool, true, false, cond, List, [], ◌∷◌, length, slice_range}
 use Rattle.mc_tokens.specs.Tokens.{Lexed, Tok, Fault, lexed}
 use Rattle.mc_tokens.specs.declared.token.Kind.{Kind}
-use Rattle.mc_tokens.specs.declared.token.Kind.TheVariants.{Name, Quoted, Var, Int, Str, Open, OpenCt, Close, ListOpen, ListClose, Bar, Comma, Dot, End, Eof}
+use Rattle.mc_tokens.specs.declared.token.Kind.TheVariants.{Eof}
 
 -- a token without its place (this project's profile)
 abbrev pub Word : Type 0

@@ -211,9 +211,7 @@ fn has<'a>(set: &HashSet<(&'a [u8], u32)>, name: &'a [u8], arguments: u32) -> bo
 fn have_facts<'a>(predicates: &'a [Predicate], facts: &HashSet<(&'a [u8], u32)>) -> bool
     ensures { result ≡ list_all (λ p. has_signature facts.now (signature p)) predicates.now }
 {
-    predicates
-        .iter()
-        .all(|predicate| has(facts, predicate.name.bytes(), predicate.arguments))
+    predicates.iter().all(|predicate| has(facts, predicate.name.bytes(), predicate.arguments))
 }
 
 // Whether a fact's signature and constants are in the sets.

@@ -10,3 +10,6 @@ mod text;
 
 pub use form::{Fact, FactsModule, FormFault, Goal, NotOfForm, Predicate};
 pub use text::{TEXT_LIMIT, facts_of, goal_of};
+
+#[cfg(test)]
+mod tests;

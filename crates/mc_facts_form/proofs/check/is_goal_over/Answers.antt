@@ -1,7 +1,7 @@
 use Rattle.std.proofs.Common.{◌≡◌, true, refl}
 use Rattle.std.specs.List.{list_all}
 use Rattle.mc_facts_form.specs.Module.{begins_between}
-use Rattle.mc_facts_form.proofs.Tests.{goal_from, letters_to, calls_to}
+use Rattle.mc_facts_form.proofs.Decided.{goal_from, letters_to, calls_to}
 use Rattle.mc_facts_form.proofs.check.is_goal_over.Goals as goal
 
 pub returns-then-not-are_letter_variables : goal.returns-then-not-are_letter_variables

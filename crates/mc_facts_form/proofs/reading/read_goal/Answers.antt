@@ -1,4 +1,4 @@
-use Rattle.std.proofs.Common.{◌≡◌, [], ◌∷◌, ◌++◌, ◌∙◌, refl}
+use Rattle.std.proofs.Common.{[], ◌∷◌, refl}
 use Rattle.mc_tokens.specs.declared.token.Kind.TheVariants.{Var, Eof}
 use Rattle.mc_facts_form.specs.Words.{left}
 use Rattle.mc_facts_form.specs.Reading.{NoGoal}

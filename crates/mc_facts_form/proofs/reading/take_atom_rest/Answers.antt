@@ -1,4 +1,4 @@
-use Rattle.std.proofs.Common.{◌≡◌, ◌∷◌, ◌++◌, ◌∙◌, sym, arith, inl, inr}
+use Rattle.std.proofs.Common.{◌∙◌}
 use Rattle.mc_facts_form.specs.Reading.{NoAtomRest}
 use Rattle.mc_facts_form.proofs.Parts.{after_names, refused}
 use Rattle.mc_facts_form.proofs.reading.take_atom_rest.Goals as goal

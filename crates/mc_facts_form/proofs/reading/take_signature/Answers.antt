@@ -1,4 +1,4 @@
-use Rattle.std.proofs.Common.{◌≡◌, ◌∷◌, ◌++◌, ◌∙◌, codes}
+use Rattle.std.proofs.Common.{◌∷◌, codes}
 use Rattle.mc_facts_form.specs.Form.{named, full_stop}
 use Rattle.mc_facts_form.specs.Reading.{NoSignature}
 use Rattle.mc_facts_form.proofs.Parts.{after_arguments, refused}

@@ -1,4 +1,4 @@
-use Rattle.std.proofs.Common.{◌≡◌, ◌<◌, true, false, List, ◌∙◌, sym, subst, arith, All, refl}
+use Rattle.std.proofs.Common.{◌≡◌, true, false, ◌∙◌, sym, subst, arith}
 use Rattle.mc_tokens.specs.declared.token.Kind.TheVariants.{Eof}
 use Rattle.mc_facts_form.specs.declared.form.FactsModule.{FactsModule}
 use Rattle.mc_facts_form.specs.Words.{left}
@@ -12,8 +12,8 @@ use Rattle.mc_facts_form.proofs.text.facts_of.Goals as goal
 pub returns-in_err-facts-clause-err : goal.returns-in_err-facts-clause-err
 returns-in_err-facts-clause-err c =
     carried {P = NoModule (left c.args.bytes.now 0 Eof)} {Q = (m : FactsModule) → IsFactsFile c.args.bytes.now m → ⊥}
-      c.in_err-facts.field-0.0 _ c.from_residual.ensures.1 (c.in_err-facts.ensures {u = tt}).err
-      (λ none m k. let r = left-from_Tokens k.tokens in none m r.0 r.1)
+    c.in_err-facts.field-0.0 _ c.from_residual.ensures.1 (c.in_err-facts.ensures {u = tt}).err
+    (λ none m k. let r = left-from_Tokens k.tokens in none m r.0 r.1)
 
 pub returns-then-not-branch-clause-err : goal.returns-then-not-branch-clause-err
 returns-then-not-branch-clause-err c = λ m k.
@@ -31,4 +31,5 @@ returns-clause-ok c =
       short = omega arith;
       ascii = c.is_ascii.ensures.0 c.if-not-is_ascii.false;
       tokens = Tokens-from_left c.args.bytes.now 0 Eof (spelled c.in_ok-facts.facts) read.0 read.1;
-      good = (c.in_ok-is_module.ensures {u = tt}).0 c.if-not-branch.false }
+      good = (c.in_ok-is_module.ensures {u = tt}).0 c.if-not-branch.false;
+    }

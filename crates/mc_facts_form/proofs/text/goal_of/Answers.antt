@@ -1,4 +1,4 @@
-use Rattle.std.proofs.Common.{◌≡◌, ◌<◌, true, false, List, ◌∙◌, sym, subst, arith, All, refl}
+use Rattle.std.proofs.Common.{◌≡◌, true, false, ◌∙◌, sym, subst, arith}
 use Rattle.mc_tokens.specs.declared.token.Kind.TheVariants.{Eof}
 use Rattle.mc_facts_form.specs.declared.form.Goal.{Goal}
 use Rattle.mc_facts_form.specs.Words.{left}
@@ -12,8 +12,8 @@ use Rattle.mc_facts_form.proofs.text.goal_of.Goals as goal
 pub returns-in_err-goal-clause-err : goal.returns-in_err-goal-clause-err
 returns-in_err-goal-clause-err c =
     carried {P = NoGoal (left c.args.text.now 0 Eof)} {Q = (g : Goal) → IsFactsGoal c.args.text.now c.args.facts.now g → ⊥}
-      c.in_err-goal.field-0.0 _ c.from_residual.ensures.1 (c.in_err-goal.ensures {u = tt}).err
-      (λ none g k. let r = left-from_Tokens k.tokens in none g r.0 r.1)
+    c.in_err-goal.field-0.0 _ c.from_residual.ensures.1 (c.in_err-goal.ensures {u = tt}).err
+    (λ none g k. let r = left-from_Tokens k.tokens in none g r.0 r.1)
 
 pub returns-then-not-branch-clause-err : goal.returns-then-not-branch-clause-err
 returns-then-not-branch-clause-err c = λ g k.
@@ -30,4 +30,5 @@ returns-clause-ok c =
     record {
       short = omega arith;
       tokens = Tokens-from_left c.args.text.now 0 Eof (goal_words c.in_ok-goal.goal) read.0 read.1;
-      good = (c.in_ok-is_goal_over.ensures {u = tt}).0 c.if-not-branch.false }
+      good = (c.in_ok-is_goal_over.ensures {u = tt}).0 c.if-not-branch.false;
+    }

@@ -1,5 +1,4 @@
-use Rattle.std.proofs.Common.{arith, ◌∙◌, sym, ap, refl, rules}
-use Rattle.std.proofs.lemmas.Grind.{common_steps}
+use Rattle.std.proofs.Common.{arith, sym}
 use Rattle.mc_facts_form.proofs.Left.{left-token, left-fault}
 use Rattle.mc_facts_form.proofs.cursor.Cursor.next.Goals as goal
 

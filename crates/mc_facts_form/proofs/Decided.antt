@@ -1,7 +1,6 @@
 -- The tests of a module and of a goal decide whether they are of the form.
-use Rattle.std.proofs.Common.{◌≡◌, ◌≢◌, ℕ, ◌+◌, ◌<◌, ◌≤◌, Bool, true, false, cond, not, ◌&&◌, ◌||◌, nat_le, nat_lt, List, [], ◌∷◌, length, map, get_or, slice_index, All, Contains, AllPairs, bytes_eq, refl, sym, ap, ◌∙◌, subst, arith}
+use Rattle.std.proofs.Common.{◌≡◌, ◌≢◌, ℕ, Bool, true, false, not, ◌&&◌, ◌||◌, nat_le, nat_lt, List, [], ◌∷◌, length, map, get_or, slice_index, All, Contains, AllPairs, bytes_eq, refl, sym, ap, ◌∙◌}
 use Rattle.std.specs.List.{list_any, list_all}
-use Rattle.std.specs.Cmp.{IsEquivalence}
 use Rattle.std.specs.Cmp.Lexicographic.{nat_list_eq_equiv}
 use Rattle.std.proofs.lemmas.List.Sums.{AllPass-from_list_all, list_all-from_AllPass}
 use Rattle.std.proofs.lemmas.Map.Views.{Contains-from_any, list_any-from_Contains}
@@ -61,20 +60,22 @@ ordinary_from name e =
       low = leb-true 97 (slice_index name 0) (left_of_and (nat_le 97 (slice_index name 0)) (nat_le (slice_index name 0) 122) letter);
       high = leb-true (slice_index name 0) 122 (right_of_and (nat_le 97 (slice_index name 0)) (nat_le (slice_index name 0) 122) letter);
       no_operator = λ h. not_true (list_any (bytes_eq name) operators) (left_of_and (not (list_any (bytes_eq name) operators)) (not (list_any (bytes_eq name) own_names)) free) (among_names name operators h);
-      no_own_name = λ h. not_true (list_any (bytes_eq name) own_names) (right_of_and (not (list_any (bytes_eq name) operators)) (not (list_any (bytes_eq name) own_names)) free) (among_names name own_names h) }
+      no_own_name = λ h. not_true (list_any (bytes_eq name) own_names) (right_of_and (not (list_any (bytes_eq name) operators)) (not (list_any (bytes_eq name) own_names)) free) (among_names name own_names h);
+    }
 
 ordinary_to : (name : List ℕ) → IsOrdinary name → M.is_ordinary name ≡ true
 ordinary_to name o =
     both_of (M.begins_between 97 122 name) (not (list_any (bytes_eq name) operators) && not (list_any (bytes_eq name) own_names))
-      (both_of (nat_le 97 (slice_index name 0)) (nat_le (slice_index name 0) 122) (le-leb 97 (slice_index name 0) o.low) (le-leb (slice_index name 0) 122 o.high))
-      (both_of (not (list_any (bytes_eq name) operators)) (not (list_any (bytes_eq name) own_names))
-        (not_from (list_any (bytes_eq name) operators) (λ k. o.no_operator (name_among name operators k)))
-        (not_from (list_any (bytes_eq name) own_names) (λ k. o.no_own_name (name_among name own_names k))))
+    (both_of (nat_le 97 (slice_index name 0)) (nat_le (slice_index name 0) 122) (le-leb 97 (slice_index name 0) o.low) (le-leb (slice_index name 0) 122 o.high))
+    (both_of (not (list_any (bytes_eq name) operators)) (not (list_any (bytes_eq name) own_names))
+    (not_from (list_any (bytes_eq name) operators) (λ k. o.no_operator (name_among name operators k)))
+    (not_from (list_any (bytes_eq name) own_names) (λ k. o.no_own_name (name_among name own_names k))))
 
 constant_from : (name : List ℕ) → M.is_constant name ≡ true → IsConstant name
 constant_from name e = record {
-    ordinary = ordinary_from name (right_of_and (nat_le 2 (length name)) (M.is_ordinary name) e);
-    two_bytes = leb-true 2 (length name) (left_of_and (nat_le 2 (length name)) (M.is_ordinary name) e) }
+  ordinary = ordinary_from name (right_of_and (nat_le 2 (length name)) (M.is_ordinary name) e);
+  two_bytes = leb-true 2 (length name) (left_of_and (nat_le 2 (length name)) (M.is_ordinary name) e);
+}
 
 constant_to : (name : List ℕ) → IsConstant name → M.is_constant name ≡ true
 constant_to name k = both_of (nat_le 2 (length name)) (M.is_ordinary name) (le-leb 2 (length name) k.two_bytes) (ordinary_to name k.ordinary)
@@ -85,12 +86,13 @@ predicate_from p e =
     record {
       ordinary = ordinary_from p.name (right_of_and (nat_le 1 p.arguments && nat_le p.arguments 255) (M.is_ordinary p.name) e);
       some_argument = leb-true 1 p.arguments (left_of_and (nat_le 1 p.arguments) (nat_le p.arguments 255) number);
-      few_arguments = leb-true p.arguments 255 (right_of_and (nat_le 1 p.arguments) (nat_le p.arguments 255) number) }
+      few_arguments = leb-true p.arguments 255 (right_of_and (nat_le 1 p.arguments) (nat_le p.arguments 255) number);
+    }
 
 predicate_to : (p : Predicate) → IsPredicate p → M.is_predicate p ≡ true
 predicate_to p k =
     both_of (nat_le 1 p.arguments && nat_le p.arguments 255) (M.is_ordinary p.name)
-      (both_of (nat_le 1 p.arguments) (nat_le p.arguments 255) (le-leb 1 p.arguments k.some_argument) (le-leb p.arguments 255 k.few_arguments)) (ordinary_to p.name k.ordinary)
+    (both_of (nat_le 1 p.arguments) (nat_le p.arguments 255) (le-leb 1 p.arguments k.some_argument) (le-leb p.arguments 255 k.few_arguments)) (ordinary_to p.name k.ordinary)
 
 module _ (m : FactsModule) (constants : List ℕ → Bool) (declared used : Signature → Bool)
     (has_constants : (q : List ℕ) → constants q ≡ list_any (bytes_eq q) m.constants)
@@ -98,8 +100,9 @@ module _ (m : FactsModule) (constants : List ℕ → Bool) (declared used : Sign
     (has_used : (q : Signature) → used q ≡ list_any (same_signature q) (map fact_signature m.facts)) where
   fact_from : (f : Fact) → M.is_declared declared constants f ≡ true → IsFactOf m f
   fact_from f e = record {
-      declared = signature_among (fact_signature f) (map signature m.predicates) (sym (has_declared (fact_signature f)) ∙ left_of_and (declared (fact_signature f)) (list_all constants f.constants) e);
-      constants = all_from constants (Contains m.constants) (λ q k. name_among q m.constants (sym (has_constants q) ∙ k)) f.constants (right_of_and (declared (fact_signature f)) (list_all constants f.constants) e) }
+    declared = signature_among (fact_signature f) (map signature m.predicates) (sym (has_declared (fact_signature f)) ∙ left_of_and (declared (fact_signature f)) (list_all constants f.constants) e);
+    constants = all_from constants (Contains m.constants) (λ q k. name_among q m.constants (sym (has_constants q) ∙ k)) f.constants (right_of_and (declared (fact_signature f)) (list_all constants f.constants) e);
+  }
 
   fact_to : (f : Fact) → IsFactOf m f → M.is_declared declared constants f ≡ true
   fact_to f k = both_of (declared (fact_signature f)) (list_all constants f.constants)
@@ -131,24 +134,26 @@ module _ (m : FactsModule) (constants : List ℕ → Bool) (declared used : Sign
         each_has_fact = all_from (λ p. used (signature p)) (λ p. Contains (map fact_signature m.facts) (signature p)) (λ p k. signature_among (signature p) (map fact_signature m.facts) (sym (has_used (signature p)) ∙ k)) m.predicates preds;
         some_constant = ltb-true 0 (length m.constants) (left_of_and (nat_lt 0 (length m.constants)) (nat_lt 0 (length m.predicates) && nat_lt 0 (length m.facts)) parts);
         some_predicate = ltb-true 0 (length m.predicates) (left_of_and (nat_lt 0 (length m.predicates)) (nat_lt 0 (length m.facts)) p0);
-        some_fact = ltb-true 0 (length m.facts) (right_of_and (nat_lt 0 (length m.predicates)) (nat_lt 0 (length m.facts)) p0) }
+        some_fact = ltb-true 0 (length m.facts) (right_of_and (nat_lt 0 (length m.predicates)) (nat_lt 0 (length m.facts)) p0);
+      }
 
 pub names_to : (m : FactsModule) → IsModule m → M.are_good_names m ≡ true
 names_to m k =
     both_of (M.is_ordinary m.name) (not (list_any (bytes_eq m.name) libraries) && (M.is_ordinary m.type_name && (list_all M.is_constant m.constants && list_all M.is_predicate m.predicates))) (ordinary_to m.name k.module_name)
-      (both_of (not (list_any (bytes_eq m.name) libraries)) (M.is_ordinary m.type_name && (list_all M.is_constant m.constants && list_all M.is_predicate m.predicates)) (not_from (list_any (bytes_eq m.name) libraries) (λ h. k.no_library (name_among m.name libraries h)))
-        (both_of (M.is_ordinary m.type_name) (list_all M.is_constant m.constants && list_all M.is_predicate m.predicates) (ordinary_to m.type_name k.type_name)
-          (both_of (list_all M.is_constant m.constants) (list_all M.is_predicate m.predicates) (all_to M.is_constant IsConstant constant_to m.constants k.constants) (all_to M.is_predicate IsPredicate predicate_to m.predicates k.predicates))))
+    (both_of (not (list_any (bytes_eq m.name) libraries)) (M.is_ordinary m.type_name && (list_all M.is_constant m.constants && list_all M.is_predicate m.predicates)) (not_from (list_any (bytes_eq m.name) libraries) (λ h. k.no_library (name_among m.name libraries h)))
+    (both_of (M.is_ordinary m.type_name) (list_all M.is_constant m.constants && list_all M.is_predicate m.predicates) (ordinary_to m.type_name k.type_name)
+    (both_of (list_all M.is_constant m.constants) (list_all M.is_predicate m.predicates) (all_to M.is_constant IsConstant constant_to m.constants k.constants) (all_to M.is_predicate IsPredicate predicate_to m.predicates k.predicates))))
 
 pub parts_to : (m : FactsModule) → IsModule m → M.has_parts m ≡ true
 parts_to m k =
     both_of (nat_lt 0 (length m.constants)) (nat_lt 0 (length m.predicates) && nat_lt 0 (length m.facts)) (lt-ltb 0 (length m.constants) k.some_constant)
-      (both_of (nat_lt 0 (length m.predicates)) (nat_lt 0 (length m.facts)) (lt-ltb 0 (length m.predicates) k.some_predicate) (lt-ltb 0 (length m.facts) k.some_fact))
+    (both_of (nat_lt 0 (length m.predicates)) (nat_lt 0 (length m.facts)) (lt-ltb 0 (length m.predicates) k.some_predicate) (lt-ltb 0 (length m.facts) k.some_fact))
 
 letter_from : (name : List ℕ) → M.begins_between 65 90 name ≡ true → IsLetterVariable name
 letter_from name e = record {
-    low = leb-true 65 (slice_index name 0) (left_of_and (nat_le 65 (slice_index name 0)) (nat_le (slice_index name 0) 90) e);
-    high = leb-true (slice_index name 0) 90 (right_of_and (nat_le 65 (slice_index name 0)) (nat_le (slice_index name 0) 90) e) }
+  low = leb-true 65 (slice_index name 0) (left_of_and (nat_le 65 (slice_index name 0)) (nat_le (slice_index name 0) 90) e);
+  high = leb-true (slice_index name 0) 90 (right_of_and (nat_le 65 (slice_index name 0)) (nat_le (slice_index name 0) 90) e);
+}
 
 letter_to : (name : List ℕ) → IsLetterVariable name → M.begins_between 65 90 name ≡ true
 letter_to name k = both_of (nat_le 65 (slice_index name 0)) (nat_le (slice_index name 0) 90) (le-leb 65 (slice_index name 0) k.low) (le-leb (slice_index name 0) 90 k.high)
@@ -163,9 +168,10 @@ calls_of m g = any_map (same_signature (goal_signature g)) m.predicates
 pub goal_from : (m : FactsModule) (g : Goal) → list_all (M.begins_between 65 90) g.variables ≡ true → list_any (λ p. same_signature (goal_signature g) (signature p)) m.predicates ≡ true →
     AllPairs (λ a b. a ≢ b) g.variables → IsGoalOver m g
 goal_from m g letters calls apart = record {
-    declared = signature_among (goal_signature g) (map signature m.predicates) (sym (calls_of m g) ∙ calls);
-    variables = all_from (M.begins_between 65 90) IsLetterVariable letter_from g.variables letters;
-    variables_distinct = apart }
+  declared = signature_among (goal_signature g) (map signature m.predicates) (sym (calls_of m g) ∙ calls);
+  variables = all_from (M.begins_between 65 90) IsLetterVariable letter_from g.variables letters;
+  variables_distinct = apart;
+}
 
 pub letters_to : (m : FactsModule) (g : Goal) → IsGoalOver m g → list_all (M.begins_between 65 90) g.variables ≡ true
 letters_to m g k = all_to (M.begins_between 65 90) IsLetterVariable letter_to g.variables k.variables
