@@ -1,0 +1,4 @@
+pub mod Words
+pub mod Form
+pub mod Reading
+pub mod Module
