@@ -10,6 +10,7 @@ use Rattle.mc_facts_form.specs.declared.form.Predicate.{Predicate}
 use Rattle.mc_facts_form.specs.declared.form.Fact.{Fact}
 use Rattle.mc_facts_form.specs.declared.form.Goal.{Goal}
 use Rattle.mc_facts_form.specs.Module as M
+use Rattle.mc_model.specs.Printed.{is_bare}
 use Rattle.mc_facts_form.specs.Module.{IsOrdinary, IsConstant, IsPredicate, IsFactOf, IsModule, IsLetterVariable, IsGoalOver, Signature, signature, fact_signature, goal_signature, same_signature, operators, own_names, libraries}
 use Rattle.mc_facts_form.proofs.Sets.{bytes_exact, signature_exact, signature_laws}
 
@@ -54,19 +55,17 @@ among_signatures q s h = list_any-from_Contains signature_laws q s h
 
 ordinary_from : (name : List ℕ) → M.is_ordinary name ≡ true → IsOrdinary name
 ordinary_from name e =
-    let letter = left_of_and (M.begins_between 97 122 name) (not (list_any (bytes_eq name) operators) && not (list_any (bytes_eq name) own_names)) e in
-    let free = right_of_and (M.begins_between 97 122 name) (not (list_any (bytes_eq name) operators) && not (list_any (bytes_eq name) own_names)) e in
+    let letter = left_of_and (is_bare name) (not (list_any (bytes_eq name) operators) && not (list_any (bytes_eq name) own_names)) e in
+    let free = right_of_and (is_bare name) (not (list_any (bytes_eq name) operators) && not (list_any (bytes_eq name) own_names)) e in
     record {
-      low = leb-true 97 (slice_index name 0) (left_of_and (nat_le 97 (slice_index name 0)) (nat_le (slice_index name 0) 122) letter);
-      high = leb-true (slice_index name 0) 122 (right_of_and (nat_le 97 (slice_index name 0)) (nat_le (slice_index name 0) 122) letter);
+      letters = letter;
       no_operator = λ h. not_true (list_any (bytes_eq name) operators) (left_of_and (not (list_any (bytes_eq name) operators)) (not (list_any (bytes_eq name) own_names)) free) (among_names name operators h);
       no_own_name = λ h. not_true (list_any (bytes_eq name) own_names) (right_of_and (not (list_any (bytes_eq name) operators)) (not (list_any (bytes_eq name) own_names)) free) (among_names name own_names h);
     }
 
 ordinary_to : (name : List ℕ) → IsOrdinary name → M.is_ordinary name ≡ true
 ordinary_to name o =
-    both_of (M.begins_between 97 122 name) (not (list_any (bytes_eq name) operators) && not (list_any (bytes_eq name) own_names))
-    (both_of (nat_le 97 (slice_index name 0)) (nat_le (slice_index name 0) 122) (le-leb 97 (slice_index name 0) o.low) (le-leb (slice_index name 0) 122 o.high))
+    both_of (is_bare name) (not (list_any (bytes_eq name) operators) && not (list_any (bytes_eq name) own_names)) o.letters
     (both_of (not (list_any (bytes_eq name) operators)) (not (list_any (bytes_eq name) own_names))
     (not_from (list_any (bytes_eq name) operators) (λ k. o.no_operator (name_among name operators k)))
     (not_from (list_any (bytes_eq name) own_names) (λ k. o.no_own_name (name_among name own_names k))))

@@ -1,5 +1,6 @@
 -- When a module of facts, or a goal over one, is of the form.
-use Rattle.std.specs.Prelude.{◌≡◌, ◌≢◌, ℕ, ◌≤◌, ◌<◌, Bool, not, nat_le, nat_lt, ◌&&◌, ◌==◌, List, [], ◌∷◌, map, length, slice_index, codes, All, Contains, bytes_eq}
+use Rattle.std.specs.Prelude.{◌≡◌, ◌≢◌, ℕ, ◌≤◌, ◌<◌, Bool, not, nat_le, nat_lt, ◌&&◌, ◌==◌, List, [], ◌∷◌, map, length, slice_index, codes, All, Contains, bytes_eq, true}
+use Rattle.mc_model.specs.Printed.{is_bare}
 use Rattle.std.specs.List.{AllPairs, list_any, list_all}
 use Rattle.std.specs.Borrow.{Bor}
 use Rattle.std.specs.HashSet as bag
@@ -28,10 +29,9 @@ unfoldable pub libraries : List (List ℕ)
 libraries =
     codes "list" ∷ codes "bool" ∷ codes "maybe" ∷ codes "pair" ∷ codes "int" ∷ codes "string" ∷ codes "char" ∷ codes "io" ∷ codes "require" ∷ []
 
--- the name begins with a letter from a to z, and means nothing else
+-- the name is a letter from a to z and then letters, digits and `_`, and means nothing else
 pub record IsOrdinary (name : List ℕ) : Type 0 where
-  pub low : 97 ≤ slice_index name 0
-  pub high : slice_index name 0 ≤ 122
+  pub letters : is_bare name ≡ true
   pub no_operator : Contains operators name → ⊥
   pub no_own_name : Contains own_names name → ⊥
 
@@ -107,7 +107,7 @@ begins_between low high name = nat_le low (slice_index name 0) && nat_le (slice_
 
 -- whether the name is ordinary
 abbrev pub is_ordinary : List ℕ → Bool
-is_ordinary name = begins_between 97 122 name && (not (list_any (bytes_eq name) operators) && not (list_any (bytes_eq name) own_names))
+is_ordinary name = is_bare name && (not (list_any (bytes_eq name) operators) && not (list_any (bytes_eq name) own_names))
 
 -- whether the name may be a constant's
 abbrev pub is_constant : List ℕ → Bool

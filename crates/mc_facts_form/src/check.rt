@@ -1,6 +1,7 @@
 // The conditions that a module of facts, or a goal, meets beside its words.
 ghost use Rattle.std.specs.Prelude.{◌≡◌, ◌≢◌, ℕ, List, ◌↔◌, ◌||◌, ◌&&◌, IsTrue, IfOk, IfSome, IfNone, Contains, All, map, length, ◌<◌, ◌≤◌, bytes_eq, not};
 ghost use Rattle.std.specs.List.{AllPairs, list_all, list_any};
+ghost use Rattle.mc_model.specs.Printed.{is_bare, is_word_byte};
 ghost use Rattle.mc_facts_form.specs.Module.{operators, own_names, libraries, begins_between, is_ordinary, is_constant, is_predicate, is_declared, are_good_names, has_parts, IsModule, IsGoalOver, Signature, signature, fact_signature, goal_signature, same_signature, has_name, has_signature, HasNames, HasSignatures};
 
 use crate::form::{Fact, FactsModule, Goal, Predicate};
@@ -88,7 +89,29 @@ fn is_ordinary(name: &Text) -> bool
     ensures { result ≡ is_ordinary name.now }
 {
     let bytes = name.bytes();
-    begins_between(bytes, b'a', b'z') && !is_operator(bytes) && !is_own_name(bytes)
+    is_bare(bytes) && !is_operator(bytes) && !is_own_name(bytes)
+}
+
+/// Whether a name is a letter from a to z and then letters, digits and `_`.
+fn is_bare(name: &[u8]) -> bool
+    ensures { result ≡ is_bare name.now }
+{
+    match name {
+        [] => false,
+        [first, rest @ ..] => first.is_ascii_lowercase() && are_word_bytes(rest),
+    }
+}
+
+fn are_word_bytes(bytes: &[u8]) -> bool
+    ensures { result ≡ list_all is_word_byte bytes.now }
+{
+    bytes.iter().all(|byte| is_word_byte(*byte))
+}
+
+fn is_word_byte(byte: u8) -> bool
+    ensures { result ≡ is_word_byte byte }
+{
+    byte.is_ascii_alphanumeric() || byte == b'_'
 }
 
 fn is_constant(name: &Text) -> bool

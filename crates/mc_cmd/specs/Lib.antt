@@ -1,0 +1,4 @@
+pub mod Codes
+pub mod Outcome
+pub mod Program
+pub mod Words

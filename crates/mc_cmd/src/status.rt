@@ -1,0 +1,38 @@
+ghost use Rattle.std.specs.Prelude.{◌≡◌};
+ghost use Rattle.mc_cmd.specs.Codes.{code_of};
+
+/// How a call of the command ended.
+#[derive(Clone, Copy, Debug, PartialEq, Eq)]
+pub enum Status {
+    Done,
+    Rejected,
+    Usage,
+    Threw,
+    Budget,
+    TooDeep,
+    ReadFault,
+    WriteFault,
+    Memory,
+    Absent,
+    /// What was asked is not built yet. This answer goes when every program runs.
+    NotBuilt,
+}
+
+/// The program's exit status.
+pub fn status_code(s: Status) -> u8
+    ensures { result ≡ code_of s }
+{
+    match s {
+        Status::Done => 0,
+        Status::Rejected => 1,
+        Status::Usage => 2,
+        Status::Threw => 3,
+        Status::Budget => 4,
+        Status::TooDeep => 5,
+        Status::ReadFault => 6,
+        Status::WriteFault => 7,
+        Status::Memory => 8,
+        Status::Absent => 9,
+        Status::NotBuilt => 10,
+    }
+}
