@@ -3,9 +3,8 @@
 
 ghost use Rattle.std.specs.Prelude.{◌+◌, ◌≤◌, length};
 
-use std::io::{self, Read};
-
 use mc_tokens::{Kind, Walk};
+use std::io::{self, Read};
 
 // How many tokens and faults a walk met.
 struct Counts {
