@@ -134,3 +134,205 @@ fn statuses_have_their_codes(rt: HostRuntime) {
     assert!(rt; status_code(Status::Absent) == 9);
     assert!(rt; status_code(Status::NotBuilt) == 10);
 }
+
+#[test]
+fn each_failing_call_is_told(rt: HostRuntime) -> Result<(), Fail> {
+    let alloc = rt.alloc();
+    let query = ["query", "parent(X, Y)", "family.m"];
+    // Each of the four puts on the output in turn.
+    for (number, written) in [(1, 0), (2, 18), (3, 36), (4, 54)] {
+        let out = [number];
+        let failing = Failing { out: &out, ..NONE };
+        let cut = call(&rt, alloc, &query, "family.m", FAMILY, &failing)?;
+        let (front, _) = LINES.split_at(written);
+        check(&rt, &cut, Status::WriteFault, front, b"");
+    }
+    // The one put on the error output.
+    let failing = Failing { err: &[1], ..NONE };
+    let absent = call(&rt, alloc, &query, "", b"", &failing)?;
+    check(&rt, &absent, Status::WriteFault, b"", b"");
+    let words = call(
+        &rt,
+        alloc,
+        &["run", "family.m"],
+        "family.m",
+        FAMILY,
+        &failing,
+    )?;
+    check(&rt, &words, Status::WriteFault, b"", b"");
+    Ok(())
+}
+
+#[test]
+fn other_words_are_not_built(rt: HostRuntime) -> Result<(), Fail> {
+    let alloc = rt.alloc();
+    let lists: [&[&str]; 7] = [
+        &[],
+        &["query"],
+        &["query", "parent(X, Y)"],
+        &["check", "parent(X, Y)", "family.m"],
+        &["query", "-parent(X, Y)", "family.m"],
+        &["query", "parent(X, Y)", "-family.m"],
+        &["query", "parent(X, Y)", "family.m", "family.m"],
+    ];
+    for list in lists {
+        let answered = call(&rt, alloc, list, "family.m", FAMILY, &NONE)?;
+        check(
+            &rt,
+            &answered,
+            Status::NotBuilt,
+            b"",
+            b"merc: not built yet\n",
+        );
+    }
+    Ok(())
+}
+
+/// The module of the family with one piece of its text in the place of another.
+fn changed(alloc: Global, old: &str, new: &str) -> Result<String, AllocError> {
+    let text =
+        ":- module family.\n:- interface.\n:- type person ---> ann ; bob ; cid.\n:- pred parent(person::out, person::out) is nondet.\n:- implementation.\nparent(ann, bob).\nparent(ann, cid).\nparent(bob, cid).\nparent(ann, bob).\n";
+    text.replacen(alloc, old, new, 1)
+}
+
+#[test]
+fn each_condition_of_the_form_counts(rt: HostRuntime) -> Result<(), Fail> {
+    let alloc = rt.alloc();
+    let query = ["query", "parent(X, Y)", "family.m"];
+    for (old, new) in [
+        (":- module family.", ":- module list."),
+        (":- module family.", ":- module 'family'."),
+        (":- module family.", ":- module is."),
+        (":- module family.\n", ""),
+        (":- interface.\n", ""),
+        (":- implementation.\n", ""),
+        ("type person ---> ann", "type int ---> ann"),
+        ("---> ann ;", "---> a ;"),
+        ("---> ann ;", "---> ann ; ann ;"),
+        ("; cid.", "; div."),
+        ("person::out, person", "person::in, person"),
+        ("person::out, person", "human::out, person"),
+        ("is nondet", "is multi"),
+        (
+            "is nondet.",
+            "is nondet.\n:- pred parent(person::out, person::out) is nondet.",
+        ),
+        (
+            "is nondet.",
+            "is nondet.\n:- pred child(person::out) is nondet.",
+        ),
+        ("parent(ann, bob).", "parent(ann, eve)."),
+        ("parent(ann, bob).", "parent(ann)."),
+        ("parent(ann, bob).", "likes(ann, bob)."),
+        ("parent(ann, bob).", "parent(ann, bob)"),
+        ("parent(ann, bob).", "parent (ann, bob)."),
+        ("parent(ann, bob).", "parent(ann, X)."),
+        ("parent(ann, bob).", "parent(ann, bob). % \u{e9}"),
+        ("parent(ann, bob).", "parent(ann, bob). /*"),
+    ] {
+        let source = changed(alloc, old, new)?;
+        let answered = call(&rt, alloc, &query, "family.m", source.as_bytes(), &NONE)?;
+        check(
+            &rt,
+            &answered,
+            Status::NotBuilt,
+            b"",
+            b"merc: not built yet\n",
+        );
+    }
+    for goal in [
+        "parent(X)",
+        "parent(X, X)",
+        "parent(X, ann)",
+        "parent(_, Y)",
+        "parent(_X, Y)",
+        "child(X)",
+        "parent(X, Y), parent(Y, Z)",
+        "parent(X, Y). parent(X, Y)",
+        "parent (X, Y)",
+        "",
+        ".",
+        "parent(X, Y) % ",
+    ] {
+        let answered = call(
+            &rt,
+            alloc,
+            &["query", goal, "family.m"],
+            "family.m",
+            FAMILY,
+            &NONE,
+        )?;
+        check(
+            &rt,
+            &answered,
+            Status::NotBuilt,
+            b"",
+            b"merc: not built yet\n",
+        );
+    }
+    Ok(())
+}
+
+#[test]
+fn comments_and_blanks_are_passed_over(rt: HostRuntime) -> Result<(), Fail> {
+    let alloc = rt.alloc();
+    let source = changed(
+        alloc,
+        "parent(ann, bob).",
+        "/* a * b **/ parent( % here\n\tann ,\n bob\x0c) .",
+    )?;
+    for goal in [
+        "parent(X, Y)",
+        "parent(X, Y).",
+        "parent(X, Y) .\n \t",
+        " /* . */ parent(X,Y)",
+        "parent(X, % .\n Y)",
+    ] {
+        let answered = call(
+            &rt,
+            alloc,
+            &["query", goal, "family.m"],
+            "family.m",
+            source.as_bytes(),
+            &NONE,
+        )?;
+        check(&rt, &answered, Status::Done, LINES, b"");
+    }
+    Ok(())
+}
+
+/// A module of one predicate whose text has this many bytes: facts, and blanks at its end.
+fn long_source(alloc: Global, length: usize) -> Result<Vec<u8>, AllocError> {
+    let mut source =
+        b":- module long.\n:- interface.\n:- type t ---> aa.\n:- pred p(t::out) is nondet.\n:- implementation.\n".to_vec(
+            alloc,
+        )?;
+    for _ in 0..400_000 {
+        source.extend_from_slice(b"p(aa).\n")?;
+    }
+    for _ in source.len()..length {
+        source.push(b' ')?;
+    }
+    Ok(source)
+}
+
+#[test]
+fn the_longest_file_is_answered(rt: HostRuntime) -> Result<(), Fail> {
+    let alloc = rt.alloc();
+    let query = ["query", "p(X)", "long.m"];
+    let longest = long_source(alloc, 4_194_304)?;
+    assert!(rt; longest.len() == 4_194_304);
+    let answered = call(&rt, alloc, &query, "long.m", longest.as_slice(), &NONE)?;
+    assert!(rt; answered.status == Status::Done);
+    assert!(rt; answered.out.len() == 400_000 * 8);
+    let longer = long_source(alloc, 4_194_305)?;
+    let refused = call(&rt, alloc, &query, "long.m", longer.as_slice(), &NONE)?;
+    check(
+        &rt,
+        &refused,
+        Status::NotBuilt,
+        b"",
+        b"merc: not built yet\n",
+    );
+    Ok(())
+}
