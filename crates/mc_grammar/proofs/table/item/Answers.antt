@@ -10,4 +10,3 @@ returns-in_default-29 c = no_row _ _ item_rows _ c.in_default.len_at_least c.in_
 pub returns-in_default-49 : goal.returns-in_default-49
 unfolding item_rows
 returns-in_default-49 c = no_row _ _ item_rows _ c.in_default.len_at_least c.in_default.len_below refl
-
