@@ -281,7 +281,7 @@ call_step c limit stack (L.Path qs l) ps k ts e =
     subst (λ ps. Leads (Start c limit stack (L.Path qs l ∷ L.OpenCt k ∷ ts)) (Start true 1200 (InParts (Arguments ps) l [] c limit ∷ stack) ts)) names (onward here)
 call_step c limit stack _ ps k ts e = cc
 
-chain_is : (k : Chain) (l : ℕ) (ms : List Tree) → made_chain k l ms ≡ chain k l ms
+pub chain_is : (k : Chain) (l : ℕ) (ms : List Tree) → made_chain k l ms ≡ chain k l ms
 chain_is And l ms = refl
 chain_is Or l ms = refl
 
