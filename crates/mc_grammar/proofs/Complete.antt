@@ -118,7 +118,7 @@ reach_below (chained d j h ps) = omega arith
 -- nothing is joined where what follows is above the limit
 stays_at : (c : Bool) (limit : ℕ) (p : Part Tree) (x : Lexeme) (ts : List Lexeme) (j : Joint) → ShutAt j limit → next_at c limit p x ts j ≡ Stay
 stays_at c limit p x ts Nothing h = refl
-stays_at c limit p x ts (Binary n ly ry) h = ap (λ b. cond (b && (leb p.number (operand ly n) && ltb p.reach n)) (Push c (operand ry n) (AtRight (name_of x) n (operand ry n) p.tree c limit) ts) Stay) (lt-leb n limit h)
+stays_at c limit p x ts (Binary n ly ry) h = ap (λ b. cond (b && (leb p.number (operand ly n) && ltb p.reach n)) (Push c (operand ry n) (AtRight (line_of p.tree) (name_of x) n (operand ry n) p.tree c limit) ts) Stay) (lt-leb n limit h)
 stays_at c limit p x ts (Chains k) h = ap (λ b. cond (b && ltb p.number (rank k)) (Push c (rank k - 1) (InParts (Chained k) (line_of p.tree) (p.tree ∷ []) c limit) ts) Stay) (lt-leb (rank k) limit h)
 
 stays : (c : Bool) (limit : ℕ) (p : Part Tree) (r : List Lexeme) → Shut c r limit → next c limit p r ≡ Stay
@@ -238,10 +238,10 @@ joint_bar false = refl
 shut_by : (c : Bool) (x : Lexeme) (us : List Lexeme) (b : ℕ) (j : Joint) → joint c x ≡ j → ShutAt j b → Shut c (x ∷ us) b
 shut_by c x us b j e h = subst (λ j. ShutAt j b) (sym e) h
 
-binary_push : (c : Bool) (limit : ℕ) (p : Part Tree) (x : Lexeme) (us : List Lexeme) (n : ℕ) (ly ry : Bool) → joint c x ≡ Binary n ly ry → n ≤ limit → p.number ≤ operand ly n → p.reach < n → next c limit p (x ∷ us) ≡ Push c (operand ry n) (AtRight (name_of x) n (operand ry n) p.tree c limit) us
+binary_push : (c : Bool) (limit : ℕ) (p : Part Tree) (x : Lexeme) (us : List Lexeme) (n : ℕ) (ly ry : Bool) → joint c x ≡ Binary n ly ry → n ≤ limit → p.number ≤ operand ly n → p.reach < n → next c limit p (x ∷ us) ≡ Push c (operand ry n) (AtRight (line_of p.tree) (name_of x) n (operand ry n) p.tree c limit) us
 binary_push c limit p x us n ly ry e h i j =
     ap (next_at c limit p x us) e
-    ∙ ap (λ b. cond b (Push c (operand ry n) (AtRight (name_of x) n (operand ry n) p.tree c limit) us) Stay) (both_true (le-leb n limit h) (both_true (le-leb p.number (operand ly n) i) (lt-ltb p.reach n j)))
+    ∙ ap (λ b. cond b (Push c (operand ry n) (AtRight (line_of p.tree) (name_of x) n (operand ry n) p.tree c limit) us) Stay) (both_true (le-leb n limit h) (both_true (le-leb p.number (operand ly n) i) (lt-ltb p.reach n j)))
 
 chain_push : (c : Bool) (limit : ℕ) (p : Part Tree) (x : Lexeme) (us : List Lexeme) (k : Chain) → joint c x ≡ Chains k → rank k ≤ limit → p.number < rank k → next c limit p (x ∷ us) ≡ Push c (rank k - 1) (InParts (Chained k) (line_of p.tree) (p.tree ∷ []) c limit) us
 chain_push c limit p x us k e h i =
@@ -326,8 +326,8 @@ mutual
       let left : operand ly n ≤ n = operand_below ly n in
       then (complete d stack (omega arith) (shut_by c x us a.reach (Binary n ly ry) j i))
       (then (push_step c limit stack a (x ∷ us) _ _ _ _ (binary_push c limit a x us n ly ry j h k i))
-      (then (complete f (AtRight (name_of x) n (operand ry n) a.tree c limit ∷ stack) l (shut_below c r b.reach (operand ry n) (omega arith) s))
-      (stay_step c (operand ry n) (AtRight (name_of x) n (operand ry n) a.tree c limit ∷ stack) b r s _ refl)))
+      (then (complete f (AtRight (line_of a.tree) (name_of x) n (operand ry n) a.tree c limit ∷ stack) l (shut_below c r b.reach (operand ry n) (omega arith) s))
+      (stay_step c (operand ry n) (AtRight (line_of a.tree) (name_of x) n (operand ry n) a.tree c limit ∷ stack) b r s _ refl)))
   complete (chained {c = c} {limit = limit} {k = k} {x = x} {ts = ts} {us = us} {r = r} {a = a} {ms = ms} d j i ps) stack h s =
       let low : a.reach ≤ a.number = reach_below d in
       let some : 0 < rank k = rank_positive k in

@@ -41,7 +41,7 @@ pub data Stacked : List Frame → Bool → ℕ → List Lexeme → List Lexeme �
   bottom : {ts : List Lexeme} → Stacked [] false 1200 ts ts
   right : {stack : List Frame} {c : Bool} {limit n : ℕ} {ly ry : Bool} {x : Lexeme} {ts us all : List Lexeme} {a : Part Tree} →
       Stacked stack c limit ts all → Reads c limit ts a (x ∷ us) → joint c x ≡ Binary n ly ry → a.number ≤ operand ly n → a.reach < n → n ≤ limit →
-      Stacked (AtRight (name_of x) n (operand ry n) a.tree c limit ∷ stack) c (operand ry n) us all
+      Stacked (AtRight (line_of a.tree) (name_of x) n (operand ry n) a.tree c limit ∷ stack) c (operand ry n) us all
   operand_ : {stack : List Frame} {c : Bool} {limit n m l : ℕ} {w : List ℕ} {q : Bool} {ts all : List Lexeme} →
       Stacked stack c limit (L.Word w q l ∷ ts) all → role limit w ts ≡ Single n m →
       Stacked (AtOperand l (w ∷ []) n m c limit ∷ stack) c m ts all
@@ -233,7 +233,7 @@ module _ {all : List Lexeme} where
       go Nothing z = rest
       go (Binary n ly ry) z = see (leb n limit && (leb p.number (operand ly n) && ltb p.reach n)) refl
         where
-          see : (b : Bool) → leb n limit && (leb p.number (operand ly n) && ltb p.reach n) ≡ b → Sound all (turn (cond b (Push c (operand ry n) (AtRight (name_of x) n (operand ry n) p.tree c limit) us) Stay) stack (reduce c stack p (x ∷ us)))
+          see : (b : Bool) → leb n limit && (leb p.number (operand ly n) && ltb p.reach n) ≡ b → Sound all (turn (cond b (Push c (operand ry n) (AtRight (line_of p.tree) (name_of x) n (operand ry n) p.tree c limit) us) Stay) stack (reduce c stack p (x ∷ us)))
           see false t = rest
           see true t =
               let two_ : leb p.number (operand ly n) && ltb p.reach n ≡ true = right_true _ _ t in

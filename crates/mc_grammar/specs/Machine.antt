@@ -32,7 +32,7 @@ pub record Making (T R : Type 0) : Type 0 where
 
 -- What waits for a part; each frame ends with the setting outside it.
 pub data Frame (T R : Type 0) : Type 0 where
-  AtRight : (w : List (List ℕ)) (n m : ℕ) (left : T) (c : Bool) (limit : ℕ) → Frame T R
+  AtRight : (l : ℕ) (w : List (List ℕ)) (n m : ℕ) (left : T) (c : Bool) (limit : ℕ) → Frame T R
   AtOperand : (l : ℕ) (w : List (List ℕ)) (n m : ℕ) (c : Bool) (limit : ℕ) → Frame T R
   AtFirst : (l : ℕ) (w : List (List ℕ)) (n : ℕ) (c : Bool) (limit : ℕ) → Frame T R
   AtSecond : (l : ℕ) (w : List (List ℕ)) (n : ℕ) (left : T) (c : Bool) (limit : ℕ) → Frame T R
@@ -109,7 +109,7 @@ module _ {T R : Type 0} (A : Making T R) where
   abbrev pub next_at : Bool → ℕ → Part T → Lexeme → List Lexeme → Joint → Next T R
   next_at c limit p x ts Nothing = Stay
   next_at c limit p x ts (Binary n ly ry) =
-      cond (nat_le n limit && (nat_le p.number (operand ly n) && nat_lt p.reach n)) (Push c (operand ry n) (AtRight (name_of x) n (operand ry n) p.tree c limit) ts) Stay
+      cond (nat_le n limit && (nat_le p.number (operand ly n) && nat_lt p.reach n)) (Push c (operand ry n) (AtRight (A.line p.tree) (name_of x) n (operand ry n) p.tree c limit) ts) Stay
   next_at c limit p x ts (Chains k) =
       cond (nat_le (rank k) limit && nat_lt p.number (rank k)) (Push c (rank k - 1) (InParts (Chained k) (A.line p.tree) (one p.tree) c limit) ts) Stay
 
@@ -158,7 +158,7 @@ module _ {T R : Type 0} (A : Making T R) where
   -- the part ends here
   abbrev pub reduce : Bool → List (Frame T R) → Part T → List Lexeme → State T R
   reduce c [] p ts = finish p ts
-  reduce c (AtRight w n m t d outer ∷ stack) p ts = Done d outer stack (over n m (A.app (A.line t) w (two t p.tree))) ts
+  reduce c (AtRight l w n m t d outer ∷ stack) p ts = Done d outer stack (over n m (A.app l w (two t p.tree))) ts
   reduce c (AtOperand l w n m d outer ∷ stack) p ts = Done d outer stack (over n m (A.app l w (one p.tree))) ts
   reduce c (AtFirst l w n d outer ∷ stack) p ts = at_first c n l p.tree w d outer stack ts
   reduce c (AtSecond l w n t d outer ∷ stack) p ts = Done d outer stack (over n n (A.app l w (two t p.tree))) ts

@@ -31,11 +31,15 @@ kept l n d large =
 unfoldable pub leaf : ℕ → Nd → Seen
 leaf l n = record { value = at n l; depth = 1; large = None }
 
+-- a number that 64 bits don't hold
+unfoldable pub seen_large : ℕ → Seen
+seen_large l = record { value = at (P.Int (pos 0)) l; depth = 1; large = Some l }
+
 unfoldable pub seen_int : ℕ → ℕ → Seen
-seen_int l n = cond (nat_lt n (2 ^ 63)) (leaf l (P.Int (pos n))) (record { value = at (P.Int (pos 0)) l; depth = 1; large = Some l })
+seen_int l n = cond (nat_lt n (2 ^ 63)) (leaf l (P.Int (pos n))) (seen_large l)
 
 unfoldable pub seen_neg : ℕ → ℕ → Seen
-seen_neg l n = cond (nat_le n (2 ^ 63)) (leaf l (P.Int (minus n))) (record { value = at (P.Int (pos 0)) l; depth = 1; large = Some l })
+seen_neg l n = cond (nat_le n (2 ^ 63)) (leaf l (P.Int (minus n))) (seen_large l)
 
 abbrev pub seen_over : ℕ → Nd → SeenRow → Seen
 seen_over l n ts = kept l n (1 + ts.depth) ts.large

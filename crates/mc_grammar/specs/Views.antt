@@ -12,8 +12,8 @@ use Rattle.mc_grammar.specs.declared.lexeme.Lexeme.TheVariants as L
 use Rattle.mc_grammar.specs.declared.joint.Chain.{Chain}
 use Rattle.mc_grammar.specs.declared.joint.Joint.{Joint}
 use Rattle.mc_grammar.specs.declared.joint.Joint.TheVariants as JV
-use Rattle.mc_grammar.specs.declared.frame.Reading.{Reading}
-use Rattle.mc_grammar.specs.declared.frame.Readings.{Readings}
+use Rattle.mc_grammar.specs.declared.reading.Reading.{Reading}
+use Rattle.mc_grammar.specs.declared.reading.Readings.{Readings}
 use Rattle.mc_grammar.specs.declared.frame.Part.{Part}
 use Rattle.mc_grammar.specs.declared.frame.Frame.{Frame}
 use Rattle.mc_grammar.specs.declared.frame.Frame.TheVariants as FV
@@ -39,10 +39,10 @@ abbrev pub StateSeen : Type 0
 StateSeen = M.State Seen SeenRow
 
 abbrev pub frame : Frame → FrameSeen
-frame (FV.Right w n m t s) = M.AtRight w n m (reading t) s.commas s.limit
-frame (FV.Operand l w n m s) = M.AtOperand l w n m s.commas s.limit
-frame (FV.First l w n s) = M.AtFirst l w n s.commas s.limit
-frame (FV.Second l w n t s) = M.AtSecond l w n (reading t) s.commas s.limit
+frame (FV.Right o m t s) = M.AtRight o.line o.name o.number m (reading t) s.commas s.limit
+frame (FV.Operand o m s) = M.AtOperand o.line o.name o.number m s.commas s.limit
+frame (FV.First o s) = M.AtFirst o.line o.name o.number s.commas s.limit
+frame (FV.Second o t s) = M.AtSecond o.line o.name o.number (reading t) s.commas s.limit
 frame (FV.Paren l s) = M.InParen l s.commas s.limit
 frame (FV.Parts k l ts s) = M.InParts k l (readings ts) s.commas s.limit
 frame (FV.Tail l ts s) = M.InTail l (readings ts) s.commas s.limit
@@ -63,7 +63,7 @@ now stack ts NV.No = M.No
 
 -- the state that the machine is in, over these tokens
 abbrev pub state : List Lexeme → Machine → StateSeen
-state tokens m = now (frames m.stack.items) (drop m.at tokens) m.phase
+state tokens m = now (frames m.bench.stack.items) (drop m.bench.at tokens) m.phase
 
 abbrev pub mark_of : List Lexeme → Mark
 mark_of [] = MV.Nothing

@@ -1,29 +1,8 @@
-ghost use Rattle.std.specs.Prelude.{◌≤◌};
-
 use crate::joint::Chain;
+use crate::reading::{Reading, Readings};
 use mc_base::{Row, Text};
-use mc_syntax::Term;
 
-/// What was read of a term: the term, how deep it is, and the line of the first number that 64 bits don't hold.
-/// A depth of 257 stands for every depth above 256, and the term is then a number 0 in its place.
-#[derive(Drop)]
-pub struct Reading {
-    pub term: Term,
-    pub depth: u32,
-    pub too_large: Option<u32>,
-    ghost counted: { depth ≤ 257 },
-}
-
-// Terms in a row, with the depth of the deepest and the line of the first number that 64 bits don't hold.
-#[derive(Drop)]
-pub struct Readings {
-    pub terms: Vec<Term>,
-    pub depth: u32,
-    pub too_large: Option<u32>,
-    ghost counted: { depth ≤ 257 },
-}
-
-// A term with its number, and the number up to which its last operand was read.
+// A term with its number, and the number up to which its last operand was read (0 where it ends in no operand).
 #[derive(Drop)]
 pub struct Part {
     pub reading: Reading,
@@ -38,6 +17,28 @@ pub struct Setting {
     pub limit: u32,
 }
 
+impl Setting {
+    // An argument or an element.
+    pub const ARGUMENT: Setting = Setting {
+        commas: true,
+        limit: 1200,
+    };
+
+    // An item, or the inside of brackets.
+    pub const WHOLE: Setting = Setting {
+        commas: false,
+        limit: 1200,
+    };
+}
+
+// An operator, with the line of its term.
+#[derive(Debug, Drop)]
+pub struct Operator {
+    pub line: u32,
+    pub name: Row<Text>,
+    pub number: u32,
+}
+
 // What a row of parts is for.
 #[derive(Debug, Drop)]
 pub enum Sort {
@@ -47,33 +48,49 @@ pub enum Sort {
     Chained(Chain),
 }
 
-// What waits for a part: a right operand, the operand of a prefix operator, the first or the second of its two
-// operands, the inside of brackets, a further part of a row, or what follows a bar. Each frame ends with the
-// setting outside it, and has the line of the term that it is a part of, but for the first, whose left operand has it.
+// What waits for a part. Each frame ends with the setting outside it.
 #[derive(Drop)]
 pub enum Frame {
-    Right(Row<Text>, u32, u32, Reading, Setting),
-    Operand(u32, Row<Text>, u32, u32, Setting),
-    First(u32, Row<Text>, u32, Setting),
-    Second(u32, Row<Text>, u32, Reading, Setting),
+    // An infix operator with its left operand, for a right one up to a number.
+    Right(Operator, u32, Reading, Setting),
+    // A prefix operator, for its operand up to a number.
+    Operand(Operator, u32, Setting),
+    // A prefix operator of two operands, for the first.
+    First(Operator, Setting),
+    // The same with its first operand, for the second.
+    Second(Operator, Reading, Setting),
+    // A bracket on a line.
     Paren(u32, Setting),
+    // A row of parts with its line and the parts before, for a further one.
     Parts(Sort, u32, Readings, Setting),
+    // A list with its line and its elements, for what follows its bar.
     Tail(u32, Readings, Setting),
 }
 
+// What the reader does next.
 #[derive(Drop)]
 pub enum Now {
+    // A part starts.
     Start(Setting),
+    // A part is read.
     Done(Setting, Part),
+    // The tokens are a term.
     Yes(Part),
+    // They are none.
     No,
+}
+
+// The frames that wait, the top one last, and the place of the next token.
+#[derive(Drop)]
+pub struct Bench {
+    pub stack: Vec<Frame>,
+    pub at: usize,
 }
 
 #[derive(Drop)]
 pub struct Machine {
     pub phase: Now,
-    pub stack: Vec<Frame>,
-    pub at: usize,
+    pub bench: Bench,
 }
 
 // What stands next.

@@ -4,8 +4,10 @@
 mod frame;
 mod joint;
 mod lexeme;
+mod reader;
+mod reading;
 mod table;
 
-pub use frame::Reading;
 pub use lexeme::Lexeme;
+pub use reading::Reading;
 pub use table::{Fix, infix, prefix};
