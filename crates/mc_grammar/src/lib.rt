@@ -6,8 +6,10 @@ mod joint;
 mod lexeme;
 mod reader;
 mod reading;
+mod starting;
 mod table;
 
 pub use lexeme::Lexeme;
 pub use reading::Reading;
+pub use starting::read;
 pub use table::{Fix, infix, prefix};

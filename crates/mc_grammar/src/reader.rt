@@ -480,17 +480,15 @@ pub fn step_done(
             if number <= setting.limit
                 && part.number <= operand(left, number)
                 && part.reach < number => {
-            let operator = Operator {
-                line: part.reading.term.line,
-                name: name_at(alloc, tokens, bench.at)?,
-                number,
-            };
+            let name = name_at(alloc, tokens, bench.at)?;
+            let line = part.reading.line();
+            let operator = Operator { line, name, number };
             let limit = operand(right, number);
             let frame = Frame::Right(operator, limit, part.reading, setting);
             Ok(bench.past().with(frame)?.start(Setting { commas, limit }))
         }
         Joint::Chains(kind) if rank(kind) <= setting.limit && part.number < rank(kind) => {
-            let line = part.reading.term.line;
+            let line = part.reading.line();
             let parts = Readings::none(alloc).then(part.reading)?;
             let frame = Frame::Parts(Sort::Chained(kind), line, parts, setting);
             let limit = rank(kind) - 1;

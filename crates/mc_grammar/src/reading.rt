@@ -160,6 +160,13 @@ impl Reading {
         Ok(Reading::kept(line, node, 1 + parts.depth, parts.too_large))
     }
 
+    // The line of the term.
+    pub fn line(&self) -> u32
+        ensures { result ≡ line_seen (reading self.now).value }
+    {
+        self.term.line
+    }
+
     // A term in brackets, of which the first stands on a line.
     #[tactic(auto, unfolding(crate::specs::Seen::seen_inside))]
     pub fn inside(self, line: u32) -> Reading
