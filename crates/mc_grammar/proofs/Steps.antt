@@ -56,7 +56,7 @@ done_past tokens m s r b p q e i g =
     ∙ ap (λ q. M.Done s.commas s.limit (frames b.stack.items) q (drop (b.at + 1) tokens)) g
 
 -- the tokens behind the first
-after_first : (tokens : List Lexeme) (at : ℕ) (x : Lexeme) (ts : List Lexeme) → drop at tokens ≡ x ∷ ts → drop at tokens ≡ x ∷ drop (at + 1) tokens
+pub after_first : (tokens : List Lexeme) (at : ℕ) (x : Lexeme) (ts : List Lexeme) → drop at tokens ≡ x ∷ ts → drop at tokens ≡ x ∷ drop (at + 1) tokens
 after_first tokens at x ts e = let t : ts ≡ drop (at + 1) tokens = sym (ap (drop 1) e) ∙ drop-drop 1 at tokens in e ∙ ap (λ us. x ∷ us) t
 
 abbrev Begins : Lexeme → List Lexeme → Type 0
