@@ -54,7 +54,7 @@ kept_line : (l : ℕ) (n : Nd) (d : ℕ) (g : Option ℕ) → line_seen (kept l 
 unfolding kept
 kept_line l n d g = go (leb d 256)
   where
-    go : (b : Bool) → line_seen (cond b (record { value = at n l; depth = d; large = g }) (record { value = at (S.Int (pos 0)) l; depth = 257; large = g })).value ≡ l
+    go : (b : Bool) → line_seen (cond {A = Seen} b (record { value = at n l; depth = d; large = g }) (record { value = at (S.Int (pos 0)) l; depth = 257; large = g })).value ≡ l
     go true = refl
     go false = refl
 
