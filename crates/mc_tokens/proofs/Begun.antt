@@ -1,10 +1,10 @@
 -- Tokens by their first bytes.
-use Rattle.std.proofs.Common.{◌≡◌, ℕ, ◌+◌, ◌<◌, ◌≤◌, cond, List, [], ◌∷◌, length, get_or, drop, sym, ap, ◌∙◌, arith}
+use Rattle.std.proofs.Common.{◌≡◌, ℕ, ◌+◌, ◌<◌, cond, List, length, get_or, drop, sym, ap, arith}
 use Rattle.std.specs.Prelude.{nat_eq}
 use Rattle.std.proofs.lemmas.List.{drop_all}
 use Rattle.mc_tokens.specs.declared.token.FaultKind.{FaultKind}
 use Rattle.mc_tokens.specs.Spots.{At, Faulty, Between, layout}
-use Rattle.mc_tokens.specs.Tokens.{Lexed, Tok, Fault, token, begun, first, token_from, lexed}
+use Rattle.mc_tokens.specs.Tokens.{Tok, Fault, token, begun, first, token_from, lexed}
 use Rattle.mc_tokens.specs.declared.token.Kind.{Kind}
 use Rattle.mc_tokens.specs.declared.token.Kind.TheVariants.{Eof}
 use Rattle.mc_tokens.proofs.CharLen.{drop-at}

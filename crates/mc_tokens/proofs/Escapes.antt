@@ -1,13 +1,12 @@
 -- Escapes: the walk through one, and what it says.
-use Rattle.std.proofs.Common.{◌≡◌, ℕ, zero, suc, ◌+◌, ◌-◌, ◌*◌, ◌<◌, ◌≤◌, min, Bool, true, false, cond, not, List, [], ◌∷◌, ◌++◌, length, get_or, drop, refl, sym, ap, ap₂, ◌∙◌, subst, ⊎_elim, Some, None, zero-add, arith, encode_utf8}
+use Rattle.std.proofs.Common.{◌≡◌, ℕ, zero, suc, ◌+◌, ◌-◌, ◌*◌, ◌<◌, ◌≤◌, min, Bool, true, false, cond, not, List, [], ◌∷◌, ◌++◌, length, get_or, drop, refl, sym, ap, ◌∙◌, ⊎_elim, Some, None, zero-add, arith, encode_utf8}
 use Rattle.std.specs.Prelude.{◌==◌, ◌&&◌, ◌||◌, ◌≢◌, nat_lt, Option}
 use lib.Utf8.{scalar, scalar_cases}
-use lib.Dec.{T, ltb→lt}
-use Rattle.std.proofs.lemmas.Bool.{eq-eqb, eqb-true}
+use lib.Dec.{T}
+use Rattle.std.proofs.lemmas.Bool.{eqb-true}
 use Rattle.std.proofs.lemmas.List.{drop_all}
-use Rattle.mc_tokens.specs.Classes.{between, hex_digit, hex_value, is_digit_of}
-use Rattle.mc_tokens.specs.Utf8.{at, char_len}
-use Rattle.mc_tokens.specs.Spots.{Spot, At, Faulty, Go, Stop, Quoting, Plain, Backslash, Digits, Exact, is_simple, unescaped}
+use Rattle.mc_tokens.specs.Classes.{hex_digit, hex_value, is_digit_of}
+use Rattle.mc_tokens.specs.Spots.{Spot, Faulty, Quoting, Plain, Backslash, Digits, Exact, is_simple, unescaped}
 use Rattle.mc_tokens.specs.Contents.{contents, says, escaped}
 use Rattle.std.specs.Prelude.{Result, Ok, Err}
 use Rattle.std.proofs.Math.Nat.{mul-le-mul_left, mul-le-mul_right}
@@ -40,9 +39,9 @@ cut_step zero v d limit = let e : 0 * min v limit ≡ 0 * v = omega arith in ap 
 cut_step (suc k) v d limit =
     ⊎_elim (λ lt. let e : min v limit ≡ v = omega arith in ap (λ w. min (suc k * w + d) limit) e)
     (λ le. let e : min v limit ≡ limit = omega arith in
-     let low : 1 * limit ≤ suc k * limit = mul-le-mul_right limit (omega arith) in
-     let high : suc k * limit ≤ suc k * v = mul-le-mul_left (suc k) le in
-     ap (λ w. min (suc k * w + d) limit) e ∙ above (suc k * limit + d) (suc k * v + d) (omega (arith, low)) (omega (arith, low, high)))
+    let low : 1 * limit ≤ suc k * limit = mul-le-mul_right limit (omega arith) in
+    let high : suc k * limit ≤ suc k * v = mul-le-mul_left (suc k) le in
+    ap (λ w. min (suc k * w + d) limit) e ∙ above (suc k * limit + d) (suc k * v + d) (omega (arith, low)) (omega (arith, low, high)))
     (order v limit)
   where
     above : (m n : ℕ) → limit ≤ m → limit ≤ n → min m limit ≡ min n limit
@@ -54,7 +53,7 @@ either true true h e = refl
 either true false h e = absurd h
 either false b h e = cc
 
-by_bytes : (p q : ℕ → Bool) → T (each_below (λ x. not (p x) || q x) 256) → (x : ℕ) → x < 256 → p x ≡ true → q x ≡ true
+pub by_bytes : (p q : ℕ → Bool) → T (each_below (λ x. not (p x) || q x) 256) → (x : ℕ) → x < 256 → p x ≡ true → q x ≡ true
 by_bytes p q h x l e = either (p x) (q x) (each_below_at (λ y. not (p y) || q y) 256 h x l) e
 
 pub escaped_small : (x : ℕ) → x < 256 → is_simple x ≡ true → nat_lt (escaped x) 128 ≡ true

@@ -1,7 +1,6 @@
 -- Numbers: their forms and their digits.
-use Rattle.std.proofs.Common.{◌≡◌, ℕ, zero, suc, ◌+◌, ◌-◌, ◌*◌, ◌^◌, ◌<◌, ◌≤◌, Bool, true, false, cond, not, List, [], ◌∷◌, ◌++◌, length, get_or, take, drop, refl, sym, ap, ap₂, ◌∙◌, subst, ⊎_elim, add-zero, arith, unwrap_or, lit<, lit≤}
-use Rattle.std.specs.Prelude.{◌==◌, ◌&&◌, ◌≢◌, slice_range, Option, Some, None, is_some, IfSome}
-use Rattle.std.proofs.str.Laws.{order}
+use Rattle.std.proofs.Common.{◌≡◌, ℕ, zero, suc, ◌+◌, ◌-◌, ◌*◌, ◌^◌, ◌<◌, ◌≤◌, Bool, true, false, cond, List, [], ◌∷◌, length, get_or, take, drop, refl, sym, ap, ap₂, ◌∙◌, subst, add-zero, arith, unwrap_or, lit<, lit≤}
+use Rattle.std.specs.Prelude.{◌==◌, ◌&&◌, slice_range, Option, Some, None, is_some, IfSome}
 use Rattle.std.specs.List.{prefix_len}
 use Rattle.std.proofs.lemmas.List.{get_or-drop, drop-drop, length-take, get_or-take, length-drop}
 use Rattle.std.proofs.lemmas.List.Sums.{prefix_len_passes}
@@ -14,7 +13,7 @@ use Rattle.mc_tokens.specs.declared.token.FaultKind.TheVariants.{LeftOut, IntToo
 use Rattle.mc_tokens.specs.declared.token.Kind.TheVariants.{Int}
 use Rattle.mc_tokens.specs.Classes.{hex_value, is_digit_of}
 use Rattle.mc_tokens.specs.Utf8.{at}
-use Rattle.mc_tokens.specs.Tokens.{Lexed, Tok, Fault, form, form_after_zero, starts_character, spelled, number, decimal, based, of_form, digits}
+use Rattle.mc_tokens.specs.Tokens.{Tok, Fault, form, form_after_zero, starts_character, spelled, number, decimal, of_form, digits}
 use Rattle.mc_tokens.specs.declared.begins.Form.TheVariants.{Based, Character, Decimal}
 
 -- the byte in place k of what stands from start on

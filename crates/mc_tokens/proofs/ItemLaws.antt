@@ -1,7 +1,7 @@
 -- An item has one list of tokens, one first fault and one end.
-use Rattle.std.proofs.Common.{◌≡◌, ℕ, ◌+◌, Bool, true, false, List, [], ◌∷◌, refl, sym, ap, ap₂, ◌∙◌, subst}
+use Rattle.std.proofs.Common.{◌≡◌, ℕ, ◌+◌, List, ◌∷◌, refl, sym, ap, ◌∙◌, subst}
 use Rattle.std.specs.Prelude.{slice_range}
-use Rattle.mc_tokens.specs.Tokens.{Lexed, Tok, Fault, lexed}
+use Rattle.mc_tokens.specs.Tokens.{Lexed, Tok, Fault}
 use Rattle.mc_tokens.specs.Items.{Piece, ends, Item, Faulty, Passes}
 use Rattle.mc_tokens.specs.Items as I
 use Rattle.mc_tokens.specs.declared.token.FaultKind.{FaultKind}

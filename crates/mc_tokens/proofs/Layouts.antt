@@ -1,16 +1,16 @@
 -- The walk over blanks and comments, turn by turn.
-use Rattle.std.proofs.Common.{◌≡◌, ℕ, ◌+◌, ◌-◌, ◌<◌, ◌≤◌, Bool, true, false, cond, not, eqb, ltb, List, [], ◌∷◌, length, get_or, drop, refl, sym, ap, ◌∙◌, subst, ⊎_elim, add-zero, arith}
+use Rattle.std.proofs.Common.{◌≡◌, ℕ, ◌+◌, ◌<◌, ◌≤◌, Bool, true, false, cond, not, ltb, List, length, get_or, drop, refl, sym, ap, ◌∙◌, ⊎_elim, add-zero, arith}
 use Rattle.std.proofs.str.Laws.{order}
 use Rattle.std.proofs.lemmas.List.{get_or-drop, drop_all}
 use Rattle.std.specs.Cmp.Derive.{both_true}
 use Rattle.std.specs.Prelude.{◌==◌, ◌&&◌, ◌≢◌}
-use Rattle.std.proofs.lemmas.Bool.{ne_eqb, eq-eqb, eqb-true, leb-true, ltb-true}
+use Rattle.std.proofs.lemmas.Bool.{ne_eqb, eq-eqb, eqb-true, ltb-true}
 use Rattle.std.specs.List.{prefix_len}
-use Rattle.mc_tokens.specs.Classes.{between, is_blank, is_comment}
+use Rattle.mc_tokens.specs.Classes.{is_blank, is_comment}
 use Rattle.mc_tokens.specs.Utf8.{at, char_len}
-use Rattle.mc_tokens.specs.Spots.{Spot, At, Faulty, Turn, Go, Stop, walk, char_turn, Layout, Between, Line, Block, layout, layout_turn, layout_end}
+use Rattle.mc_tokens.specs.Spots.{At, Faulty, Turn, Go, Stop, char_turn, Layout, Between, Line, Block, layout, layout_turn, layout_end}
 use Rattle.mc_tokens.specs.declared.token.FaultKind.TheVariants.{NotUtf8, Unterminated}
-use Rattle.mc_tokens.proofs.Turns.{there, went, stopped, ended, ran, by_char, by_bad, ascii_turn}
+use Rattle.mc_tokens.proofs.Turns.{went, stopped, ended, ran, by_char, by_bad, ascii_turn}
 
 left_true : (a b : Bool) → a && b ≡ true → a ≡ true
 left_true true b h = refl

@@ -9,5 +9,6 @@ pub mod Forms
 pub mod Begun
 pub mod Sayings
 pub mod Texts
+pub mod Ascii
 pub mod Spelled
 pub mod ItemLaws

@@ -1,18 +1,18 @@
 -- The walk inside quotes, turn by turn.
-use Rattle.std.proofs.Common.{◌≡◌, ℕ, zero, suc, ◌+◌, ◌-◌, ◌*◌, ◌<◌, ◌≤◌, min, Bool, true, false, cond, not, eqb, leb, ltb, List, [], ◌∷◌, ◌++◌, length, get_or, drop, refl, sym, ap, ap₂, ◌∙◌, subst, ⊎_elim, add-zero, arith}
-use Rattle.std.specs.Prelude.{◌==◌, ◌&&◌, ◌||◌, ◌≢◌}
+use Rattle.std.proofs.Common.{◌≡◌, ℕ, zero, suc, ◌+◌, ◌-◌, ◌*◌, ◌<◌, ◌≤◌, min, Bool, true, false, cond, leb, ltb, List, [], ◌∷◌, ◌++◌, length, get_or, drop, refl, sym, ap, ap₂, ◌∙◌, ⊎_elim, add-zero, arith}
+use Rattle.std.specs.Prelude.{◌==◌, ◌&&◌, ◌≢◌}
 use lib.Utf8.{scalar}
 use Rattle.std.proofs.str.Laws.{order}
 use Rattle.std.proofs.lemmas.List.{get_or-drop, drop-drop, length-drop}
-use Rattle.std.proofs.lemmas.Bool.{ne_eqb, eq-eqb, eqb-true, lt-ltb, lt-leb, le-ltb, le-leb}
+use Rattle.std.proofs.lemmas.Bool.{ne_eqb, eq-eqb, le-ltb, le-leb}
 use Rattle.mc_tokens.specs.Classes.{hex_digit, hex_value, is_digit_of}
 use Rattle.mc_tokens.specs.Utf8.{at, char_len}
 use Rattle.mc_tokens.specs.Spots.{Spot, At, Faulty, Turn, Go, Stop, char_turn, Quoting, Plain, Backslash, Digits, Exact, quote_turn, exact_turn, is_simple, unescaped}
 use Rattle.mc_tokens.specs.Contents.{says, contents}
 use Rattle.mc_tokens.specs.Walks.{quote_walk}
 use Rattle.mc_tokens.specs.declared.token.FaultKind.TheVariants.{NotUtf8, Unterminated, BadChar}
-use Rattle.mc_tokens.proofs.CharLen.{drop-at, none_past}
-use Rattle.mc_tokens.proofs.Turns.{there, went, stopped, ended, by_char, by_bad}
+use Rattle.mc_tokens.proofs.CharLen.{drop-at}
+use Rattle.mc_tokens.proofs.Turns.{went, stopped, ended, by_char, by_bad}
 
 pub left_true : (a b : Bool) → a && b ≡ true → a ≡ true
 left_true true b h = refl

@@ -1,10 +1,10 @@
 -- What the walk inside quotes says, from a place between characters on.
-use Rattle.std.proofs.Common.{◌≡◌, ℕ, ◌+◌, ◌-◌, ◌<◌, ◌≤◌, Bool, true, false, cond, List, [], ◌∷◌, ◌++◌, length, get_or, take, drop, refl, sym, ap, ◌∙◌, append_assoc, arith}
+use Rattle.std.proofs.Common.{◌≡◌, ℕ, ◌+◌, ◌-◌, ◌<◌, ◌≤◌, cond, List, [], ◌∷◌, ◌++◌, length, get_or, take, drop, sym, ap, ◌∙◌, append_assoc, arith}
 use Rattle.std.specs.Prelude.{◌==◌, ◌≢◌, slice_range}
 use Rattle.std.proofs.lemmas.Bool.{ne_eqb, eq-eqb}
-use Rattle.mc_tokens.specs.Utf8.{at, char_len}
+use Rattle.mc_tokens.specs.Utf8.{char_len}
 use Rattle.mc_tokens.specs.Spots.{At, Faulty, Go, Stop, Plain, Backslash}
-use Rattle.mc_tokens.specs.Contents.{contents, says}
+use Rattle.mc_tokens.specs.Contents.{contents}
 use Rattle.mc_tokens.specs.declared.token.FaultKind.TheVariants.{NotUtf8}
 use Rattle.mc_tokens.proofs.CharLen.{drop-at}
 use Rattle.mc_tokens.proofs.Quotes.{yes, no, next_is, adds, nothing_more, closing, doubling, escaping, plain}

@@ -1,5 +1,5 @@
 -- Answers of the lexer as the definitions have them.
-use Rattle.std.specs.Prelude.{◌≡◌, Bool, true, false, slice_index, ℕ, ◌≤◌, ◌<◌, ◌^◌, Option, Some, None, Result, Ok, Err, List, length, IfOk, slice_range}
+use Rattle.std.specs.Prelude.{◌≡◌, true, false, slice_index, ℕ, ◌≤◌, ◌<◌, ◌^◌, Option, Some, None, Result, Ok, Err, List, length}
 use Rattle.std.specs.Str.{IsAscii, IsUtf8}
 use Rattle.mc_tokens.specs.Classes.{is_digit_of}
 use Rattle.mc_tokens.specs.Tokens.{Lexed, Tok, Fault, spelled}

@@ -1,12 +1,11 @@
 -- What a token stands for.
 -- (The Mercury manual's chapter 'Syntax', 'Tokens', escapes and doubled quotes, in this project's profile.)
-use Rattle.std.specs.Prelude.{◌≡◌, ℕ, zero, suc, ◌+◌, ◌*◌, Bool, true, cond, ◌==◌, List, [], ◌∷◌, ◌++◌, length, take, drop, encode_utf8}
-use Rattle.std.specs.List.{list_all}
-use Rattle.mc_tokens.specs.Classes.{is_digit_of, hex_value, is_name_tail, is_symbol}
+use Rattle.std.specs.Prelude.{◌≡◌, ℕ, zero, suc, ◌+◌, ◌*◌, cond, ◌==◌, List, [], ◌∷◌, ◌++◌, length, take, drop, encode_utf8}
+use Rattle.mc_tokens.specs.Classes.{is_digit_of, hex_value}
 use Rattle.mc_tokens.specs.Utf8.{char_len}
-use Rattle.mc_tokens.specs.Spots.{Spot, At, Turn, Go, Stop, Quoting, Plain, Backslash, Digits, Exact, is_simple, quote_turn, quote_end}
+use Rattle.mc_tokens.specs.Spots.{At, Go, Stop, Quoting, Plain, Backslash, Digits, Exact, is_simple, quote_turn, quote_end}
 use Rattle.mc_tokens.specs.declared.token.Kind.{Kind}
-use Rattle.mc_tokens.specs.declared.token.Kind.TheVariants.{Name, Quoted, Var, Str}
+use Rattle.mc_tokens.specs.declared.token.Kind.TheVariants.{Quoted, Str}
 
 -- the byte that a letter or a mark after a backslash stands for
 abbrev pub escaped : ℕ → ℕ

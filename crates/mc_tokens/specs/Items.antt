@@ -1,6 +1,6 @@
 -- The tokens of one item (this project's profile: an item is the tokens up to a full stop that ends it).
-use Rattle.std.specs.Prelude.{◌≡◌, ℕ, ◌+◌, Bool, true, false, List, [], ◌∷◌, length, slice_range}
-use Rattle.mc_tokens.specs.Tokens.{Lexed, Tok, Fault, lexed}
+use Rattle.std.specs.Prelude.{◌≡◌, ℕ, ◌+◌, Bool, true, false, List, [], ◌∷◌, slice_range}
+use Rattle.mc_tokens.specs.Tokens.{Tok, Fault, lexed}
 use Rattle.mc_tokens.specs.declared.token.FaultKind.{FaultKind}
 use Rattle.mc_tokens.specs.declared.token.Kind.{Kind}
 use Rattle.mc_tokens.specs.declared.token.Kind.TheVariants.{End, Eof}

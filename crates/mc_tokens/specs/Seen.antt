@@ -2,7 +2,7 @@
 use Rattle.std.specs.Prelude.{◌≡◌, ℕ, ◌+◌, ◌<◌, ◌≤◌, ◌^◌, Option, Some, None, List, length, drop, slice_range}
 use Rattle.std.specs.List.{prefix_len}
 use Rattle.mc_tokens.specs.Classes.{is_digit_of}
-use Rattle.mc_tokens.specs.Spots.{Spot, Faulty, Block, layout, Plain}
+use Rattle.mc_tokens.specs.Spots.{Faulty, Block, layout, Plain}
 use Rattle.mc_tokens.specs.Walks.{quote_walk}
 use Rattle.mc_tokens.specs.Tokens.{spelled}
 use Rattle.mc_tokens.specs.declared.token.FaultKind.TheVariants.{Unterminated}

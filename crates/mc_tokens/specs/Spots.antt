@@ -1,11 +1,11 @@
 -- Walks over blanks, comments and quotes. Each takes the bytes from a place on.
 -- (The Mercury manual's chapter 'Syntax', 'Tokens', in this project's profile.)
-use Rattle.std.specs.Prelude.{ℕ, zero, suc, ◌+◌, ◌-◌, ◌*◌, Bool, true, false, cond, not, ◌&&◌, ◌||◌, ◌==◌, nat_lt, nat_le, List, [], ◌∷◌}
+use Rattle.std.specs.Prelude.{ℕ, zero, suc, ◌+◌, ◌-◌, ◌*◌, Bool, true, false, cond, ◌&&◌, ◌||◌, ◌==◌, List, [], ◌∷◌}
 use lib.Utf8.{scalar}
-use Rattle.mc_tokens.specs.Classes.{between, is_blank, hex_digit, hex_value, is_digit_of}
+use Rattle.mc_tokens.specs.Classes.{is_blank, hex_digit, hex_value, is_digit_of}
 use Rattle.mc_tokens.specs.Utf8.{at, char_len}
 use Rattle.mc_tokens.specs.declared.token.FaultKind.{FaultKind}
-use Rattle.mc_tokens.specs.declared.token.FaultKind.TheVariants.{BadChar, Unterminated, IntTooLarge, NotUtf8, LeftOut}
+use Rattle.mc_tokens.specs.declared.token.FaultKind.TheVariants.{BadChar, Unterminated, NotUtf8}
 
 -- where a walk comes to: a place, or a fault with its place
 pub data Spot : Type 0 where

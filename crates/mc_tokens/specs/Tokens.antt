@@ -1,11 +1,11 @@
 -- The tokens (the Mercury manual's chapter 'Syntax', 'Tokens', in this project's profile).
-use Rattle.std.specs.Prelude.{ℕ, zero, suc, ◌+◌, ◌-◌, ◌*◌, ◌^◌, Bool, true, false, cond, not, ◌&&◌, ◌||◌, ◌==◌, nat_lt, nat_le, nat_eq, List, [], ◌∷◌, drop, take}
+use Rattle.std.specs.Prelude.{ℕ, ◌+◌, ◌*◌, ◌^◌, Bool, true, false, cond, not, ◌&&◌, ◌||◌, ◌==◌, nat_lt, nat_eq, List, [], ◌∷◌, drop, take}
 use Rattle.std.specs.List.{prefix_len}
-use Rattle.mc_tokens.specs.Classes.{between, is_blank, is_name_tail, is_symbol, is_lower, starts_var, is_digit_of, hex_value}
+use Rattle.mc_tokens.specs.Classes.{is_blank, is_name_tail, is_symbol, is_lower, starts_var, is_digit_of, hex_value}
 use Rattle.mc_tokens.specs.Utf8.{at, char_len}
 use Rattle.mc_tokens.specs.Spots.{Spot, At, Faulty, Between, layout, quote_end}
 use Rattle.mc_tokens.specs.declared.token.FaultKind.{FaultKind}
-use Rattle.mc_tokens.specs.declared.token.FaultKind.TheVariants.{BadChar, Unterminated, IntTooLarge, NotUtf8, LeftOut}
+use Rattle.mc_tokens.specs.declared.token.FaultKind.TheVariants.{BadChar, IntTooLarge, NotUtf8, LeftOut}
 use Rattle.mc_tokens.specs.declared.begins.First.{First}
 use Rattle.mc_tokens.specs.declared.begins.First.TheVariants.{Lower, Upper, Digit, Symbol, Quote, DoubleQuote, Paren, CloseParen, Square, CloseSquare, Semicolon, Bang, Other}
 use Rattle.mc_tokens.specs.declared.begins.First.TheVariants as F

@@ -1,5 +1,5 @@
 -- Characters of UTF-8, by the table of well-formed sequences of the Unicode Standard (chapter 3, table 3-7).
-use Rattle.std.specs.Prelude.{ℕ, Bool, true, false, cond, ◌&&◌, ◌==◌, nat_lt, List, [], ◌∷◌, get_or}
+use Rattle.std.specs.Prelude.{ℕ, Bool, cond, ◌&&◌, ◌==◌, nat_lt, List, [], ◌∷◌, get_or}
 use Rattle.mc_tokens.specs.Classes.{between}
 
 -- the byte in place i, or 0, which continues no character

@@ -1,6 +1,6 @@
 -- What the walks of the crate answer, as the definitions have it.
-use Rattle.std.specs.Prelude.{◌≡◌, ℕ, ◌+◌, ◌<◌, ◌≤◌, ◌^◌, Option, Some, None, Result, Ok, Err, List, length, drop, IfOk, MatchResult, [], ◌∷◌, ◌++◌, encode_utf8}
-use Rattle.mc_tokens.specs.Spots.{Spot, At, Faulty, Layout, Between, Quoting, Plain, walk, layout, quote_turn}
+use Rattle.std.specs.Prelude.{ℕ, ◌<◌, ◌≤◌, Option, Some, None, Result, Ok, Err, List, length, drop, [], ◌++◌, encode_utf8}
+use Rattle.mc_tokens.specs.Spots.{Spot, At, Faulty, Between, Quoting, Plain, walk, layout, quote_turn}
 use Rattle.mc_tokens.specs.Contents.{contents}
 use Rattle.mc_tokens.specs.declared.token.FaultKind.TheVariants.{Unterminated}
 use Rattle.mc_tokens.specs.declared.token.TokenFault.{TokenFault}

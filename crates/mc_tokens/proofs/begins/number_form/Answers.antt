@@ -1,4 +1,4 @@
-use Rattle.std.proofs.Common.{sym, ap, ap₂, ◌∙◌, ◌+◌, drop}
+use Rattle.std.proofs.Common.{sym, ap, ◌∙◌, ◌+◌, drop}
 use Rattle.mc_tokens.specs.Tokens.{form_after_zero}
 use Rattle.mc_tokens.proofs.Forms.{form_zero}
 use Rattle.mc_tokens.proofs.begins.number_form.Goals as goal

@@ -1,4 +1,4 @@
-use Rattle.std.proofs.Common.{◌≡◌, ◌+◌, ◌<◌, ◌≤◌, length, get_or, drop, sym, ap, ◌∙◌, arith}
+use Rattle.std.proofs.Common.{sym, ap, ◌∙◌, arith}
 use Rattle.mc_tokens.specs.Walks.{halted}
 use Rattle.mc_tokens.proofs.CharLen.{inside}
 use Rattle.mc_tokens.proofs.Layouts.{EndsNot, block_run, block_char, block_bad, block_stops, block_ends}

@@ -1,4 +1,4 @@
-use Rattle.std.proofs.Common.{◌≡◌, ◌+◌, ◌<◌, ◌≤◌, length, get_or, drop, sym, ap, ◌∙◌, arith}
+use Rattle.std.proofs.Common.{◌∙◌, arith}
 use Rattle.mc_tokens.proofs.Layouts.{line_run, line_char, line_bad, line_stops, line_ends}
 use Rattle.mc_tokens.proofs.comments.line_rest.Goals as goal
 

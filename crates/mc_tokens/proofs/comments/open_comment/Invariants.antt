@@ -1,4 +1,4 @@
-use Rattle.std.proofs.Common.{◌≡◌, ℕ, ◌-◌, ◌≤◌, length, drop, Some}
+use Rattle.std.proofs.Common.{◌-◌, length, Some}
 use Rattle.mc_tokens.specs.Seen.{OpenComment}
 use Rattle.mc_tokens.proofs.comments.open_comment.Given as goal
 

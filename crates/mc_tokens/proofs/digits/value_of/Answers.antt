@@ -1,4 +1,4 @@
-use Rattle.std.proofs.Common.{◌≡◌, ℕ, ◌+◌, ◌*◌, ◌<◌, ◌≤◌, length, get_or, drop, sym, ap, ap₂, ◌∙◌, arith, mul_comm}
+use Rattle.std.proofs.Common.{◌≡◌, ◌+◌, ◌*◌, get_or, drop, sym, ap, ap₂, ◌∙◌, arith, mul_comm}
 use Rattle.mc_tokens.specs.Tokens.{spelled}
 use Rattle.mc_tokens.specs.Classes.{hex_value}
 use Rattle.mc_tokens.proofs.Forms.{value_in}

@@ -1,7 +1,8 @@
-use Rattle.std.proofs.Common.{◌≡◌, ◌+◌, get_or, drop, sym, ap, ◌∙◌, arith}
+use Rattle.std.proofs.Common.{drop, ap, ◌∙◌}
 use Rattle.std.proofs.lemmas.Result.{err_from_is_err_and}
 use Rattle.mc_tokens.specs.Tokens.{token}
 use Rattle.mc_tokens.proofs.Begun.{from_start, from_fault}
+use Rattle.mc_tokens.proofs.Ascii.{token_ascii}
 use Rattle.mc_tokens.proofs.next.next_seen.Goals as goal
 
 pub returns-in_err-start-clause-value : goal.returns-in_err-start-clause-value
@@ -19,4 +20,4 @@ returns-clause-value c =
     c.in_ok-kind.ensures.value ∙ ap (λ k. token k c.in_ok-start.start (drop c.in_ok-start.start c.args.text.now)) c.ending_at.ensures ∙ from_start c.args.text.now c.args.at c.in_ok-start.start c.args.after c.in_ok-start.ensures.value
 
 pub returns-clause-ascii : goal.returns-clause-ascii
-returns-clause-ascii c = ?
+returns-clause-ascii c = token_ascii c.ending_at.result c.in_ok-kind.kind c.in_ok-start.start c.in_ok-kind.end c.args.text.now c.in_ok-start.ensures.within.1 (λ i. (c.type_inv.text i).fits) c.in_ok-kind.ensures.value

@@ -1,4 +1,4 @@
-use Rattle.std.proofs.Common.{◌≡◌, ◌+◌, get_or, drop, sym, ap, ◌∙◌, arith}
+use Rattle.std.proofs.Common.{◌+◌, get_or, drop, sym, ap, ◌∙◌, arith}
 use Rattle.mc_tokens.specs.Tokens.{begun}
 use Rattle.mc_tokens.proofs.Begun.{at_end, token_is}
 use Rattle.mc_tokens.proofs.next.token.Goals as goal

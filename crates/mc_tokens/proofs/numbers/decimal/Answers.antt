@@ -1,4 +1,4 @@
-use Rattle.std.proofs.Common.{◌≡◌, ◌+◌, ◌-◌, ◌<◌, ◌≤◌, drop, sym, ap, ◌∙◌, arith}
+use Rattle.std.proofs.Common.{◌≡◌, ◌+◌, drop, sym, ap, ◌∙◌, arith}
 use Rattle.std.specs.List.{prefix_len}
 use Rattle.std.specs.Prelude.{slice_range}
 use Rattle.mc_tokens.specs.Classes.{is_digit_of}
@@ -20,7 +20,7 @@ pub returns-then-start-run-clause-value : goal.returns-then-start-run-clause-val
 returns-then-start-run-clause-value c =
     ap (span c.args.start) c.fault-then-start-run.ensures
     ∙ sym (decimal_number c.args.start c.run_at-run.result.end c.args.text.now (run_end (goal.at.returns-then-start-run-clause-value c).After-run_at-run) (sym c.is_fraction.ensures ∙ c.if-is_fraction.false)
-     ∙ number_large 10 c.args.start c.run_at-run.result.end (slice_range c.args.text.now c.args.start c.run_at-run.result.end) (c.run_at-run.ensures.run.above c.args.start c.run_at-run.ensures.inside.0 c.if-start-run.true))
+    ∙ number_large 10 c.args.start c.run_at-run.result.end (slice_range c.args.text.now c.args.start c.run_at-run.result.end) (c.run_at-run.ensures.run.above c.args.start c.run_at-run.ensures.inside.0 c.if-start-run.true))
 
 pub value_of-requires-clause-digits : goal.value_of-requires-clause-digits
 value_of-requires-clause-digits c = run_digits (is_digit_of 10) c.args.start c.run_at-run.result.end c.args.text.now (run_end (goal.at.value_of-requires-clause-digits c).After-run_at-run)
@@ -31,13 +31,13 @@ large_end-requires-clause-digits c = run_digits (is_digit_of 10) c.args.start c.
 pub returns-in-Some-clause-value : goal.returns-in-Some-clause-value
 returns-in-Some-clause-value c =
     sym (decimal_number c.args.start c.run_at-run.result.end c.args.text.now (run_end (goal.at.returns-in-Some-clause-value c).After-run_at-run) (sym c.is_fraction.ensures ∙ c.if-is_fraction.false)
-     ∙ number_small 10 c.args.start c.run_at-run.result.end c.in-Some.value (slice_range c.args.text.now c.args.start c.run_at-run.result.end) c.in-Some.ensures.0 c.in-Some.ensures.1)
+    ∙ number_small 10 c.args.start c.run_at-run.result.end c.in-Some.value (slice_range c.args.text.now c.args.start c.run_at-run.result.end) c.in-Some.ensures.0 c.in-Some.ensures.1)
 
 pub returns-in-None-clause-value : goal.returns-in-None-clause-value
 returns-in-None-clause-value c =
     ap (span c.args.start) c.fault-in-None.ensures
     ∙ sym (decimal_number c.args.start c.run_at-run.result.end c.args.text.now (run_end (goal.at.returns-in-None-clause-value c).After-run_at-run) (sym c.is_fraction.ensures ∙ c.if-is_fraction.false)
-     ∙ number_large 10 c.args.start c.run_at-run.result.end (slice_range c.args.text.now c.args.start c.run_at-run.result.end) c.in-None.ensures)
+    ∙ number_large 10 c.args.start c.run_at-run.result.end (slice_range c.args.text.now c.args.start c.run_at-run.result.end) c.in-None.ensures)
 
 pub returns-in-None-clause-known : goal.returns-in-None-clause-known
 returns-in-None-clause-known c = record {

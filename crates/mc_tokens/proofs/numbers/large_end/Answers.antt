@@ -1,4 +1,4 @@
-use Rattle.std.proofs.Common.{◌≡◌, ◌+◌, ◌-◌, ◌<◌, ◌≤◌, refl, arith}
+use Rattle.std.proofs.Common.{◌-◌, refl, arith}
 use Rattle.mc_tokens.specs.Classes.{is_digit_of}
 use Rattle.mc_tokens.proofs.Forms.{later_digits, large_up_to}
 use Rattle.mc_tokens.proofs.numbers.large_end.Goals as goal

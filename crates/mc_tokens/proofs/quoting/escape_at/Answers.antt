@@ -1,7 +1,7 @@
-use Rattle.std.proofs.Common.{◌≡◌, ℕ, ◌+◌, ◌<◌, ◌++◌, [], ◌∷◌, length, drop, get_or, sym, ap, ◌∙◌, arith, encode_utf8, false}
+use Rattle.std.proofs.Common.{◌+◌, ◌<◌, ◌++◌, drop, get_or, sym, ap, ◌∙◌, arith, encode_utf8}
 use Rattle.std.proofs.lemmas.Str.{encode_ascii}
 use Rattle.std.proofs.lemmas.Bool.{ltb-true}
-use Rattle.mc_tokens.specs.Spots.{Plain, Backslash, Digits, Exact}
+use Rattle.mc_tokens.specs.Spots.{Plain, Backslash}
 use Rattle.mc_tokens.specs.Contents.{contents, escaped}
 use Rattle.mc_tokens.proofs.Escapes.{nothing_said, escaped_small, simple_walk, simple_says, line_says, x_walk, x_says, u_walk, u_says, long_walk, long_says, octal_walk, octal_says, no_walk, no_says}
 use Rattle.mc_tokens.proofs.quoting.escape_at.Goals as goal

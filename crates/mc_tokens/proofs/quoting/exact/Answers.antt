@@ -1,11 +1,7 @@
-use Rattle.std.proofs.Common.{◌≡◌, ℕ, ◌+◌, ◌-◌, ◌*◌, ◌≤◌, ◌<◌, ◌++◌, min, length, get_or, drop, sym, ap, ap₂, ◌∙◌, subst, arith}
-use Rattle.std.specs.Prelude.{IfOk, Result}
-use Rattle.mc_tokens.specs.declared.quoting.Escape.{Escape}
-use Rattle.mc_tokens.specs.declared.quoting.Halt.{Halt}
+use Rattle.std.proofs.Common.{◌≡◌, ◌+◌, ◌*◌, ◌<◌, min, get_or, sym, ap, ◌∙◌, arith}
 use Rattle.mc_tokens.specs.Classes.{hex_value}
-use Rattle.mc_tokens.specs.Spots.{Exact, Plain}
-use Rattle.mc_tokens.specs.Contents.{contents}
-use Rattle.mc_tokens.specs.Walks.{quote_walk, escape_goes_on, escape_contents}
+use Rattle.mc_tokens.specs.Spots.{Exact}
+use Rattle.mc_tokens.specs.Walks.{escape_goes_on, escape_contents}
 use Rattle.mc_tokens.proofs.Escapes.{nothing_said, more_walk, more_says, no_digit_walk, no_digit_says, exact_walk, exact_says}
 use Rattle.mc_tokens.proofs.quoting.exact.Goals as goal
 use Rattle.mc_tokens.proofs.quoting.exact.Goals.{After-exact_end}
@@ -54,10 +50,12 @@ loop-i-preserved c =
     let (v, e, w, s) = c.loop-i.invariant.walk in
     let more : 0 < c.loop-i.left = omega arith in
     record {
-      walk = (16 * v + hex_value (get_or text i 0),
+      walk = (
+        16 * v + hex_value (get_or text i 0),
         omega (arith, e, c.in-Some.ensures.value.0, c.min-value.ensures),
         (λ q start. w q start ∙ more_walk q start c.args.at i text c.loop-i-test.true c.loop-i.left v (sym c.in-Some.ensures.some) more),
-        (λ q. s q ∙ more_says q 0 0 i text c.loop-i-test.true c.loop-i.left v (sym c.in-Some.ensures.some) more));
+        (λ q. s q ∙ more_says q 0 0 i text c.loop-i-test.true c.loop-i.left v (sym c.in-Some.ensures.some) more),
+      );
       above = omega arith;
       bound = omega arith;
     }

@@ -1,5 +1,4 @@
-use Rattle.std.proofs.Common.{◌≡◌, ℕ, ◌+◌, ◌*◌, ◌≤◌, ◌<◌, ◌++◌, min, length, get_or, drop, sym, ap, ap₂, ◌∙◌, subst, false, arith}
-use Rattle.std.specs.Prelude.{IfOk}
+use Rattle.std.proofs.Common.{◌+◌, ◌*◌, min, get_or, drop, sym, ap, ap₂, ◌∙◌, arith}
 use Rattle.mc_tokens.specs.Classes.{hex_value}
 use Rattle.mc_tokens.specs.Spots.{Digits}
 use Rattle.mc_tokens.specs.Contents.{contents}
@@ -13,10 +12,12 @@ loop-i-preserved c =
     let (v, e, w, s) = c.loop-i.invariant.walk in
     let d = sym c.in-Some.ensures.some in
     record {
-      walk = (c.args.base * v + hex_value (get_or text c.loop-i.i 0),
+      walk = (
+        c.args.base * v + hex_value (get_or text c.loop-i.i 0),
         c.min-value.ensures ∙ ap₂ (λ a b. min (c.args.base * a + b) 1114112) e c.in-Some.ensures.value.0 ∙ cut_step c.args.base v (hex_value (get_or text c.loop-i.i 0)) 1114112,
         (λ q start. w q start ∙ digit_walk q start c.args.at c.loop-i.i text c.loop-i-test.true c.args.base v c.loop-i.some d),
-        (λ q. s q ∙ digit_says q 0 0 c.loop-i.i text c.loop-i-test.true c.args.base v c.loop-i.some d));
+        (λ q. s q ∙ digit_says q 0 0 c.loop-i.i text c.loop-i-test.true c.args.base v c.loop-i.some d),
+      );
       above = omega arith;
       bound = omega arith;
     }

@@ -1,4 +1,4 @@
-use Rattle.std.proofs.Common.{◌≡◌, ◌+◌, ◌++◌, drop, sym, ap, ◌∙◌, encode_utf8}
+use Rattle.std.proofs.Common.{◌+◌, ◌++◌, drop, sym, ap, ◌∙◌, encode_utf8}
 use Rattle.mc_tokens.specs.Spots.{Plain}
 use Rattle.mc_tokens.specs.Contents.{contents}
 use Rattle.mc_tokens.proofs.Escapes.{some_if, none_if, end_walk, end_says, no_end_walk, no_end_says}

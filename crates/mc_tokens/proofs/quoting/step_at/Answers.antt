@@ -1,4 +1,4 @@
-use Rattle.std.proofs.Common.{◌≡◌, ◌+◌, ◌<◌, ◌≤◌, length, drop, get_or, sym, ap, ◌∙◌, arith}
+use Rattle.std.proofs.Common.{◌≡◌, ◌+◌, ◌<◌, length, drop, get_or, sym, ap, ◌∙◌, arith}
 use Rattle.mc_tokens.specs.Spots.{At, Plain, Backslash}
 use Rattle.mc_tokens.specs.Walks.{halted}
 use Rattle.mc_tokens.proofs.CharLen.{inside}

@@ -1,4 +1,4 @@
-use Rattle.std.proofs.Common.{◌≡◌, ◌+◌, ◌<◌, ◌≤◌, ◌++◌, [], ◌∷◌, List, length, drop, get_or, refl, sym, ap, ◌∙◌, append-nil, arith}
+use Rattle.std.proofs.Common.{◌≡◌, ◌+◌, ◌<◌, ◌++◌, [], ◌∷◌, length, drop, get_or, refl, sym, ap, ◌∙◌, append-nil, arith}
 use Rattle.mc_tokens.specs.Spots.{Plain}
 use Rattle.std.specs.Prelude.{slice_range}
 use Rattle.mc_tokens.specs.Contents.{contents}
