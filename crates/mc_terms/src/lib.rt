@@ -1,7 +1,8 @@
 //! The terms of a text, item by item.
-#![tactic(auto)]
+#![tactic(auto, using(crate::proofs::Rules::ends))]
 
 mod fault;
+mod item;
 mod position;
 
 pub use fault::{ReadFault, ReadKind};
