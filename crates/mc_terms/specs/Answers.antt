@@ -1,5 +1,5 @@
 -- What the reader answers for the item that begins in a place of a text (this project's profile).
-use Rattle.std.specs.Prelude.{◌≡◌, ◌≢◌, ℕ, ◌+◌, ◌<◌, ◌≤◌, List, [], Option, Some, None}
+use Rattle.std.specs.Prelude.{◌≡◌, ◌≢◌, ℕ, ◌+◌, ◌<◌, ◌≤◌, List, [], Option, Some, None, length}
 use Rattle.mc_syntax.specs.Plain.{plain_term}
 use Rattle.mc_syntax.specs.declared.term.Term.{Term}
 use Rattle.mc_grammar.specs.declared.lexeme.Lexeme.{Lexeme}
@@ -41,3 +41,8 @@ IsRefused text at NotATerm line next = (ts : List Lexeme) × ItemTokens text at 
 IsRefused text at IntTooLarge line next = (t : Tree) × ItemReads text at t next × (too_large t ≡ Some line)
 IsRefused text at TooNested line next = (t : Tree) × ItemReads text at t next × (too_large t ≡ None) × (256 < depth t) × BeginsOn text at line
 IsRefused text at Memory line next = Unit {0}
+
+-- Reading goes on behind the place where the item begins, and in the text, but after want of memory.
+abbrev pub IsOnward : List ℕ → ℕ → ReadKind → ℕ → Type 0
+IsOnward text at Memory next = Unit {0}
+IsOnward text at _ next = (at ≤ next) × (next ≤ length text)

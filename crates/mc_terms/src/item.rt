@@ -1,9 +1,10 @@
-ghost use Rattle.std.specs.Prelude.{◌≡◌, ◌≤◌, ◌<◌, ◌^◌, ◌-◌, ◌∷◌, ◌++◌, [], length, reverse, OnOk, IfOk, IfErr, MatchOption, MatchResult, List, ℕ, IsTrue, false};
+ghost use Rattle.std.specs.Prelude.{◌≡◌, ◌+◌, ◌≤◌, ◌<◌, ◌^◌, ◌-◌, ◌∷◌, ◌++◌, [], length, reverse, OnOk, IfOk, IfErr, MatchOption, MatchResult, List, ℕ, IsTrue, false};
 ghost use Rattle.mc_tokens.specs.Contents.{stands_for};
 ghost use Rattle.mc_terms.specs.Lines.{line_at};
 ghost use Rattle.mc_terms.specs.Lexemes.{qualifier, with_name, with_token, IsMark};
 ghost use Rattle.mc_grammar.specs.declared.lexeme.Lexeme.{Lexeme};
-ghost use Rattle.mc_terms.specs.Answers.{ItemTokens, IsRefused};
+ghost use Rattle.mc_terms.specs.Answers.{ItemTokens, IsRefused, IsOnward};
+ghost use Rattle.mc_tokens.specs.Items.{Passes};
 ghost use Rattle.std.specs.Prelude.{None, Some};
 
 use crate::fault::{ReadFault, ReadKind};
@@ -135,5 +136,69 @@ fn mark(kind: Kind, line: u32) -> Lexeme
         Kind::Bar => Lexeme::Bar,
         Kind::Comma => Lexeme::Comma,
         _ => Lexeme::Dot,
+    }
+}
+
+pub fn want_of_memory(from: Position) -> ReadFault
+    ensures { result.kind ≡ ReadKind.Memory }
+{
+    ReadFault {
+        kind: ReadKind::Memory,
+        line: from.line,
+        next: from.at,
+    }
+}
+
+// The fault of a faulty token, that comes first from a position on.
+pub fn faulty_token(walk: &mut Walk, from: Position, fault: TokenFault) -> ReadFault
+    requires order { from.at ≤ fault.at }
+    requires within { fault.at < length walk.old }
+    requires line { from.line ≡ line_at walk.old from.at }
+    requires small { length walk.old < 2 ^ 32 - 1 }
+    ensures kind { result.kind ≡ ReadKind.Token fault.kind }
+    ensures line { result.line ≡ line_at walk.old fault.at }
+    ensures passes { Passes walk.old (fault.at + 1) Kind.Eof result.next }
+    ensures within { (fault.at < result.next) × (result.next ≤ length walk.old) }
+    ensures same { walk.new ≡ walk.old }
+{
+    let line = from.moved(walk.text(), fault.at).line;
+    ReadFault {
+        kind: ReadKind::Token(fault.kind),
+        line,
+        next: walk.item_end(fault.at + 1, &Kind::Eof),
+    }
+}
+
+// The tokens of the item that begins in a position.
+pub fn item_tokens(alloc: Global, walk: &mut Walk, from: Position) -> Result<Item, ReadFault>
+    requires within { from.at ≤ length walk.old }
+    requires line { from.line ≡ line_at walk.old from.at }
+    requires small { length walk.old < 2 ^ 32 - 1 }
+    ensures tokens { IfOk result (λ item. ItemTokens walk.old from.at item.tokens.items item.end.at) }
+    ensures end { IfOk result (λ item. (item.end.line ≡ line_at walk.old item.end.at) × (from.at ≤ item.end.at) × (item.end.at ≤ length walk.old)) }
+    ensures fault { IfErr result (λ f. IsRefused walk.old from.at f.kind f.line f.next) }
+    ensures onward { IfErr result (λ f. IsOnward walk.old from.at f.kind f.next) }
+    ensures same { walk.new ≡ walk.old }
+{
+    let mut tokens = Vec::new(alloc);
+    let mut place = from;
+    let mut after = Kind::Eof;
+    'item: loop {
+        let token = match walk.next(place.at, &after) {
+            Ok(token) => token,
+            Err(fault) => return Err(faulty_token(walk, place, fault)),
+        };
+        let start = place.moved(walk.text(), token.start);
+        let end = start.moved(walk.text(), token.end);
+        if token.kind.ends_item() {
+            return Ok(Item { tokens, end });
+        }
+        match push_token(alloc, &mut tokens, &token, start.line) {
+            Err(_) => return Err(want_of_memory(from)),
+            Ok(()) => {
+                place = end;
+                after = token.kind;
+            }
+        }
     }
 }

@@ -4,8 +4,10 @@
 mod fault;
 mod item;
 mod position;
+mod term;
 
 pub use fault::{ReadFault, ReadKind};
 pub use mc_grammar::{Fix, infix, prefix};
 pub use mc_syntax::{Node, Term};
 pub use position::Position;
+pub use term::{read_next, read_term};
