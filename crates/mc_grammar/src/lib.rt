@@ -3,12 +3,14 @@
 
 mod frame;
 mod joint;
+mod law;
 mod lexeme;
 mod reader;
 mod reading;
 mod starting;
 mod table;
 
+pub use law::at_most_one_term;
 pub use lexeme::Lexeme;
 pub use reading::Reading;
 pub use starting::read;

@@ -15,7 +15,9 @@ use Rattle.mc_tokens.specs.Items.{Passes}
 use Rattle.mc_tokens.specs.declared.token.TokenFault.{TokenFault}
 use Rattle.mc_tokens.specs.declared.token.Token as D
 use Rattle.mc_terms.specs.declared.fault.ReadFault.{ReadFault}
-use Rattle.mc_terms.specs.declared.fault.ReadKind.TheVariants.{Token}
+use Rattle.mc_terms.specs.declared.fault.ReadKind.TheVariants.{Token, NotATerm}
+use Rattle.mc_grammar.specs.Tree.{Tree}
+use Rattle.mc_grammar.specs.Reads.{ReadsTerm}
 use Rattle.mc_terms.specs.Answers.{ItemTokens, IsRefused}
 
 -- the rest of the item, from a place after a token of a kind, completes the tokens so far
@@ -71,3 +73,13 @@ goes_on_at behind before from at after t tokens more line stop g c l h w n s m =
     (subst (λ u. Continues u from t.end t.kind more) (sym g)
     (goes_on before from at after t.kind t.start t.end tokens more c (sym l) h
     (m ∙ (λ i. with_token (reverse tokens) t.kind (stands_for t.kind (w i)) ((n ∙ ap (λ u. line_at u t.start) g) i)))))
+
+-- where nothing reads
+pub not_a_term : (text walk shown : List ℕ) (at : ℕ) (ts slice : List Lexeme) (stop line : ℕ) (first : D.Token) → walk ≡ text → ItemTokens walk at ts stop → slice ≡ ts → ((t : Tree) → ReadsTerm slice t 1200 → ⊥)
+    → Tok first.kind first.start first.end ≡ lexed text at Eof → (first.kind ≡ Eof → ⊥) → shown ≡ walk → line ≡ line_at shown first.start → IsRefused text at NotATerm line stop
+not_a_term text walk shown at ts slice stop line first e items s none l k w n = (
+  ts,
+  subst (λ u. ItemTokens u at ts stop) e items,
+  subst (λ us. (t : Tree) → ReadsTerm us t 1200 → ⊥) s none,
+  (first.kind, first.start, first.end, sym l, k, n ∙ ap (λ u. line_at u first.start) (w ∙ e)),
+)

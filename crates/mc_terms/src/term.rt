@@ -1,4 +1,4 @@
-ghost use Rattle.std.specs.Prelude.{◌≡◌, ◌-◌, ◌≤◌, ◌<◌, ◌^◌, length, IfOk, IfErr, IfSome, IfNone, MatchOption, None};
+ghost use Rattle.std.specs.Prelude.{◌≡◌, ◌≢◌, ◌-◌, ◌≤◌, ◌<◌, ◌^◌, length, IfOk, IfErr, IfSome, IfNone, MatchOption, None, IsTrue, false};
 ghost use Rattle.mc_terms.specs.Lines.{line_at};
 ghost use Rattle.mc_terms.specs.Answers.{IsOver, IsItem, IsRefused, IsOnward};
 
@@ -9,6 +9,13 @@ use mc_grammar::{Reading, read};
 use mc_syntax::Term;
 use mc_tokens::{Kind, Walk};
 use std::alloc::Global;
+
+fn is_eof(kind: Kind) -> bool
+    ensures yes { IsTrue result → kind ≡ Kind.Eof }
+    ensures no { result ≡ false → kind ≢ Kind.Eof }
+{
+    matches!(kind, Kind::Eof)
+}
 
 // A term that was read, as an item that begins on a line and ends before a position.
 fn judged(reading: Reading, line: u32, end: Position) -> Result<(Term, Position), ReadFault>
@@ -50,7 +57,7 @@ pub fn read_next(
         Ok(first) => first,
         Err(fault) => return Err(faulty_token(walk, from, fault)),
     };
-    if matches!(first.kind, Kind::Eof) {
+    if is_eof(first.kind) {
         return Ok(None);
     }
     let line = from.moved(walk.text(), first.start).line;
