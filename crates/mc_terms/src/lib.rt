@@ -5,6 +5,8 @@ mod fault;
 mod item;
 mod position;
 mod term;
+#[cfg(test)]
+mod tests;
 
 pub use fault::{ReadFault, ReadKind};
 pub use mc_grammar::{Fix, infix, prefix};
