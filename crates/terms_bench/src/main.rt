@@ -5,8 +5,7 @@ use mc_syntax::Term;
 use mc_terms::{Position, ReadKind, read_next};
 use mc_tokens::Walk;
 use std::alloc::{AllocError, Global};
-use std::env;
-use std::io;
+use std::{env, io};
 
 // The clauses of a program that places queens; the module is made of copies of them.
 const CLAUSES: &str = "\
