@@ -1,0 +1,23 @@
+use Rattle.std.proofs.Common.{◌≡◌, ◌+◌, ◌-◌, ◌≤◌, ◌<◌, ◌∷◌, [], drop, true, false, sym, ap, ◌∙◌, subst, arith, IfOk}
+use Rattle.mc_grammar.specs.declared.frame.Sort.TheVariants.{Arguments, Elements, Chained}
+use Rattle.mc_grammar.specs.Joints as J
+use Rattle.mc_grammar.specs.Part as P
+use Rattle.mc_grammar.specs.Machine as M
+use Rattle.mc_grammar.specs.Seen.{seen_making}
+use Rattle.mc_grammar.specs.Views.{state, frames, frame, part, reading, readings}
+use Rattle.mc_grammar.proofs.Steps.{frames_push, start_at, start_past, done_past, close_next, list_close_next, bar_next, comma_next, chain_goes, more_left, finish_no, first_goes, binary_turn, chain_turn}
+use Rattle.mc_grammar.proofs.reader.after_argument.Goals as goal
+
+pub returns-in_ok-with-in-Comma : goal.returns-in_ok-with-in-Comma
+returns-in_ok-with-in-Comma c =
+    let tokens = c.args.tokens.now in
+    let o = c.args.outer in
+    start_past tokens _ _ c.args.bench _ _ _ c.start.ensures c.in_ok-with-in-Comma.ensures.frames c.in_ok-with-in-Comma.ensures.at c.past.ensures
+    ∙ ap (M.parts seen_making (Arguments c.args.name) c.args.line (readings c.args.parts) o.commas o.limit (frames c.args.bench.stack.items) c.args.commas) (sym (comma_next tokens c.args.bench.at (sym c.mark.ensures ∙ c.in-Comma.is)))
+
+pub returns-in_ok-term-in-Close : goal.returns-in_ok-term-in-Close
+returns-in_ok-term-in-Close c =
+    let tokens = c.args.tokens.now in
+    let o = c.args.outer in
+    done_past tokens _ o _ c.args.bench _ _ c.done.ensures c.past-in-Close.ensures (c.closed.ensures ∙ ap P.closed c.in_ok-term-in-Close.ensures)
+    ∙ ap (M.parts seen_making (Arguments c.args.name) c.args.line (readings c.args.parts) o.commas o.limit (frames c.args.bench.stack.items) c.args.commas) (sym (close_next tokens c.args.bench.at (sym c.mark.ensures ∙ c.in-Close.is)))

@@ -1,0 +1,16 @@
+use Rattle.std.proofs.Common.{◌≡◌, ◌+◌, ◌-◌, ◌≤◌, ◌<◌, ◌∷◌, [], drop, true, false, sym, ap, ◌∙◌, subst, arith, IfOk}
+use Rattle.mc_grammar.specs.declared.frame.Sort.TheVariants.{Arguments, Elements, Chained}
+use Rattle.mc_grammar.specs.Joints as J
+use Rattle.mc_grammar.specs.Part as P
+use Rattle.mc_grammar.specs.Machine as M
+use Rattle.mc_grammar.specs.Seen.{seen_making}
+use Rattle.mc_grammar.specs.Views.{state, frames, frame, part, reading, readings}
+use Rattle.mc_grammar.proofs.Steps.{frames_push, start_at, start_past, done_past, close_next, list_close_next, bar_next, comma_next, chain_goes, more_left, finish_no, first_goes, binary_turn, chain_turn}
+use Rattle.mc_grammar.proofs.reader.after_tail.Goals as goal
+
+pub returns-in_ok-list-in-ListClose : goal.returns-in_ok-list-in-ListClose
+returns-in_ok-list-in-ListClose c =
+    let tokens = c.args.tokens.now in
+    let o = c.args.outer in
+    done_past tokens _ o _ c.args.bench _ _ c.done.ensures c.past.ensures (c.closed.ensures ∙ ap P.closed c.in_ok-list-in-ListClose.ensures)
+    ∙ ap (M.after_tail seen_making o.commas o.limit (frames c.args.bench.stack.items) c.args.line (readings c.args.items) (reading c.args.tail)) (sym (list_close_next tokens c.args.bench.at (sym c.mark.ensures ∙ c.in-ListClose.is)))

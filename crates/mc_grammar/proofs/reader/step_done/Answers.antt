@@ -1,0 +1,34 @@
+use Rattle.std.proofs.Common.{◌≡◌, ◌+◌, ◌-◌, ◌≤◌, ◌<◌, ◌∷◌, [], drop, true, false, sym, ap, ◌∙◌, subst, arith, IfOk}
+use Rattle.mc_grammar.specs.declared.frame.Sort.TheVariants.{Arguments, Elements, Chained}
+use Rattle.mc_grammar.specs.Joints as J
+use Rattle.mc_grammar.specs.Part as P
+use Rattle.mc_grammar.specs.Machine as M
+use Rattle.mc_grammar.specs.Seen.{seen_making, seen_then, line_seen}
+use Rattle.mc_grammar.specs.Views.{state, frames, frame, part, reading, readings}
+use Rattle.mc_grammar.proofs.Steps.{frames_push, start_at, start_past, done_past, close_next, list_close_next, bar_next, comma_next, chain_goes, more_left, finish_no, first_goes, binary_turn, chain_turn}
+use Rattle.mc_grammar.proofs.reader.step_done.Goals as goal
+
+pub returns-in_ok-with-in-Binary : goal.returns-in_ok-with-in-Binary
+returns-in_ok-with-in-Binary c =
+    let tokens = c.args.tokens.now in
+    let s = c.args.setting in
+    let n = c.in-Binary.number in
+    let p = part c.args.part in
+    let fs = frames c.args.bench.stack.items in
+    let ts = drop (c.args.bench.at + 1) tokens in
+    start_past tokens _ _ c.args.bench _ _ _ c.start.ensures c.in_ok-with-in-Binary.ensures.frames c.in_ok-with-in-Binary.ensures.at c.past.ensures
+    ∙ (λ i. M.Start s.commas (c.operand-limit.ensures i) (M.AtRight (c.line-line.ensures i) (c.in_ok-name-in-Binary.ensures i) n (c.operand-limit.ensures i) p.tree s.commas s.limit ∷ fs) ts)
+    ∙ sym (binary_turn tokens c.args.bench.at s.commas s.limit p n c.in-Binary.left c.in-Binary.right fs _ c.in-Binary.ensures c.if-number-setting.true (omega (arith, c.if-part-operand.true, c.operand.ensures)) c.if-part-number.true)
+
+pub returns-in_ok-with-in-Chains : goal.returns-in_ok-with-in-Chains
+returns-in_ok-with-in-Chains c =
+    let tokens = c.args.tokens.now in
+    let s = c.args.setting in
+    let k = c.in-Chains.kind in
+    let p = part c.args.part in
+    let fs = frames c.args.bench.stack.items in
+    let ts = drop (c.args.bench.at + 1) tokens in
+    start_past tokens _ _ c.args.bench _ _ _ c.start-in-Chains.ensures c.in_ok-with-in-Chains.ensures.frames c.in_ok-with-in-Chains.ensures.at c.past-in-Chains.ensures
+    ∙ (λ i. M.Start s.commas (c.rank-limit.ensures i - 1) (M.InParts (Chained k) (c.line-line-in-Chains.ensures i) (c.in_ok-parts-in-Chains.ensures i) s.commas s.limit ∷ fs) ts)
+    ∙ ap (λ none. M.Start s.commas (J.rank k - 1) (M.InParts (Chained k) (line_seen p.tree.value) (seen_then none p.tree) s.commas s.limit ∷ fs) ts) c.none.ensures
+    ∙ sym (chain_turn tokens c.args.bench.at s.commas s.limit p k fs _ c.in-Chains.ensures (omega (arith, c.if-rank-setting.true, c.rank.ensures)) (omega (arith, c.if-part-rank.true, c.rank-then-rank-setting.ensures)))

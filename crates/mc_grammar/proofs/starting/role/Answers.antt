@@ -1,0 +1,21 @@
+use Rattle.std.proofs.Common.{◌≡◌, ◌≢◌, ◌+◌, ◌-◌, ◌≤◌, ◌<◌, ◌∷◌, [], drop, true, false, sym, ap, ◌∙◌, subst, arith, IfOk, refl, length}
+use Rattle.mc_grammar.specs.declared.frame.Sort.TheVariants.{Arguments, Elements, Chained}
+use Rattle.mc_grammar.specs.Joints as J
+use Rattle.mc_grammar.specs.Part as P
+use Rattle.mc_grammar.specs.Machine as M
+use Rattle.mc_grammar.specs.Seen.{seen_making, seen_items}
+use Rattle.mc_grammar.specs.Views.{state, frames, frame, part, now, reading, readings}
+use Rattle.mc_grammar.proofs.Steps.{start_at, start_past, done_past, list_close_next}
+use Rattle.mc_grammar.proofs.Starts.{role_compound, role_negative, role_other, negative_on, compound_on, path_on, rest_cut}
+use Rattle.mc_grammar.proofs.starting.role.Goals as goal
+
+pub returns-in-OpenCt : goal.returns-in-OpenCt
+returns-in-OpenCt c = role_compound c.args.limit c.args.name.now (drop c.args.at c.args.tokens.now) (sym c.mark.ensures ∙ c.in-OpenCt.is)
+
+pub returns-in-Some : goal.returns-in-Some
+returns-in-Some c = role_negative c.args.limit c.in-Some.value c.args.name.now (drop c.args.at c.args.tokens.now) (sym c.minus_at.ensures ∙ c.in-Some.is)
+
+pub returns : goal.returns
+returns c =
+    c.prefix_role.ensures ∙ (λ i. J.prefix_role c.args.limit (c.prefix.ensures i) (c.starts.ensures i))
+    ∙ role_other c.args.limit c.args.name.now (drop c.args.at c.args.tokens.now) (λ e. c.in_default.not-OpenCt (c.mark.ensures ∙ e)) (sym c.minus_at.ensures ∙ c.in_default-minus_at.is)

@@ -1,0 +1,28 @@
+use Rattle.std.proofs.Common.{◌≡◌, ◌≢◌, ◌+◌, ◌-◌, ◌≤◌, ◌<◌, ◌∷◌, [], drop, true, false, sym, ap, ◌∙◌, subst, arith, IfOk, refl, length}
+use Rattle.mc_grammar.specs.declared.frame.Sort.TheVariants.{Arguments, Elements, Chained}
+use Rattle.mc_grammar.specs.Joints as J
+use Rattle.mc_grammar.specs.Part as P
+use Rattle.mc_grammar.specs.Machine as M
+use Rattle.mc_grammar.specs.Seen.{seen_making, seen_items}
+use Rattle.mc_grammar.specs.Views.{state, frames, frame, part, now, reading, readings}
+use Rattle.mc_grammar.proofs.Steps.{start_at, start_past, done_past, list_close_next}
+use Rattle.mc_grammar.proofs.Starts.{role_compound, role_negative, role_other, negative_on, compound_on, path_on, rest_cut}
+use Rattle.mc_grammar.proofs.starting.step.Goals as goal
+
+pub returns-in-Start : goal.returns-in-Start
+returns-in-Start c =
+    let tokens = c.args.tokens.now in
+    let m = c.args.machine in
+    let fs = frames m.bench.stack.items in
+    subst (λ s. IfOk c.start_at.result (λ m. state tokens m ≡ s))
+    (ap (M.start seen_making c.in-Start.setting.commas c.in-Start.setting.limit fs) (ap (λ n. drop n tokens) c.min-at.ensures ∙ rest_cut tokens m.bench.at) ∙ ap (λ p. M.step seen_making (now fs (drop m.bench.at tokens) p)) (sym c.in-Start.is))
+    c.start_at.ensures
+
+pub returns-in-Done : goal.returns-in-Done
+returns-in-Done c =
+    let tokens = c.args.tokens.now in
+    let m = c.args.machine in
+    let fs = frames m.bench.stack.items in
+    subst (λ s. IfOk c.step_done.result (λ m. state tokens m ≡ s))
+    (ap (λ ts. M.step seen_making (M.Done c.in-Done.setting.commas c.in-Done.setting.limit fs (part c.in-Done.part) ts)) (ap (λ n. drop n tokens) c.min-at.ensures ∙ rest_cut tokens m.bench.at) ∙ ap (λ p. M.step seen_making (now fs (drop m.bench.at tokens) p)) (sym c.in-Done.is))
+    c.step_done.ensures

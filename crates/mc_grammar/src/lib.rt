@@ -1,0 +1,17 @@
+//! Terms from tokens: the operators, and the reader of the tokens of one item.
+#![tactic(auto)]
+
+mod frame;
+mod joint;
+mod law;
+mod lexeme;
+mod reader;
+mod reading;
+mod starting;
+mod table;
+
+pub use law::at_most_one_term;
+pub use lexeme::Lexeme;
+pub use reading::Reading;
+pub use starting::read;
+pub use table::{Fix, infix, prefix};

@@ -1,0 +1,28 @@
+use Rattle.std.proofs.Common.{◌≡◌, true, false, sym, ap, ◌∙◌, arith}
+use Rattle.std.proofs.lemmas.Grind.{common_steps}
+use Rattle.mc_terms.specs.Lines.{line_at}
+use Rattle.mc_terms.proofs.Items.{refused_by, ended_at, goes_on_at}
+use Rattle.mc_terms.proofs.item.item_tokens.Goals as goal
+
+pub returns-in-Err-clause-fault : goal.returns-in-Err-clause-fault
+returns-in-Err-clause-fault c =
+    let f = c.faulty_token.ensures in
+    refused_by c.args.walk.now c.item.walk c.next.new.self c.args.from.at c.item.place.at c.item.after c.in-Err.fault c.item.tokens.items c.faulty_token.result
+    c.item.invariant.same c.next.ensures.same c.item.invariant.continues c.in-Err.ensures.value f.kind f.line f.passes
+
+pub returns-then-ends_item-clause-tokens : goal.returns-then-ends_item-clause-tokens
+returns-then-ends_item-clause-tokens c =
+    ended_at c.args.walk.now c.item.walk c.args.from.at c.item.place.at c.item.after c.in-Ok.token c.item.tokens.items _
+    c.item.invariant.same c.item.invariant.continues c.in-Ok.ensures.value (sym c.ends_item.ensures ∙ c.if-ends_item.true) c.moved-end.ensures.at
+
+pub item-preserved : goal.item-preserved
+item-preserved c = record {
+  same = c.next.ensures.same ∙ c.item.invariant.same;
+  order = omega (arith, c.moved-end.ensures.at, c.moved-start.ensures.at, c.in-Ok.ensures.order.0, c.in-Ok.ensures.order.1);
+  within = grind (arith, common_steps);
+  line = grind (arith, common_steps);
+  continues =
+      goes_on_at c.next.new.self c.item.walk c.args.from.at c.item.place.at c.item.after c.in-Ok.token c.item.tokens.items c.push_token.new.tokens.items _ _
+      c.next.ensures.same c.item.invariant.continues c.in-Ok.ensures.value (sym c.ends_item.ensures ∙ c.if-ends_item.false) c.in-Ok.ensures.text
+      (c.moved-start.ensures.line ∙ ap (λ u. line_at u c.in-Ok.token.start) c.text.ensures) c.moved-end.ensures.at (c.in-Ok-push_token.ensures {u = tt});
+}

@@ -1,0 +1,48 @@
+-- What the reader answers for the item that begins in a place of a text (this project's profile).
+use Rattle.std.specs.Prelude.{◌≡◌, ◌≢◌, ℕ, ◌+◌, ◌<◌, ◌≤◌, List, [], Option, Some, None, length}
+use Rattle.mc_syntax.specs.Plain.{plain_term}
+use Rattle.mc_syntax.specs.declared.term.Term.{Term}
+use Rattle.mc_grammar.specs.declared.lexeme.Lexeme.{Lexeme}
+use Rattle.mc_grammar.specs.Tree.{Tree, depth, too_large, term}
+use Rattle.mc_grammar.specs.Reads.{ReadsTerm}
+use Rattle.mc_tokens.specs.declared.token.Kind.{Kind}
+use Rattle.mc_tokens.specs.declared.token.Kind.TheVariants.{Eof}
+use Rattle.mc_tokens.specs.Tokens.{lexed, Tok}
+use Rattle.mc_tokens.specs.Items.{Piece, Item, Faulty, Passes}
+use Rattle.mc_terms.specs.declared.fault.ReadKind.{ReadKind}
+use Rattle.mc_terms.specs.declared.fault.ReadKind.TheVariants.{Token, NotATerm, IntTooLarge, TooNested, Memory}
+use Rattle.mc_terms.specs.Lines.{line_at}
+use Rattle.mc_terms.specs.Lexemes.{lexemes}
+
+-- the tokens of the item that begins in a place, and the place behind its end
+abbrev pub ItemTokens : List ℕ → ℕ → List Lexeme → ℕ → Type 0
+ItemTokens text at ts stop = (ps : List Piece) × Item text at Eof ps stop × (lexemes text [] ps ≡ ts)
+
+-- the item's tokens stand for a term, of which this is the tree
+abbrev pub ItemReads : List ℕ → ℕ → Tree → ℕ → Type 0
+ItemReads text at t stop = (ts : List Lexeme) × ItemTokens text at ts stop × ReadsTerm ts t 1200
+
+-- nothing but blanks and comments is left
+abbrev pub IsOver : List ℕ → ℕ → Type 0
+IsOver text at = (start : ℕ) × (stop : ℕ) × (lexed text at Eof ≡ Tok Eof start stop)
+
+-- the item's first token, which may be its end, is on a line, and it isn't the text's end
+abbrev pub BeginsOn : List ℕ → ℕ → ℕ → Type 0
+BeginsOn text at line = (k : Kind) × (start : ℕ) × (stop : ℕ) × (lexed text at Eof ≡ Tok k start stop) × (k ≢ Eof) × (line ≡ line_at text start)
+
+-- The item is a term that is no deeper than 256 and holds no number that 64 bits don't hold.
+abbrev pub IsItem : List ℕ → ℕ → Term → ℕ → Type 0
+IsItem text at u next = (t : Tree) × ItemReads text at t next × (too_large t ≡ None) × (depth t ≤ 256) × (plain_term u ≡ term t)
+
+-- why an item isn't read, with the line of the fault and the place where reading goes on
+abbrev pub IsRefused : List ℕ → ℕ → ReadKind → ℕ → ℕ → Type 0
+IsRefused text at (Token f) line next = (place : ℕ) × Faulty text at Eof f place × (line ≡ line_at text place) × Passes text (place + 1) Eof next
+IsRefused text at NotATerm line next = (ts : List Lexeme) × ItemTokens text at ts next × ((t : Tree) → ReadsTerm ts t 1200 → ⊥) × BeginsOn text at line
+IsRefused text at IntTooLarge line next = (t : Tree) × ItemReads text at t next × (too_large t ≡ Some line)
+IsRefused text at TooNested line next = (t : Tree) × ItemReads text at t next × (too_large t ≡ None) × (256 < depth t) × BeginsOn text at line
+IsRefused text at Memory line next = Unit {0}
+
+-- Reading goes on behind the place where the item begins, and in the text, but after want of memory.
+abbrev pub IsOnward : List ℕ → ℕ → ReadKind → ℕ → Type 0
+IsOnward text at Memory next = Unit {0}
+IsOnward text at _ next = (at ≤ next) × (next ≤ length text)

@@ -1,0 +1,27 @@
+use mc_tokens::FaultKind;
+
+/// Why an item isn't read. Want of memory may come at any item; the others come in this order.
+#[derive(Clone, Copy, Debug, PartialEq, Eq)]
+pub enum ReadKind {
+    /// A token of the item is faulty; this is the first such.
+    Token(FaultKind),
+    /// The tokens of the item are no term.
+    NotATerm,
+    /// A number is 2^63, and no minus sign stands directly before it.
+    IntTooLarge,
+    /// The term is nested deeper than 256.
+    TooNested,
+    /// There is no room for the term.
+    Memory,
+}
+
+/// An item that isn't read.
+#[derive(Clone, Copy, Debug, PartialEq, Eq)]
+pub struct ReadFault {
+    pub kind: ReadKind,
+    /// The line of the fault, counted from 1: of the faulty byte, of the first number that is too large, else of
+    /// the item's first token.
+    pub line: u32,
+    /// The place in the text from which reading goes on: behind the item's end, or the text's length.
+    pub next: usize,
+}

@@ -1,0 +1,204 @@
+ghost use Rattle.std.specs.Prelude.{◌≡◌, ◌+◌, ◌≤◌, ◌<◌, ◌^◌, ◌-◌, ◌∷◌, ◌++◌, [], length, reverse, OnOk, IfOk, IfErr, MatchOption, MatchResult, List, ℕ, IsTrue, false};
+ghost use Rattle.mc_tokens.specs.Contents.{stands_for};
+ghost use Rattle.mc_terms.specs.Lines.{line_at};
+ghost use Rattle.mc_terms.specs.Lexemes.{qualifier, with_name, with_token, IsMark};
+ghost use Rattle.mc_grammar.specs.declared.lexeme.Lexeme.{Lexeme};
+ghost use Rattle.mc_terms.specs.Answers.{ItemTokens, IsRefused, IsOnward};
+ghost use Rattle.mc_tokens.specs.Items.{Passes};
+ghost use Rattle.std.specs.Prelude.{None, Some};
+
+use crate::fault::{ReadFault, ReadKind};
+use crate::position::Position;
+use mc_base::{Memory, Row, Text};
+use mc_grammar::Lexeme;
+use mc_tokens::{Kind, Token, TokenFault, Walk, token_text};
+use std::alloc::Global;
+
+// The tokens of an item, and the position behind its end.
+#[derive(Drop)]
+pub struct Item {
+    pub tokens: Vec<Lexeme>,
+    pub end: Position,
+}
+
+// The parts and the line of a name that a dot goes on from, or the token where it is no name.
+fn name_parts(alloc: Global, token: Lexeme) -> Result<Result<(Row<Text>, u32), Lexeme>, Memory>
+    ensures { IfOk result (λ r. MatchResult r (λ q. (done : List Lexeme) → qualifier (Lexeme.Dot ∷ token ∷ done) ≡ Some (q.0, q.1, done)) (λ t. (t ≡ token) × ((done : List Lexeme) → qualifier (Lexeme.Dot ∷ token ∷ done) ≡ None))) }
+{
+    match token {
+        Lexeme::Word(name, _, line) => {
+            let mut parts = Vec::with_capacity(alloc, 2)?;
+            parts.push(name)?;
+            Ok(Ok((Row::from_vec(parts), line)))
+        }
+        Lexeme::Path(parts, line) => Ok(Ok((parts, line))),
+        token => Ok(Err(token)),
+    }
+}
+
+// The same of the last token, where a dot behind it was taken off.
+fn before_dot(alloc: Global, tokens: &mut Vec<Lexeme>) -> Result<Option<(Row<Text>, u32)>, Memory>
+    ensures { IfOk result (λ q. MatchOption q ((qualifier (Lexeme.Dot ∷ reverse tokens.old.items) ≡ None) × (tokens.new.items ≡ tokens.old.items ++ Lexeme.Dot ∷ [])) (λ q. qualifier (Lexeme.Dot ∷ reverse tokens.old.items) ≡ Some (q.0, q.1, reverse tokens.new.items))) }
+{
+    if let Some(token) = tokens.pop() {
+        match name_parts(alloc, token)? {
+            Ok(name) => return Ok(Some(name)),
+            Err(token) => tokens.push(token)?,
+        }
+    }
+    tokens.push(Lexeme::Dot)?;
+    Ok(None)
+}
+
+fn is_dot(token: &Lexeme) -> bool
+    ensures yes { IsTrue result → token.now ≡ Lexeme.Dot }
+    ensures no { result ≡ false → (done : List Lexeme) → qualifier (token.now ∷ done) ≡ None }
+{
+    matches!(token, Lexeme::Dot)
+}
+
+// Takes off the name that a dot goes on from, with its dot, where the tokens end so.
+fn take_qualifier(
+    alloc: Global,
+    tokens: &mut Vec<Lexeme>,
+) -> Result<Option<(Row<Text>, u32)>, Memory>
+    ensures { IfOk result (λ q. MatchOption q ((qualifier (reverse tokens.old.items) ≡ None) × (tokens.new.items ≡ tokens.old.items)) (λ q. qualifier (reverse tokens.old.items) ≡ Some (q.0, q.1, reverse tokens.new.items))) }
+{
+    let Some(last) = tokens.pop() else {
+        return Ok(None);
+    };
+    if is_dot(&last) {
+        return before_dot(alloc, tokens);
+    }
+    tokens.push(last)?;
+    Ok(None)
+}
+
+fn push_name(
+    alloc: Global,
+    tokens: &mut Vec<Lexeme>,
+    name: Text,
+    quoted: bool,
+    line: u32,
+) -> Result<(), Memory>
+    ensures { OnOk result (reverse tokens.new.items ≡ with_name (qualifier (reverse tokens.old.items)) (reverse tokens.old.items) name quoted line) }
+{
+    match take_qualifier(alloc, tokens)? {
+        None => tokens.push(Lexeme::Word(name, quoted, line))?,
+        Some((mut parts, first)) => {
+            if parts.len() == u32::MAX {
+                return Err(Memory);
+            }
+            parts.push(name)?;
+            tokens.push(Lexeme::Path(parts, first))?;
+        }
+    }
+    Ok(())
+}
+
+// Puts a token that begins on a line behind the others.
+fn push_token(
+    alloc: Global,
+    tokens: &mut Vec<Lexeme>,
+    token: &Token,
+    line: u32,
+) -> Result<(), Memory>
+    ensures { OnOk result (reverse tokens.new.items ≡ with_token (reverse tokens.old.items) token.now.kind (stands_for token.now.kind token.now.text.now) line) }
+{
+    let lexeme = match token.kind {
+        Kind::Name => {
+            let name = token_text(alloc, token)?;
+            return push_name(alloc, tokens, name, false, line);
+        }
+        Kind::Quoted => {
+            let name = token_text(alloc, token)?;
+            return push_name(alloc, tokens, name, true, line);
+        }
+        Kind::Var => Lexeme::Var(token_text(alloc, token)?, line),
+        Kind::Str => Lexeme::Str(token_text(alloc, token)?, line),
+        Kind::Int(value) => Lexeme::Int(value, line),
+        kind => mark(kind, line),
+    };
+    tokens.push(lexeme)?;
+    Ok(())
+}
+
+// A token that has no text of its own.
+fn mark(kind: Kind, line: u32) -> Lexeme
+    ensures { IsMark kind → (done : List Lexeme) (w : List ℕ) → result ∷ done ≡ with_token done kind w line }
+{
+    match kind {
+        Kind::Open => Lexeme::Open(line),
+        Kind::OpenCt => Lexeme::OpenCt(line),
+        Kind::Close => Lexeme::Close,
+        Kind::ListOpen => Lexeme::ListOpen(line),
+        Kind::ListClose => Lexeme::ListClose,
+        Kind::Bar => Lexeme::Bar,
+        Kind::Comma => Lexeme::Comma,
+        _ => Lexeme::Dot,
+    }
+}
+
+pub fn want_of_memory(from: Position) -> ReadFault
+    ensures { result.kind ≡ ReadKind.Memory }
+{
+    ReadFault {
+        kind: ReadKind::Memory,
+        line: from.line,
+        next: from.at,
+    }
+}
+
+// The fault of a faulty token, that comes first from a position on.
+pub fn faulty_token(walk: &mut Walk, from: Position, fault: TokenFault) -> ReadFault
+    requires order { from.at ≤ fault.at }
+    requires within { fault.at < length walk.old }
+    requires line { from.line ≡ line_at walk.old from.at }
+    requires small { length walk.old < 2 ^ 32 - 1 }
+    ensures kind { result.kind ≡ ReadKind.Token fault.kind }
+    ensures line { result.line ≡ line_at walk.old fault.at }
+    ensures passes { Passes walk.old (fault.at + 1) Kind.Eof result.next }
+    ensures within { (fault.at < result.next) × (result.next ≤ length walk.old) }
+    ensures same { walk.new ≡ walk.old }
+{
+    let line = from.moved(walk.text(), fault.at).line;
+    ReadFault {
+        kind: ReadKind::Token(fault.kind),
+        line,
+        next: walk.item_end(fault.at + 1, &Kind::Eof),
+    }
+}
+
+// The tokens of the item that begins in a position.
+pub fn item_tokens(alloc: Global, walk: &mut Walk, from: Position) -> Result<Item, ReadFault>
+    requires within { from.at ≤ length walk.old }
+    requires line { from.line ≡ line_at walk.old from.at }
+    requires small { length walk.old < 2 ^ 32 - 1 }
+    ensures tokens { IfOk result (λ item. ItemTokens walk.old from.at item.tokens.items item.end.at) }
+    ensures end { IfOk result (λ item. (item.end.line ≡ line_at walk.old item.end.at) × (from.at ≤ item.end.at) × (item.end.at ≤ length walk.old)) }
+    ensures fault { IfErr result (λ f. IsRefused walk.old from.at f.kind f.line f.next) }
+    ensures onward { IfErr result (λ f. IsOnward walk.old from.at f.kind f.next) }
+    ensures same { walk.new ≡ walk.old }
+{
+    let mut tokens = Vec::new(alloc);
+    let mut place = from;
+    let mut after = Kind::Eof;
+    'item: loop {
+        let token = match walk.next(place.at, &after) {
+            Ok(token) => token,
+            Err(fault) => return Err(faulty_token(walk, place, fault)),
+        };
+        let start = place.moved(walk.text(), token.start);
+        let end = start.moved(walk.text(), token.end);
+        if token.kind.ends_item() {
+            return Ok(Item { tokens, end });
+        }
+        match push_token(alloc, &mut tokens, &token, start.line) {
+            Err(_) => return Err(want_of_memory(from)),
+            Ok(()) => {
+                place = end;
+                after = token.kind;
+            }
+        }
+    }
+}

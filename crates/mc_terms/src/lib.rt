@@ -1,0 +1,15 @@
+//! The terms of a text, item by item.
+#![tactic(auto, using(crate::proofs::Rules::ends))]
+
+mod fault;
+mod item;
+mod position;
+mod term;
+#[cfg(test)]
+mod tests;
+
+pub use fault::{ReadFault, ReadKind};
+pub use mc_grammar::{Fix, infix, prefix};
+pub use mc_syntax::{Node, Term};
+pub use position::Position;
+pub use term::{read_next, read_term};

@@ -1,0 +1,84 @@
+//! Reads a module of ordinary clauses of a given size in KiB, keeps its terms, and says how many they are.
+#![tactic(auto)]
+
+use mc_syntax::Term;
+use mc_terms::{Position, ReadKind, read_next};
+use mc_tokens::Walk;
+use std::alloc::{AllocError, Global};
+use std::{env, io};
+
+// The clauses of a program that places queens; the module is made of copies of them.
+const CLAUSES: &str = "\
+:- pred place(list(int)::in, list(int)::in, list(int)::out) is nondet.
+place([], _, []).
+place([C | Cs], Placed, [Q | Qs]) :-
+    select(Q, [C | Cs], Rest),
+    safe(Q, 1, Placed),
+    place(Rest, [Q | Placed], Qs).
+:- pred select(int::out, list(int)::in, list(int)::out) is nondet.
+select(X, [X | Xs], Xs).
+select(X, [Y | Ys], [Y | Zs]) :- select(X, Ys, Zs).
+:- pred safe(int::in, int::in, list(int)::in) is semidet.
+safe(_, _, []).
+safe(Q, D, [P | Ps]) :- Q \\= P + D, Q \\= P - D, safe(Q, D + 1, Ps).
+depth(N, D) :- ( if N = 0 then D = 0 else depth(N - 1, D0), D = D0 + 1 ).
+";
+
+fn module(alloc: Global, kib: usize) -> Result<Vec<u8>, AllocError> {
+    let mut text = Vec::new(alloc);
+    for _ in 0..u32::MAX {
+        if text.len() / 1024 >= kib {
+            break;
+        }
+        text.extend_from_slice(CLAUSES.as_bytes())?;
+    }
+    Ok(text)
+}
+
+// The terms of a text, up to the first that isn't read; None where there is no room for them.
+fn read_all(alloc: Global, text: &[u8]) -> Option<Vec<Term>> {
+    let mut terms = Vec::new(alloc);
+    if text.len() >= 1 << 30 {
+        return Some(terms);
+    }
+    let mut walk = Walk::new(text);
+    let mut from = Position::START;
+    'items: for _ in 0..u32::MAX {
+        match read_next(alloc, &mut walk, from) {
+            Ok(None) => break,
+            Ok(Some((term, next))) => {
+                if terms.push(term).is_err() {
+                    return None;
+                }
+                from = next;
+            }
+            Err(fault) => match fault.kind {
+                ReadKind::Memory => return None,
+                _ => break,
+            },
+        }
+    }
+    Some(terms)
+}
+
+fn size(rt: &HostRuntime) -> io::Result<usize> {
+    let mut size = 64;
+    for word in env::args(rt)? {
+        if let Ok(kib) = word.parse::<u16>() {
+            size = usize::from(kib);
+        }
+    }
+    Ok(size)
+}
+
+fn main(rt: HostRuntime) -> io::Result<()> {
+    let text = module(rt.alloc(), size(&rt)?)?;
+    let bytes = text.len();
+    match read_all(rt.alloc(), text.as_slice()) {
+        None => println!(rt; "no room"),
+        Some(terms) => {
+            let count = terms.len();
+            println!(rt; "{bytes} bytes, {count} terms")
+        }
+    }
+}
