@@ -1,0 +1,14 @@
+pub mod Runs
+pub mod Lanes
+pub mod CharLen
+pub mod Turns
+pub mod Layouts
+pub mod Quotes
+pub mod Escapes
+pub mod Forms
+pub mod Begun
+pub mod Sayings
+pub mod Texts
+pub mod Ascii
+pub mod Spelled
+pub mod ItemLaws

@@ -1,0 +1,9 @@
+pub mod Classes
+pub mod Utf8
+pub mod Spots
+pub mod Contents
+pub mod Tokens
+pub mod Walks
+pub mod Answers
+pub mod Seen
+pub mod Items
