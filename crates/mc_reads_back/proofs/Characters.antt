@@ -39,7 +39,7 @@ says_past q zero (x ∷ xs) ys e = absurd (omega arith)
 says_past q (suc k) [] ys e = absurd (omega arith)
 says_past q (suc k) (x ∷ xs) ys e = says_past q k xs ys (omega arith)
 
-take_front : (k : ℕ) (xs ys : List ℕ) → length xs ≡ k → take k (xs ++ ys) ≡ xs
+pub take_front : (k : ℕ) (xs ys : List ℕ) → length xs ≡ k → take k (xs ++ ys) ≡ xs
 take_front zero [] ys e = refl
 take_front zero (x ∷ xs) ys e = absurd (omega arith)
 take_front (suc k) [] ys e = absurd (omega arith)
@@ -60,7 +60,7 @@ whole q start p b k xs ys n m len long =
         ∙ ap (λ l. (b ∷ xs) ++ l) (says_past q k xs ys long);
     }
 
-and_true : (a b : Bool) → a ≡ true → b ≡ true → a && b ≡ true
+pub and_true : (a b : Bool) → a ≡ true → b ≡ true → a && b ≡ true
 and_true true b e h = h
 and_true false b e h = cc
 
@@ -80,7 +80,7 @@ second_good b x h1 h2 h3 h4 lo hi =
         (λ f3. pick (b == 244) _ _ (λ t. among 128 143 x lo (h4 (eqb-true b 244 t)))
           (λ f4. among 128 191 x lo hi))))
 
-above : (lo hi x : ℕ) → hi < x → between lo hi x ≡ false
+pub above : (lo hi x : ℕ) → hi < x → between lo hi x ≡ false
 above lo hi x h = and_false (nat_le lo x) (nat_le x hi) (lt-leb x hi h)
   where
     and_false : (a b : Bool) → b ≡ false → a && b ≡ false
@@ -102,7 +102,7 @@ len_four b x y z ys b1 b2 s y1 y2 z1 z2 =
     no _ (le-ltb b 128 (omega arith)) ∙ no _ (above 194 223 b (omega arith)) ∙ no _ (above 224 239 b (omega arith)) ∙ yes _ (among 240 244 b b1 b2)
     ∙ yes _ (and_true (second b x) (continues y && continues z) s (and_true (continues y) (continues z) (among 128 191 y y1 y2) (among 128 191 z z1 z2)))
 
-neither : (a b : Bool) → a ≡ false → b ≡ false → a || b ≡ false
+pub neither : (a b : Bool) → a ≡ false → b ≡ false → a || b ≡ false
 neither true b e h = cc
 neither false b e h = h
 
@@ -138,7 +138,7 @@ all_high : (q : ℕ) (bs : List ℕ) → IsQuote q → AllHigh bs → flat_map (
 all_high q [] is h = refl
 all_high q (b ∷ bs) is h = ap (λ l. l ++ flat_map (printed_byte q) bs) (printed_high q b is h.0) ∙ ap (λ l. b ∷ l) (all_high q bs is h.1)
 
-below_or : (m n : ℕ) → (m < n) ⊎ (n ≤ m)
+pub below_or : (m n : ℕ) → (m < n) ⊎ (n ≤ m)
 below_or m n = split (nat_lt m n) refl
   where
     split : (t : Bool) → nat_lt m n ≡ t → (m < n) ⊎ (n ≤ m)

@@ -1,9 +1,24 @@
 //! Laws: what is printed reads back.
 #![tactic(auto)]
 
-ghost use Rattle.mc_reads_back.specs.Laws.{QuotedReadsBack};
+ghost use Rattle.mc_reads_back.specs.Laws.{StringsReadBack, QuotedNamesReadBack, BareNamesReadBack, NumbersReadBack};
 
-/// UTF-8 that is printed between quotes is one token, which stands for the same bytes.
-pub fn quoted_reads_back()
-    ensures { QuotedReadsBack }
+/// A printed string is one token, which stands for the string.
+pub fn strings_read_back()
+    ensures { StringsReadBack }
+{}
+
+/// A printed character, or a name that is printed in quotes, is one token, which stands for it.
+pub fn quoted_names_read_back()
+    ensures { QuotedNamesReadBack }
+{}
+
+/// A name that is printed bare is one token, which stands for it.
+pub fn bare_names_read_back()
+    ensures { BareNamesReadBack }
+{}
+
+/// A printed number that isn't negative is one token of that number.
+pub fn numbers_read_back()
+    ensures { NumbersReadBack }
 {}
