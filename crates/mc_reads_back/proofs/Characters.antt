@@ -55,9 +55,9 @@ whole q start p b k xs ys n m len long =
     record {
       walks = ap (took (quote_turn q) (λ m p. Faulty Unterminated start) p (xs ++ ys)) (turn p) ∙ walk_past q start (p + 1) k xs ys long ∙ (let e : p + 1 + k ≡ p + length (b ∷ xs) = omega arith in ap (λ i. quote_walk q start Plain i ys) e);
       says_so =
-        said_so q b k Plain Plain (xs ++ ys) (turn 0)
-        ∙ ap (λ l. l ++ contents q Plain k (xs ++ ys)) (no _ (ne_eqb b q n) ∙ no _ (ne_eqb b 92 m) ∙ ap (λ j. take j (b ∷ (xs ++ ys))) len ∙ took_whole b k xs ys long)
-        ∙ ap (λ l. (b ∷ xs) ++ l) (says_past q k xs ys long);
+          said_so q b k Plain Plain (xs ++ ys) (turn 0)
+          ∙ ap (λ l. l ++ contents q Plain k (xs ++ ys)) (no _ (ne_eqb b q n) ∙ no _ (ne_eqb b 92 m) ∙ ap (λ j. take j (b ∷ (xs ++ ys))) len ∙ took_whole b k xs ys long)
+          ∙ ap (λ l. (b ∷ xs) ++ l) (says_past q k xs ys long);
     }
 
 pub and_true : (a b : Bool) → a ≡ true → b ≡ true → a && b ≡ true
@@ -76,9 +76,9 @@ unfolding second
 second_good b x h1 h2 h3 h4 lo hi =
     pick (b == 224) _ _ (λ t. among 160 191 x (h1 (eqb-true b 224 t)) hi)
     (λ f1. pick (b == 237) _ _ (λ t. among 128 159 x lo (h2 (eqb-true b 237 t)))
-      (λ f2. pick (b == 240) _ _ (λ t. among 144 191 x (h3 (eqb-true b 240 t)) hi)
-        (λ f3. pick (b == 244) _ _ (λ t. among 128 143 x lo (h4 (eqb-true b 244 t)))
-          (λ f4. among 128 191 x lo hi))))
+    (λ f2. pick (b == 240) _ _ (λ t. among 144 191 x (h3 (eqb-true b 240 t)) hi)
+    (λ f3. pick (b == 244) _ _ (λ t. among 128 143 x lo (h4 (eqb-true b 244 t)))
+    (λ f4. among 128 191 x lo hi))))
 
 pub above : (lo hi x : ℕ) → hi < x → between lo hi x ≡ false
 above lo hi x h = and_false (nat_le lo x) (nat_le x hi) (lt-leb x hi h)
@@ -225,7 +225,7 @@ characters q start p (c ∷ cs) ys is s =
 
 -- the whole of a quote
 pub quoted_whole : (q start : ℕ) (bytes rest : List ℕ) → IsQuote q → IsUtf8 bytes → at rest 0 ≢ q
-  → (quote_end q start (drop 1 (in_quotes q bytes ++ rest)) ≡ At (start + length (in_quotes q bytes))) × (contents q Plain 0 (drop 1 (in_quotes q bytes ++ rest)) ≡ bytes)
+    → (quote_end q start (drop 1 (in_quotes q bytes ++ rest)) ≡ At (start + length (in_quotes q bytes))) × (contents q Plain 0 (drop 1 (in_quotes q bytes ++ rest)) ≡ bytes)
 quoted_whole q start bytes rest is utf8 n =
     let f = flat_map (printed_byte q) in
     let cs = utf8.0 in
@@ -237,6 +237,7 @@ quoted_whole q start bytes rest is utf8 n =
     ap (took (quote_turn q) (λ m p. Faulty Unterminated start) (start + 1 + length F) rest) (closing q 0 (start + 1 + length F) q rest refl n) in
     let long : start + 1 + length F + 1 ≡ start + length (in_quotes q bytes) =
     omega (arith, ap (λ bs. length (f bs ++ (q ∷ []))) e, length-append F (q ∷ [])) in
-    let nothing : contents q Plain 0 (q ∷ rest) ≡ [] = ap (λ t. elim t [ Go m past ↦ says q Plain q rest ++ contents q m past rest | Stop s ↦ [] ]) (closing q 0 0 q rest refl n) in
-    ( ap (quote_walk q start Plain (start + 1)) body ∙ passes.walks ∙ stop ∙ ap At long
-    , ap (contents q Plain 0) body ∙ passes.says_so ∙ ap (λ l. encodes cs ++ l) nothing ∙ append-nil (encodes cs) ∙ e)
+    let nothing : contents q Plain 0 (q ∷ rest) ≡ [] = ap (λ t. elim t [ Go m past ↦ says q Plain q rest ++ contents q m past rest | Stop s ↦ [] ]) (closing q 0 0 q rest refl n) in (
+      ap (quote_walk q start Plain (start + 1)) body ∙ passes.walks ∙ stop ∙ ap At long,
+      ap (contents q Plain 0) body ∙ passes.says_so ∙ ap (λ l. encodes cs ++ l) nothing ∙ append-nil (encodes cs) ∙ e,
+    )

@@ -37,12 +37,12 @@ backslash_says q bs n = no _ (ne_eqb 92 q n)
 simple : (q start p x c : ℕ) (ys : List ℕ) → 92 ≢ q → is_simple x ≡ true → x ≢ 10 → escaped x ≡ c → Passes q start p (92 ∷ x ∷ ys) ys 2 (c ∷ [])
 simple q start p x c ys n s m e = record {
   walks = goes q start p 92 Plain (Backslash p) (x ∷ ys) (escaping q 0 p 92 (x ∷ ys) n refl)
-    ∙ goes q start (p + 1) x (Backslash p) Plain ys (simple_turn q p (p + 1) x ys s) ∙ two q start p ys;
+      ∙ goes q start (p + 1) x (Backslash p) Plain ys (simple_turn q p (p + 1) x ys s) ∙ two q start p ys;
   says_so =
-    said_so q 92 0 Plain (Backslash 0) (x ∷ ys) (escaping q 0 0 92 (x ∷ ys) n refl)
-    ∙ ap (λ l. l ++ contents q (Backslash 0) 0 (x ∷ ys)) (backslash_says q (x ∷ ys) n)
-    ∙ said_so q x 0 (Backslash 0) Plain ys (simple_turn q 0 0 x ys s)
-    ∙ ap (λ l. l ++ contents q Plain 0 ys) (no [] (ne_eqb x 10 m) ∙ yes [] s ∙ ap (λ d. d ∷ []) e);
+      said_so q 92 0 Plain (Backslash 0) (x ∷ ys) (escaping q 0 0 92 (x ∷ ys) n refl)
+      ∙ ap (λ l. l ++ contents q (Backslash 0) 0 (x ∷ ys)) (backslash_says q (x ∷ ys) n)
+      ∙ said_so q x 0 (Backslash 0) Plain ys (simple_turn q 0 0 x ys s)
+      ∙ ap (λ l. l ++ contents q Plain 0 ys) (no [] (ne_eqb x 10 m) ∙ yes [] s ∙ ap (λ d. d ∷ []) e);
 }
 
 -- a hexadecimal digit of a number below 16 is a digit of base 16, with that value
@@ -74,21 +74,21 @@ control q start p c ys n lt =
     let one : encode value ≡ c ∷ [] = ap encode is ∙ yes _ (lt-ltb c 128 lt) in
     record {
       walks = goes q start p 92 Plain (Backslash p) (120 ∷ bs0) (escaping q 0 p 92 (120 ∷ bs0) n refl)
-        ∙ goes q start (p + 1) 120 (Backslash p) (Digits p 16 0 false) bs0 (x_turn q p (p + 1) 120 bs0 refl)
-        ∙ goes q start (p + 1 + 1) h1 (Digits p 16 0 false) (Digits p 16 (16 * 0 + hex_value h1) true) bs1 (digit_turn q p (p + 1 + 1) h1 bs1 16 0 false d1)
-        ∙ goes q start (p + 1 + 1 + 1) h2 (Digits p 16 (16 * 0 + hex_value h1) true) (Digits p 16 value true) (92 ∷ ys) (digit_turn q p (p + 1 + 1 + 1) h2 (92 ∷ ys) 16 (16 * 0 + hex_value h1) true d2)
-        ∙ goes q start (p + 1 + 1 + 1 + 1) 92 (Digits p 16 value true) Plain ys (end_turn q p (p + 1 + 1 + 1 + 1) 92 ys 16 value true refl refl refl good)
-        ∙ five q start p ys;
+          ∙ goes q start (p + 1) 120 (Backslash p) (Digits p 16 0 false) bs0 (x_turn q p (p + 1) 120 bs0 refl)
+          ∙ goes q start (p + 1 + 1) h1 (Digits p 16 0 false) (Digits p 16 (16 * 0 + hex_value h1) true) bs1 (digit_turn q p (p + 1 + 1) h1 bs1 16 0 false d1)
+          ∙ goes q start (p + 1 + 1 + 1) h2 (Digits p 16 (16 * 0 + hex_value h1) true) (Digits p 16 value true) (92 ∷ ys) (digit_turn q p (p + 1 + 1 + 1) h2 (92 ∷ ys) 16 (16 * 0 + hex_value h1) true d2)
+          ∙ goes q start (p + 1 + 1 + 1 + 1) 92 (Digits p 16 value true) Plain ys (end_turn q p (p + 1 + 1 + 1 + 1) 92 ys 16 value true refl refl refl good)
+          ∙ five q start p ys;
       says_so =
-        said_so q 92 0 Plain (Backslash 0) (120 ∷ bs0) (escaping q 0 0 92 (120 ∷ bs0) n refl)
-        ∙ ap (λ l. l ++ contents q (Backslash 0) 0 (120 ∷ bs0)) (backslash_says q (120 ∷ bs0) n)
-        ∙ said_so q 120 0 (Backslash 0) (Digits 0 16 0 false) bs0 (x_turn q 0 0 120 bs0 refl)
-        ∙ said_so q h1 0 (Digits 0 16 0 false) (Digits 0 16 (16 * 0 + hex_value h1) true) bs1 (digit_turn q 0 0 h1 bs1 16 0 false d1)
-        ∙ ap (λ l. l ++ contents q (Digits 0 16 (16 * 0 + hex_value h1) true) 0 bs1) (yes _ d1)
-        ∙ said_so q h2 0 (Digits 0 16 (16 * 0 + hex_value h1) true) (Digits 0 16 value true) (92 ∷ ys) (digit_turn q 0 0 h2 (92 ∷ ys) 16 (16 * 0 + hex_value h1) true d2)
-        ∙ ap (λ l. l ++ contents q (Digits 0 16 value true) 0 (92 ∷ ys)) (yes _ d2)
-        ∙ said_so q 92 0 (Digits 0 16 value true) Plain ys (end_turn q 0 0 92 ys 16 value true refl refl refl good)
-        ∙ ap (λ l. l ++ contents q Plain 0 ys) one;
+          said_so q 92 0 Plain (Backslash 0) (120 ∷ bs0) (escaping q 0 0 92 (120 ∷ bs0) n refl)
+          ∙ ap (λ l. l ++ contents q (Backslash 0) 0 (120 ∷ bs0)) (backslash_says q (120 ∷ bs0) n)
+          ∙ said_so q 120 0 (Backslash 0) (Digits 0 16 0 false) bs0 (x_turn q 0 0 120 bs0 refl)
+          ∙ said_so q h1 0 (Digits 0 16 0 false) (Digits 0 16 (16 * 0 + hex_value h1) true) bs1 (digit_turn q 0 0 h1 bs1 16 0 false d1)
+          ∙ ap (λ l. l ++ contents q (Digits 0 16 (16 * 0 + hex_value h1) true) 0 bs1) (yes _ d1)
+          ∙ said_so q h2 0 (Digits 0 16 (16 * 0 + hex_value h1) true) (Digits 0 16 value true) (92 ∷ ys) (digit_turn q 0 0 h2 (92 ∷ ys) 16 (16 * 0 + hex_value h1) true d2)
+          ∙ ap (λ l. l ++ contents q (Digits 0 16 value true) 0 (92 ∷ ys)) (yes _ d2)
+          ∙ said_so q 92 0 (Digits 0 16 value true) Plain ys (end_turn q 0 0 92 ys 16 value true refl refl refl good)
+          ∙ ap (λ l. l ++ contents q Plain 0 ys) one;
     }
 
 -- a byte as it is
@@ -99,8 +99,8 @@ bare q start p c ys n m lt =
     record {
       walks = goes q start p c Plain Plain ys (plain q 0 p c ys n m ∙ ascii_turn Plain p c ys lt);
       says_so =
-        said_so q c 0 Plain Plain ys (plain q 0 0 c ys n m ∙ ascii_turn Plain 0 c ys lt)
-        ∙ ap (λ l. l ++ contents q Plain 0 ys) (no _ (ne_eqb c q n) ∙ no _ (ne_eqb c 92 m) ∙ ap (λ k. take k (c ∷ ys)) len);
+          said_so q c 0 Plain Plain ys (plain q 0 0 c ys n m ∙ ascii_turn Plain 0 c ys lt)
+          ∙ ap (λ l. l ++ contents q Plain 0 ys) (no _ (ne_eqb c q n) ∙ no _ (ne_eqb c 92 m) ∙ ap (λ k. take k (c ∷ ys)) len);
     }
 
 pick : (t : Bool) (A B : List ℕ) (P : List ℕ → Type 0) → (t ≡ true → P A) → (t ≡ false → P B) → P (cond t A B)
@@ -138,12 +138,12 @@ byte q start p c ys is lt =
     let n = no_backslash q is in
     pick (nat_eq c 92 || nat_eq c q) _ _ P
     (λ t. ⊎_elim
-      (λ e. subst (λ d. Passes q start p (92 ∷ d ∷ ys) ys 2 (d ∷ [])) (sym (eqb-true c 92 e)) (simple q start p 92 92 ys n refl (omega arith) refl))
-      (λ e. subst (λ d. Passes q start p (92 ∷ d ∷ ys) ys 2 (d ∷ [])) (sym (eqb-true c q e)) (quote q start p ys is)) (either (nat_eq c 92) (nat_eq c q) t))
+    (λ e. subst (λ d. Passes q start p (92 ∷ d ∷ ys) ys 2 (d ∷ [])) (sym (eqb-true c 92 e)) (simple q start p 92 92 ys n refl (omega arith) refl))
+    (λ e. subst (λ d. Passes q start p (92 ∷ d ∷ ys) ys 2 (d ∷ [])) (sym (eqb-true c q e)) (quote q start p ys is)) (either (nat_eq c 92) (nat_eq c q) t))
     (λ f1. pick (nat_eq c 10) _ _ P
-      (λ t. subst (λ d. Passes q start p (92 ∷ 110 ∷ ys) ys 2 (d ∷ [])) (sym (eqb-true c 10 t)) (simple q start p 110 10 ys n refl (omega arith) refl))
-      (λ f2. pick (nat_eq c 9) _ _ P
-        (λ t. subst (λ d. Passes q start p (92 ∷ 116 ∷ ys) ys 2 (d ∷ [])) (sym (eqb-true c 9 t)) (simple q start p 116 9 ys n refl (omega arith) refl))
-        (λ f3. pick (nat_lt c 32 || nat_eq c 127) _ _ P
-          (λ t. control q start p c ys n lt)
-          (λ f4. bare q start p c ys (unequal c q (neither_right (nat_eq c 92) (nat_eq c q) f1)) (unequal c 92 (neither_left (nat_eq c 92) (nat_eq c q) f1)) lt))))
+    (λ t. subst (λ d. Passes q start p (92 ∷ 110 ∷ ys) ys 2 (d ∷ [])) (sym (eqb-true c 10 t)) (simple q start p 110 10 ys n refl (omega arith) refl))
+    (λ f2. pick (nat_eq c 9) _ _ P
+    (λ t. subst (λ d. Passes q start p (92 ∷ 116 ∷ ys) ys 2 (d ∷ [])) (sym (eqb-true c 9 t)) (simple q start p 116 9 ys n refl (omega arith) refl))
+    (λ f3. pick (nat_lt c 32 || nat_eq c 127) _ _ P
+    (λ t. control q start p c ys n lt)
+    (λ f4. bare q start p c ys (unequal c q (neither_right (nat_eq c 92) (nat_eq c q) f1)) (unequal c 92 (neither_left (nat_eq c 92) (nat_eq c q) f1)) lt))))

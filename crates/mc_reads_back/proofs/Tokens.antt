@@ -7,7 +7,7 @@ use Rattle.std.proofs.lemmas.Fmt.{decimal_by_steps}
 use Rattle.std.proofs.lemmas.Bool.{ne_eqb, lt-ltb, le-ltb, eqb-true}
 use Rattle.std.proofs.lemmas.List.{get_or_append_left, get_or-append-add}
 use Rattle.mc_model.specs.Printed.{in_quotes, is_bare, is_lower, is_word_byte}
-use Rattle.mc_tokens.specs.Classes.{is_name_tail, is_digit_of, hex_digit, hex_value, starts_var, between}
+use Rattle.mc_tokens.specs.Classes.{is_name_tail, is_symbol, is_digit_of, hex_digit, hex_value, starts_var, between}
 use Rattle.mc_tokens.specs.Classes.{is_lower as starts_name}
 use Rattle.mc_tokens.specs.Utf8.{at}
 use Rattle.mc_tokens.specs.Tokens.{Tok, Fault, token, begun, first, is_int, quoted, digits, of_form, form, form_after_zero, number, spelled}
@@ -166,8 +166,10 @@ number_form n ds rest h ends q = ⊎_elim (λ z. zero_case z) (λ p. more_case p
     is_zero : (m : ℕ) → (m ≡ 0) ⊎ (0 < m)
     is_zero zero = inl refl
     is_zero (suc m) = inr (omega arith)
+
     zero_case : n ≡ 0 → form (ds ++ rest) ≡ Decimal
     zero_case z = ap (λ l. form (l ++ rest)) (h.nought z) ∙ plain_zero (at rest 0) (drop 2 (48 ∷ rest)) ends q
+
     more_case : 0 < n → form (ds ++ rest) ≡ Decimal
     more_case p =
         let there : at (ds ++ rest) 0 ≡ 48 + h.head.0 = get_or_append_left ds rest 0 0 h.some ∙ h.head.2 in
@@ -190,7 +192,7 @@ at_end : (xs rest : List ℕ) → at (xs ++ rest) (length xs) ≡ at rest 0
 at_end xs rest = let z : length xs ≡ length xs + 0 = omega arith in ap (λ i. get_or (xs ++ rest) i 0) z ∙ get_or-append-add xs rest 0 0
 
 digits_token : (before : Kind) (start n : ℕ) (ds rest : List ℕ) → Digits n ds → n ≤ 2 ^ 63 → is_name_tail (at rest 0) ≡ false → at rest 0 ≢ 39 → (at rest 0 == 46) && is_digit_of 10 (at rest 1) ≡ false
-  → token before start (ds ++ rest) ≡ Tok (Int n) start (start + length ds)
+    → token before start (ds ++ rest) ≡ Tok (Int n) start (start + length ds)
 unfolding token digits
 digits_token before start n [] rest h small ends quote float = let some = h.some in absurd (omega arith)
 digits_token before start n (d ∷ ds) rest h small ends quote float =
@@ -209,5 +211,23 @@ digits_token before start n (d ∷ ds) rest h small ends quote float =
 
 -- a number as a token
 pub number_token : (before : Kind) (start n : ℕ) (rest : List ℕ) → n ≤ 2 ^ 63 → is_name_tail (at rest 0) ≡ false → at rest 0 ≢ 39 → (at rest 0 == 46) && is_digit_of 10 (at rest 1) ≡ false
-  → token before start (decimal n ++ rest) ≡ Tok (Int n) start (start + length (decimal n))
+    → token before start (decimal n ++ rest) ≡ Tok (Int n) start (start + length (decimal n))
 number_token before start n rest small ends quote float = digits_token before start n (decimal n) rest (decimal_digits n (omega arith)) small ends quote float
+
+no_symbol : (k : ℕ) → k < 10 → is_symbol (48 + k) ≡ false
+no_symbol k lt = go (is_symbol (48 + k)) (by_bytes (λ k. nat_lt k 10) (λ k. not (is_symbol (48 + k))) tt k (omega arith) (lt-ltb k 10 lt))
+  where
+    go : (b : Bool) → not b ≡ true → b ≡ false
+    go true e = cc
+    go false e = refl
+
+minus_before : (before : Kind) (start n : ℕ) (ds rest : List ℕ) → Digits n ds → token before start (45 ∷ (ds ++ rest)) ≡ Tok Name start (start + 1)
+unfolding token
+minus_before before start n [] rest h = let some = h.some in absurd (omega arith)
+minus_before before start n (d ∷ ds) rest h =
+    let other : is_symbol d ≡ false = ap is_symbol h.head.2 ∙ no_symbol h.head.0 h.head.1 in
+    let none : prefix_len is_symbol (d ∷ (ds ++ rest)) ≡ 0 = no _ other in
+    ap (λ k. Tok Name start (start + (1 + k))) none
+
+pub minus_token : (before : Kind) (start n : ℕ) (rest : List ℕ) → n ≤ 2 ^ 63 → token before start (45 ∷ (decimal n ++ rest)) ≡ Tok Name start (start + 1)
+minus_token before start n rest small = minus_before before start n (decimal n) rest (decimal_digits n (omega arith))

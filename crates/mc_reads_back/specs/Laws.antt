@@ -1,5 +1,5 @@
 -- What is printed reads back, as laws about the printed text and the tokens.
-use Rattle.std.specs.Prelude.{◌≡◌, ◌≢◌, ℕ, ◌+◌, ◌^◌, ◌≤◌, List, ◌++◌, length, ◌⊎◌, false, true, decimal, ◌&&◌, ◌==◌}
+use Rattle.std.specs.Prelude.{◌≡◌, ◌≢◌, ℕ, ◌+◌, ◌^◌, ◌≤◌, List, ◌++◌, length, ◌⊎◌, false, true, decimal, codes, ◌&&◌, ◌==◌}
 use Rattle.std.specs.Str.{IsUtf8}
 use Rattle.mc_model.specs.Printed.{in_quotes, single_quote, double_quote, is_bare}
 use Rattle.mc_tokens.specs.Classes.{is_name_tail, is_digit_of}
@@ -40,3 +40,7 @@ abbrev pub NumbersReadBack : Type 0
 NumbersReadBack =
     (before : Kind) (start n : ℕ) (rest : List ℕ) → n ≤ 2 ^ 63 → is_name_tail (at rest 0) ≡ false → at rest 0 ≢ single_quote
     → (at rest 0 == 46) && is_digit_of 10 (at rest 1) ≡ false → IsToken before (Int n) start (decimal n) rest
+
+-- the minus sign of a negative number is a name of its own, before the number
+abbrev pub MinusSignsReadBack : Type 0
+MinusSignsReadBack = (before : Kind) (start n : ℕ) (rest : List ℕ) → n ≤ 2 ^ 63 → IsToken before Name start (codes "-") (decimal n ++ rest)

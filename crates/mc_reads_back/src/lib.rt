@@ -1,7 +1,7 @@
 //! Laws: what is printed reads back.
 #![tactic(auto)]
 
-ghost use Rattle.mc_reads_back.specs.Laws.{StringsReadBack, QuotedNamesReadBack, BareNamesReadBack, NumbersReadBack};
+ghost use Rattle.mc_reads_back.specs.Laws.{StringsReadBack, QuotedNamesReadBack, BareNamesReadBack, NumbersReadBack, MinusSignsReadBack};
 
 /// A printed string is one token, which stands for the string.
 pub fn strings_read_back()
@@ -21,4 +21,9 @@ pub fn bare_names_read_back()
 /// A printed number that isn't negative is one token of that number.
 pub fn numbers_read_back()
     ensures { NumbersReadBack }
+{}
+
+/// The minus sign of a printed negative number is one token before the number.
+pub fn minus_signs_read_back()
+    ensures { MinusSignsReadBack }
 {}
