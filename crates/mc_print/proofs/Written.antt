@@ -1,16 +1,16 @@
 -- How the text of a value falls into what is written from its front.
-use Rattle.std.proofs.Common.{◌≡◌, ℕ, ◌+◌, ◌<◌, List, [], ◌∷◌, ◌++◌, Bool, true, false, refl, ap, sym, ◌∙◌, nat_eq, reverse, append_assoc, map, subst, if◌then◌else◌}
+use Rattle.std.proofs.Common.{◌≡◌, ℕ, ◌<◌, List, [], ◌∷◌, ◌++◌, Bool, true, false, refl, ap, sym, ◌∙◌, nat_eq, reverse, append_assoc, map, subst, if◌then◌else◌}
 use Rattle.std.proofs.lemmas.List.{map-append, reverse-append}
 use Rattle.mc_model.specs.Values.{plain_value}
 use Rattle.mc_model.specs.declared.value.Value.{Value, Con}
 use Rattle.mc_values.proofs.Exact.{plain_value-Con}
 use Rattle.std.specs.Prelude.{codes}
 use Rattle.std.specs.Cmp.Lexicographic.{pointwise}
-use Rattle.mc_model.specs.Values.{Val, con, Vals, no_vals, val_then, vals}
+use Rattle.mc_model.specs.Values.{Val, con, vals}
 use Rattle.mc_model.specs.Printed.{printed, printed_tail, printed_tails, printed_more, name_at, name_text, is_cell, SymbolsBelow, AllSymbolsBelow}
 use Rattle.mc_print.specs.declared.value.Place.{Place}
 use Rattle.mc_print.specs.declared.value.Place.TheVariants.{Whole, Tail}
-use Rattle.mc_print.specs.Places.{lead, at_place, opening, separator, fronts_text, last_place, closing, is_list_front}
+use Rattle.mc_print.specs.Places.{lead, at_place, opening, fronts_text, last_place, closing, is_list_front}
 
 append-nil : (xs : List ℕ) → xs ++ [] ≡ xs
 append-nil [] = refl
@@ -45,7 +45,7 @@ abbrev pub parts : List (List ℕ) → Place → List ℕ → Bool → List Val 
 parts names place name is_list ws w = opening place name is_list ++ (fronts_text names is_list ws ++ (at_place names (last_place is_list) w ++ closing place is_list))
 
 bracketed_at : (names : List (List ℕ)) (place : Place) (name : List ℕ) (x : Val) (ws : List Val) (w : Val)
-  → lead place ++ (name_text name ++ (codes "(" ++ (printed names x ++ (printed_more names (vals (ws ++ (w ∷ []))) ++ codes ")")))) ≡ parts names place name false (x ∷ ws) w
+    → lead place ++ (name_text name ++ (codes "(" ++ (printed names x ++ (printed_more names (vals (ws ++ (w ∷ []))) ++ codes ")")))) ≡ parts names place name false (x ∷ ws) w
 bracketed_at names Whole name x ws w = bracketed names name x ws w
 bracketed_at names Tail name x ws w =
     ap (λ l. codes " | " ++ l) (bracketed names name x ws w)
@@ -62,14 +62,14 @@ element : (names : List (List ℕ)) (x w : Val) (after : List ℕ) → printed n
 element names x w after = ap (λ l. l ++ (printed_tail names w ++ after)) (sym (append-nil (printed names x)))
 
 pair : (names : List (List ℕ)) (place : Place) (name : List ℕ) (x w : Val) (is_list : Bool)
-  → (if is_list then opening place name true ++ (printed names x ++ (printed_tail names w ++ closing place true)) else lead place ++ (name_text name ++ (codes "(" ++ (printed names x ++ (printed_more names (vals (w ∷ [])) ++ codes ")")))))
-  ≡ parts names place name is_list (x ∷ []) w
+    → (if is_list then opening place name true ++ (printed names x ++ (printed_tail names w ++ closing place true)) else lead place ++ (name_text name ++ (codes "(" ++ (printed names x ++ (printed_more names (vals (w ∷ [])) ++ codes ")")))))
+    ≡ parts names place name is_list (x ∷ []) w
 pair names place name x w true = ap (λ l. opening place name true ++ l) (element names x w (closing place true))
 pair names place name x w false = bracketed_at names place name x [] w
 
 -- a constructor is written from its front
 pub at_place-con : (names : List (List ℕ)) (place : Place) (s : ℕ) (ws : List Val) (w : Val)
-  → at_place names place (con s (vals (ws ++ (w ∷ [])))) ≡ parts names place (name_at names s) (is_list_front (name_at names s) ws) ws w
+    → at_place names place (con s (vals (ws ++ (w ∷ [])))) ≡ parts names place (name_at names s) (is_list_front (name_at names s) ws) ws w
 at_place-con names place s [] w = alone names place s w
 at_place-con names Whole s (x ∷ []) w = pair names Whole (name_at names s) x w (pointwise nat_eq (name_at names s) (codes "[|]"))
 at_place-con names Tail s (x ∷ []) w =
@@ -97,11 +97,11 @@ regrouped out o f a c r = simp append_assoc
 
 -- one turn of the loop: what is written and what is still to be written are together what they were
 pub turned : (names : List (List ℕ)) (out out1 out2 goal name closers closers' : List ℕ) (place place' : Place) (s : ℕ) (ws : List Val) (w v : Val) (is_list : Bool)
-  → v ≡ con s (vals (ws ++ (w ∷ []))) → name ≡ name_at names s → is_list ≡ is_list_front name ws
-  → out1 ≡ out ++ opening place name is_list → out2 ≡ out1 ++ fronts_text names is_list ws
-  → closers' ≡ closers ++ closing place is_list → place' ≡ last_place is_list
-  → out ++ (at_place names place v ++ reverse closers) ≡ goal
-  → out2 ++ (at_place names place' w ++ reverse closers') ≡ goal
+    → v ≡ con s (vals (ws ++ (w ∷ []))) → name ≡ name_at names s → is_list ≡ is_list_front name ws
+    → out1 ≡ out ++ opening place name is_list → out2 ≡ out1 ++ fronts_text names is_list ws
+    → closers' ≡ closers ++ closing place is_list → place' ≡ last_place is_list
+    → out ++ (at_place names place v ++ reverse closers) ≡ goal
+    → out2 ++ (at_place names place' w ++ reverse closers') ≡ goal
 turned names out out1 out2 goal name closers closers' place place' s ws w v is_list is at lists e1 e2 e3 e4 before =
     let O = opening place name is_list in
     let F = fronts_text names is_list ws in

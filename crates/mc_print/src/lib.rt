@@ -7,3 +7,6 @@ mod value;
 
 pub use line::{answer_line, broken_line};
 pub use value::{printed, value_text};
+
+#[cfg(test)]
+mod tests;

@@ -23,7 +23,13 @@ fn write_escaped(out: &mut Text, quote: u8, byte: u8) -> Result<(), Memory>
     } else if byte == b'\t' {
         out.extend(b"\\t")
     } else if byte < 32 || byte == 127 {
-        out.extend(&[b'\\', b'x', hex_digit(byte / 16), hex_digit(byte % 16), b'\\'])
+        out.extend(&[
+            b'\\',
+            b'x',
+            hex_digit(byte / 16),
+            hex_digit(byte % 16),
+            b'\\',
+        ])
     } else {
         out.push(byte)
     }

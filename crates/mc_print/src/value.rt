@@ -68,7 +68,13 @@ fn write_value(alloc: Global, out: &mut Text, v: &Value, program: &Program) -> R
 
 /// Writes arguments, each with what stands after it.
 #[cycle(write)]
-fn write_fronts(alloc: Global, out: &mut Text, front: &[Value], is_list: bool, program: &Program) -> Result<(), Memory>
+fn write_fronts(
+    alloc: Global,
+    out: &mut Text,
+    front: &[Value],
+    is_list: bool,
+    program: &Program,
+) -> Result<(), Memory>
     requires { AllSymbolsBelow (length program.now.symbols) (vals (map plain_value front.now)) }
     ensures { OnOk result (out.new ≡ out.old ++ fronts_text (names_of program.now) is_list (map plain_value front.now)) }
 {
@@ -87,7 +93,7 @@ fn write_separator(out: &mut Text, is_list: bool) -> Result<(), Memory>
 }
 
 /// A constructor that has arguments, as its symbol, the arguments before the last one, and the last one.
-fn split(v: &Value) -> Option<(u32, &[Value], &Value)>
+pub fn split(v: &Value) -> Option<(u32, &[Value], &Value)>
     ensures { MatchOption result (IsEnd (plain_value v.now)) (λ p. IsSplit v.now p.0 p.1.now p.2.now) }
 {
     match v {

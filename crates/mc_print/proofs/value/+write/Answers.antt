@@ -1,4 +1,4 @@
-use Rattle.std.proofs.Common.{rules, arith}
+use Rattle.std.proofs.Common.{arith}
 use Rattle.mc_print.proofs.Written.{turned, plain_split, named_parts}
 use Rattle.mc_print.proofs.value.+write.Goals as goal
 
@@ -16,8 +16,9 @@ write_value-loop-symbol-preserved t c =
     let h = c.in-Some.ensures {u = tt} in
     let parts = named_parts _ _ _ _ _ h.whole c.loop-symbol.invariant.1 in
     let small = h.last_smaller in
-    let smaller = c.loop-symbol.invariant.2 in
-    ( turned _ _ _ _ _ _ _ _ _ _ _ _ _ _ _ (plain_split _ _ _ _ h.whole) c.symbol_name-name.ensures c.is_list_front-is_list.ensures
-      (c.in_ok-write_opening.ensures {u = tt}) (c.in_ok-write_fronts.ensures {u = tt}) (c.in_ok-push_closing.ensures {u = tt}) c.last_place-place.ensures c.loop-symbol.invariant.0
-    , parts.2
-    , omega arith)
+    let smaller = c.loop-symbol.invariant.2 in (
+      turned _ _ _ _ _ _ _ _ _ _ _ _ _ _ _ (plain_split _ _ _ _ h.whole) c.symbol_name-name.ensures c.is_list_front-is_list.ensures
+          (c.in_ok-write_opening.ensures {u = tt}) (c.in_ok-write_fronts.ensures {u = tt}) (c.in_ok-push_closing.ensures {u = tt}) c.last_place-place.ensures c.loop-symbol.invariant.0,
+      parts.2,
+      omega arith,
+    )
