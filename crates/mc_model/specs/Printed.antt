@@ -93,8 +93,8 @@ abbrev mutual
   printed names (state written taken) = codes "state"
   printed names (con symbol no_vals) = constant_text (name_at names symbol)
   printed names (con symbol (val_then v vs)) =
-    if is_cell (name_at names symbol) vs then codes "[" ++ (printed names v ++ (printed_tails names vs ++ codes "]"))
-    else name_text (name_at names symbol) ++ (codes "(" ++ (printed names v ++ (printed_more names vs ++ codes ")")))
+      if is_cell (name_at names symbol) vs then codes "[" ++ (printed names v ++ (printed_tails names vs ++ codes "]"))
+      else name_text (name_at names symbol) ++ (codes "(" ++ (printed names v ++ (printed_more names vs ++ codes ")")))
 
   -- the text of the arguments after the first
   pub printed_more : List (List ℕ) → Vals → List ℕ
@@ -109,8 +109,8 @@ abbrev mutual
   printed_tail names (state written taken) = codes " | " ++ codes "state"
   printed_tail names (con symbol no_vals) = if is_nil (name_at names symbol) then [] else codes " | " ++ constant_text (name_at names symbol)
   printed_tail names (con symbol (val_then v vs)) =
-    if is_cell (name_at names symbol) vs then codes ", " ++ (printed names v ++ printed_tails names vs)
-    else codes " | " ++ (name_text (name_at names symbol) ++ (codes "(" ++ (printed names v ++ (printed_more names vs ++ codes ")"))))
+      if is_cell (name_at names symbol) vs then codes ", " ++ (printed names v ++ printed_tails names vs)
+      else codes " | " ++ (name_text (name_at names symbol) ++ (codes "(" ++ (printed names v ++ (printed_more names vs ++ codes ")"))))
 
   pub printed_tails : List (List ℕ) → Vals → List ℕ
   printed_tails names no_vals = []
