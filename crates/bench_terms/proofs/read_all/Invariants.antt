@@ -1,6 +1,6 @@
 use Rattle.std.proofs.Common.{◌≡◌, ◌≤◌, length}
 use Rattle.mc_terms.specs.Lines.{line_at}
-use Rattle.terms_bench.proofs.read_all.Given as goal
+use Rattle.bench_terms.proofs.read_all.Given as goal
 
 abbrev pub invariant-items : goal.invariant-items
 invariant-items l = record {
