@@ -1,5 +1,5 @@
 -- Terms as plain data, without rows and boxes (the Mercury manual, Syntax).
-use Rattle.std.specs.Prelude.{ℕ, ℤ, ◌+◌, max, List, [], ◌∷◌, Option, Some, None}
+use Rattle.std.specs.Prelude.{ℕ, ℤ, ◌+◌, max, map, List, [], ◌∷◌, Option, Some, None}
 use Rattle.mc_syntax.specs.declared.term.Term.{Term}
 use Rattle.mc_syntax.specs.declared.term.Node.{Node}
 use Rattle.mc_syntax.specs.declared.term.Node.TheOpen as O
@@ -55,3 +55,49 @@ plain_term = fold-Term Nd Tm node_step term_step
 
 abbrev pub plain_node : Node → Nd
 plain_node = fold-Node Nd Tm node_step term_step
+
+abbrev pub plain_terms : List Term → Tms
+plain_terms ts = tms (map plain_term ts)
+
+abbrev mutual
+  -- How deep a term is: a leaf has 1, and any other term one more than its deepest part; a whole conjunction and
+  -- a whole disjunction are one term. (Brackets are no part of a term.)
+  pub depth : Tm → ℕ
+  depth (at n l) = node_depth n
+
+  pub node_depth : Nd → ℕ
+  node_depth (Var w) = 1
+  node_depth (Int n) = 1
+  node_depth (Str s) = 1
+  node_depth (App w ts) = 1 + deepest ts
+  node_depth (Items ts) = 1 + deepest ts
+  node_depth (Tailed ts t) = 1 + max (deepest ts) (depth t)
+  node_depth (Conj ts) = 1 + deepest ts
+  node_depth (Disj ts) = 1 + deepest ts
+
+  pub deepest : Tms → ℕ
+  deepest no_term = 0
+  deepest (more_terms t ts) = max (depth t) (deepest ts)
+
+-- the last of a term and those behind it
+abbrev pub last_from : Tm → Tms → Tm
+last_from t no_term = t
+last_from t (more_terms u us) = last_from u us
+
+abbrev pub last_term : Tms → Option Tm
+last_term no_term = None
+last_term (more_terms t ts) = Some (last_from t ts)
+
+abbrev pub last_of_node : Nd → Option Tm
+last_of_node (Var w) = None
+last_of_node (Int n) = None
+last_of_node (Str s) = None
+last_of_node (App w ts) = last_term ts
+last_of_node (Items ts) = last_term ts
+last_of_node (Tailed ts t) = Some t
+last_of_node (Conj ts) = last_term ts
+last_of_node (Disj ts) = last_term ts
+
+-- The last part of a term, where it has parts: what follows a list's bar, else the last of its terms.
+abbrev pub last_part : Tm → Option Tm
+last_part (at n l) = last_of_node n

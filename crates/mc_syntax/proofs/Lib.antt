@@ -1,0 +1,4 @@
+mod Counts
+pub mod Chains
+pub mod Depths
+pub mod Lasts
