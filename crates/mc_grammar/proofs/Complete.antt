@@ -1,7 +1,7 @@
 -- Every term that Reads is read.
 use Rattle.std.proofs.Common.{◌≡◌, ℕ, ◌-◌, ◌≤◌, ◌<◌, Bool, true, false, cond, ◌&&◌, leb, ltb, List, [], ◌∷◌, ◌++◌, refl, sym, ap, ◌∙◌, subst, arith, le-leb, Option, Some, None, codes}
 use Rattle.mc_grammar.specs.declared.table.Fix.{Fix}
-use Rattle.mc_grammar.specs.declared.table.Fix.TheVariants.{Xfx, Xfy, Yfx, Fx, Fy, Fxy}
+use Rattle.mc_grammar.specs.declared.table.Fix.TheVariants.{Fx, Fy, Fxy}
 use Rattle.mc_grammar.specs.declared.lexeme.Lexeme.{Lexeme}
 use Rattle.mc_grammar.specs.declared.lexeme.Lexeme.TheVariants as L
 use Rattle.mc_grammar.specs.declared.joint.Chain.{Chain}
@@ -13,13 +13,13 @@ use Rattle.mc_grammar.specs.declared.joint.Role.TheVariants.{Compound, Negative,
 use Rattle.mc_grammar.specs.declared.frame.Sort.{Sort}
 use Rattle.mc_grammar.specs.declared.frame.Sort.TheVariants.{Arguments, Elements, Chained}
 use Rattle.mc_grammar.specs.Table.{prefix_row, same_name}
-use Rattle.mc_grammar.specs.Joints.{is_open_ct, prefix_of, prefix_role, operand, rank, joint, role, starts, callee, is_paren, name_of, line}
+use Rattle.mc_grammar.specs.Joints.{is_open_ct, prefix_of, prefix_role, operand, rank, joint, role, callee, is_paren, name_of, line}
 use Rattle.mc_grammar.specs.Part.{Part, closed, over}
-use Rattle.mc_grammar.specs.Tree.{Tree, Var, Int, Neg, Str, App, Items, Tailed, Conj, Disj, Inside, trees, line_of}
-use Rattle.mc_grammar.specs.Reads.{chain, Between, ByComma, ByChain, Separates, Reads, Parts, variable, number, string, negative, name, path, compound, paren, nil, elements, tailed, prefix, quantified, binary, chained, last, more, ReadsTerm}
-use Rattle.mc_grammar.specs.Machine.{AtRight, AtOperand, AtFirst, AtSecond, InParen, InParts, InTail, Start, Done, Yes, No, Push, Stay, same_chain, finish, turn}
-use Rattle.mc_grammar.proofs.Trees.{tree_making, Frame, State, Next, Leads, here, onward, then, step, start, on_role, on_compound, on_negative, on_path, on_list, next_at, next, on_chain, parts, second, at_first, after_paren, after_tail, reduce, made_chain, joined_rows}
-use Rattle.std.proofs.lemmas.Bool.{lt-leb, leb-true, lt-ltb, ltb-true}
+use Rattle.mc_grammar.specs.Tree.{Tree, App, trees, line_of}
+use Rattle.mc_grammar.specs.Reads.{chain, Between, ByComma, ByChain, Separates, Reads, Parts, variable, number, string, negative, name, path, compound, paren, nil, elements, tailed, prefix, quantified, binary, chained, last, more}
+use Rattle.mc_grammar.specs.Machine.{AtRight, AtOperand, AtFirst, AtSecond, InParen, InParts, InTail, Start, Done, Push, Stay, same_chain, turn}
+use Rattle.mc_grammar.proofs.Trees.{Frame, State, Leads, here, onward, then, on_role, on_path, on_list, next_at, next, on_chain, parts, second, reduce, made_chain, joined_rows}
+use Rattle.std.proofs.lemmas.Bool.{lt-leb, leb-true, lt-ltb}
 use Rattle.std.specs.Cmp.Derive.{both_true}
 
 pub right_true : (a b : Bool) → a && b ≡ true → b ≡ true

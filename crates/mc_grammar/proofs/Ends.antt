@@ -1,5 +1,5 @@
 -- What the machine's end says of the tokens.
-use Rattle.std.proofs.Common.{◌≡◌, ℕ, ◌≤◌, List, [], true, false, sym, ap, ◌∙◌, refl, subst, IfSome, IfNone, Option, Some, None}
+use Rattle.std.proofs.Common.{◌≡◌, List, [], false, sym, ap, ◌∙◌, refl, subst, IfSome, IfNone, Option, Some, None}
 use Rattle.mc_grammar.specs.declared.lexeme.Lexeme.{Lexeme}
 use Rattle.mc_grammar.specs.declared.reading.Reading.{Reading}
 use Rattle.mc_grammar.specs.Part.{Part}

@@ -1,16 +1,15 @@
 -- The machine comes to an end: each step leaves less to do.
-use Rattle.std.proofs.Common.{◌≡◌, ◌≢◌, ℕ, ◌<◌, ◌≤◌, ◌+◌, ◌-◌, ◌*◌, Bool, true, false, cond, ◌&&◌, leb, ltb, List, [], ◌∷◌, length, sym, ap, ◌∙◌, refl, arith, subst}
+use Rattle.std.proofs.Common.{◌≡◌, ℕ, ◌<◌, ◌+◌, ◌-◌, ◌*◌, Bool, true, false, cond, ◌&&◌, leb, ltb, List, [], ◌∷◌, length, arith}
 use Rattle.mc_grammar.specs.declared.lexeme.Lexeme.{Lexeme}
 use Rattle.mc_grammar.specs.declared.lexeme.Lexeme.TheVariants as L
 use Rattle.mc_grammar.specs.declared.joint.Joint.{Joint}
 use Rattle.mc_grammar.specs.declared.joint.Joint.TheVariants.{Nothing, Binary, Chains}
-use Rattle.mc_grammar.specs.declared.joint.Chain.{Chain}
 use Rattle.mc_grammar.specs.declared.joint.Role.{Role}
 use Rattle.mc_grammar.specs.declared.joint.Role.TheVariants.{Compound, Negative, Single, Double, Plain}
 use Rattle.mc_grammar.specs.declared.frame.Sort.{Sort}
 use Rattle.mc_grammar.specs.declared.frame.Sort.TheVariants.{Arguments, Elements, Chained}
 use Rattle.mc_grammar.specs.Joints.{operand, rank, joint, role, name_of}
-use Rattle.mc_grammar.specs.Part.{Part, closed, over}
+use Rattle.mc_grammar.specs.Part.{Part, over}
 use Rattle.mc_grammar.specs.Machine.{AtRight, AtOperand, AtFirst, AtSecond, InParen, InParts, InTail, Start, Done, Yes, No, Push, Stay, same_chain, finish, turn}
 use Rattle.mc_grammar.specs.Machine as M
 use Rattle.mc_grammar.specs.Seen.{Seen, SeenRow, seen_making, seen_then, no_seen, line_seen}

@@ -1,7 +1,6 @@
 -- What is kept of trees: the machine that keeps it steps as the one that makes trees.
-use Rattle.std.proofs.Common.{◌≡◌, ℕ, ◌≤◌, ◌<◌, ◌+◌, ◌-◌, ◌^◌, Bool, true, false, cond, ◌&&◌, leb, ltb, List, [], ◌∷◌, ◌++◌, map, max, min, refl, sym, ap, ◌∙◌, subst, arith, Option, Some, None}
+use Rattle.std.proofs.Common.{◌≡◌, ℕ, ◌-◌, Bool, true, false, cond, ◌&&◌, leb, ltb, List, [], ◌∷◌, ◌++◌, refl, sym, ap, ◌∙◌, Option}
 use Rattle.std.specs.Prelude.{pos}
-use Rattle.std.proofs.lemmas.Bool.{leb-true}
 use Rattle.mc_syntax.specs.Plain as S
 use Rattle.mc_syntax.specs.Plain.{Tm, Nd, Tms, at, tms, no_term, more_terms}
 use Rattle.mc_grammar.specs.declared.lexeme.Lexeme.{Lexeme}
@@ -15,9 +14,9 @@ use Rattle.mc_grammar.specs.declared.joint.Role.TheVariants.{Compound, Negative,
 use Rattle.mc_grammar.specs.declared.frame.Sort.{Sort}
 use Rattle.mc_grammar.specs.declared.frame.Sort.TheVariants.{Arguments, Elements, Chained}
 use Rattle.mc_grammar.specs.Joints.{operand, rank, joint, role, name_of}
-use Rattle.mc_grammar.specs.Part.{Part, closed, over}
-use Rattle.mc_grammar.specs.Tree.{Tree, Trees, Var, Int, Neg, Str, App, Items, Tailed, Conj, Disj, Inside, no_tree, more_trees, trees, line_of, depth, deepest, or_else, too_large, first_large, minus, moved, term, terms}
-use Rattle.mc_grammar.specs.Seen.{Seen, SeenRow, line_seen, node_seen, kept, leaf, seen_large, seen_int, seen_neg, seen_app, seen_items, seen_tailed, seen_conj, seen_disj, seen_inside, no_seen, seen_then, seen_making}
+use Rattle.mc_grammar.specs.Part.{Part, over}
+use Rattle.mc_grammar.specs.Tree.{Tree, Trees, Var, Int, Neg, Str, App, Items, Tailed, Conj, Disj, Inside, no_tree, more_trees, trees, line_of}
+use Rattle.mc_grammar.specs.Seen.{Seen, SeenRow, line_seen, kept, leaf, seen_large, seen_int, seen_neg, seen_app, seen_items, seen_tailed, seen_conj, seen_disj, seen_inside, no_seen, seen_then, seen_making}
 use Rattle.mc_grammar.specs.Machine.{AtRight, AtOperand, AtFirst, AtSecond, InParen, InParts, InTail, Start, Done, Yes, No, Push, Stay, same_chain, finish, turn}
 use Rattle.mc_grammar.specs.Machine as M
 use Rattle.mc_grammar.specs.Leads as Run

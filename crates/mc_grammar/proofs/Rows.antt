@@ -1,8 +1,7 @@
 -- A name whose length no row of a table has is in no row.
-use Rattle.std.proofs.Common.{◌≡◌, ℕ, ◌≤◌, ◌<◌, Bool, true, false, cond, ◌&&◌, ◌||◌, not, leb, ltb, List, [], ◌∷◌, length, Option, Some, None, refl, sym, ap, ◌∙◌, arith, nat_eq, suc}
+use Rattle.std.proofs.Common.{◌≡◌, ℕ, ◌≤◌, ◌<◌, Bool, true, false, cond, ◌&&◌, ◌||◌, leb, ltb, List, [], ◌∷◌, length, Some, None, refl, sym, ap, ◌∙◌, arith, nat_eq, suc}
 use Rattle.std.proofs.lemmas.Bool.{ltb-true, leb-true}
 use Rattle.mc_grammar.specs.Table.{Operator, same_name, row_of}
-use Rattle.mc_grammar.specs.declared.table.Fix.{Fix}
 
 and_false : (b : Bool) → b && false ≡ false
 and_false true = refl

@@ -1,10 +1,10 @@
 -- What is kept of a tree shows its depth, its first number that 64 bits don't hold, and its term.
-use Rattle.std.proofs.Common.{◌≡◌, ℕ, ◌≤◌, ◌<◌, ◌+◌, ◌^◌, Bool, true, false, cond, leb, ltb, List, [], ◌∷◌, ◌++◌, max, min, refl, sym, ap, ◌∙◌, subst, arith, Option, Some, None}
+use Rattle.std.proofs.Common.{◌≡◌, ℕ, ◌≤◌, ◌<◌, ◌+◌, Bool, true, false, cond, leb, List, [], ◌∷◌, ◌++◌, max, min, refl, sym, ap, ◌∙◌, arith, Option, Some, None}
 use Rattle.std.specs.Prelude.{pos}
-use Rattle.std.proofs.lemmas.Bool.{leb-true, lt-leb, le-leb}
+use Rattle.std.proofs.lemmas.Bool.{leb-true, le-leb}
 use Rattle.mc_syntax.specs.Plain as S
 use Rattle.mc_syntax.specs.Plain.{Tm, Nd, Tms, at, tms, no_term, more_terms}
-use Rattle.mc_grammar.specs.Tree.{Tree, Trees, Var, Int, Neg, Str, App, Items, Tailed, Conj, Disj, Inside, no_tree, more_trees, depth, deepest, or_else, too_large, first_large, minus, moved, term, terms}
+use Rattle.mc_grammar.specs.Tree.{Tree, Trees, Var, Int, Neg, Str, App, Items, Tailed, Conj, Disj, Inside, no_tree, more_trees, depth, deepest, or_else, too_large, first_large, moved, term, terms}
 use Rattle.mc_grammar.specs.Seen.{Seen, SeenRow, node_seen, kept, leaf, seen_large, seen_int, seen_neg, seen_app, seen_items, seen_tailed, seen_conj, seen_disj, seen_inside, no_seen, seen_then}
 use Rattle.mc_grammar.proofs.Images.{image, images}
 

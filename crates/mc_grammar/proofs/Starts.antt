@@ -1,11 +1,11 @@
 -- Where a term starts.
-use Rattle.std.proofs.Common.{◌≡◌, ◌≢◌, ℕ, ◌<◌, ◌≤◌, ◌+◌, min, ⊎_elim, Bool, true, false, cond, List, [], ◌∷◌, length, drop, sym, ap, ◌∙◌, refl, arith, Option, Some, None, codes}
+use Rattle.std.proofs.Common.{◌≡◌, ◌≢◌, ℕ, ◌<◌, ◌+◌, min, ⊎_elim, Bool, true, false, cond, List, [], ◌∷◌, length, drop, sym, ap, ◌∙◌, refl, arith, Some, None, codes}
 use Rattle.std.proofs.str.Laws.{order}
 use Rattle.std.proofs.lemmas.List.{drop_all}
 use Rattle.mc_grammar.specs.declared.lexeme.Lexeme.{Lexeme}
 use Rattle.mc_grammar.specs.declared.lexeme.Lexeme.TheVariants as L
 use Rattle.mc_grammar.specs.declared.joint.Role.TheVariants.{Compound, Negative}
-use Rattle.mc_grammar.specs.declared.frame.Sort.TheVariants.{Arguments, Elements}
+use Rattle.mc_grammar.specs.declared.frame.Sort.TheVariants.{Arguments}
 use Rattle.mc_grammar.specs.declared.frame.Mark.TheVariants as MV
 use Rattle.mc_grammar.specs.Table.{same_name, prefix_row}
 use Rattle.mc_grammar.specs.Joints.{role, prefix_role, starts}

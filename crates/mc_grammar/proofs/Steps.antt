@@ -1,19 +1,17 @@
 -- What the reader's calls make of the machine's state.
-use Rattle.std.proofs.Common.{◌≡◌, ℕ, le-leb, ◌≤◌, ◌<◌, length, arith, ◌+◌, ◌-◌, Bool, true, false, cond, drop, List, [], ◌∷◌, ◌++◌, sym, ap, ◌∙◌, refl}
+use Rattle.std.proofs.Common.{◌≡◌, ℕ, le-leb, ◌≤◌, ◌<◌, length, arith, ◌+◌, ◌-◌, Bool, true, cond, drop, List, [], ◌∷◌, ◌++◌, sym, ap, ◌∙◌, refl}
 use Rattle.std.specs.Cmp.Derive.{both_true}
 use Rattle.std.proofs.lemmas.Bool.{lt-ltb}
-use Rattle.std.proofs.lemmas.List.{drop-drop, drop_all, length-drop}
+use Rattle.std.proofs.lemmas.List.{drop-drop, length-drop}
 use Rattle.mc_grammar.specs.declared.lexeme.Lexeme.{Lexeme}
 use Rattle.mc_grammar.specs.declared.lexeme.Lexeme.TheVariants as L
 use Rattle.mc_grammar.specs.declared.joint.Chain.{Chain}
 use Rattle.mc_grammar.specs.declared.joint.Joint.{Joint}
 use Rattle.mc_grammar.specs.declared.joint.Joint.TheVariants as JV
-use Rattle.mc_grammar.specs.declared.frame.Sort.{Sort}
-use Rattle.mc_grammar.specs.declared.frame.Sort.TheVariants.{Arguments, Elements, Chained}
+use Rattle.mc_grammar.specs.declared.frame.Sort.TheVariants.{Chained}
 use Rattle.mc_grammar.specs.declared.frame.Setting.{Setting}
 use Rattle.mc_grammar.specs.declared.frame.Part as D
 use Rattle.mc_grammar.specs.declared.frame.Frame.{Frame}
-use Rattle.mc_grammar.specs.declared.frame.Now.{Now}
 use Rattle.mc_grammar.specs.declared.frame.Now.TheVariants as NV
 use Rattle.mc_grammar.specs.declared.frame.Bench.{Bench}
 use Rattle.mc_grammar.specs.declared.frame.Machine.{Machine}

@@ -1,6 +1,6 @@
 -- What a token is where a term starts, and what it joins behind a term (the Mercury manual, Terms; the
 -- numbers are this project's profile).
-use Rattle.std.specs.Prelude.{ℕ, Bool, true, false, cond, ◌-◌, ◌&&◌, ◌||◌, not, nat_eq, nat_le, Option, Some, None, List, [], ◌∷◌, is_some, codes}
+use Rattle.std.specs.Prelude.{ℕ, Bool, true, false, cond, ◌-◌, ◌&&◌, ◌||◌, not, nat_le, Option, Some, None, List, [], ◌∷◌, is_some, codes}
 use Rattle.mc_grammar.specs.Table.{same_name, infix_row, prefix_row}
 use Rattle.mc_grammar.specs.declared.table.Fix.{Fix}
 use Rattle.mc_grammar.specs.declared.table.Fix.TheVariants.{Xfx, Xfy, Yfx, Fx, Fy, Fxy}

@@ -1,5 +1,4 @@
 -- Runs of the machine.
-use Rattle.std.specs.Prelude.{List, []}
 use Rattle.mc_grammar.specs.Machine.{Making, State, step}
 
 module _ {T R : Type 0} (A : Making T R) where

@@ -1,5 +1,5 @@
 -- The terms that stand for a list of tokens (the Mercury manual, Terms; this project's profile).
-use Rattle.std.specs.Prelude.{◌≡◌, ℕ, ◌<◌, ◌≤◌, ◌-◌, Bool, true, false, List, [], ◌∷◌, Option, Some, None}
+use Rattle.std.specs.Prelude.{◌≡◌, ℕ, ◌<◌, ◌≤◌, ◌-◌, Bool, true, false, List, [], ◌∷◌, Some}
 use Rattle.mc_grammar.specs.declared.lexeme.Lexeme.{Lexeme}
 use Rattle.mc_grammar.specs.declared.lexeme.Lexeme.TheVariants as L
 use Rattle.mc_grammar.specs.declared.joint.Chain.{Chain}

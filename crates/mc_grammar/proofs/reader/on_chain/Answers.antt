@@ -1,11 +1,8 @@
-use Rattle.std.proofs.Common.{◌≡◌, ◌+◌, ◌-◌, ◌≤◌, ◌<◌, ◌∷◌, [], drop, true, false, sym, ap, ◌∙◌, subst, arith, IfOk}
-use Rattle.mc_grammar.specs.declared.frame.Sort.TheVariants.{Arguments, Elements, Chained}
-use Rattle.mc_grammar.specs.Joints as J
-use Rattle.mc_grammar.specs.Part as P
+use Rattle.std.proofs.Common.{◌+◌, ◌-◌, ◌∷◌, drop, sym, ap, ◌∙◌}
+use Rattle.mc_grammar.specs.declared.frame.Sort.TheVariants.{Chained}
 use Rattle.mc_grammar.specs.Machine as M
-use Rattle.mc_grammar.specs.Seen.{seen_making}
-use Rattle.mc_grammar.specs.Views.{state, frames, frame, part, reading, readings}
-use Rattle.mc_grammar.proofs.Steps.{frames_push, start_at, start_past, done_past, close_next, list_close_next, bar_next, comma_next, chain_goes, more_left, finish_no, first_goes, binary_turn, chain_turn}
+use Rattle.mc_grammar.specs.Views.{frames, readings}
+use Rattle.mc_grammar.proofs.Steps.{start_past, chain_goes}
 use Rattle.mc_grammar.proofs.reader.on_chain.Goals as goal
 
 pub returns-then-goes_on : goal.returns-then-goes_on

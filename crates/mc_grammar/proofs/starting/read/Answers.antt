@@ -1,7 +1,7 @@
-use Rattle.std.proofs.Common.{◌≡◌, ◌<◌, drop, [], true, false, sym, ap, ◌∙◌, subst, refl}
+use Rattle.std.proofs.Common.{◌≡◌, ◌<◌, drop, false, sym, ap, ◌∙◌, subst}
 use Rattle.mc_grammar.specs.Machine as M
 use Rattle.mc_grammar.specs.Part as P
-use Rattle.mc_grammar.specs.Seen.{Seen, seen_making}
+use Rattle.mc_grammar.specs.Seen.{Seen}
 use Rattle.mc_grammar.specs.Leads as Run
 use Rattle.mc_grammar.specs.Views.{state, frames, reading}
 use Rattle.mc_grammar.proofs.Falls.{weight, falls}

@@ -1,12 +1,9 @@
-use Rattle.std.proofs.Common.{◌≡◌, ◌≢◌, ◌+◌, ◌-◌, ◌≤◌, ◌<◌, ◌∷◌, [], drop, true, false, sym, ap, ◌∙◌, subst, arith, IfOk, refl, length}
-use Rattle.mc_grammar.specs.declared.frame.Sort.TheVariants.{Arguments, Elements, Chained}
-use Rattle.mc_grammar.specs.Joints as J
+use Rattle.std.proofs.Common.{sym, ap, ◌∙◌}
 use Rattle.mc_grammar.specs.Part as P
 use Rattle.mc_grammar.specs.Machine as M
 use Rattle.mc_grammar.specs.Seen.{seen_making, seen_items}
-use Rattle.mc_grammar.specs.Views.{state, frames, frame, part, now, reading, readings}
-use Rattle.mc_grammar.proofs.Steps.{start_at, start_past, done_past, list_close_next}
-use Rattle.mc_grammar.proofs.Starts.{role_compound, role_negative, role_other, negative_on, compound_on, path_on, rest_cut}
+use Rattle.mc_grammar.specs.Views.{frames}
+use Rattle.mc_grammar.proofs.Steps.{done_past, list_close_next}
 use Rattle.mc_grammar.proofs.starting.start_list.Goals as goal
 
 pub returns-in-ListClose : goal.returns-in-ListClose
