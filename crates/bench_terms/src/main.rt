@@ -46,13 +46,13 @@ fn read_all(alloc: Global, text: &[u8]) -> Option<Vec<Term>> {
     'items: for _ in 0..u32::MAX {
         match read_next(alloc, &mut walk, from) {
             Ok(None) => break,
-            Ok(Some((term, next))) => {
-                if terms.push(term).is_err() {
+            Ok(Some(item)) => {
+                from = item.end;
+                if terms.push(item.term).is_err() {
                     return None;
                 }
-                from = next;
             }
-            Err(fault) => match fault.kind {
+            Err(fault) => match fault.fault.kind {
                 ReadKind::Memory => return None,
                 _ => break,
             },

@@ -1,5 +1,5 @@
 -- What is known of an item where some of its tokens are read.
-use Rattle.std.proofs.Common.{◌≡◌, ℕ, ◌+◌, Bool, true, false, List, [], ◌∷◌, ◌++◌, reverse, refl, sym, ap, ◌∙◌, subst, slice_range, Option, Some, None}
+use Rattle.std.proofs.Common.{◌≡◌, ◌≢◌, ◌⊎◌, inl, inr, ℕ, ◌+◌, ◌≤◌, ◌<◌, arith, true, false, List, [], ◌∷◌, reverse, refl, sym, ap, ◌∙◌, subst, slice_range}
 use Rattle.std.proofs.lemmas.List.{reverse-reverse}
 use Rattle.mc_grammar.specs.declared.lexeme.Lexeme.{Lexeme}
 use Rattle.mc_tokens.specs.declared.token.Kind.{Kind}
@@ -18,7 +18,8 @@ use Rattle.mc_terms.specs.declared.fault.ReadFault.{ReadFault}
 use Rattle.mc_terms.specs.declared.fault.ReadKind.TheVariants.{Token, NotATerm}
 use Rattle.mc_grammar.specs.Tree.{Tree}
 use Rattle.mc_grammar.specs.Reads.{ReadsTerm}
-use Rattle.mc_terms.specs.Answers.{ItemTokens, IsRefused}
+use Rattle.mc_terms.specs.declared.fault.ReadKind.{ReadKind}
+use Rattle.mc_terms.specs.Answers.{ItemTokens, IsRefused, StandsAt, item_line, token_line}
 
 -- the rest of the item, from a place after a token of a kind, completes the tokens so far
 pub record Continues (text : List ℕ) (from at : ℕ) (after : Kind) (tokens : List Lexeme) : Type 0 where
@@ -49,15 +50,23 @@ pub faulty : (text : List ℕ) (from at : ℕ) (after : Kind) (f : FaultKind) (p
 faulty text from at after f place tokens c l = c.faults f place (I.here l)
 
 -- the same for the walk's answers, the text of which stays
-pub refused_by : (text before behind : List ℕ) (from at : ℕ) (after : Kind) (f : TokenFault) (tokens : List Lexeme) (r : ReadFault) → before ≡ text → behind ≡ before → Continues before from at after tokens → Fault f.kind f.at ≡ lexed before at after
-    → r.kind ≡ Token f.kind → r.line ≡ line_at behind f.at → Passes behind (f.at + 1) Eof r.next → IsRefused text from r.kind r.line r.next
-refused_by text before behind from at after f tokens r e g c l k n p =
+pub refused_by : (text before behind : List ℕ) (from at line : ℕ) (after : Kind) (f : TokenFault) (tokens : List Lexeme) (r : ReadFault) → before ≡ text → behind ≡ before → Continues before from at after tokens → Fault f.kind f.at ≡ lexed before at after
+    → line ≡ item_line text from → r.kind ≡ Token f.kind → r.line ≡ token_line f.kind line (line_at behind f.at) → Passes behind (f.at + 1) Eof r.next → IsRefused text from r.kind r.line r.next
+refused_by text before behind from at line after f tokens r e g c l m k n p =
     subst (λ kind. IsRefused text from kind r.line r.next) (sym k) (
       f.at,
       subst (λ t. Faulty t from Eof f.kind f.at) e (faulty before from at after f.kind f.at tokens c (sym l)),
-      n ∙ ap (λ t. line_at t f.at) (g ∙ e),
+      n ∙ (λ i. token_line f.kind (m i) (line_at ((g ∙ e) i) f.at)),
       subst (λ t. Passes t (f.at + 1) Eof r.next) (g ∙ e) p,
     )
+
+-- where the faulty token stands
+pub stands_by : (text before : List ℕ) (from at place : ℕ) (after : Kind) (f : TokenFault) (tokens : List Lexeme) (kind : ReadKind) → before ≡ text → Continues before from at after tokens → Fault f.kind f.at ≡ lexed before at after
+    → kind ≡ Token f.kind → place ≡ f.at → StandsAt text from kind place
+stands_by text before from at place after f tokens kind e c l k p =
+    subst (λ kind. StandsAt text from kind place) (sym k)
+    (subst (λ place. Faulty text from Eof f.kind place) (sym p)
+    (subst (λ t. Faulty t from Eof f.kind f.at) e (faulty before from at after f.kind f.at tokens c (sym l))))
 
 pub ended_at : (text before : List ℕ) (from at : ℕ) (after : Kind) (t : D.Token) (tokens : List Lexeme) (stop : ℕ) → before ≡ text → Continues before from at after tokens → Tok t.kind t.start t.end ≡ lexed before at after
     → ends t.kind ≡ true → stop ≡ t.end → ItemTokens text from tokens stop
@@ -83,3 +92,14 @@ not_a_term text walk shown at ts slice stop line first e items s none l k w n = 
   subst (λ us. (t : Tree) → ReadsTerm us t 1200 → ⊥) s none,
   (first.kind, first.start, first.end, sym l, k, n ∙ ap (λ u. line_at u first.start) (w ∙ e)),
 )
+
+-- the place is behind the item's beginning, or nothing is read yet
+abbrev pub Past : (from at : ℕ) → Kind → Type 0
+Past from at after = ((at ≡ from) × (after ≡ Eof)) ⊎ (from < at)
+
+-- An item whose first token isn't the text's end ends behind the place where it begins.
+pub past_end : (text : List ℕ) (from at : ℕ) (after e : Kind) (start stop : ℕ) → ((start stop : ℕ) → lexed text from Eof ≢ Tok Eof start stop) → Past from at after → Tok e start stop ≡ lexed text at after
+    → at ≤ start → start ≤ stop → (e ≢ Eof → start < stop) → from < stop
+past_end text from at after e start stop begun (inr b) l h i n = omega (arith, b, h, i)
+past_end text from at after Eof start stop begun (inl p) l h i n = absurd (begun start stop (subst (λ k. lexed text from k ≡ Tok Eof start stop) p.1 (subst (λ a. lexed text a after ≡ Tok Eof start stop) p.0 (sym l))))
+past_end text from at after e start stop begun (inl p) l h i n = grind arith

@@ -1,17 +1,18 @@
-ghost use Rattle.std.specs.Prelude.{◌≡◌, ◌+◌, ◌≤◌, ◌<◌, ◌^◌, ◌-◌, ◌∷◌, ◌++◌, [], length, reverse, OnOk, IfOk, IfErr, MatchOption, MatchResult, List, ℕ, IsTrue, false};
+ghost use Rattle.std.specs.Prelude.{◌≡◌, ◌≢◌, ◌+◌, ◌≤◌, ◌<◌, ◌^◌, ◌-◌, ◌∷◌, ◌++◌, [], length, reverse, OnOk, IfOk, IfErr, MatchOption, MatchResult, List, ℕ, IsTrue, false};
 ghost use Rattle.mc_tokens.specs.Contents.{stands_for};
 ghost use Rattle.mc_terms.specs.Lines.{line_at};
 ghost use Rattle.mc_terms.specs.Lexemes.{qualifier, with_name, with_token, IsMark};
 ghost use Rattle.mc_grammar.specs.declared.lexeme.Lexeme.{Lexeme};
-ghost use Rattle.mc_terms.specs.Answers.{ItemTokens, IsRefused, IsOnward};
+ghost use Rattle.mc_terms.specs.Answers.{ItemTokens, IsRefused, IsOnward, StandsAt, item_line};
+ghost use Rattle.mc_tokens.specs.Tokens.{Tok, lexed};
 ghost use Rattle.mc_tokens.specs.Items.{Passes};
 ghost use Rattle.std.specs.Prelude.{None, Some};
 
-use crate::fault::{ReadFault, ReadKind};
+use crate::fault::{ItemFault, ReadFault, ReadKind};
 use crate::position::Position;
 use mc_base::{Memory, Row, Text};
 use mc_grammar::Lexeme;
-use mc_tokens::{Kind, Token, TokenFault, Walk, token_text};
+use mc_tokens::{FaultKind, Kind, Token, TokenFault, Walk, token_text};
 use std::alloc::Global;
 
 // The tokens of an item, and the position behind its end.
@@ -139,45 +140,70 @@ fn mark(kind: Kind, line: u32) -> Lexeme
     }
 }
 
-pub fn want_of_memory(from: Position) -> ReadFault
-    ensures { result.kind ≡ ReadKind.Memory }
+// Want of memory for the item that begins in a position: reading can begin there again.
+pub fn want_of_memory(from: Position) -> ItemFault
+    ensures kind { result.fault.kind ≡ ReadKind.Memory }
+    ensures line { result.fault.line ≡ from.line }
+    ensures next { result.fault.next ≡ from.at }
 {
-    ReadFault {
+    let fault = ReadFault {
         kind: ReadKind::Memory,
         line: from.line,
         next: from.at,
+    };
+    ItemFault { fault, at: from.at }
+}
+
+// The line that is told of a faulty token: that of its item, where its form is left out, else its own.
+fn token_line(kind: FaultKind, item: u32, own: u32) -> u32
+    ensures { result ≡ Rattle.mc_terms.specs.Answers.token_line kind item own }
+{
+    match kind {
+        FaultKind::LeftOut => item,
+        _ => own,
     }
 }
 
-// The fault of a faulty token, that comes first from a position on.
-pub fn faulty_token(walk: &mut Walk, from: Position, fault: TokenFault) -> ReadFault
+// The fault of a faulty token, that comes first from a position on, in an item that begins on a line.
+pub fn faulty_token(walk: &mut Walk, from: Position, line: u32, fault: TokenFault) -> ItemFault
     requires order { from.at ≤ fault.at }
     requires within { fault.at < length walk.old }
     requires line { from.line ≡ line_at walk.old from.at }
     requires small { length walk.old < 2 ^ 32 - 1 }
-    ensures kind { result.kind ≡ ReadKind.Token fault.kind }
-    ensures line { result.line ≡ line_at walk.old fault.at }
-    ensures passes { Passes walk.old (fault.at + 1) Kind.Eof result.next }
-    ensures within { (fault.at < result.next) × (result.next ≤ length walk.old) }
+    ensures kind { result.fault.kind ≡ ReadKind.Token fault.kind }
+    ensures line { result.fault.line ≡ Rattle.mc_terms.specs.Answers.token_line fault.kind line (line_at walk.old fault.at) }
+    ensures at { result.at ≡ fault.at }
+    ensures passes { Passes walk.old (fault.at + 1) Kind.Eof result.fault.next }
+    ensures within { (fault.at < result.fault.next) × (result.fault.next ≤ length walk.old) }
     ensures same { walk.new ≡ walk.old }
 {
-    let line = from.moved(walk.text(), fault.at).line;
-    ReadFault {
+    let own = from.moved(walk.text(), fault.at).line;
+    let at = fault.at;
+    let fault = ReadFault {
         kind: ReadKind::Token(fault.kind),
-        line,
+        line: token_line(fault.kind, line, own),
         next: walk.item_end(fault.at + 1, &Kind::Eof),
-    }
+    };
+    ItemFault { fault, at }
 }
 
-// The tokens of the item that begins in a position.
-pub fn item_tokens(alloc: Global, walk: &mut Walk, from: Position) -> Result<Item, ReadFault>
+// The tokens of the item that begins in a position, with its first token on a line.
+pub fn item_tokens(
+    alloc: Global,
+    walk: &mut Walk,
+    from: Position,
+    line: u32,
+) -> Result<Item, ItemFault>
     requires within { from.at ≤ length walk.old }
     requires line { from.line ≡ line_at walk.old from.at }
+    requires item { line ≡ item_line walk.old from.at }
+    requires begun { (start stop : ℕ) → lexed walk.old from.at Kind.Eof ≢ Tok Kind.Eof start stop }
     requires small { length walk.old < 2 ^ 32 - 1 }
     ensures tokens { IfOk result (λ item. ItemTokens walk.old from.at item.tokens.items item.end.at) }
-    ensures end { IfOk result (λ item. (item.end.line ≡ line_at walk.old item.end.at) × (from.at ≤ item.end.at) × (item.end.at ≤ length walk.old)) }
-    ensures fault { IfErr result (λ f. IsRefused walk.old from.at f.kind f.line f.next) }
-    ensures onward { IfErr result (λ f. IsOnward walk.old from.at f.kind f.next) }
+    ensures end { IfOk result (λ item. (item.end.line ≡ line_at walk.old item.end.at) × (from.at < item.end.at) × (item.end.at ≤ length walk.old)) }
+    ensures fault { IfErr result (λ f. IsRefused walk.old from.at f.fault.kind f.fault.line f.fault.next) }
+    ensures place { IfErr result (λ f. StandsAt walk.old from.at f.fault.kind f.at) }
+    ensures onward { IfErr result (λ f. IsOnward walk.old from.at f.fault.kind f.fault.next) }
     ensures same { walk.new ≡ walk.old }
 {
     let mut tokens = Vec::new(alloc);
@@ -186,7 +212,7 @@ pub fn item_tokens(alloc: Global, walk: &mut Walk, from: Position) -> Result<Ite
     'item: loop {
         let token = match walk.next(place.at, &after) {
             Ok(token) => token,
-            Err(fault) => return Err(faulty_token(walk, place, fault)),
+            Err(fault) => return Err(faulty_token(walk, place, line, fault)),
         };
         let start = place.moved(walk.text(), token.start);
         let end = start.moved(walk.text(), token.end);

@@ -8,8 +8,8 @@ mod term;
 #[cfg(test)]
 mod tests;
 
-pub use fault::{ReadFault, ReadKind};
+pub use fault::{ItemFault, ReadFault, ReadKind};
 pub use mc_grammar::{Fix, infix, prefix};
 pub use mc_syntax::{Node, Term};
 pub use position::Position;
-pub use term::{read_next, read_term};
+pub use term::{ReadItem, read_next, read_term};

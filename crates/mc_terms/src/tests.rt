@@ -208,11 +208,29 @@ X(a). ~ LeftOut 1 5\n\
 'a\\\\b'. ~ a\\b 7\n\
 p(a, # ) q. r. ~ NotATerm 1 11\n\
 p({). q. ~ LeftOut 1 5\n\
+$p($1.5). ~ LeftOut 2 9\n\
 $p(\u{e9}). q. ~ BadChar 2 7\n\
 p('abc ~ Unterminated 1 6\n\
 p(/* . q.  ~ Unterminated 1 6\n\
 a. b. ~ a 2\n\
 $$f($, ). g. ~ NotATerm 3 9\n\
+a m.mod b. ~ NotATerm 1 10\n\
+- m.mod. ~ -(m.mod) 8\n\
+a.B. ~ BadChar 1 4\n\
+0x. ~ LeftOut 1 3\n\
+0o8. ~ LeftOut 1 4\n\
+0'\u{e9}'. ~ NotATerm 1 6\n\
+99999999999999999999a. ~ IntTooLarge 1 22\n\
+99999999999999999999.5. ~ LeftOut 1 23\n\
+p('\\q'). x. ~ BadChar 1 8\n\
+p('\\x4 ~ Unterminated 1 6\n\
+p('\\ ~ Unterminated 1 4\n\
+$ 'a$b'$ c. ~ NotATerm 2 11\n\
+a = [] ; b = '[]'. ~ |(=(a,[]),=(b,[])) 18\n\
+X = 9223372036854775807 + 1 ~ =(X,+(9223372036854775807,1)) 27\n\
+X = 9223372036854775808 ~ IntTooLarge 1 23\n\
+X = -9223372036854775808 ~ =(X,-9223372036854775808) 24\n\
+A = -7 // 2, B = -7 mod 2 ~ &(=(A,//(-7,2)),=(B,mod(-7,2))) 25\n\
 ";
 
 // A text of the table, in which `$` stands for a line end.
@@ -236,7 +254,7 @@ fn items(rt: HostRuntime) -> Result<(), Fail> {
             rows = rows.saturating_add(1);
         }
     }
-    assert_eq!(rt; rows, 112);
+    assert_eq!(rt; rows, 130);
     Ok(())
 }
 
@@ -254,6 +272,16 @@ fn repeated(
         text.extend_from_slice(piece.as_bytes())?;
     }
     text.extend_from_slice(end.as_bytes())?;
+    Ok(text)
+}
+
+// An argument in so many names over one argument, the outermost `p`.
+fn nested(alloc: Global, count: usize, inside: &str) -> Result<Vec<u8>, AllocError> {
+    let mut text = repeated(alloc, "p(", "f(", count, inside)?;
+    for _ in 0..count {
+        text.push(b')')?;
+    }
+    text.extend_from_slice(b").")?;
     Ok(text)
 }
 
@@ -302,6 +330,94 @@ fn hostile_items(rt: HostRuntime) -> Result<(), Fail> {
     Ok(())
 }
 
+#[test]
+fn a_term_of_depth_256_is_the_deepest(rt: HostRuntime) -> Result<(), Fail> {
+    let alloc = rt.alloc();
+    let deep = Some(ReadKind::TooNested);
+    let cases = [
+        (254, "a", None),
+        (255, "a", deep),
+        (254, "-1", None),
+        (254, "[]", None),
+        (254, "(a)", deep),
+        (253, "(a)", None),
+        (252, "a, [b, c | d], (e, f)", None),
+        (253, "a, [b, c | d], (e, f)", deep),
+        (400_000, "a", deep),
+        (400_000, "9223372036854775808", Some(ReadKind::IntTooLarge)),
+        (400_000, "f()", Some(ReadKind::NotATerm)),
+    ];
+    for (count, inside, wanted) in &cases {
+        let text = nested(alloc, *count, inside)?;
+        assert_eq!(rt;
+            why(alloc, text.as_slice()),
+            *wanted,
+            "{count} around {inside}"
+        );
+    }
+    Ok(())
+}
+
+// What the reader answers for the items of a text in turn, up to ten.
+fn in_turn(alloc: Global, text: &[u8]) -> Result<Vec<u8>, AllocError> {
+    let mut out = Vec::new(alloc);
+    let mut at = 0;
+    'items: for _ in 0..10 {
+        if text.len() >= 1 << 20 || at > text.len() {
+            break;
+        }
+        match read_term(alloc, text, at) {
+            Ok(None) => break,
+            Ok(Some((term, next))) => {
+                let line = term.line;
+                write_term(alloc, &mut out, &term)?;
+                out.extend_from_slice(format!(in alloc; " {line} {next}; ")?.as_bytes())?;
+                at = next;
+            }
+            Err(fault) => {
+                out.extend_from_slice(fault_shown(alloc, &fault)?.as_bytes())?;
+                out.extend_from_slice(b"; ")?;
+                at = fault.next;
+            }
+        }
+    }
+    Ok(out)
+}
+
+#[test]
+fn items_in_turn(rt: HostRuntime) -> Result<(), Fail> {
+    let alloc = rt.alloc();
+    let cases = [
+        ("", ""),
+        (
+            ":- module cut.$:- interface.$p('abc",
+            ":-(module(cut)) 1 14; :-(interface) 2 28; Unterminated 3 35; ",
+        ),
+        (
+            "a. b c. $$ p($X).$q",
+            "a 1 2; NotATerm 1 7; p(X) 3 17; q 5 19; ",
+        ),
+        (
+            "p(\u{1}). q({). r(\\+). s.",
+            "BadChar 1 5; LeftOut 1 11; r(\\+) 1 18; s 1 21; ",
+        ),
+    ];
+    for (text, wanted) in &cases {
+        let text = with_lines(alloc, text)?;
+        let answer = in_turn(alloc, text.as_slice())?;
+        assert_eq!(rt; answer.as_slice(), wanted.as_bytes());
+    }
+    let bytes = [
+        b'p', b'(', 0xff, b')', b'.', b' ', b'\'', 0xc3, b'(', b'\'', b'.',
+    ];
+    let answer = in_turn(alloc, &bytes)?;
+    assert_eq!(rt;
+        answer.as_slice(),
+        b"NotUtf8 1 5; NotUtf8 1 11; ".as_slice()
+    );
+    Ok(())
+}
+
 // How many items of a text are read and how many are refused, up to a million.
 fn counted(alloc: Global, text: &[u8]) -> (u32, u32) {
     let mut read = 0u32;
@@ -314,15 +430,15 @@ fn counted(alloc: Global, text: &[u8]) -> (u32, u32) {
     'items: for _ in 0..1_000_000 {
         match read_next(alloc, &mut walk, from) {
             Ok(None) => break,
-            Ok(Some((_, next))) => {
+            Ok(Some(item)) => {
                 read = read.saturating_add(1);
-                from = next;
+                from = item.end;
             }
-            Err(fault) => match fault.kind {
+            Err(fault) => match fault.fault.kind {
                 ReadKind::Memory => break,
                 _ => {
                     refused = refused.saturating_add(1);
-                    from = from.moved(text, fault.next);
+                    from = from.moved(text, fault.fault.next);
                 }
             },
         }
