@@ -1,10 +1,10 @@
 -- What is true and false of ground facts.
-use Rattle.std.proofs.Common.{◌≡◌, ◌≢◌, ◌⊎◌, inl, inr, ℕ, zero, suc, ◌<◌, List, [], ◌∷◌, map, length, Bool, true, false, cond, nat_eq, refl, sym, ap, ◌∙◌, subst, arith, pos}
+use Rattle.std.proofs.Common.{◌≡◌, ◌≢◌, ◌⊎◌, inl, inr, ℕ, zero, suc, ◌+◌, ◌<◌, List, [], ◌∷◌, map, length, Bool, true, false, cond, nat_eq, refl, sym, ap, ◌∙◌, subst, arith, pos}
 use Rattle.std.proofs.lemmas.Bool.{eqb-true, eqb-false, eq-eqb}
 use Rattle.mc_model.specs.Values.{Val, int, char, str, con, state, no_vals, val_then}
 use Rattle.mc_model.specs.Items.{Each}
 use Rattle.mc_model.specs.Programs.{made, no_expressions, expressions, Formula, Call, And, no_formulas}
-use Rattle.mc_model.specs.Truth.{Assignment, Facts, values, AllApplied, Yes, No, AllYes, OneNo, equated, at_arguments, SomeClause, NoClause}
+use Rattle.mc_model.specs.Truth.{Assignment, Facts, Choice, values, AllApplied, YesBy, Yes, NoBy, AllYesBy, OneNoBy, equated, at_arguments, SomeClause, NoClause}
 use Rattle.mc_model.specs.Good.{Extends, Hit}
 use Rattle.mc_ground.specs.Database.{constant_of, from, fact, variables_from, query_predicate}
 use Rattle.mc_ground.specs.Laws.{Wide, answers_of, answer_of}
@@ -42,27 +42,28 @@ row_or_not (s ∷ row) (w ∷ ws) = of_parts (constant_or_not w s) (row_or_not r
 
 module _ (C : Facts) where
   -- a fact holds of its constants
-  fact_true : (row : List ℕ) (s : Assignment) → AllYes C (equated (map constant_of row) (map (λ k. made k no_expressions) row) (And no_formulas)) s
-  fact_true [] s = (tt, tt)
-  fact_true (k ∷ row) s = ((s, (tt, (tt, tt)), refl), fact_true row s)
+  fact_true : (d : Choice) (i : ℕ) (row : List ℕ) (s : Assignment) → AllYesBy C d i (equated (map constant_of row) (map (λ k. made k no_expressions) row) (And no_formulas)) s
+  fact_true d i [] s = (tt, tt)
+  fact_true d i (k ∷ row) s = (((tt, (tt, tt)), refl), fact_true d (i + 1) row s)
 
   -- and of no other values
-  fact_false : (row : List ℕ) (ws : List Val) (s : Assignment) → (Extends (answer_of row) ws → ⊥) → OneNo C (equated ws (map (λ k. made k no_expressions) row) (And no_formulas)) s
-  fact_false [] [] s n = absurd (n tt)
-  fact_false [] (w ∷ ws) s n = inl tt
-  fact_false (k ∷ row) [] s n = inl tt
-  fact_false (k ∷ row) (w ∷ ws) s n = at_first (constant_or_not w k) (λ e. fact_false row ws s (λ x. n (e, x)))
+  fact_false : (d : Choice) (i : ℕ) (row : List ℕ) (ws : List Val) (s : Assignment) → (Extends (answer_of row) ws → ⊥) → OneNoBy C d i (equated ws (map (λ k. made k no_expressions) row) (And no_formulas)) s
+  fact_false d i [] [] s n = absurd (n tt)
+  fact_false d i [] (w ∷ ws) s n = inl tt
+  fact_false d i (k ∷ row) [] s n = inl tt
+  fact_false d i (k ∷ row) (w ∷ ws) s n = at_first (constant_or_not w k) (λ e. fact_false d (i + 1) row ws s (λ x. n (e, x)))
     where
-      at_first : (w ≡ constant_of k) ⊎ (w ≢ constant_of k) → (w ≡ constant_of k → OneNo C (equated ws (map (λ j. made j no_expressions) row) (And no_formulas)) s) → OneNo C (equated (w ∷ ws) (map (λ j. made j no_expressions) (k ∷ row)) (And no_formulas)) s
+      at_first : (w ≡ constant_of k) ⊎ (w ≢ constant_of k) → (w ≡ constant_of k → OneNoBy C d (i + 1) (equated ws (map (λ j. made j no_expressions) row) (And no_formulas)) s) →
+          OneNoBy C d i (equated (w ∷ ws) (map (λ j. made j no_expressions) (k ∷ row)) (And no_formulas)) s
       at_first (inl e) rest = inr (rest e)
-      at_first (inr d) rest = inl (λ c. inr d)
+      at_first (inr d) rest = inl (inr d)
 
   -- each fact's answer is true of the clauses, where what is true of the facts from it on is true of all
   pub facts_true : (rows all : List (List ℕ)) → ((ws : List Val) → SomeClause C (map fact rows) ws → SomeClause C (map fact all) ws) →
       Each (λ os. (ws : List Val) → Extends os ws → SomeClause C (map fact all) ws) (answers_of (map answer_of rows))
   facts_true [] all lift = tt
   facts_true (row ∷ rows) all lift = (
-    (λ ws e. lift ws (inl (nowhere, subst (λ us. Yes C (at_arguments us (fact row)) nowhere) (sym (extended row ws e)) (fact_true row nowhere)))),
+    (λ ws e. lift ws (inl (nowhere, subst (λ us. Yes C (at_arguments us (fact row)) nowhere) (sym (extended row ws e)) ((λ i. nowhere), fact_true (λ i. nowhere) 0 row nowhere)))),
     facts_true rows all (λ ws t. lift ws (inr t)),
   )
     where
@@ -72,7 +73,7 @@ module _ (C : Facts) where
   -- values that extend no fact's answer are false of the clauses
   pub facts_false : (rows : List (List ℕ)) (ws : List Val) → Each (λ os. Hit false ws os → ⊥) (answers_of (map answer_of rows)) → NoClause C (map fact rows) ws
   facts_false [] ws n = tt
-  facts_false (row ∷ rows) ws n = ((λ s. fact_false row ws s n.0), facts_false rows ws n.1)
+  facts_false (row ∷ rows) ws n = ((λ s d. fact_false d 0 row ws s n.0), facts_false rows ws n.1)
 
   -- of values that extend no fact's answer, other values extend some fact's answer, or are false of all clauses
   fact_found : (rows : List (List ℕ)) (ws us : List Val) → Each (λ os. Hit false ws os → ⊥) (answers_of (map answer_of rows)) →
@@ -84,7 +85,7 @@ module _ (C : Facts) where
           ((row : List ℕ) × Extends (answer_of row) us × (Extends (answer_of row) ws → ⊥)) ⊎ NoClause C (map fact (row ∷ rows)) us
       this_or (inl e) later = inl (row, e, n.0)
       this_or (inr d) (inl found) = inl found
-      this_or (inr d) (inr none) = inr ((λ s. fact_false row us s d), none)
+      this_or (inr e) (inr none) = inr ((λ s d. fact_false d 0 row us s e), none)
 
 -- what the query's clause says, by what is said of calls
 module _ (C : Facts) where
@@ -103,12 +104,12 @@ module _ (C : Facts) where
   none_applied x (suc n) s c = (tt, none_applied (suc x) n s c)
 
   -- the query's clause holds of values of which the call holds
-  query_true : (p x : ℕ) (ws : List Val) (s : Assignment) (g : Formula) → Matches x ws s → Yes C g s → AllYes C (equated ws (variables_from x (length ws)) g) s
-  query_true p x [] s g m y = (y, tt)
-  query_true p x (w ∷ ws) s g m y = ((s, (tt, (tt, tt)), sym m.0), query_true p (suc x) ws s g m.1 y)
+  query_true : (d : Choice) (i p x : ℕ) (ws : List Val) (s : Assignment) (g : Formula) → Matches x ws s → ((j : ℕ) → YesBy C d j g s) → AllYesBy C d i (equated ws (variables_from x (length ws)) g) s
+  query_true d i p x [] s g m y = (y i, tt)
+  query_true d i p x (w ∷ ws) s g m y = (((tt, (tt, tt)), sym m.0), query_true d (i + 1) p (suc x) ws s g m.1 y)
 
-  pub call_true : (p : ℕ) (ws : List Val) (s : Assignment) → Matches 0 ws s → C.yes p ws → Yes C (Call p (expressions (variables_from 0 (length ws)))) s
-  call_true p ws s m y = (s, none_applied 0 (length ws) s s, subst (C.yes p) (sym (values_matched 0 ws s s m)) y)
+  pub call_true : (d : Choice) (j p : ℕ) (ws : List Val) (s : Assignment) → Matches 0 ws s → C.yes p ws → YesBy C d j (Call p (expressions (variables_from 0 (length ws)))) s
+  call_true d j p ws s m y = (none_applied 0 (length ws) s (d j), subst (C.yes p) (sym (values_matched 0 ws s (d j) m)) y)
 
   -- an assignment that matches values
   abbrev pub assigned : ℕ → List Val → Assignment
@@ -133,22 +134,24 @@ module _ (C : Facts) where
 
   pub query_clause_true : (p : ℕ) (ws : List Val) → C.yes p ws → SomeClause C (record { head = variables_from 0 (length ws); body = Call p (expressions (variables_from 0 (length ws))) } ∷ []) ws
   query_clause_true p ws y =
-      inl (assigned 0 ws, query_true p 0 ws (assigned 0 ws) (Call p (expressions (variables_from 0 (length ws)))) (assigned_matches 0 ws) (call_true p ws (assigned 0 ws) (assigned_matches 0 ws) y))
+      let s = assigned 0 ws in
+      let d : Choice = (λ j. s) in
+      inl (s, (d, query_true d 0 p 0 ws s (Call p (expressions (variables_from 0 (length ws)))) (assigned_matches 0 ws) (λ j. call_true d j p ws s (assigned_matches 0 ws) y)))
 
   -- where the values of the variables are a fact's and those of the head are not, an equation is false
-  head_false : (x : ℕ) (row : List ℕ) (ws : List Val) (s : Assignment) (g : Formula) → Extends (answer_of row) (map s (from x (length ws))) → (Extends (answer_of row) ws → ⊥) → OneNo C (equated ws (variables_from x (length ws)) g) s
-  head_false x [] [] s g e n = absurd (n tt)
-  head_false x [] (w ∷ ws) s g e n = absurd e
-  head_false x (k ∷ row) [] s g e n = absurd e
-  head_false x (k ∷ row) (w ∷ ws) s g e n = at_first (constant_or_not w k) (λ q. head_false (suc x) row ws s g e.1 (λ y. n (q, y)))
+  head_false : (d : Choice) (i x : ℕ) (row : List ℕ) (ws : List Val) (s : Assignment) (g : Formula) → Extends (answer_of row) (map s (from x (length ws))) → (Extends (answer_of row) ws → ⊥) → OneNoBy C d i (equated ws (variables_from x (length ws)) g) s
+  head_false d i x [] [] s g e n = absurd (n tt)
+  head_false d i x [] (w ∷ ws) s g e n = absurd e
+  head_false d i x (k ∷ row) [] s g e n = absurd e
+  head_false d i x (k ∷ row) (w ∷ ws) s g e n = at_first (constant_or_not w k) (λ q. head_false d (i + 1) (suc x) row ws s g e.1 (λ y. n (q, y)))
     where
-      at_first : (w ≡ constant_of k) ⊎ (w ≢ constant_of k) → (w ≡ constant_of k → OneNo C (equated ws (variables_from (suc x) (length ws)) g) s) → OneNo C (equated (w ∷ ws) (variables_from x (suc (length ws))) g) s
+      at_first : (w ≡ constant_of k) ⊎ (w ≢ constant_of k) → (w ≡ constant_of k → OneNoBy C d (i + 1) (equated ws (variables_from (suc x) (length ws)) g) s) → OneNoBy C d i (equated (w ∷ ws) (variables_from x (suc (length ws))) g) s
       at_first (inl q) rest = inr (rest q)
-      at_first (inr d) rest = inl (λ c. inr (λ q. d (q ∙ e.0)))
+      at_first (inr o) rest = inl (inr (λ q. o (q ∙ e.0)))
 
-  last_false : (x : ℕ) (ws : List Val) (s : Assignment) (g : Formula) → No C g s → OneNo C (equated ws (variables_from x (length ws)) g) s
-  last_false x [] s g n = inl n
-  last_false x (w ∷ ws) s g n = inr (last_false (suc x) ws s g n)
+  last_false : (d : Choice) (i x : ℕ) (ws : List Val) (s : Assignment) (g : Formula) → ((j : ℕ) → NoBy C d j g s) → OneNoBy C d i (equated ws (variables_from x (length ws)) g) s
+  last_false d i x [] s g n = inl (n i)
+  last_false d i x (w ∷ ws) s g n = inr (last_false d (i + 1) (suc x) ws s g n)
 
   values_of : (x n : ℕ) (s c : Assignment) → values s c 0 (expressions (variables_from x n)) ≡ map s (from x n)
   values_of x zero s c = refl
@@ -157,12 +160,13 @@ module _ (C : Facts) where
   -- the query's clause is false of values that extend no fact's answer
   pub query_clause_false : (D : Facts) (p : ℕ) (rows : List (List ℕ)) (ws : List Val) → ((us : List Val) → NoClause D (map fact rows) us → C.no p us) → Each (λ os. Hit false ws os → ⊥) (answers_of (map answer_of rows)) →
       NoClause C (record { head = variables_from 0 (length ws); body = Call p (expressions (variables_from 0 (length ws))) } ∷ []) ws
-  query_clause_false D p rows ws none n = ((λ s. either s (fact_found D rows ws (map s (from 0 (length ws))) n)), tt)
+  query_clause_false D p rows ws none n = ((λ s d. either d s (fact_found D rows ws (map s (from 0 (length ws))) n)), tt)
     where
-      either : (s : Assignment) → ((row : List ℕ) × Extends (answer_of row) (map s (from 0 (length ws))) × (Extends (answer_of row) ws → ⊥)) ⊎ NoClause D (map fact rows) (map s (from 0 (length ws))) →
-          OneNo C (equated ws (variables_from 0 (length ws)) (Call p (expressions (variables_from 0 (length ws))))) s
-      either s (inl found) = head_false 0 found.0 ws s (Call p (expressions (variables_from 0 (length ws)))) found.1 found.2
-      either s (inr denied) = last_false 0 ws s (Call p (expressions (variables_from 0 (length ws)))) (λ c. inr (subst (C.no p) (sym (values_of 0 (length ws) s c)) (none (map s (from 0 (length ws))) denied)))
+      either : (d : Choice) (s : Assignment) → ((row : List ℕ) × Extends (answer_of row) (map s (from 0 (length ws))) × (Extends (answer_of row) ws → ⊥)) ⊎ NoClause D (map fact rows) (map s (from 0 (length ws))) →
+          OneNoBy C d 0 (equated ws (variables_from 0 (length ws)) (Call p (expressions (variables_from 0 (length ws))))) s
+      either d s (inl found) = head_false d 0 0 found.0 ws s (Call p (expressions (variables_from 0 (length ws)))) found.1 found.2
+      either d s (inr denied) =
+          last_false d 0 0 ws s (Call p (expressions (variables_from 0 (length ws)))) (λ j. inr (subst (C.no p) (sym (values_of 0 (length ws) s (d j))) (none (map s (from 0 (length ws))) denied)))
 
   -- it is true of each fact's answer, where the call is
   pub query_clauses_true : (p v : ℕ) (rows : List (List ℕ)) → Wide v rows → Each (λ os. (ws : List Val) → Extends os ws → C.yes p ws) (answers_of (map answer_of rows)) →

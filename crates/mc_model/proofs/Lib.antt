@@ -1,7 +1,16 @@
+pub mod AcceptedAppend
 pub mod Equality
+pub mod FlatAtoms
+pub mod FlatGoals
+pub mod FlatWhole
 pub mod Fronts
+pub mod Inclusions
 pub mod Levels
 pub mod Monotone
+pub mod NoOrder
+pub mod Overs
 pub mod Prefixes
 pub mod Stages
+pub mod TermViews
+pub mod Typings
 pub mod Views

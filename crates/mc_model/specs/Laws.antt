@@ -9,7 +9,10 @@ use Rattle.mc_model.specs.Truth.{World, Assignment, Yes, No, stage}
 use Rattle.mc_model.specs.Scheduled.{Node, Procedure}
 use Rattle.mc_model.specs.Stream.{Bindings, calls, stream, body_items, below, run, run_call, run_query}
 use Rattle.mc_model.specs.declared.builtin.Builtin.{Builtin}
+use Rattle.mc_model.specs.PlainPrograms.{plain_type, plain_expression}
 use Rattle.mc_model.specs.declared.value.Value.{Value}
+use Rattle.mc_model.specs.declared.ty.Ty.{Ty}
+use Rattle.mc_model.specs.declared.expr.Expr.{Expr}
 
 -- what is true, or false, at a stage is so at every later one: of goals, and of calls
 abbrev pub GoalsStay : Type 0
@@ -76,3 +79,10 @@ SameIsEqual = (v w : Val) → (same_value v w ≡ true) ↔ (v ≡ w)
 -- values without their rows are equal exactly where the values are
 abbrev pub PlainIsExact : Type 0
 PlainIsExact = (v w : Value) → (plain_value v ≡ plain_value w) ↔ (v ≡ w)
+
+-- so it is of types, and of terms
+abbrev pub PlainTypesAreExact : Type 0
+PlainTypesAreExact = (a b : Ty) → (plain_type a ≡ plain_type b) ↔ (a ≡ b)
+
+abbrev pub PlainTermsAreExact : Type 0
+PlainTermsAreExact = (a b : Expr) → (plain_expression a ≡ plain_expression b) ↔ (a ≡ b)

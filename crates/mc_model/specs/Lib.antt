@@ -2,7 +2,9 @@ pub mod Accepted
 pub mod Builtins
 pub mod Determined
 pub mod Determinism
+pub mod Events
 pub mod Flat
+pub mod FlatLaws
 pub mod Good
 pub mod Inclusion
 pub mod Insts
@@ -12,12 +14,19 @@ pub mod Normal
 pub mod Ordered
 pub mod Outcomes
 pub mod Output
+pub mod PlainGoals
+pub mod PlainPrograms
 pub mod Printed
 pub mod Programs
+pub mod Proper
 pub mod Rows
 pub mod RowsOfBuiltins
+pub mod RowsOfGoals
 pub mod RowsOfLists
+pub mod RowsOfModes
+pub mod RowsOfProcedures
 pub mod RowsOfRuns
+pub mod RowsOfTypes
 pub mod Scheduled
 pub mod Scope
 pub mod Stream
@@ -25,3 +34,4 @@ pub mod Truth
 pub mod Types
 pub mod Typing
 pub mod Values
+pub mod Worlds

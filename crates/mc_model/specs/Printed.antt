@@ -1,12 +1,11 @@
 -- The text that values, answers and broken rules are printed as. (This project's profile, after the Mercury Language
 -- Reference Manual, chapter Syntax: a printed value reads back as a term.)
-use Rattle.std.specs.Prelude.{ℕ, ◌+◌, ◌<◌, ◌/◌, ◌%◌, List, [], ◌∷◌, ◌++◌, map, length, slice_index_or, Bool, true, false, ◌||◌, ◌&&◌, if◌then◌else◌, nat_eq, nat_lt, nat_le, codes, decimal, encode_utf8, ⊤}
+use Rattle.std.specs.Prelude.{ℕ, ◌+◌, ◌<◌, ◌/◌, ◌%◌, List, [], ◌∷◌, ◌++◌, map, length, slice_index_or, Bool, false, ◌||◌, ◌&&◌, if◌then◌else◌, nat_eq, nat_lt, nat_le, codes, decimal, encode_utf8, ⊤}
 use Rattle.std.specs.Fmt.{signed_decimal}
 use Rattle.std.specs.List.{flat_map, list_all}
 use Rattle.std.specs.Cmp.Lexicographic.{pointwise}
 use Rattle.mc_model.specs.Values.{Val, int, char, str, con, state, Vals, no_vals, val_then}
 use Rattle.mc_model.specs.declared.program.Program.{Program}
-use Rattle.mc_model.specs.declared.program.Symbol.{Symbol}
 use Rattle.mc_model.specs.declared.rule.Rule.{Rule}
 use Rattle.mc_model.specs.declared.rule.Rule.TheVariants as R
 

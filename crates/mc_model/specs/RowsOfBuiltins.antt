@@ -4,6 +4,9 @@ use Rattle.mc_model.specs.Values.{Val, int, char, str, con, state, no_vals, val_
 use Rattle.mc_model.specs.Items.{zero_divide, error}
 use Rattle.mc_model.specs.Outcomes.{Outcome, fails, gives, throws, writes, reads, reads_and_throws}
 use Rattle.mc_model.specs.Builtins.{Library, outcome, read_from}
+use Rattle.mc_model.specs.Worlds.{world_of}
+use Rattle.mc_model.specs.declared.program.Program.{Program}
+use Rattle.mc_model.specs.declared.program.Symbol.{Symbol}
 use Rattle.mc_model.specs.declared.builtin.Builtin.{Builtin}
 use Rattle.mc_model.specs.declared.builtin.Builtin.TheVariants as B
 
@@ -167,3 +170,35 @@ Reading =
     × (read_from library 2 0 [] two_lines ≡ reads_and_throws 0 (error (codes "input line is too long")))
     × (outcome library (255 ∷ []) B.ReadLine (state [] 0 ∷ []) ≡ reads_and_throws 0 (error (codes "input is not UTF-8")))
     × (reading_at 0 ≢ reading_at 3)
+
+-- a program's symbol without argument types, which no builtin reads
+abbrev pub symbol_named : (module_name bytes : List ℕ) → ℕ → Symbol
+symbol_named m n a = record { name = record { «module» = m; name = n; arity = a }; of_type = 0; args = [] }
+
+-- a program with a constructor of its own before those of lists and those that lines are read as
+abbrev pub a_program : Program
+a_program =
+    record {
+      types = [];
+      symbols =
+          symbol_named (codes "q") (codes "a b") 0
+          ∷ symbol_named (codes "list") (codes "[]") 0
+          ∷ symbol_named (codes "list") (codes "[|]") 2
+          ∷ symbol_named (codes "io") (codes "ok") 1
+          ∷ symbol_named (codes "io") (codes "eof") 0
+          ∷ [];
+      preds = [];
+    }
+
+abbrev pub in_program : Builtin → List Val → Outcome
+in_program = (world_of a_program (codes "x\n")).outcome
+
+-- in a program lists are made of its symbols, and a value is written by their names: `['a b', 7]`
+abbrev pub InPrograms : Type 0
+InPrograms =
+    (in_program B.ToCharList (str (codes "z") ∷ []) ≡ gives (con 2 (val_then (char 122) (val_then (con 1 no_vals) no_vals)) ∷ []))
+    × (in_program B.Write (con 2 (val_then (con 0 no_vals) (val_then (con 2 (val_then (int (pos 7)) (val_then (con 1 no_vals) no_vals))) no_vals)) ∷ state [] 0 ∷ [])
+    ≡ writes (codes "['a b', 7]") (state (codes "['a b', 7]") 0 ∷ []))
+    × (in_program B.ReadLine (state [] 0 ∷ []) ≡ reads 0 (con 3 (val_then (str (codes "x\n")) no_vals) ∷ state [] 2 ∷ []))
+    × (in_program B.ReadLine (state [] 2 ∷ []) ≡ reads 2 (con 4 no_vals ∷ state [] 2 ∷ []))
+    × (in_program B.Write (con 0 no_vals ∷ state [] 0 ∷ []) ≢ writes (codes "a b") (state (codes "a b") 0 ∷ []))

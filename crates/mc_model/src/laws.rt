@@ -1,5 +1,7 @@
 //! The laws that show how the definitions fit together. Each is the contract of a function that does nothing.
-ghost use Rattle.mc_model.specs.Laws.{GoalsStay, CallsStay, NoGoalIsBoth, NoCallIsBoth, LevelsSuffice, LevelsSufficeForCalls, LevelsSufficeForQueries, OneLevelMore, BudgetsExtend, BudgetsExtendCalls, BudgetsExtendQueries, SameIsEqual, PlainIsExact};
+ghost use Rattle.mc_model.specs.Laws.{GoalsStay, CallsStay, NoGoalIsBoth, NoCallIsBoth, LevelsSuffice, LevelsSufficeForCalls, LevelsSufficeForQueries, OneLevelMore, BudgetsExtend, BudgetsExtendCalls, BudgetsExtendQueries, SameIsEqual, PlainIsExact, PlainTypesAreExact, PlainTermsAreExact};
+ghost use Rattle.mc_model.specs.Proper.{IncludedSets};
+ghost use Rattle.mc_model.specs.FlatLaws.{FlatGoalsCarry};
 ghost use Rattle.mc_model.specs.Determinism.{ConjIsMonotone, DisjIsMonotone, IteIsMonotone, NegatedIsMonotone, PrunedIsMonotone, AllowsItself, AllowsInTurn, AllowsOneWay};
 
 /// What is true, or false, at a stage is so at every later one.
@@ -34,9 +36,11 @@ pub fn same_is_equal()
     ensures { SameIsEqual }
 {}
 
-/// The plain view of values forgets nothing but their rows.
+/// The plain views of values, types and terms forget nothing but their rows.
 pub fn plain_is_exact()
-    ensures { PlainIsExact }
+    ensures values { PlainIsExact }
+    ensures types { PlainTypesAreExact }
+    ensures terms { PlainTermsAreExact }
 {}
 
 /// The tables of determinism are monotone.
@@ -53,4 +57,14 @@ pub fn allowing_is_an_order()
     ensures itself { AllowsItself }
     ensures in_turn { AllowsInTurn }
     ensures one_way { AllowsOneWay }
+{}
+
+/// Included insts have included sets: a value of the type that is within the first is within the second.
+pub fn included_insts_have_included_sets()
+    ensures { IncludedSets }
+{}
+
+/// Flat truth implies nested truth: a goal of nested terms is true, or false, where its flat goal is.
+pub fn flat_goals_carry_over()
+    ensures { FlatGoalsCarry }
 {}

@@ -1,4 +1,6 @@
 use crate::builtin::Builtin;
+use crate::expr::Expr;
+use crate::ty::Ty;
 use mc_base::{Row, Text};
 
 /// A name with its module and the number of its arguments; a function's result doesn't count.
@@ -16,17 +18,6 @@ pub struct Place {
     pub line: u32,
 }
 
-/// A type. `Var` is a type variable, `Union` a union type, by its number, over its arguments, and `Io` the state of io.
-#[derive(Drop)]
-pub enum Ty {
-    Int,
-    Char,
-    Str,
-    Io,
-    Var(u32),
-    Union(u32, Row<Ty>),
-}
-
 /// A constructor: the union type that it belongs to, and its arguments' types over that type's parameters.
 #[derive(Drop)]
 pub struct Symbol {
@@ -41,17 +32,6 @@ pub struct TypeDef {
     pub name: Name,
     pub params: u32,
     pub symbols: Row<u32>,
-}
-
-/// A term of a clause: `Con` is a constructor over its arguments, `Apply` the application of a function.
-#[derive(Drop)]
-pub enum Expr {
-    Var(u32),
-    Int(i64),
-    Char(char),
-    Str(Text),
-    Con(u32, Row<Expr>),
-    Apply(u32, Row<Expr>),
 }
 
 /// A goal of a clause. `Disj` of an empty row is `fail`. The row in `Ite` holds the variables that are quantified over
@@ -103,4 +83,13 @@ pub enum Candidate {
     Func(u32),
     Pred(u32),
     Char(char),
+}
+
+/// A clause whose names are resolved, with its variables' types, and with their names in the source; a variable that
+/// has none there has the empty name.
+#[derive(Drop)]
+pub struct Resolved {
+    pub clause: Clause,
+    pub var_types: Row<Ty>,
+    pub var_names: Row<Text>,
 }

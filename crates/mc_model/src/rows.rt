@@ -1,7 +1,11 @@
 //! Computed examples of the definitions: programs written out as scheduled procedures, and what their runs do. Each is
 //! the contract of a function that does nothing, and each group has an equation that does not hold.
-ghost use Rattle.mc_model.specs.RowsOfBuiltins.{NumbersWrap, DivisionRounds, DivisionAtItsEnds, Comparisons, NumbersInTexts, CharactersInTexts, Writing, Reading};
+ghost use Rattle.mc_model.specs.RowsOfBuiltins.{NumbersWrap, DivisionRounds, DivisionAtItsEnds, Comparisons, NumbersInTexts, CharactersInTexts, Writing, Reading, InPrograms};
+ghost use Rattle.mc_model.specs.RowsOfGoals.{NegationsQuantify, ConditionsQuantify, ScopesAreWritten, NormalGoals};
 ghost use Rattle.mc_model.specs.RowsOfLists.{Facts, Appends, Members, Queens};
+ghost use Rattle.mc_model.specs.RowsOfModes.{Determinisms, CommittedCalls, IoGoals, GoalsWithoutOrder};
+ghost use Rattle.mc_model.specs.RowsOfProcedures.{AppendIsAccepted};
+ghost use Rattle.mc_model.specs.RowsOfTypes.{Typings};
 ghost use Rattle.mc_model.specs.RowsOfRuns.{Order, Budgets, Depths, Throws, Output};
 
 /// What builtins do at some inputs.
@@ -14,6 +18,7 @@ pub fn builtins()
     ensures characters_in_texts { CharactersInTexts }
     ensures writing { Writing }
     ensures reading { Reading }
+    ensures in_programs { InPrograms }
 {}
 
 /// Facts, in order and as often as they are given.
@@ -55,4 +60,38 @@ pub fn throws()
 /// What a program writes, with all the calls that it needs and with one less.
 pub fn output()
     ensures { Output }
+{}
+
+/// Variables that a goal quantifies, and goals whose scopes are written out.
+pub fn scopes()
+    ensures negations { NegationsQuantify }
+    ensures conditions { ConditionsQuantify }
+    ensures written { ScopesAreWritten }
+{}
+
+/// Predicates as one goal whose atoms hold variables alone.
+pub fn normal_goals()
+    ensures { NormalGoals }
+{}
+
+/// A procedure that is accepted, and two that are not.
+pub fn accepted_procedures()
+    ensures { AppendIsAccepted }
+{}
+
+/// Clauses that are well typed, and some that are not.
+pub fn typings()
+    ensures { Typings }
+{}
+
+/// The determinism of goals by the tables, and the contexts in which committed calls and goals that write may stand.
+pub fn determinisms()
+    ensures determinisms { Determinisms }
+    ensures committed_calls { CommittedCalls }
+    ensures io_goals { IoGoals }
+{}
+
+/// Goals that no order makes mode-correct.
+pub fn goals_without_order()
+    ensures { GoalsWithoutOrder }
 {}

@@ -1,5 +1,5 @@
 use crate::program::Place;
-use mc_base::Text;
+use mc_base::{Row, Text};
 
 /// The rules that a source can break, by the names that the program prints, in the order of its phases.
 #[derive(Clone, Copy, Debug, PartialEq, Eq)]
@@ -50,4 +50,11 @@ pub struct Broken {
     pub rule: Rule,
     pub at: Place,
     pub what: Text,
+}
+
+/// The faults of reading or linking: the first broken rule of each faulty item, in source order, or want of memory.
+#[derive(Debug, PartialEq, Eq, Drop)]
+pub enum ItemsFault {
+    Broken(Row<Broken>),
+    Memory,
 }

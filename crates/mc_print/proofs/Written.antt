@@ -3,7 +3,7 @@ use Rattle.std.proofs.Common.{◌≡◌, ℕ, ◌<◌, List, [], ◌∷◌, ◌+
 use Rattle.std.proofs.lemmas.List.{map-append, reverse-append}
 use Rattle.mc_model.specs.Values.{plain_value}
 use Rattle.mc_model.specs.declared.value.Value.{Value, Con}
-use Rattle.mc_values.proofs.Exact.{plain_value-Con}
+use Rattle.mc_model.proofs.Views.{plain_value-Con}
 use Rattle.std.specs.Prelude.{codes}
 use Rattle.std.specs.Cmp.Lexicographic.{pointwise}
 use Rattle.mc_model.specs.Values.{Val, con, vals}

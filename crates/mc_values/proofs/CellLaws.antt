@@ -7,7 +7,7 @@ use borrow.Author.Count.{below_more}
 use Rattle.mc_model.specs.declared.value.Value.{Value, Int}
 use Rattle.mc_model.specs.Values.{Val, plain_value}
 use Rattle.mc_values.specs.Parts.{arguments}
-use Rattle.mc_values.proofs.Exact.{is_con, arguments-Con}
+use Rattle.mc_values.proofs.Arguments.{is_con, arguments-Con}
 use Rattle.mc_values.specs.declared.cell.Cell.{Cell}
 use Rattle.mc_values.specs.Cells.{owned_at, held_in, IsCell, IsHeld, AreCells}
 

@@ -9,7 +9,7 @@ use Rattle.mc_values.specs.declared.cell.Cell.{Cell}
 use Rattle.mc_values.specs.Cells.{owned_at, held_in, IsHeld, AreCells}
 use Rattle.mc_values.specs.Heap.{height, IsLive, IsBelow, value_at, values_at, StandsFor, Extends, KeepsBelow}
 use Rattle.mc_values.proofs.CellLaws.{held_more, held_first, owned_before, owned_first, AreCells-push, AreCells-take}
-use Rattle.mc_values.proofs.Exact.{plain_value-Con}
+use Rattle.mc_model.proofs.Views.{plain_value-Con}
 
 -- a cell is put at the end
 pub grown : (cells more : List Cell) (c : Cell) (held : List Value) → held_in cells ≡ held → more ≡ cells ++ (c ∷ []) → held_in more ≡ held ++ (c.value ∷ [])

@@ -1,3 +1,3 @@
+pub mod Arguments
 pub mod CellLaws
-pub mod Exact
 pub mod Grown

@@ -1,13 +1,15 @@
 use Rattle.std.proofs.Common.{◌≡◌, ◌≤◌, take, vec_len}
-use Rattle.mc_model.specs.declared.value.Value.{size-Value}
+use Rattle.mc_model.specs.declared.value.Value.{Value, size-Value}
+use Rattle.mc_model.specs.declared.copy.Front.{Front}
 use Rattle.mc_model.proofs.Fronts.{rebuilt}
+use Rattle.mc_model.proofs.Overs.{over_value}
 use Rattle.mc_model.proofs.copy.+copy.Given as goal
 
 abbrev pub invariant-copy_value-loop-rest : goal.invariant-copy_value-loop-rest
-invariant-copy_value-loop-rest l = (rebuilt l.fronts.items l.rest ≡ l.v) × (size-Value l.rest ≤ size-Value l.v)
+invariant-copy_value-loop-rest l = (rebuilt Value Front over_value l.fronts.items l.rest ≡ l.v) × (size-Value l.rest ≤ size-Value l.v)
 
 abbrev pub invariant-copy_value-loop-front : goal.invariant-copy_value-loop-front
-invariant-copy_value-loop-front l = rebuilt l.fronts.items l.copy ≡ l.v
+invariant-copy_value-loop-front l = rebuilt Value Front over_value l.fronts.items l.copy ≡ l.v
 
 abbrev pub decreases-copy_value-loop-front : goal.decreases-copy_value-loop-front
 decreases-copy_value-loop-front l = vec_len l.fronts

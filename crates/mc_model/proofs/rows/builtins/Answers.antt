@@ -36,3 +36,7 @@ returns-clause-writing c = (refl, refl, refl, refl, refl, refl, (λ e. cc))
 pub returns-clause-reading : goal.returns-clause-reading
 unfolding int_wrap digits chars is_utf8 encode_utf8
 returns-clause-reading c = (refl, refl, refl, refl, refl, refl, (λ e. cc))
+
+pub returns-clause-in_programs : goal.returns-clause-in_programs
+unfolding int_wrap digits chars is_utf8 encode_utf8
+returns-clause-in_programs c = (refl, refl, refl, refl, (λ e. cc))

@@ -4,7 +4,7 @@ use Rattle.mc_model.specs.Values.{plain_value}
 use Rattle.mc_model.specs.declared.value.Value.{Value, Con}
 use Rattle.mc_values.specs.Cells.{owned_at, IsHeld}
 use Rattle.mc_values.specs.Heap.{IsLive, StandsFor}
-use Rattle.mc_values.proofs.Exact.{Con-args}
+use Rattle.mc_model.proofs.Views.{Con-args}
 use Rattle.mc_values.proofs.Grown.{plain_value-held}
 use Rattle.mc_values.proofs.heap.Heap.con.Goals as goal
 

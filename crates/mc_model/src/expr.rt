@@ -1,0 +1,284 @@
+ghost use Rattle.std.specs.Prelude.{◌≡◌, ◌+◌, ◌-◌, ◌<◌, ◌^◌, ℕ, List, length, take, IfOk, IfSome, IsTrue, ◌↔◌, ◌⊎◌};
+
+use mc_base::{Copied, Memory, Row, Text};
+use std::alloc::Global;
+
+/// A term of a clause: `Con` is a constructor over its arguments, `Apply` the application of a function.
+pub enum Expr {
+    Var(u32),
+    Int(i64),
+    Char(char),
+    Str(Text),
+    Con(u32, Row<Expr>),
+    Apply(u32, Row<Expr>),
+}
+
+/// A term is dropped along its last arguments by a loop, so that a long list takes no stack for each element.
+impl Drop for Expr {
+    fn drop(mut self) {
+        loop {
+            match self {
+                Expr::Con(_, mut args) => match args.pop() {
+                    Some(last) => {
+                        drop(args);
+                        self = last;
+                    }
+                    None => {
+                        drop(args);
+                        return;
+                    }
+                },
+                Expr::Apply(_, mut args) => match args.pop() {
+                    Some(last) => {
+                        drop(args);
+                        self = last;
+                    }
+                    None => {
+                        drop(args);
+                        return;
+                    }
+                },
+                Expr::Var(_) => return,
+                Expr::Int(_) => return,
+                Expr::Char(_) => return,
+                Expr::Str(text) => {
+                    drop(text);
+                    return;
+                }
+            }
+        }
+    }
+}
+
+impl Expr {
+    /// The arguments of a constructor or of a function's application; None of any other term.
+    pub fn into_args(self) -> Option<Row<Expr>>
+        ensures made { (symbol : ℕ) (args : List Expr) → self ≡ Expr.Con symbol args → result ≡ Some args }
+        ensures applied { (function : ℕ) (args : List Expr) → self ≡ Expr.Apply function args → result ≡ Some args }
+        ensures no_other { IfSome result (λ args. ((symbol : ℕ) × (self ≡ Expr.Con symbol args)) ⊎ ((function : ℕ) × (self ≡ Expr.Apply function args))) }
+    {
+        match self {
+            Expr::Con(_, args) => Some(args),
+            Expr::Apply(_, args) => Some(args),
+            Expr::Var(_) => None,
+            Expr::Int(_) => None,
+            Expr::Char(_) => None,
+            Expr::Str(text) => {
+                drop(text);
+                None
+            }
+        }
+    }
+}
+
+/// What stands over the arguments of a term.
+#[derive(Clone, Copy)]
+enum Head {
+    Con(u32),
+    Apply(u32),
+}
+
+impl Head {
+    /// The term of this head and these arguments.
+    fn over(self, args: Row<Expr>) -> Expr
+        ensures made { (symbol : ℕ) → self ≡ Head.Con symbol → result ≡ Expr.Con symbol args }
+        ensures applied { (function : ℕ) → self ≡ Head.Apply function → result ≡ Expr.Apply function args }
+    {
+        match self {
+            Head::Con(symbol) => Expr::Con(symbol, args),
+            Head::Apply(function) => Expr::Apply(function, args),
+        }
+    }
+}
+
+/// The arguments before the last one of a term that is being copied.
+#[derive(Drop)]
+struct TermFront {
+    head: Head,
+    args: Row<Expr>,
+    ghost has_room: { length args + 1 < 2 ^ 32 },
+}
+
+/// Another term that is the same, the last arguments copied by a loop.
+#[cycle(copy)]
+pub fn copy_expr(alloc: Global, e: &Expr) -> Result<Expr, Memory>
+    ensures { IfOk result (λ copy. copy ≡ e.now) }
+{
+    let mut fronts = Vec::new(alloc);
+    let mut rest = e;
+    let mut copy = loop {
+        match rest {
+            Expr::Var(v) => break Expr::Var(*v),
+            Expr::Int(n) => break Expr::Int(*n),
+            Expr::Char(c) => break Expr::Char(*c),
+            Expr::Str(t) => break Expr::Str(t.copied(alloc)?),
+            Expr::Con(symbol, args) => match args.as_slice() {
+                [] => break Expr::Con(*symbol, Row::new(alloc)),
+                [front @ .., last] => {
+                    fronts.push(front_of(alloc, Head::Con(*symbol), front)?)?;
+                    rest = last;
+                }
+            },
+            Expr::Apply(function, args) => match args.as_slice() {
+                [] => break Expr::Apply(*function, Row::new(alloc)),
+                [front @ .., last] => {
+                    fronts.push(front_of(alloc, Head::Apply(*function), front)?)?;
+                    rest = last;
+                }
+            },
+        }
+    };
+    while let Some(front) = fronts.pop() {
+        let TermFront { head, mut args } = front;
+        args.push(copy)?;
+        copy = head.over(args);
+    }
+    Ok(copy)
+}
+
+#[cycle(copy)]
+fn front_of(alloc: Global, head: Head, front: &[Expr]) -> Result<TermFront, Memory>
+    requires { length front.now + 1 < 2 ^ 32 }
+    ensures { IfOk result (λ made. (made.head ≡ head) × (made.args ≡ front.now)) }
+{
+    let mut args = Row::new(alloc);
+    for e in front {
+        args.push(copy_expr(alloc, e)?)?;
+    }
+    Ok(TermFront { head, args })
+}
+
+/// Whether two terms are the same, the last arguments by a loop.
+#[cycle(same)]
+pub fn same_expr(a: &Expr, b: &Expr) -> bool
+    ensures { IsTrue result ↔ (a.now ≡ b.now) }
+{
+    let mut left = a;
+    let mut right = b;
+    loop {
+        match left {
+            Expr::Var(v) => match right {
+                Expr::Var(w) => return v == w,
+                _ => return false,
+            },
+            Expr::Int(m) => match right {
+                Expr::Int(n) => return m == n,
+                _ => return false,
+            },
+            Expr::Char(c) => match right {
+                Expr::Char(d) => return c == d,
+                _ => return false,
+            },
+            Expr::Str(s) => match right {
+                Expr::Str(t) => return s.same(t),
+                _ => return false,
+            },
+            Expr::Con(f, xs) => match right {
+                Expr::Con(g, ys) => {
+                    if *f != *g || !same_but_last(xs, ys) {
+                        return false;
+                    }
+                    if xs.is_empty() {
+                        return true;
+                    }
+                    left = xs.get(xs.len() - 1);
+                    right = ys.get(ys.len() - 1);
+                }
+                _ => return false,
+            },
+            Expr::Apply(f, xs) => match right {
+                Expr::Apply(g, ys) => {
+                    if *f != *g || !same_but_last(xs, ys) {
+                        return false;
+                    }
+                    if xs.is_empty() {
+                        return true;
+                    }
+                    left = xs.get(xs.len() - 1);
+                    right = ys.get(ys.len() - 1);
+                }
+                _ => return false,
+            },
+        }
+    }
+}
+
+/// Whether two rows are of one length and are the same but for their last terms.
+#[cycle(same)]
+fn same_but_last(xs: &Row<Expr>, ys: &Row<Expr>) -> bool
+    ensures { IsTrue result ↔ ((length xs.now ≡ length ys.now) × (take (length xs.now - 1) xs.now ≡ take (length ys.now - 1) ys.now)) }
+{
+    let n = xs.len();
+    if ys.len() != n {
+        return false;
+    }
+    for k in 1..n {
+        if !same_expr(xs.get(k - 1), ys.get(k - 1)) {
+            return false;
+        }
+    }
+    true
+}
+
+#[cfg(test)]
+mod tests {
+    use super::{Expr, copy_expr, same_expr};
+    use mc_base::{Memory, Row, Text};
+    use std::alloc::Global;
+
+    /// The row of two terms.
+    fn pair(alloc: Global, first: Expr, second: Expr) -> Result<Row<Expr>, Memory> {
+        let mut row = Row::new(alloc);
+        row.push(first)?;
+        row.push(second)?;
+        Ok(row)
+    }
+
+    /// The list of the numbers from n - 1 down to 0, each cell made by a constructor or, at odd numbers, by a function.
+    fn countdown(alloc: Global, n: u32) -> Result<Expr, Memory> {
+        let mut list = Expr::Con(0, Row::new(alloc));
+        for k in 0..n {
+            let args = pair(alloc, Expr::Int(i64::from(k)), list)?;
+            list = if k % 2 == 0 {
+                Expr::Con(1, args)
+            } else {
+                Expr::Apply(1, args)
+            };
+        }
+        Ok(list)
+    }
+
+    #[test]
+    fn long_lists(rt: HostRuntime) -> Result<(), Memory> {
+        let list = countdown(rt.alloc(), 1_000_000)?;
+        let copy = copy_expr(rt.alloc(), &list)?;
+        assert!(rt; same_expr(&list, &copy));
+        drop(list);
+        drop(copy);
+        Ok(())
+    }
+
+    #[test]
+    fn terms_that_differ(rt: HostRuntime) -> Result<(), Memory> {
+        let alloc = rt.alloc();
+        let three = countdown(alloc, 3)?;
+        let four = countdown(alloc, 4)?;
+        assert!(rt; !same_expr(&three, &four));
+        match four.into_args() {
+            Some(mut args) => match args.pop() {
+                Some(rest) => assert!(rt; same_expr(&three, &rest)),
+                None => assert!(rt; false),
+            },
+            None => assert!(rt; false),
+        }
+        let made = Expr::Con(1, pair(alloc, Expr::Var(0), Expr::Char('a'))?);
+        let applied = Expr::Apply(1, pair(alloc, Expr::Var(0), Expr::Char('a'))?);
+        let other = Expr::Con(1, pair(alloc, Expr::Var(1), Expr::Char('a'))?);
+        assert!(rt; !same_expr(&made, &applied));
+        assert!(rt; !same_expr(&made, &other));
+        let text = Expr::Str(Text::new(alloc, b"bound")?);
+        assert!(rt; same_expr(&text, &copy_expr(alloc, &text)?));
+        assert!(rt; text.into_args().is_none());
+        Ok(())
+    }
+}
