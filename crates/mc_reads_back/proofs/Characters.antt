@@ -4,6 +4,7 @@ use Rattle.std.specs.Prelude.{◌==◌, ◌&&◌, ◌||◌, ◌≢◌, nat_lt, n
 use Rattle.std.specs.List.{flat_map}
 use Rattle.std.specs.Str.{IsUtf8}
 use lib.Utf8.{scalar, scalars, encode, encodes, scalar_cases}
+use Rattle.std.proofs.lemmas.List.{append-nil}
 use Rattle.std.proofs.lemmas.Bool.{ne_eqb, lt-ltb, le-ltb, le-leb, lt-leb, eqb-true, ltb-true, ltb-false}
 use Rattle.std.proofs.lemmas.Str.{encode_ascii}
 use Rattle.std.proofs.lemmas.Grind.{flat_map-append}
@@ -119,10 +120,6 @@ printed_high q b is le =
     let n32 : 32 ≤ b = omega arith in
     let no4 : nat_lt b 32 || nat_eq b 127 ≡ false = neither (nat_lt b 32) (nat_eq b 127) (le-ltb b 32 n32) (ne_eqb b 127 n127) in
     no _ no1 ∙ no _ (ne_eqb b 10 n10) ∙ no _ (ne_eqb b 9 n9) ∙ no _ no4
-
-pub append-nil : (xs : List ℕ) → xs ++ [] ≡ xs
-append-nil [] = refl
-append-nil (x ∷ xs) = ap (λ l. x ∷ l) (append-nil xs)
 
 one_byte : (q start p c : ℕ) (ys : List ℕ) → IsQuote q → c < 128 → Passes q start p (flat_map (printed_byte q) (encode c) ++ ys) ys (length (flat_map (printed_byte q) (encode c))) (encode c)
 one_byte q start p c ys is lt =

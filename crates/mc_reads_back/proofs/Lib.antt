@@ -1,3 +1,10 @@
 pub mod Characters
+pub mod Cursor
+pub mod Depths
 pub mod Escaped
+pub mod Items
+pub mod Marks
+pub mod Readings
 pub mod Tokens
+pub mod Trees
+pub mod Values

@@ -5,7 +5,7 @@ use Rattle.std.specs.List.{prefix_len, list_all}
 use Rattle.std.specs.Str.{IsUtf8}
 use Rattle.std.proofs.lemmas.Fmt.{decimal_by_steps}
 use Rattle.std.proofs.lemmas.Bool.{ne_eqb, lt-ltb, le-ltb, eqb-true}
-use Rattle.std.proofs.lemmas.List.{get_or_append_left, get_or-append-add}
+use Rattle.std.proofs.lemmas.List.{append-nil, get_or_append_left, get_or-append-add}
 use Rattle.mc_model.specs.Printed.{in_quotes, is_bare, is_lower, is_word_byte}
 use Rattle.mc_tokens.specs.Classes.{is_name_tail, is_symbol, is_digit_of, hex_digit, hex_value, starts_var, between}
 use Rattle.mc_tokens.specs.Classes.{is_lower as starts_name}
@@ -20,7 +20,7 @@ use Rattle.mc_tokens.specs.declared.token.Kind.TheVariants.{Name, Quoted, Str, I
 use Rattle.mc_tokens.specs.declared.token.FaultKind.TheVariants.{IntTooLarge}
 use Rattle.mc_tokens.proofs.Quotes.{yes, no, left_true, right_true}
 use Rattle.mc_tokens.proofs.Escapes.{by_bytes}
-use Rattle.mc_reads_back.proofs.Characters.{quoted_whole, append-nil, take_front, and_true, neither, above, below_or}
+use Rattle.mc_reads_back.proofs.Characters.{quoted_whole, take_front, and_true, neither, above, below_or}
 
 -- a quote as a token
 pub string_token : (before : Kind) (start : ℕ) (bytes rest : List ℕ) → IsUtf8 bytes → at rest 0 ≢ 34 → token before start (in_quotes 34 bytes ++ rest) ≡ Tok Str start (start + length (in_quotes 34 bytes))
@@ -80,17 +80,17 @@ bare_token before start (b ∷ bs) rest bare free ends =
     ap (begun before start b (bs ++ rest)) kind ∙ no _ free ∙ ap (λ n. Tok Name start (start + n)) long
 
 -- the digits of a number
-record Digits (n : ℕ) (ds : List ℕ) : Type 0 where
-  all : list_all (is_digit_of 10) ds ≡ true
-  value : spelled 10 0 ds ≡ n
-  some : 0 < length ds
-  head : (k : ℕ) × (k < 10) × (get_or ds 0 0 ≡ 48 + k) × (0 < n → 0 < k)
-  nought : n ≡ 0 → ds ≡ 48 ∷ []
+pub record Digits (n : ℕ) (ds : List ℕ) : Type 0 where
+  pub all : list_all (is_digit_of 10) ds ≡ true
+  pub value : spelled 10 0 ds ≡ n
+  pub some : 0 < length ds
+  pub head : (k : ℕ) × (k < 10) × (get_or ds 0 0 ≡ 48 + k) × (0 < n → 0 < k)
+  pub nought : n ≡ 0 → ds ≡ 48 ∷ []
 
 digit_good : (d : ℕ) → d < 10 → is_digit_of 10 (48 + d) && (hex_value (48 + d) == d) ≡ true
 digit_good d lt = by_bytes (λ d. nat_lt d 10) (λ d. is_digit_of 10 (48 + d) && (hex_value (48 + d) == d)) tt d (omega arith) (lt-ltb d 10 lt)
 
-is_ten : (d : ℕ) → d < 10 → is_digit_of 10 (48 + d) ≡ true
+pub is_ten : (d : ℕ) → d < 10 → is_digit_of 10 (48 + d) ≡ true
 is_ten d lt = left_true (is_digit_of 10 (48 + d)) (hex_value (48 + d) == d) (digit_good d lt)
 
 ten_value : (d : ℕ) → d < 10 → hex_value (48 + d) ≡ d
@@ -131,7 +131,7 @@ more_digits n ds le h =
       nought = λ z. absurd (omega arith);
     }
 
-decimal_digits : (n : ℕ) → n < 2 ^ 64 → Digits n (decimal n)
+pub decimal_digits : (n : ℕ) → n < 2 ^ 64 → Digits n (decimal n)
 decimal_digits n lt = decimal_by_steps Digits one_digit more_digits n lt
 
 -- what a digit begins
@@ -149,7 +149,7 @@ first_digit k lt =
 no_tail : (c k : ℕ) → is_name_tail c ≡ false → is_name_tail k ≡ true → c ≢ k
 no_tail c k f t e = let g = ap is_name_tail e in cc
 
-left_false : (a b : Bool) → a ≡ false → a && b ≡ false
+pub left_false : (a b : Bool) → a ≡ false → a && b ≡ false
 left_false true b e = cc
 left_false false b e = refl
 

@@ -2,6 +2,15 @@
 #![tactic(auto)]
 
 ghost use Rattle.mc_reads_back.specs.Laws.{StringsReadBack, QuotedNamesReadBack, BareNamesReadBack, NumbersReadBack, MinusSignsReadBack};
+ghost use Rattle.mc_reads_back.specs.Whole.{ValuesReadBack, PrintedValuesReadBack, TermsNoDeeper};
+ghost use Rattle.mc_reads_back.specs.Examples.{OpenList, Quotes, NoOthers};
+
+mod back;
+#[cfg(test)]
+mod tests;
+
+pub use back::read_back;
+use mc_grammar::at_most_one_term;
 
 /// A printed string is one token, which stands for the string.
 pub fn strings_read_back()
@@ -26,4 +35,31 @@ pub fn numbers_read_back()
 /// The minus sign of a printed negative number is one token before the number.
 pub fn minus_signs_read_back()
     ensures { MinusSignsReadBack }
+{}
+
+/// A printed value before a full stop is an item of which the reader answers the value's term, and nothing else.
+pub fn values_read_back()
+    ensures { ValuesReadBack }
+{
+    at_most_one_term();
+}
+
+/// A printed value with a full stop and a line end is an item of which the reader answers the value's term, all of it on
+/// line 1, and nothing else.
+pub fn printed_values_read_back()
+    ensures { PrintedValuesReadBack }
+{
+    at_most_one_term();
+}
+
+/// The term of a value is no deeper than the value.
+pub fn terms_are_no_deeper()
+    ensures { TermsNoDeeper }
+{}
+
+/// Printed values and their terms, computed: a law, and nothing to run.
+pub fn examples()
+    ensures open_list { OpenList }
+    ensures quotes { Quotes }
+    ensures no_others { NoOthers }
 {}
