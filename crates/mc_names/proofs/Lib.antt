@@ -1,0 +1,2 @@
+mod Views
+pub mod Laws

@@ -1,0 +1,9 @@
+use Rattle.std.proofs.Common.{sym, ◌∙◌, ap, not}
+use Rattle.mc_names.proofs.Views.{is_member-names_of, names_of, names_of-put}
+use Rattle.mc_names.proofs.name_set.NameSet.insert.Goals as goal
+
+pub returns-clause-added : goal.returns-clause-added
+returns-clause-added c = rw (← c.self.view_is) (c.in_ok-added.ensures.added ∙ ap not (sym (is_member-names_of c.args.name.now c.self.inside.names.keys)))
+
+pub returns-clause-ok : goal.returns-clause-ok
+returns-clause-ok c = rw (← c.self.view_is) (ap names_of c.in_ok-added.ensures.keys ∙ names_of-put c.self.inside.names.keys c.args.name)
