@@ -1,0 +1,6 @@
+mod Appended
+mod Disjuncts
+mod Nested
+mod Scoped
+mod Shapes
+mod Views

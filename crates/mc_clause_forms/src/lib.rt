@@ -1,0 +1,19 @@
+//! The forms of clauses and goals, judged on terms that were read.
+#![tactic(auto)]
+
+mod arguments;
+mod clause;
+mod connective;
+mod equivalences;
+mod goal;
+mod goal_states;
+mod scope;
+mod state;
+mod variables;
+
+pub use arguments::{clause_has_too_many_arguments, declaration_has_too_many_arguments};
+pub use clause::{is_clause, is_query};
+pub use variables::has_too_many_variables;
+
+#[cfg(test)]
+mod tests;
