@@ -1,0 +1,4 @@
+pub mod Bound
+pub mod Distinct
+pub mod Paths
+pub mod Views

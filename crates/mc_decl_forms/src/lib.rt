@@ -1,0 +1,22 @@
+//! The forms of declarations, judged on terms that were read.
+#![tactic(auto)]
+
+mod declaring;
+mod definition;
+mod determinism;
+mod directive;
+mod head;
+mod insts;
+mod item;
+mod keyword;
+mod name;
+mod parts;
+mod signature;
+mod types;
+
+pub use declaring::declaration;
+pub use directive::{declared_part, is_declaration};
+pub use item::Decl;
+
+#[cfg(test)]
+mod tests;
