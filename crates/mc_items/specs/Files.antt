@@ -1,0 +1,100 @@
+-- The items of a file, and the rules that they break, in the order of the file.
+use Rattle.std.specs.Prelude.{◌≡◌, ◌≢◌, ℕ, ◌<◌, ◌≤◌, ◌⊎◌, List, [], ◌∷◌, map, length, slice_index_or, None}
+use Rattle.mc_model.specs.declared.program.Place.{Place}
+use Rattle.mc_model.specs.declared.rule.Broken.{Broken}
+use Rattle.mc_model.specs.declared.rule.Rule.TheVariants as R
+use Rattle.mc_grammar.specs.Tree.{Tree, depth, too_large, term}
+use Rattle.mc_terms.specs.declared.fault.ReadKind.{ReadKind}
+use Rattle.mc_terms.specs.declared.fault.ReadKind.TheVariants.{Memory}
+use Rattle.mc_terms.specs.Answers.{IsOver, ItemReads, IsRefused, StandsAt, item_line}
+use Rattle.mc_decl_forms.specs.Plain.{It, plain_item}
+use Rattle.mc_items.specs.declared.entry.Entry.{Entry}
+use Rattle.mc_items.specs.declared.entry.ItemsFault.{ItemsFault}
+use Rattle.mc_items.specs.declared.entry.ItemsFault.TheVariants as I
+use Rattle.mc_items.specs.Verdicts.{Verdict, kept, breaks, judged, unread}
+use Rattle.mc_items.specs.Words as W
+
+-- the greatest length of one file's text, in bytes: 4 MiB
+abbrev pub greatest_text : ℕ
+greatest_text = 4194304
+
+-- The item from a place on reads as a term, and this is what it is; it begins on a line, and `next` is the place behind its end.
+pub record IsRead (text : List ℕ) (from : ℕ) (verdict : Verdict) (line next : ℕ) : Type 0 where
+  pub tree : Tree
+  pub reads : ItemReads text from tree next
+  pub held : too_large tree ≡ None
+  pub shallow : depth tree ≤ 256
+  pub is : verdict ≡ judged (term tree)
+  pub begins : line ≡ item_line text from
+
+-- The item from a place on doesn't read as a term, and this is why; the line is the fault's.
+pub record IsUnread (text : List ℕ) (from : ℕ) (verdict : Verdict) (line next : ℕ) : Type 0 where
+  pub kind : ReadKind
+  pub place : ℕ
+  pub told : kind ≢ Memory
+  pub refused : IsRefused text from kind line next
+  pub stands : StandsAt text from kind place
+  pub is : verdict ≡ unread kind (slice_index_or text place 0)
+
+-- what the item from a place on is, with its line and the place behind it
+abbrev pub IsItem : List ℕ → ℕ → Verdict → ℕ → ℕ → Type 0
+IsItem text from verdict line next = IsRead text from verdict line next ⊎ IsUnread text from verdict line next
+
+-- the items of a text from a place on: what each is, with its line
+pub data Items : List ℕ → ℕ → List (Verdict × ℕ) → Type 0 where
+  over : {text : List ℕ} {from : ℕ} → IsOver text from → Items text from []
+  item : {text : List ℕ} {from line next : ℕ} {v : Verdict} {vs : List (Verdict × ℕ)} → IsItem text from v line next → Items text next vs → Items text from ((v, line) ∷ vs)
+
+abbrev pub place : ℕ → ℕ → Place
+place file line = record { file = file; line = line }
+
+-- the items of a form, with their places
+abbrev pub kept_in : ℕ → List (Verdict × ℕ) → List (It × Place)
+kept_in file [] = []
+kept_in file ((kept i, line) ∷ vs) = (i, place file line) ∷ kept_in file vs
+kept_in file ((breaks r w, line) ∷ vs) = kept_in file vs
+
+-- the rules that are broken, with their places
+abbrev pub broken_in : ℕ → List (Verdict × ℕ) → List Broken
+broken_in file [] = []
+broken_in file ((kept i, line) ∷ vs) = broken_in file vs
+broken_in file ((breaks r w, line) ∷ vs) = record { rule = r; at = place file line; what = w } ∷ broken_in file vs
+
+-- an entry as plain data
+abbrev pub plain_entry : Entry → It × Place
+plain_entry e = (plain_item e.decl, e.at)
+
+-- Each item of the text has a form and breaks no rule, and these are the items.
+pub record IsWhole (file : ℕ) (text : List ℕ) (entries : List Entry) : Type 0 where
+  pub short : length text ≤ greatest_text
+  pub verdicts : List (Verdict × ℕ)
+  pub items : Items text 0 verdicts
+  pub all : map plain_entry entries ≡ kept_in file verdicts
+  pub sound : broken_in file verdicts ≡ []
+
+-- Items of the text break rules, and these are the rules, one for each such item.
+pub record IsFaulty (file : ℕ) (text : List ℕ) (broken : List Broken) : Type 0 where
+  pub short : length text ≤ greatest_text
+  pub verdicts : List (Verdict × ℕ)
+  pub items : Items text 0 verdicts
+  pub all : broken ≡ broken_in file verdicts
+  pub some : broken ≢ []
+
+-- the one rule that a text breaks which is too long
+abbrev pub too_long_in : ℕ → List Broken
+too_long_in file = record { rule = R.L1; at = place file 1; what = W.sources_too_long } ∷ []
+
+-- A text that is too long breaks one rule and is read no further.
+pub record IsTooLong (file : ℕ) (text : List ℕ) (broken : List Broken) : Type 0 where
+  pub long : greatest_text < length text
+  pub is : broken ≡ too_long_in file
+
+-- why a text's items aren't answered
+abbrev pub IsRefusal : ℕ → List ℕ → ItemsFault → Type 0
+IsRefusal file text (I.Broken bs) = IsTooLong file text bs ⊎ IsFaulty file text bs
+IsRefusal file text I.Memory = Unit {0}
+
+-- the same of the rules that are found
+abbrev pub IsBrokenIn : List Broken → ItemsFault → Type 0
+IsBrokenIn found (I.Broken bs) = (bs ≡ found) × (bs ≢ [])
+IsBrokenIn found I.Memory = Unit {0}

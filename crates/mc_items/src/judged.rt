@@ -1,0 +1,97 @@
+ghost use Rattle.std.specs.Prelude.{◌≡◌, IfOk};
+ghost use Rattle.mc_syntax.specs.Plain.{plain_term};
+ghost use Rattle.mc_items.specs.Verdicts as V;
+ghost use Rattle.std.specs.Option.{option_map};
+ghost use Rattle.mc_decl_forms.specs.Declarations as D;
+ghost use Rattle.mc_decl_forms.specs.Terms as T;
+ghost use Rattle.mc_decl_forms.specs.Plain.{plain_item};
+ghost use Rattle.mc_items.specs.Judgements.{verdict};
+
+use crate::said::left_out;
+use mc_base::{Memory, Text};
+use mc_clause_forms::{
+    clause_has_too_many_arguments, declaration_has_too_many_arguments, has_too_many_variables,
+    is_clause,
+};
+use mc_decl_forms::{Decl, declaration, declared_part, is_declaration};
+use mc_left_out::item_left_out;
+use mc_model::rule::Rule;
+use mc_syntax::Term;
+use std::alloc::Global;
+
+/// What an item is.
+#[derive(Drop)]
+pub enum Judgement {
+    Kept(Decl),
+    /// A rule that it breaks, and what is said of it.
+    Breaks(Rule, Text),
+}
+
+fn breaks(alloc: Global, rule: Rule, words: &[u8]) -> Result<Judgement, Memory>
+    ensures { IfOk result (λ j. verdict j ≡ V.breaks rule words.now) }
+{
+    Ok(Judgement::Breaks(rule, Text::new(alloc, words)?))
+}
+
+// What a declaration is, by its form, where it has one.
+fn declaration_judged(
+    alloc: Global,
+    too_many_arguments: bool,
+    declared: Option<Decl>,
+) -> Result<Judgement, Memory>
+    ensures { IfOk result (λ j. verdict j ≡ V.declaration_verdict too_many_arguments (option_map plain_item declared)) }
+{
+    match declared {
+        None => breaks(alloc, Rule::S6, b"not an item"),
+        Some(_) if too_many_arguments => breaks(alloc, Rule::L3, b"more than 255 arguments"),
+        Some(decl) => Ok(Judgement::Kept(decl)),
+    }
+}
+
+// What a clause is.
+fn clause_judged(alloc: Global, term: Term) -> Result<Judgement, Memory>
+    ensures { IfOk result (λ j. verdict j ≡ V.clause_verdict (plain_term term)) }
+{
+    if !is_clause(alloc, &term)? {
+        return breaks(alloc, Rule::S6, b"not an item");
+    }
+    if clause_has_too_many_arguments(&term) {
+        return breaks(alloc, Rule::L3, b"more than 255 arguments");
+    }
+    if has_too_many_variables(alloc, &term)? {
+        return breaks(alloc, Rule::L4, b"more than 4096 variables");
+    }
+    Ok(Judgement::Kept(Decl::Clause(term)))
+}
+
+// What a term is behind `:-`.
+fn declared_judged(alloc: Global, too_many_arguments: bool, term: Term) -> Result<Judgement, Memory>
+    ensures { IfOk result (λ j. verdict j ≡ V.declaration_verdict too_many_arguments (D.declaration (plain_term term))) }
+{
+    let declared = declaration(alloc, term)?;
+    declaration_judged(alloc, too_many_arguments, declared)
+}
+
+// What an item is in which nothing is left out.
+fn form_judged(alloc: Global, term: Term) -> Result<Judgement, Memory>
+    ensures { IfOk result (λ j. verdict j ≡ V.form_verdict (plain_term term) (T.declared_part (plain_term term))) }
+{
+    if !is_declaration(&term) {
+        return clause_judged(alloc, term);
+    }
+    let too_many_arguments = declaration_has_too_many_arguments(&term);
+    match declared_part(term) {
+        Some(declared) => declared_judged(alloc, too_many_arguments, declared),
+        None => breaks(alloc, Rule::S6, b"not an item"),
+    }
+}
+
+// What an item is, by its term.
+pub fn judged(alloc: Global, term: Term) -> Result<Judgement, Memory>
+    ensures { IfOk result (λ j. verdict j ≡ V.judged (plain_term term)) }
+{
+    match item_left_out(&term) {
+        Some(form) => Ok(Judgement::Breaks(Rule::X1, left_out(alloc, form)?)),
+        None => form_judged(alloc, term),
+    }
+}
