@@ -3,6 +3,7 @@
 
 mod entry;
 mod judged;
+mod law;
 mod next;
 mod read;
 mod said;
@@ -10,5 +11,6 @@ mod said;
 mod tests;
 
 pub use entry::{Entry, ItemsFault};
+pub use law::{at_most_one_answer, at_most_one_list};
 pub use mc_decl_forms::Decl;
 pub use read::read_items;

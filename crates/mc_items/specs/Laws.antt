@@ -1,0 +1,19 @@
+-- Laws of the relation between a text and its items.
+use Rattle.std.specs.Prelude.{◌≡◌, ℕ, List}
+use Rattle.mc_model.specs.declared.rule.Broken.{Broken}
+use Rattle.mc_items.specs.declared.entry.Entry.{Entry}
+use Rattle.mc_items.specs.declared.entry.ItemsFault.TheVariants as I
+use Rattle.mc_items.specs.Verdicts.{Verdict}
+use Rattle.mc_items.specs.Files.{Items, IsWhole, IsRefusal}
+
+-- at most one list of items stands for a text from a place on
+abbrev pub AtMostOneList : Type 0
+AtMostOneList = (text : List ℕ) (from : ℕ) (vs ws : List (Verdict × ℕ)) → Items text from vs → Items text from ws → vs ≡ ws
+
+-- No text has items that are answered and breaks rules too.
+abbrev pub NotBoth : Type 0
+NotBoth = (file : ℕ) (text : List ℕ) (es : List Entry) (bs : List Broken) → IsWhole file text es → IsRefusal file text (I.Broken bs) → ⊥
+
+-- a text breaks one list of rules at most
+abbrev pub AtMostOneRefusal : Type 0
+AtMostOneRefusal = (file : ℕ) (text : List ℕ) (bs cs : List Broken) → IsRefusal file text (I.Broken bs) → IsRefusal file text (I.Broken cs) → bs ≡ cs

@@ -1,0 +1,18 @@
+ghost use Rattle.mc_items.specs.Laws.{AtMostOneList, NotBoth, AtMostOneRefusal};
+
+use mc_grammar::at_most_one_term;
+
+/// At most one list of items stands for a text from a place on: a law, and nothing to run.
+pub fn at_most_one_list()
+    ensures { AtMostOneList }
+{
+    at_most_one_term();
+}
+
+/// No text is both whole and faulty, and it breaks one list of rules at most: a law, and nothing to run.
+pub fn at_most_one_answer()
+    ensures not_both { NotBoth }
+    ensures one_refusal { AtMostOneRefusal }
+{
+    at_most_one_list();
+}
