@@ -238,6 +238,7 @@ p(0'ab'c). q.@p(1). ~ 1 X1 integer tail\n\
 @(@a@:- b). ~ ok 1\n\
 @(@a@ , b). ~ 2 S6\n\
 . ~ 1 S5\n\
+p :- ( true => some [X] X = 1 ). ~ 1 S5\n\
 % only a comment ~ ok 0\n\
 a. b. c ~ ok 3\n\
 :- module d.@p. ~ ok 2\n";
@@ -256,7 +257,7 @@ fn forms_left_out(rt: HostRuntime) -> Result<(), Fail> {
 
 #[test]
 fn lines(rt: HostRuntime) -> Result<(), Fail> {
-    assert_eq!(rt; rows_hold(&rt, rt.alloc(), LINES)?, 17);
+    assert_eq!(rt; rows_hold(&rt, rt.alloc(), LINES)?, 18);
     Ok(())
 }
 
@@ -277,10 +278,20 @@ fn repeated(
     Ok(text)
 }
 
+// A fact of this many `f` inside one another.
+fn nested(alloc: Global, count: usize) -> Result<Vec<u8>, AllocError> {
+    let mut text = repeated(alloc, "p(", "f(", count, "a")?;
+    text.extend_from_slice(repeated(alloc, "", ")", count, ").")?.as_slice())?;
+    Ok(text)
+}
+
 #[test]
 fn limits(rt: HostRuntime) -> Result<(), Fail> {
     let alloc = rt.alloc();
-    let cases: [(Vec<u8>, &str); 14] = [
+    let cases: [(Vec<u8>, &str); 17] = [
+        (nested(alloc, 254)?, "ok 1"),
+        (nested(alloc, 255)?, "1 L2"),
+        (repeated(alloc, "p([a", ", a", 9_999, "]).")?, "ok 1"),
         (repeated(alloc, "p(a", ", a", 254, ").")?, "ok 1"),
         (repeated(alloc, "p(a", ", a", 255, ").")?, "1 L3"),
         (repeated(alloc, "p(!A", ", a", 253, ").")?, "ok 1"),
