@@ -2,3 +2,4 @@ pub mod Words
 pub mod Verdicts
 pub mod Judgements
 pub mod Files
+pub mod Queries

@@ -1,9 +1,11 @@
-//! The items of a file, with each faulty item's first broken rule.
+//! The items of a file, with each faulty item's first broken rule, and the goal of a query.
 #![tactic(auto)]
 
 mod entry;
+mod goal;
 mod judged;
 mod next;
+mod query;
 mod read;
 mod said;
 #[cfg(test)]
@@ -11,4 +13,5 @@ mod tests;
 
 pub use entry::{Entry, ItemsFault};
 pub use mc_decl_forms::Decl;
+pub use query::read_query;
 pub use read::read_items;
