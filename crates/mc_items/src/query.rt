@@ -88,11 +88,11 @@ fn sole_goal(alloc: Global, file: u32, walk: &mut Walk, item: ReadItem) -> Resul
 ///
 /// # Errors
 ///
-/// `Broken` with the one rule that the text breaks. A text of more than 4 MiB breaks L1 and is read no further. A
-/// text whose first item isn't read breaks the rule of the reader's fault. A text without an item, or with
-/// anything but blanks and comments behind the first, breaks S5. A term breaks X1 where a form stands in it that
-/// is left out, then S6 where it is no goal, then L3 and L4. The line is the first item's, or the fault's where
-/// that item isn't read, or 1 where there is no item.
+/// `Broken` with the one rule that the text breaks. A text of more than 4 MiB breaks L1 on line 1 and is read no
+/// further. A text whose first item isn't read breaks the rule of the reader's fault, on the fault's line. A text
+/// without an item breaks S5 on line 1, and one with anything but blanks and comments behind the first item breaks
+/// S5 on that item's line. A term breaks X1 where a form stands in it that is left out, then S6 where it is no
+/// goal, then L3 and L4, on its item's line.
 pub fn read_query(alloc: Global, file: u32, text: &[u8]) -> Result<Term, ItemsFault>
     ensures goal { IfOk result (IsGoal text.now) }
     ensures refusal { IfErr result (IsQueryRefusal file text.now) }
