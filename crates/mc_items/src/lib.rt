@@ -1,10 +1,12 @@
-//! The items of a file, with each faulty item's first broken rule.
+//! The items of a file, with each faulty item's first broken rule, and the goal of a query.
 #![tactic(auto)]
 
 mod entry;
+mod goal;
 mod judged;
 mod law;
 mod next;
+mod query;
 mod read;
 mod said;
 #[cfg(test)]
@@ -13,4 +15,5 @@ mod tests;
 pub use entry::{Entry, ItemsFault};
 pub use law::{at_most_one_answer, at_most_one_list};
 pub use mc_decl_forms::Decl;
+pub use query::read_query;
 pub use read::read_items;

@@ -5,7 +5,7 @@ ghost use Rattle.mc_items.specs.Files.{IsItem, IsUnread};
 ghost use Rattle.mc_items.specs.Judgements.{verdict};
 
 use crate::judged::{Judgement, judged};
-use crate::said::unread_rule;
+use crate::said::fault_rule;
 use mc_base::Memory;
 use mc_terms::{ItemFault, Position, read_next};
 use mc_tokens::Walk;
@@ -30,11 +30,8 @@ fn refused(alloc: Global, walk: &mut Walk, from: Position, fault: ItemFault) -> 
     ensures place { IfOk result (λ n. (n.end.line ≡ line_at walk.old n.end.at) × (from.at < n.end.at) × (n.end.at ≤ length walk.old)) }
     ensures same { walk.new ≡ walk.old }
 {
-    let ItemFault { fault, at } = fault;
-    let byte = walk.text().get(at).copied().unwrap_or(0);
-    let Some((rule, what)) = unread_rule(alloc, fault.kind, byte)? else {
-        return Err(Memory);
-    };
+    let (rule, what) = fault_rule(alloc, walk.text(), fault)?;
+    let fault = fault.fault;
     Ok(Next {
         judgement: Judgement::Breaks(rule, what),
         line: fault.line,

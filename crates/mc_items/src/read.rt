@@ -13,7 +13,7 @@ use mc_tokens::Walk;
 use std::alloc::Global;
 
 /// The greatest length of one file's text, in bytes: 4 MiB.
-const GREATEST_TEXT: usize = 4_194_304;
+pub const GREATEST_TEXT: usize = 4_194_304;
 
 // The items that are read so far.
 #[derive(Drop)]
@@ -67,16 +67,23 @@ impl Found {
     }
 }
 
+// The one rule that a text breaks.
+pub fn sole(alloc: Global, broken: Broken) -> Result<Row<Broken>, Memory>
+    ensures { IfOk result (λ all. all ≡ broken ∷ []) }
+{
+    let mut all = Vec::new(alloc);
+    all.push(broken)?;
+    Ok(Row::from_vec(all))
+}
+
 // The one rule that a text breaks which is too long.
-fn too_long(alloc: Global, file: u32) -> Result<Row<Broken>, Memory>
+pub fn too_long(alloc: Global, file: u32) -> Result<Row<Broken>, Memory>
     ensures { IfOk result (λ broken. broken ≡ too_long_in file) }
 {
     let rule = Rule::L1;
     let at = Place { file, line: 1 };
     let what = Text::new(alloc, b"sources are too long")?;
-    let mut broken = Vec::new(alloc);
-    broken.push(Broken { rule, at, what })?;
-    Ok(Row::from_vec(broken))
+    sole(alloc, Broken { rule, at, what })
 }
 
 /// The items of a file, which has a number, each with its place, in the order of the file.

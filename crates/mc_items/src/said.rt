@@ -1,11 +1,11 @@
-ghost use Rattle.std.specs.Prelude.{◌≡◌, ◌≢◌, IfOk, IfNone, IfSome};
+ghost use Rattle.std.specs.Prelude.{◌≡◌, ◌≢◌, slice_index_or, IfOk, IfNone, IfSome};
 ghost use Rattle.mc_items.specs.Words as W;
 ghost use Rattle.mc_items.specs.Verdicts.{unread, breaks};
 
 use mc_base::{Memory, Text};
 use mc_left_out::LeftOut;
 use mc_model::rule::Rule;
-use mc_terms::ReadKind;
+use mc_terms::{ItemFault, ReadKind};
 use mc_tokens::FaultKind;
 use std::alloc::Global;
 
@@ -40,4 +40,15 @@ pub fn unread_rule(alloc: Global, kind: ReadKind, byte: u8) -> Result<Option<(Ru
         ReadKind::Memory => return Ok(None),
     };
     Ok(Some((rule, Text::new(alloc, words)?)))
+}
+
+// The rule that an item of a text breaks which isn't read, and what is said of it, by the reader's fault.
+pub fn fault_rule(alloc: Global, text: &[u8], fault: ItemFault) -> Result<(Rule, Text), Memory>
+    ensures { IfOk result (λ b. (fault.fault.kind ≢ ReadKind.Memory) × (unread fault.fault.kind (slice_index_or text.now fault.at 0) ≡ breaks b.0 b.1)) }
+{
+    let byte = text.get(fault.at).copied().unwrap_or(0);
+    match unread_rule(alloc, fault.fault.kind, byte)? {
+        Some(broken) => Ok(broken),
+        None => Err(Memory),
+    }
 }

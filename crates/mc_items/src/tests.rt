@@ -1,7 +1,8 @@
-use crate::{ItemsFault, read_items};
+use crate::{ItemsFault, read_items, read_query};
 use mc_base::Row;
 use mc_model::program::Place;
 use mc_model::rule::{Broken, Rule};
+use mc_syntax::Node;
 use std::alloc::{AllocError, Global};
 use std::process::Abort;
 use std::test::Fail;
@@ -14,15 +15,12 @@ fn form(broken: &Broken) -> &[u8] {
     broken.what.bytes().get(26..).unwrap_or(b"?")
 }
 
-// What the reader answers for a text: how many items it has, or the rules that are broken, with their lines.
-fn shown(alloc: Global, text: &[u8]) -> Result<Vec<u8>, AllocError> {
+// The rules that are broken, with their lines.
+fn fault_shown(alloc: Global, fault: ItemsFault) -> Result<Vec<u8>, AllocError> {
     let mut out = Vec::new(alloc);
-    match read_items(alloc, 7, text) {
-        Ok(entries) => {
-            out.extend_from_slice(format!(in alloc; "ok {}", entries.len())?.as_bytes())?;
-        }
-        Err(ItemsFault::Memory) => out.extend_from_slice(b"memory")?,
-        Err(ItemsFault::Broken(all)) => {
+    match fault {
+        ItemsFault::Memory => out.extend_from_slice(b"memory")?,
+        ItemsFault::Broken(all) => {
             for broken in all.as_slice() {
                 if !out.is_empty() {
                     out.extend_from_slice(b", ")?;
@@ -38,6 +36,42 @@ fn shown(alloc: Global, text: &[u8]) -> Result<Vec<u8>, AllocError> {
         }
     }
     Ok(out)
+}
+
+// What the reader answers for a text: how many items it has, or the rules that are broken, with their lines.
+fn shown(alloc: Global, text: &[u8]) -> Result<Vec<u8>, AllocError> {
+    match read_items(alloc, 7, text) {
+        Ok(entries) => {
+            let mut out = Vec::new(alloc);
+            out.extend_from_slice(format!(in alloc; "ok {}", entries.len())?.as_bytes())?;
+            Ok(out)
+        }
+        Err(fault) => fault_shown(alloc, fault),
+    }
+}
+
+// What the reader answers for a query's text: that it is a goal, or the rule that is broken, with its line.
+fn query_shown(alloc: Global, text: &[u8]) -> Result<Vec<u8>, AllocError> {
+    match read_query(alloc, 7, text) {
+        Ok(_goal) => b"goal".to_vec(alloc),
+        Err(fault) => fault_shown(alloc, fault),
+    }
+}
+
+// What a text is read as.
+#[derive(Clone, Copy)]
+enum Reader {
+    File,
+    Query,
+}
+
+impl Reader {
+    fn shown(self, alloc: Global, text: &[u8]) -> Result<Vec<u8>, AllocError> {
+        match self {
+            Reader::File => shown(alloc, text),
+            Reader::Query => query_shown(alloc, text),
+        }
+    }
 }
 
 // The rules that a text breaks; none where its items are answered, or there is no room.
@@ -60,12 +94,12 @@ fn with_lines(alloc: Global, row: &str) -> Result<Vec<u8>, AllocError> {
     Ok(text)
 }
 
-fn rows_hold(rt: &impl Abort, alloc: Global, table: &str) -> Result<u32, Fail> {
+fn rows_hold(rt: &impl Abort, alloc: Global, reader: Reader, table: &str) -> Result<u32, Fail> {
     let mut rows = 0u32;
     for row in table.lines() {
         if let Some((text, wanted)) = row.split_once(" ~ ") {
             let text = with_lines(alloc, text)?;
-            let answer = shown(alloc, text.as_slice())?;
+            let answer = reader.shown(alloc, text.as_slice())?;
             assert_eq!(rt; answer.as_slice(), wanted.as_bytes(), "{row}");
             rows = rows.saturating_add(1);
         }
@@ -245,19 +279,19 @@ a. b. c ~ ok 3\n\
 
 #[test]
 fn forms(rt: HostRuntime) -> Result<(), Fail> {
-    assert_eq!(rt; rows_hold(&rt, rt.alloc(), FORMS)?, 94);
+    assert_eq!(rt; rows_hold(&rt, rt.alloc(), Reader::File, FORMS)?, 94);
     Ok(())
 }
 
 #[test]
 fn forms_left_out(rt: HostRuntime) -> Result<(), Fail> {
-    assert_eq!(rt; rows_hold(&rt, rt.alloc(), LEFT_OUT)?, 49);
+    assert_eq!(rt; rows_hold(&rt, rt.alloc(), Reader::File, LEFT_OUT)?, 49);
     Ok(())
 }
 
 #[test]
 fn lines(rt: HostRuntime) -> Result<(), Fail> {
-    assert_eq!(rt; rows_hold(&rt, rt.alloc(), LINES)?, 18);
+    assert_eq!(rt; rows_hold(&rt, rt.alloc(), Reader::File, LINES)?, 18);
     Ok(())
 }
 
@@ -411,5 +445,141 @@ fn each_faulty_item_has_its_line(rt: HostRuntime) -> Result<(), Fail> {
         shown(alloc, endless.as_slice())?.as_slice(),
         b"1 S5".as_slice()
     );
+    Ok(())
+}
+
+// Goals, and the first broken rule of each text that is none.
+const QUERIES: &str = "\
+p(X), q(X) ~ goal\n\
+p(X), q(X). ~ goal\n\
+p. % c ~ goal\n\
+/* c */@p.@% c@ ~ goal\n\
+X = 1 ~ goal\n\
+p ; q. ~ goal\n\
+( a -> b ; c ) ~ goal\n\
+some [X] p(X) ~ goal\n\
+some [!X] p(!X) ~ goal\n\
+X = 1. { ~ 1 S5\n\
+X. { ~ 1 S5\n\
+@@X.@ {. ~ 3 S5\n\
+1. q ~ 1 S5\n\
+p. q. ~ 1 S5\n\
+p.@:- foo. ~ 1 S5\n\
+p. . ~ 1 S5\n\
+p. /* ~ 1 S5\n\
+p. 'a ~ 1 S5\n\
+% c ~ 1 S5\n\
+@@% c@ ~ 1 S5\n\
+@. ~ 2 S5\n\
+@a b. c ~ 2 S5\n\
+{. X ~ 1 X1 tuple\n\
+@p(@{). X ~ 2 X1 tuple\n\
+@p(@ 'a ~ 3 S2\n\
+@/* a ~ 2 S2\n\
+p('\\q'). q ~ 1 S1\n\
+p(@9223372036854775808). q ~ 2 S3\n\
+X ~ 1 X1 higher-order\n\
+X. ~ 1 X1 higher-order\n\
+some [X] X ~ 1 X1 higher-order\n\
+@p,@q(Y^f) ~ 2 X1 field access\n\
+1, p(X^f) ~ 1 X1 field access\n\
+1 ~ 1 S6\n\
+@1. ~ 2 S6\n\
+[a] ~ 1 S6\n\
+!.X = a ~ 1 S6\n\
+p(!X) ~ 1 S6\n\
+( a -> b ) ~ 1 S6\n\
+if a then b ~ 1 S6\n";
+
+#[test]
+fn queries(rt: HostRuntime) -> Result<(), Fail> {
+    assert_eq!(rt; rows_hold(&rt, rt.alloc(), Reader::Query, QUERIES)?, 40);
+    Ok(())
+}
+
+#[test]
+fn query_limits(rt: HostRuntime) -> Result<(), Fail> {
+    let alloc = rt.alloc();
+    let comments = "%23456789012345\n";
+    let cases: [(Vec<u8>, &str); 11] = [
+        (repeated(alloc, "p(a", ", a", 254, ")")?, "goal"),
+        (repeated(alloc, "p(a", ", a", 255, ")")?, "1 L3"),
+        (repeated(alloc, "\n1, p(a", ", a", 255, ")")?, "2 S6"),
+        (repeated(alloc, "some [!A] p(!A", ", a", 253, ")")?, "goal"),
+        (repeated(alloc, "some [!A] p(!A", ", a", 254, ")")?, "1 L3"),
+        (repeated(alloc, "p([A, _", ", _", 4_094, "])")?, "goal"),
+        (repeated(alloc, "\np([A, _", ", _", 4_095, "])")?, "2 L4"),
+        (repeated(alloc, "p([A, _", ", A", 9_000, "])")?, "goal"),
+        (repeated(alloc, "", "\\+ ", 300, "b")?, "1 L2"),
+        (
+            repeated(alloc, "", comments, 262_143, "p, q(X) % 345678")?,
+            "goal",
+        ),
+        (repeated(alloc, "", comments, 262_144, "p")?, "1 L1"),
+    ];
+    for (text, wanted) in &cases {
+        let answer = query_shown(alloc, text.as_slice())?;
+        assert_eq!(rt; answer.as_slice(), wanted.as_bytes());
+    }
+    Ok(())
+}
+
+// The rules that a query's text breaks; none where its goal is answered, or there is no room.
+fn query_broken(alloc: Global, text: &[u8]) -> Row<Broken> {
+    match read_query(alloc, 7, text) {
+        Ok(_goal) => Row::new(alloc),
+        Err(fault) => match fault {
+            ItemsFault::Broken(all) => all,
+            ItemsFault::Memory => Row::new(alloc),
+        },
+    }
+}
+
+#[test]
+fn query_words(rt: HostRuntime) -> Result<(), Fail> {
+    let alloc = rt.alloc();
+    let long = repeated(alloc, "", "%23456789012345\n", 262_144, "p")?;
+    let arguments = repeated(alloc, "p(a", ", a", 255, ")")?;
+    let variables = repeated(alloc, "p([_", ", _", 4_096, "])")?;
+    let cases: [(&[u8], &str); 9] = [
+        (b"p \x01", "bad character"),
+        (b"", "not a term"),
+        (b"p q", "not a term"),
+        (b"p. q", "not a term"),
+        (b"1", "not an item"),
+        (b"X", "left out of this profile: higher-order"),
+        (long.as_slice(), "sources are too long"),
+        (arguments.as_slice(), "more than 255 arguments"),
+        (variables.as_slice(), "more than 4096 variables"),
+    ];
+    for (text, wanted) in cases {
+        let all = query_broken(alloc, text);
+        assert_eq!(rt; all.len(), 1);
+        for broken in all.as_slice() {
+            assert_eq!(rt; broken.what.bytes(), wanted.as_bytes());
+            assert_eq!(rt; broken.at, Place { file: 7, line: 1 });
+        }
+    }
+    Ok(())
+}
+
+// The lines of the goals of a query's conjunction; none where it is no conjunction.
+fn lines_of_goals(alloc: Global, text: &[u8]) -> Result<Vec<u32>, AllocError> {
+    let mut lines = Vec::new(alloc);
+    if let Ok(goal) = read_query(alloc, 0, text) {
+        if let Node::Conj(goals) = &goal.node {
+            for goal in goals.as_slice() {
+                lines.push(goal.line)?;
+            }
+        }
+    }
+    Ok(lines)
+}
+
+#[test]
+fn a_query_s_goal(rt: HostRuntime) -> Result<(), Fail> {
+    let alloc = rt.alloc();
+    let lines = lines_of_goals(alloc, b"p(X),\nq(X), % c\n\nr.\n")?;
+    assert_eq!(rt; lines.as_slice(), [1, 2, 4].as_slice());
     Ok(())
 }
