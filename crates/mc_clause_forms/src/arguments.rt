@@ -58,8 +58,8 @@ fn any_has_too_many(terms: &[Term], in_clause: bool) -> bool
     false
 }
 
-// How many arguments these parts of a name count as.
-fn argument_count(parts: &[Term], in_clause: bool) -> usize
+/// How many arguments these parts of a name count as; in a clause both versions of a state variable count as two.
+pub fn argument_count(parts: &[Term], in_clause: bool) -> usize
     requires { length parts.now < 2 ^ 32 }
     ensures { result ≡ argument_count in_clause (tms (map plain_term parts.now)) }
 {

@@ -86,8 +86,8 @@ fn is_headed(term: &Term) -> bool
     }
 }
 
-// The operands of an infix operator.
-fn operands<'a>(name: &[u8], term: &'a Term) -> Option<(&'a Term, &'a Term)>
+/// The operands of an infix operator.
+pub fn operands<'a>(name: &[u8], term: &'a Term) -> Option<(&'a Term, &'a Term)>
     ensures { option_map (λ p. (plain_term p.0.now, plain_term p.1.now)) result ≡ operands name.now (plain_term term.now) }
 {
     match &term.node {

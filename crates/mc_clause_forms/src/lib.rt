@@ -11,8 +11,12 @@ mod scope;
 mod state;
 mod variables;
 
-pub use arguments::{clause_has_too_many_arguments, declaration_has_too_many_arguments};
-pub use clause::{is_clause, is_query};
+pub use arguments::{
+    argument_count, clause_has_too_many_arguments, declaration_has_too_many_arguments,
+};
+pub use clause::{is_clause, is_query, operands};
+pub use connective::{Connective, Parts, Stand};
+pub use state::is_state;
 pub use variables::has_too_many_variables;
 
 #[cfg(test)]

@@ -24,7 +24,7 @@ clash_at true b m true q d e f g = rw f refl
 clash_at true b m false q d e f g = rw (f, ← e) refl
 clash_at false b m p q d e f g = rw (g refl) (and_false (not q))
 
-clash : (ns ys : List (List ℕ)) (x : List ℕ) → is_member bytes_eq ns x ≡ true → is_distinct (ns ++ (x ∷ ys)) ≡ false
+pub clash : (ns ys : List (List ℕ)) (x : List ℕ) → is_member bytes_eq ns x ≡ true → is_distinct (ns ++ (x ∷ ys)) ≡ false
 clash [] ys x h = cc
 clash (y ∷ ns) ys x h =
     clash_at (bytes_eq x y) (bytes_eq y x) (is_member bytes_eq ys y) (is_member bytes_eq ns y) _ _ (turned x y) (member_append ns y x ys)

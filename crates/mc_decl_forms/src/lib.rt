@@ -1,6 +1,7 @@
 //! The forms of declarations, judged on terms that were read.
 #![tactic(auto)]
 
+mod copied;
 mod declaring;
 mod definition;
 mod determinism;
@@ -17,6 +18,8 @@ mod types;
 pub use declaring::declaration;
 pub use directive::{declared_part, is_declaration};
 pub use item::Decl;
+pub use name::{has_none, is_the_word, pair};
+pub use signature::are_moded;
 
 #[cfg(test)]
 mod tests;

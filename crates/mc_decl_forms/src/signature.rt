@@ -87,7 +87,7 @@ fn are_modes(alloc: Global, terms: &[Term]) -> bool
 }
 
 /// Whether each of these terms is an argument with its mode.
-fn are_moded(alloc: Global, terms: &[Term]) -> bool
+pub fn are_moded(alloc: Global, terms: &[Term]) -> bool
     ensures { result ≡ are_moded (tms (map plain_term terms.now)) }
 {
     for term in terms {

@@ -1,3 +1,4 @@
 mod Done
 mod Unique
 mod NoGoal
+mod OneGoal

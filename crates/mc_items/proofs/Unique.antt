@@ -56,7 +56,7 @@ module _ (at_most_one : AtMostOne) (text : List ℕ) (from : ℕ) where
       (sym a.2 ∙ ap (lexemes text []) same.0 ∙ b.2, same.1)
 
   -- and one tree
-  same_tree : (t u : Tree) (next stop : ℕ) → ItemReads text from t next → ItemReads text from u stop → (t ≡ u) × (next ≡ stop)
+  pub same_tree : (t u : Tree) (next stop : ℕ) → ItemReads text from t next → ItemReads text from u stop → (t ≡ u) × (next ≡ stop)
   same_tree t u next stop a b =
       let same = same_tokens a.0 b.0 next stop a.1 b.1 in
       (at_most_one b.0 1200 t u (subst (λ ts. ReadsTerm ts t 1200) same.0 a.2) b.2, same.1)
@@ -74,7 +74,7 @@ module _ (at_most_one : AtMostOne) (text : List ℕ) (from : ℕ) where
   none_large t u next stop line h k fits large = let no : None ≡ Some line = sym fits ∙ ap too_large (same_tree t u next stop h k).0 ∙ large in cc
 
   -- an item that is answered isn't refused, but for want of memory
-  read_not_refused : (t : Tree) (next : ℕ) → ItemReads text from t next → too_large t ≡ None → depth t ≤ 256 → (kind : ReadKind) (line stop : ℕ) → kind ≢ Memory → IsRefused text from kind line stop → ⊥
+  pub read_not_refused : (t : Tree) (next : ℕ) → ItemReads text from t next → too_large t ≡ None → depth t ≤ 256 → (kind : ReadKind) (line stop : ℕ) → kind ≢ Memory → IsRefused text from kind line stop → ⊥
   read_not_refused t next h fits shallow (Token f) line stop told r = Item-Faulty h.1.1 r.1
   read_not_refused t next h fits shallow NotATerm line stop told r = none_reads r.0 t stop next r.1 r.2 h
   read_not_refused t next h fits shallow IntTooLarge line stop told r = none_large t r.0 next stop line h r.1 fits r.2
@@ -85,11 +85,11 @@ module _ (at_most_one : AtMostOne) (text : List ℕ) (from : ℕ) where
   read_not_refused t next h fits shallow Memory line stop told r = told refl
 
   -- where nothing is left, no item reads
-  read_not_over : (t : Tree) (next : ℕ) → ItemReads text from t next → IsOver text from → ⊥
+  pub read_not_over : (t : Tree) (next : ℕ) → ItemReads text from t next → IsOver text from → ⊥
   read_not_over t next h o = reads_some h.2.1 (sym h.1.2 ∙ ap (lexemes text []) (Item-unique h.1.1 (T.over o.2 refl)).0)
 
   -- and none is refused
-  refused_not_over : (kind : ReadKind) (line next : ℕ) → kind ≢ Memory → IsRefused text from kind line next → IsOver text from → ⊥
+  pub refused_not_over : (kind : ReadKind) (line next : ℕ) → kind ≢ Memory → IsRefused text from kind line next → IsOver text from → ⊥
   refused_not_over (Token f) line next told r o = Item-Faulty (T.over o.2 refl) r.1
   refused_not_over NotATerm line next told r o = r.3.4 (ap kind_of (sym r.3.3 ∙ o.2))
   refused_not_over IntTooLarge line next told r o = read_not_over r.0 next r.1 o
@@ -140,7 +140,7 @@ module _ (at_most_one : AtMostOne) (text : List ℕ) (from : ℕ) where
   one_refusal kind Memory place there line row next stop told known r s a b = absurd (known refl)
 
   -- an item is one thing, on one line, with one place behind it
-  one_item : (v w : Verdict) (line row next stop : ℕ) → IsItem text from v line next → IsItem text from w row stop → (v ≡ w) × (line ≡ row) × (next ≡ stop)
+  pub one_item : (v w : Verdict) (line row next stop : ℕ) → IsItem text from v line next → IsItem text from w row stop → (v ≡ w) × (line ≡ row) × (next ≡ stop)
   one_item v w line row next stop (inl a) (inl b) =
       let same = same_tree a.tree b.tree next stop a.reads b.reads in
       (a.is ∙ ap (λ t. judged (term t)) same.0 ∙ sym b.is, a.begins ∙ sym b.begins, same.1)

@@ -1,4 +1,4 @@
-ghost use Rattle.mc_items.specs.Laws.{AtMostOneList, NotBoth, AtMostOneRefusal};
+ghost use Rattle.mc_items.specs.Laws.{AtMostOneList, NotBoth, AtMostOneRefusal, AtMostOneGoal, NotGoalAndBroken, AtMostOneQueryRefusal};
 
 use mc_grammar::at_most_one_term;
 
@@ -15,4 +15,13 @@ pub fn at_most_one_answer()
     ensures one_refusal { AtMostOneRefusal }
 {
     at_most_one_list();
+}
+
+/// A query's text is one goal at most, or it breaks one list of rules, and not both: a law, and nothing to run.
+pub fn at_most_one_goal()
+    ensures one_goal { AtMostOneGoal }
+    ensures not_both { NotGoalAndBroken }
+    ensures one_refusal { AtMostOneQueryRefusal }
+{
+    at_most_one_term();
 }

@@ -13,7 +13,7 @@ mod said;
 mod tests;
 
 pub use entry::{Entry, ItemsFault};
-pub use law::{at_most_one_answer, at_most_one_list};
+pub use law::{at_most_one_answer, at_most_one_goal, at_most_one_list};
 pub use mc_decl_forms::Decl;
 pub use query::read_query;
-pub use read::read_items;
+pub use read::{GREATEST_TEXT, read_items, row, too_long};

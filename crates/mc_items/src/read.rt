@@ -22,7 +22,8 @@ struct Found {
     broken: Vec<Broken>,
 }
 
-fn row<T: Drop>(items: Vec<T>) -> Result<Row<T>, Memory>
+/// A row of the elements of a `Vec`: 2^32 or more find no room.
+pub fn row<T: Drop>(items: Vec<T>) -> Result<Row<T>, Memory>
     ensures { IfOk result (λ row. row ≡ items.items) }
 {
     if items.len() > u32::MAX as usize {
@@ -76,7 +77,7 @@ pub fn sole(alloc: Global, broken: Broken) -> Result<Row<Broken>, Memory>
     Ok(Row::from_vec(all))
 }
 
-// The one rule that a text breaks which is too long.
+/// The one rule that a text breaks which is too long.
 pub fn too_long(alloc: Global, file: u32) -> Result<Row<Broken>, Memory>
     ensures { IfOk result (λ broken. broken ≡ too_long_in file) }
 {
