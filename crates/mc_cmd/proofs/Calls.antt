@@ -1,223 +1,233 @@
 -- What follows from what a call did.
-use Rattle.std.proofs.Common.{◌≡◌, ◌≢◌, ◌⊎◌, inl, inr, ℕ, zero, suc, ◌<◌, List, [], ◌∷◌, ◌++◌, map, length, Option, Some, None, Result, Ok, Err, refl, sym, ap, ◌∙◌, subst, arith}
-use Rattle.std.specs.Prelude.{All, Contains}
-use Rattle.std.proofs.lemmas.List.{append-nil, take_all}
-use Rattle.std.proofs.lemmas.List.Elements.{All-contains}
-use Rattle.std.specs.FinMap as finmap
-use Rattle.std.specs.declared.vec.Vec.{Vec}
-use Rattle.std.specs.declared.alloc.Global.{Global}
+use Rattle.std.proofs.Common.{◌≡◌, ◌≢◌, ◌⊎◌, inl, inr, ℕ, ◌<◌, ◌≤◌, true, false, List, [], ◌++◌, get_or, Option, Some, None, Result, Ok, Err, refl, sym, ap, ◌∙◌, subst, arith}
+use Rattle.std.specs.Prelude.{Contains}
+use Rattle.std.proofs.lemmas.List.Elements.{Contains-get_or}
 use Rattle.mc_outside.specs.Counts.{Rose, PutFaults}
-use Rattle.mc_outside.specs.Meaning.{Held, first_part, Puts, PutsFront}
+use Rattle.mc_outside.specs.Meaning.{Held, Puts, PutsFront}
 use Rattle.mc_outside.specs.declared.traits.PutFault.{PutFault}
 use Rattle.mc_outside.specs.declared.traits.PutFault.TheVariants as put
+use Rattle.mc_model.specs.declared.rule.Broken.{Broken}
 use Rattle.mc_model.specs.Good.{GoodProcedures, GoodQuery}
-use Rattle.mc_ground.specs.Laws.{FactsAreAnswered, FactsAreGood}
-use Rattle.mc_facts_form.specs.declared.form.FactsModule.{FactsModule}
-use Rattle.mc_facts_form.specs.declared.form.Predicate.{Predicate}
-use Rattle.mc_facts_form.specs.declared.form.Fact.{Fact}
-use Rattle.mc_facts_form.specs.declared.form.Goal.{Goal}
-use Rattle.mc_facts_form.specs.Module.{IsFactsGoal, signature, fact_signature, goal_signature}
-use Rattle.mc_facts_form.specs.Laws.{OneModule, OneGoal, NamesAreBare}
-use Rattle.mc_cmd.specs.Words.{Request, asked, query_text}
-use Rattle.mc_cmd.specs.Program.{run_bytes, lines_of, fact_lines, facts_of, database_of, question_of, program_of, query_of, default_budget, default_depth}
-use Rattle.mc_cmd.specs.Outcome.{Outcome, IsLegal, IsOfNoForm, DefinedOf, DefinedFor, Defined, answered, not_built, absent, not_built_line, unreadable_line, HoldsNoForm, LacksFile, IsDecided, CountsFaults, Wrote, Writes, Told, NoneRose, ended, Says, Sinks, IsUntouched, Happened, lines, line, nothing, CanCome}
+use Rattle.mc_words.specs.Words.{Meaning, Check, Run, Query, meaning}
+use Rattle.mc_ground.specs.Database.{Database, Question, system_of, query_procedure}
+use Rattle.mc_ground.specs.Laws.{FactsAreGood}
+use Rattle.mc_ground.specs.Lines.{AnswersAreLines}
+use Rattle.mc_compile.specs.Library.{library_texts}
+use Rattle.mc_compile.specs.Rejected.{AreLegal, Breaks}
+use Rattle.mc_compile.specs.Compiled.{asks}
+use Rattle.mc_compile.specs.Laws.{AtMostOneBreaks}
+use Rattle.mc_compile.specs.FactsLaws.{FactsFit, QuestionAsks, CompiledOnce, NotBoth}
+use Rattle.mc_compile.specs.declared.given.Compiled.{Compiled}
+use Rattle.mc_cmd.specs.Outcome.{Outcome, said, usage_line, not_built_line, unreadable_line, broken_lines, files_of, query_of, is_unbuilt, bounds_of, answered, Answers, rejected, not_built, done, Texts, These, Missing, texts_in, AnswersOver, DefinedFor, Defined}
+use Rattle.mc_cmd.specs.Call.{Told, NoneRose, Wrote, Lacks, SaysUnreadable, CanCome, HoldTexts}
+use Rattle.mc_cmd.specs.Lines.{AreWide}
+use Rattle.mc_cmd.specs.Decisions.{AreCompiled, Understood, IsDecided, CountsFaults, CountsAbsents, told_of, Writes, ended, CountPuts, Sinks, Happened}
 use Rattle.mc_cmd.specs.declared.status.Status.{Status}
 use Rattle.mc_cmd.specs.declared.status.Status.TheVariants as S
-use Rattle.mc_cmd.specs.declared.decide.Decision.{Decision}
-use Rattle.mc_cmd.specs.declared.decide.Decision.TheVariants as D
-use Rattle.mc_cmd.proofs.Lines.{lines_agree, relations_fit, asks}
+use Rattle.mc_cmd.specs.declared.decision.Decision.{Decision}
+use Rattle.mc_cmd.specs.declared.decision.Decision.TheVariants as D
+use Rattle.mc_cmd.proofs.Puts.{wrote_nothing, nothing_front, front_nothing, writes_front, writes_nothing, put_writes}
+use Rattle.mc_cmd.proofs.Answers.{run_agrees, are_wide}
+use Rattle.mc_cmd.proofs.Commands.{HasBounds, is_command}
+use Rattle.mc_cmd.proofs.Legal.{same_database, same_question, nothing_asked, asked_fits}
 
 -- the laws that the command stands on
 pub record Laws : Type 0 where
-  pub answered_facts : FactsAreAnswered
-  pub one_module : OneModule
-  pub one_goal : OneGoal
-  pub bare : NamesAreBare
+  pub lines : AnswersAreLines
+  pub fit : FactsFit
+  pub ask : QuestionAsks
+  pub once : CompiledOnce
+  pub not_both : NotBoth
+  pub one : AtMostOneBreaks
 
-all_then : {X : Type 0} (Q : X → Type 0) (x : X) (xs : List X) → Q x → All Q xs → All Q (x ∷ xs)
-all_then Q x xs q a zero d h = q
-all_then Q x xs q a (suc k) d h = a k d (omega (arith, h))
-
-all_mapped : (facts : List Fact) (ps : List Predicate) → All (λ (p : Predicate). Contains (map fact_signature facts) (signature p)) ps → All (Contains (map fact_signature facts)) (map signature ps)
-all_mapped facts [] a = λ k d h. absurd (omega (arith, h))
-all_mapped facts (p ∷ ps) a = all_then (Contains (map fact_signature facts)) (signature p) (map signature ps) (a 0 p (omega arith)) (all_mapped facts ps (λ k d h. a (suc k) d (omega (arith, h))))
-
--- legal sources' lines are the run's bytes
-run_lines : Laws → (bytes goal : List ℕ) (m : FactsModule) (g : Goal) → IsLegal bytes goal m g → run_bytes m g ≡ lines_of m g
-run_lines laws bytes goal m g legal =
-    let good = legal.file.good in
-    let declared : Contains (map signature m.predicates) (goal_signature g) = legal.query.good.declared in
-    let given : Contains (map fact_signature m.facts) (goal_signature g) = All-contains (Contains (map fact_signature m.facts)) (map signature m.predicates) (goal_signature g) (all_mapped m.facts m.predicates good.each_has_fact) declared in
-    lines_agree laws.answered_facts m g (laws.bare bytes m legal.file) (λ k d h. (good.facts k d h).constants) declared given
-
--- a sink that is untouched was given nothing
-untouched_front : (k : Sinks) (bytes : List ℕ) → IsUntouched k → PutsFront k.before k.after bytes
-untouched_front k bytes u = at k.before u.0
+-- what is understood of texts is decided of the words
+pub decided_of_texts : (words : List (List ℕ)) (store : Option Held) (m : Meaning) (names texts : List (List ℕ)) (d : Decision) → meaning words ≡ Some m → names ≡ files_of m → HoldTexts store names texts → Understood m texts d →
+    IsDecided words store d
+decided_of_texts words store m names texts d e n h u = at d u
   where
-    at : (w : Option (List ℕ)) → k.after ≡ w → PutsFront w k.after bytes
-    at None e = e
-    at (Some before) e = (0, omega arith, e ∙ ap Some (sym (append-nil before)))
+    held : HoldTexts store (files_of m) texts
+    held = subst (λ (ns : List (List ℕ)). HoldTexts store ns texts) n h
 
-untouched_wrote : (k : Sinks) → IsUntouched k → Wrote k.before k.after []
-untouched_wrote k u = at k.before u.0
-  where
-    at : (w : Option (List ℕ)) → k.after ≡ w → Wrote w k.after []
-    at None e = e
-    at (Some before) e = e ∙ ap Some (sym (append-nil before))
+    at : (d : Decision) → Understood m texts d → IsDecided words store d
+    at D.Usage u = absurd u
+    at (D.Absent line) u = absurd u
+    at (D.Unreadable line) u = absurd u
+    at (D.Rejected files broken) u = record { command = m; means = e; texts = texts; holds = held; understood = u }
+    at D.NotBuilt u = record { command = m; means = e; texts = texts; holds = held; understood = u }
+    at D.Checked u = record { command = m; means = e; texts = texts; holds = held; understood = u }
+    at (D.Answers c) u = record { command = m; means = e; texts = texts; holds = held; understood = u }
+    at D.Memory u = tt
 
--- all of some bytes is a front part of them
-wrote_front : (w0 w1 : Option (List ℕ)) (bytes : List ℕ) → Wrote w0 w1 bytes → PutsFront w0 w1 bytes
-wrote_front None w1 bytes e = e
-wrote_front (Some before) w1 bytes e = (length bytes, omega arith, e ∙ ap (λ (bs : List ℕ). Some (before ++ bs)) (sym (take_all (length bytes) bytes (omega arith))))
+-- each fact that is answered has as many arguments as the query has variables
+pub wide : FactsFit → QuestionAsks → (m : Meaning) (texts : List (List ℕ)) (c : Compiled) → AreCompiled m texts c → AreWide c
+wide fit ask m texts c a =
+    let f = asked_fits fit ask library_texts texts (query_of m) a.legal a.database a.question a.asked in
+    are_wide a.database a.question c a.program f.0 f.1
 
-puts_front : (w0 w1 : Option (List ℕ)) (r : Result (Unit {0}) PutFault) (bytes : List ℕ) → Puts w0 w1 r bytes → PutsFront w0 w1 bytes
-puts_front None w1 (Ok u) bytes e = e
-puts_front None w1 (Err f) bytes e = e
-puts_front (Some before) w1 (Ok u) bytes e = wrote_front (Some before) w1 bytes e
-puts_front (Some before) w1 (Err put.Failed) bytes e = e
-puts_front (Some before) w1 (Err put.Memory) bytes e = (0, omega arith, e ∙ ap Some (sym (append-nil before)))
+counted_err : (r : Result (Unit {0}) PutFault) (o e0 e1 : ℕ) → PutFaults r e0 e1 → CountPuts r o o e0 e1
+counted_err (Ok u) o e0 e1 p = (refl, sym p)
+counted_err (Err put.Failed) o e0 e1 p = inl (refl, p)
+counted_err (Err put.Memory) o e0 e1 p = (refl, sym p)
 
-writes_front : (w0 w1 : Option (List ℕ)) (r : Result (Unit {0}) PutFault) (bytes : List ℕ) → Writes w0 w1 r bytes → PutsFront w0 w1 bytes
-writes_front w0 w1 (Ok u) bytes e = wrote_front w0 w1 bytes e
-writes_front w0 w1 (Err f) bytes e = e
-
-some_same : {A : Type 0} (x y : A) → Some x ≡ Some y → x ≡ y
-some_same x y e = cc
-
--- the defined answer of a request, by what is held of its file
-defined_at : (words : List (List ℕ)) (held : Held) (r : Request) (o : Outcome) (found : Option (List ℕ)) → asked words ≡ Some r → finmap.get held r.file ≡ found → DefinedOf r found o → Defined words held o
-defined_at words held r o found e h d =
-    subst (λ (q : Option Request). DefinedFor q held o) (sym e) (subst (λ (x : Option (List ℕ)). DefinedOf r x o) (sym h) d)
-
-at_defined : (words : List (List ℕ)) (held : Held) (r : Request) (o : Outcome) (found : Option (List ℕ)) → asked words ≡ Some r → finmap.get held r.file ≡ found → Defined words held o → DefinedOf r found o
-at_defined words held r o found e h d =
-    subst (λ (x : Option (List ℕ)). DefinedOf r x o) h (subst (λ (q : Option Request). DefinedFor q held o) e d)
-
--- what is decided of a store that tells what it holds
-store_told : (words : List (List ℕ)) (store : Option Held) (held : Held) (d : Decision) → store ≡ Some held → IsDecided words store d → IsDecided words (Some held) d
-store_told words store held d e x = subst (λ (s : Option Held). IsDecided words s d) e x
-
--- what happened, with the status that was answered
-pub happened_as : (words : List (List ℕ)) (store : Option Held) (f0 f1 a0 a1 : ℕ) (out err : Sinks) (s t : Status) → t ≡ s → Happened words store f0 f1 a0 a1 out err s → Happened words store f0 f1 a0 a1 out err t
-happened_as words store f0 f1 a0 a1 out err s t e h = subst (λ (x : Status). Happened words store f0 f1 a0 a1 out err x) (sym e) h
-
-pub lines_as : (w0 w1 : Option (List ℕ)) (r : Result (Unit {0}) PutFault) (name : List ℕ) (variables : List (List ℕ)) (slice facts : List Fact) → slice ≡ facts →
-    Writes w0 w1 r (fact_lines variables (facts_of name (length variables) slice)) → Writes w0 w1 r (fact_lines variables (facts_of name (length variables) facts))
-lines_as w0 w1 r name variables slice facts e w = subst (λ (fs : List Fact). Writes w0 w1 r (fact_lines variables (facts_of name (length variables) fs))) e w
+counted_out : (r : Result (Unit {0}) PutFault) (o0 o1 e : ℕ) → PutFaults r o0 o1 → CountPuts r o0 o1 e e
+counted_out (Ok u) o0 o1 e p = (sym p, refl)
+counted_out (Err put.Failed) o0 o1 e p = inr (p, refl)
+counted_out (Err put.Memory) o0 o1 e p = (sym p, refl)
 
 abbrev all_put : Result (Unit {0}) PutFault
 all_put = Ok tt
 
+-- nothing was put
+pub quiet : (words : List (List ℕ)) (store : Option Held) (f0 f1 a0 a1 : ℕ) (o e : Option (List ℕ)) (n k : ℕ) (d : Decision) → IsDecided words store d → CountsFaults d f0 f1 → CountsAbsents d a0 a1 →
+    (told_of d).out ≡ [] → (told_of d).err ≡ [] →
+    Happened words store f0 f1 a0 a1 (record { before = o; after = o; faults_before = n; faults_after = n }) (record { before = e; after = e; faults_before = k; faults_after = k }) (told_of d).status
+quiet words store f0 f1 a0 a1 o e n k d dec cf ca x y =
+    record {
+      decision = d;
+      decided = dec;
+      faults = cf;
+      absents = ca;
+      written = all_put;
+      output = subst (λ (bs : List ℕ). Writes o o all_put bs) (sym x) (wrote_nothing o o refl);
+      errors = subst (λ (bs : List ℕ). Writes e e all_put bs) (sym y) (wrote_nothing e e refl);
+      puts = (refl, refl);
+      status = refl;
+    }
+
+-- the error output was written to
+pub told_err : (words : List (List ℕ)) (store : Option Held) (f0 f1 a0 a1 : ℕ) (o e0 e1 : Option (List ℕ)) (n k0 k1 : ℕ) (d : Decision) (r : Result (Unit {0}) PutFault) (bytes : List ℕ) (s : Status) →
+    IsDecided words store d → CountsFaults d f0 f1 → CountsAbsents d a0 a1 → (told_of d).out ≡ [] → bytes ≡ (told_of d).err → Writes e0 e1 r bytes → PutFaults r k0 k1 → s ≡ ended r (told_of d).status →
+    Happened words store f0 f1 a0 a1 (record { before = o; after = o; faults_before = n; faults_after = n }) (record { before = e0; after = e1; faults_before = k0; faults_after = k1 }) s
+told_err words store f0 f1 a0 a1 o e0 e1 n k0 k1 d r bytes s dec cf ca x y w p t =
+    record {
+      decision = d;
+      decided = dec;
+      faults = cf;
+      absents = ca;
+      written = r;
+      output = subst (λ (bs : List ℕ). Writes o o r bs) (sym x) (writes_nothing o o r (wrote_nothing o o refl));
+      errors = subst (λ (bs : List ℕ). Writes e0 e1 r bs) y w;
+      puts = counted_err r n k0 k1 p;
+      status = t;
+    }
+
+-- by one put
+pub put_err : (words : List (List ℕ)) (store : Option Held) (f0 f1 a0 a1 : ℕ) (o e0 e1 : Option (List ℕ)) (n k0 k1 : ℕ) (d : Decision) (r : Result (Unit {0}) PutFault) (bytes : List ℕ) (s : Status) →
+    IsDecided words store d → CountsFaults d f0 f1 → CountsAbsents d a0 a1 → (told_of d).out ≡ [] → bytes ≡ (told_of d).err → Puts e0 e1 r bytes → PutFaults r k0 k1 → s ≡ ended r (told_of d).status →
+    Happened words store f0 f1 a0 a1 (record { before = o; after = o; faults_before = n; faults_after = n }) (record { before = e0; after = e1; faults_before = k0; faults_after = k1 }) s
+put_err words store f0 f1 a0 a1 o e0 e1 n k0 k1 d r bytes s dec cf ca x y w p t = told_err words store f0 f1 a0 a1 o e0 e1 n k0 k1 d r bytes s dec cf ca x y (put_writes e0 e1 r bytes w) p t
+
+-- the output was written to
+pub told_out : (words : List (List ℕ)) (store : Option Held) (f0 f1 a0 a1 : ℕ) (e o0 o1 : Option (List ℕ)) (k n0 n1 : ℕ) (d : Decision) (r : Result (Unit {0}) PutFault) (s : Status) →
+    IsDecided words store d → CountsFaults d f0 f1 → CountsAbsents d a0 a1 → (told_of d).err ≡ [] → Writes o0 o1 r (told_of d).out → PutFaults r n0 n1 → s ≡ ended r (told_of d).status →
+    Happened words store f0 f1 a0 a1 (record { before = o0; after = o1; faults_before = n0; faults_after = n1 }) (record { before = e; after = e; faults_before = k; faults_after = k }) s
+told_out words store f0 f1 a0 a1 e o0 o1 k n0 n1 d r s dec cf ca x w p t =
+    record {
+      decision = d;
+      decided = dec;
+      faults = cf;
+      absents = ca;
+      written = r;
+      output = w;
+      errors = subst (λ (bs : List ℕ). Writes e e r bs) (sym x) (writes_nothing e e r (wrote_nothing e e refl));
+      puts = counted_out r n0 n1 k p;
+      status = t;
+    }
+
+-- an outcome of texts is a defined one
+defined_over : (words : List (List ℕ)) (held : Held) (m : Meaning) (t : Texts) (o : Outcome) → meaning words ≡ Some m → texts_in held (files_of m) ≡ t → AnswersOver m t o → Defined words held o
+defined_over words held m t o e h a = subst (λ (q : Option Meaning). DefinedFor q held o) (sym e) (subst (λ (x : Texts). AnswersOver m x o) (sym h) a)
+
+over_defined : (words : List (List ℕ)) (held : Held) (m : Meaning) (t : Texts) (o : Outcome) → meaning words ≡ Some m → texts_in held (files_of m) ≡ t → Defined words held o → AnswersOver m t o
+over_defined words held m t o e h d = subst (λ (x : Texts). AnswersOver m x o) h (subst (λ (q : Option Meaning). DefinedFor q held o) e d)
+
+-- what is answered of a question
+abbrev the_answer : Meaning → Database → Option Question → Outcome
+the_answer m d q = record { out = answered q d (bounds_of m); err = []; status = S.Done }
+
+-- where a question is asked there are bounds
+bounded : (m : Meaning) (texts : List (List ℕ)) (l : AreLegal library_texts texts (query_of m)) (d : Database) (q : Question) → HasBounds m → asks l ≡ Some (d, Some q) → (1 ≤ (bounds_of m).budget) × (1 ≤ (bounds_of m).depth)
+bounded (Check files) texts l d q b e = let none = nothing_asked library_texts texts l d (Some q) e in cc
+bounded (Run b files) texts l d q h e = (h.budget, h.depth)
+bounded (Query first b goal files) texts l d q h e = (h.budget, h.depth)
+
+module _ (laws : Laws) where
+  -- the lines that are put are those of the run
+  told_answer : (words : List (List ℕ)) (m : Meaning) (texts : List (List ℕ)) (c : Compiled) (a : AreCompiled m texts c) → meaning words ≡ Some m → the_answer m a.database (Some a.question) ≡ told_of (D.Answers c)
+  told_answer words m texts c a e =
+      let f = asked_fits laws.fit laws.ask library_texts texts (query_of m) a.legal a.database a.question a.asked in
+      let b = bounded m texts a.legal a.database a.question (is_command words m e).bounded a.asked in
+      ap (λ (bs : List ℕ). record { out = bs; err = []; status = S.Done }) (run_agrees laws.lines a.database a.question c (bounds_of m) a.program f.0 f.1 b.0 b.1)
+
+  -- what is told of a decision is the defined answer
+  is_defined : (words : List (List ℕ)) (held : Held) (f0 f1 : ℕ) (d : Decision) → IsDecided words (Some held) d → CountsFaults d f0 f1 → (Rose f0 f1 → ⊥) → (told_of d).status ≢ S.Memory → Defined words held (told_of d)
+  is_defined words held f0 f1 D.Usage x cf n s = subst (λ (q : Option Meaning). DefinedFor q held (said usage_line S.Usage)) (sym x) refl
+  is_defined words held f0 f1 (D.Absent line) x cf n s =
+      defined_over words held x.command (Missing x.stops.0) (told_of (D.Absent line)) x.means x.stops.1.0 (ap (λ (l : List ℕ). said l S.Absent) x.stops.1.1)
+  is_defined words held f0 f1 (D.Unreadable line) x cf n s = absurd (n cf)
+  is_defined words held f0 f1 (D.Rejected files broken) x cf n s =
+      defined_over words held x.command (These x.texts) (told_of (D.Rejected files broken)) x.means x.holds
+      (subst (λ (ns : List (List ℕ)). Answers x.command x.texts (said (broken_lines ns broken) S.Rejected)) (sym x.understood.0) (rejected x.understood.1.0 x.understood.1.1))
+  is_defined words held f0 f1 D.NotBuilt x cf n s = defined_over words held x.command (These x.texts) (told_of D.NotBuilt) x.means x.holds (not_built x.understood.0 x.understood.1)
+  is_defined words held f0 f1 D.Checked x cf n s =
+      let a = x.understood in
+      defined_over words held x.command (These x.texts) (told_of D.Checked) x.means x.holds (done a.legal a.built a.asked)
+  is_defined words held f0 f1 (D.Answers c) x cf n s =
+      let a = x.understood in
+      defined_over words held x.command (These x.texts) (told_of (D.Answers c)) x.means x.holds
+      (subst (λ (o : Outcome). Answers x.command x.texts o) (told_answer words x.command x.texts c a x.means) (done a.legal a.built a.asked))
+  is_defined words held f0 f1 D.Memory x cf n s = absurd (s refl)
+
+  -- the answer of texts is one alone
+  one_rejected : (m : Meaning) (texts : List (List ℕ)) (broken : List Broken) → Breaks library_texts texts (query_of m) broken → broken ≢ [] → (o : Outcome) → Answers m texts o → said (broken_lines (files_of m) broken) S.Rejected ≡ o
+  one_rejected m texts broken b s o (rejected {broken = cs} c t) = ap (λ (bs : List Broken). said (broken_lines (files_of m) bs) S.Rejected) (laws.one library_texts texts (query_of m) broken cs b c)
+  one_rejected m texts broken b s o (not_built l u) = absurd (s (laws.not_both library_texts texts (query_of m) broken b l))
+  one_rejected m texts broken b s o (done l u a) = absurd (s (laws.not_both library_texts texts (query_of m) broken b l))
+
+  not_both_asked : (texts : List (List ℕ)) (query : Option (List ℕ)) (k l : AreLegal library_texts texts query) (d : Database) (q : Option Question) → asks k ≡ None → asks l ≡ Some (d, q) → ⊥
+  not_both_asked texts query k l d q n a = let z : ◌≡◌ {A = Option (Database × Option Question)} None (Some (d, q)) = sym n ∙ laws.once library_texts texts query k l ∙ a in cc
+
+  not_both_built : (m : Meaning) (texts : List (List ℕ)) (k l : AreLegal library_texts texts (query_of m)) (d : Database) (q : Option Question) → (is_unbuilt m ≡ true) ⊎ (asks k ≡ None) → is_unbuilt m ≡ false → asks l ≡ Some (d, q) → ⊥
+  not_both_built m texts k l d q (inl u) b a = let z : true ≡ false = sym u ∙ b in cc
+  not_both_built m texts k l d q (inr n) b a = not_both_asked texts (query_of m) k l d q n a
+
+  one_not_built : (m : Meaning) (texts : List (List ℕ)) (l : AreLegal library_texts texts (query_of m)) → (is_unbuilt m ≡ true) ⊎ (asks l ≡ None) → (o : Outcome) → Answers m texts o → said not_built_line S.NotBuilt ≡ o
+  one_not_built m texts l u o (rejected {broken = cs} c t) = absurd (t (laws.not_both library_texts texts (query_of m) cs c l))
+  one_not_built m texts l u o (not_built k v) = refl
+  one_not_built m texts l u o (done k {d} {q} b a) = absurd (not_both_built m texts l k d q u b a)
+
+  one_done : (m : Meaning) (texts : List (List ℕ)) (l : AreLegal library_texts texts (query_of m)) (d : Database) (q : Option Question) → is_unbuilt m ≡ false → asks l ≡ Some (d, q) → (o : Outcome) → Answers m texts o → the_answer m d q ≡ o
+  one_done m texts l d q b a o (rejected {broken = cs} c t) = absurd (t (laws.not_both library_texts texts (query_of m) cs c l))
+  one_done m texts l d q b a o (not_built k v) = absurd (not_both_built m texts k l d q v b a)
+  one_done m texts l d q b a o (done k {d = e} {q = r} u x) =
+      let same : ◌≡◌ {A = Option (Database × Option Question)} (Some (d, q)) (Some (e, r)) = sym a ∙ laws.once library_texts texts (query_of m) l k ∙ x in
+      ap (λ (y : Database). the_answer m y q) (same_database d e q r same) ∙ ap (the_answer m e) (same_question d e q r same)
+
+  -- what is told of a decision is the one defined answer, where memory sufficed
+  one_defined : (words : List (List ℕ)) (held : Held) (f0 f1 : ℕ) (d : Decision) → IsDecided words (Some held) d → CountsFaults d f0 f1 → (Rose f0 f1 → ⊥) → (o : Outcome) → Defined words held o → (told_of d ≡ o) ⊎ (told_of d ≡ said [] S.Memory)
+  one_defined words held f0 f1 D.Usage x cf n o y = let e : o ≡ said usage_line S.Usage = subst (λ (q : Option Meaning). DefinedFor q held o) x y in inl (sym e)
+  one_defined words held f0 f1 (D.Absent line) x cf n o y =
+      inl (ap (λ (l : List ℕ). said l S.Absent) x.stops.1.1 ∙ sym (over_defined words held x.command (Missing x.stops.0) o x.means x.stops.1.0 y))
+  one_defined words held f0 f1 (D.Unreadable line) x cf n o y = absurd (n cf)
+  one_defined words held f0 f1 (D.Rejected files broken) x cf n o y =
+      let u = x.understood in
+      inl (ap (λ (ns : List (List ℕ)). said (broken_lines ns broken) S.Rejected) u.0 ∙ one_rejected x.command x.texts broken u.1.0 u.1.1 o (over_defined words held x.command (These x.texts) o x.means x.holds y))
+  one_defined words held f0 f1 D.NotBuilt x cf n o y =
+      inl (one_not_built x.command x.texts x.understood.0 x.understood.1 o (over_defined words held x.command (These x.texts) o x.means x.holds y))
+  one_defined words held f0 f1 D.Checked x cf n o y =
+      let a = x.understood in
+      inl (one_done x.command x.texts a.legal a.database None a.built a.asked o (over_defined words held x.command (These x.texts) o x.means x.holds y))
+  one_defined words held f0 f1 (D.Answers c) x cf n o y =
+      let a = x.understood in
+      inl (sym (told_answer words x.command x.texts c a x.means) ∙ one_done x.command x.texts a.legal a.database (Some a.question) a.built a.asked o (over_defined words held x.command (These x.texts) o x.means x.holds y))
+  one_defined words held f0 f1 D.Memory x cf n o y = inr refl
+
 wrote_told : (w0 w1 : Option (List ℕ)) (before bytes : List ℕ) → w0 ≡ Some before → Wrote w0 w1 bytes → w1 ≡ Some (before ++ bytes)
 wrote_told w0 w1 before bytes e w = let z : Wrote (Some before) w1 bytes = subst (λ (x : Option (List ℕ)). Wrote x w1 bytes) e w in z
 
-stays_told : (k : Sinks) (before : List ℕ) → k.before ≡ Some before → IsUntouched k → k.after ≡ Some (before ++ [])
-stays_told k before e u = u.0 ∙ e ∙ ap Some (sym (append-nil before))
-
-puts_told : (w0 w1 : Option (List ℕ)) (before bytes : List ℕ) → w0 ≡ Some before → Puts w0 w1 all_put bytes → w1 ≡ Some (before ++ bytes)
-puts_told w0 w1 before bytes e w = let z : Puts (Some before) w1 all_put bytes = subst (λ (x : Option (List ℕ)). Puts x w1 all_put bytes) e w in z
-
-module _ (laws : Laws) (words : List (List ℕ)) (store : Option Held) (f0 f1 a0 a1 : ℕ) (out err : Sinks) where
-  whole_lines : (held : Held) (bo be : List ℕ) (m : FactsModule) (g : Goal) → Told store held out.before bo err.before be → IsDecided words store (D.Answer m g) → Wrote out.before out.after (lines_of m g) → IsUntouched err →
-      (o : Outcome) × (Defined words held o × ((S.Done ≡ o.status) × ((out.after ≡ Some (bo ++ o.out)) × (err.after ≡ Some (be ++ o.err)))))
-  whole_lines held bo be m g told d w u =
-      let x = store_told words store held (D.Answer m g) told.files d in
-      let r = x.0 in
-      let form = x.2 in
-      let legal = form.2 in (
-        answered m g,
-        (
-          defined_at words held r (answered m g) (Some form.0) x.1 form.1 (inl (m, (g, (legal, refl)))),
-          (refl, (wrote_told out.before out.after bo (lines_of m g) told.output w ∙ ap (λ (bs : List ℕ). Some (bo ++ bs)) (sym (run_lines laws (first_part form.0) r.goal m g legal)), stays_told err be told.errors u)),
-        ),
-      )
-
-  whole_not_built : (held : Held) (bo be : List ℕ) → Told store held out.before bo err.before be → IsDecided words store D.NotBuilt → Puts err.before err.after all_put not_built_line → IsUntouched out →
-      (o : Outcome) × (Defined words held o × ((S.NotBuilt ≡ o.status) × ((out.after ≡ Some (bo ++ o.out)) × (err.after ≡ Some (be ++ o.err)))))
-  whole_not_built held bo be told d w u =
-      (not_built, (defined (store_told words store held D.NotBuilt told.files d), (refl, (stays_told out bo told.output u, puts_told err.before err.after be not_built_line told.errors w))))
-    where
-      defined : IsDecided words (Some held) D.NotBuilt → Defined words held not_built
-      defined (inl e) = subst (λ (q : Option Request). DefinedFor q held not_built) (sym e) refl
-      defined (inr x) = defined_at words held x.0 not_built (Some x.2.0) x.1 x.2.1 (inr (x.2.2, refl))
-
-  whole_absent : (held : Held) (bo be text : List ℕ) (bytes : Vec ℕ Global) → Told store held out.before bo err.before be → IsDecided words store (D.Absent bytes) → text ≡ bytes.items → Puts err.before err.after all_put text → IsUntouched out →
-      (o : Outcome) × (Defined words held o × ((S.Absent ≡ o.status) × ((out.after ≡ Some (bo ++ o.out)) × (err.after ≡ Some (be ++ o.err)))))
-  whole_absent held bo be text bytes told d e w u =
-      let x = store_told words store held (D.Absent bytes) told.files d in
-      (absent x.0.file, (defined_at words held x.0 (absent x.0.file) None x.1 x.2 refl, (refl, (stays_told out bo told.output u, puts_told err.before err.after be text told.errors w ∙ ap (λ (bs : List ℕ). Some (be ++ bs)) (e ∙ x.3)))))
-
-  pub whole : (s : Status) → Happened words store f0 f1 a0 a1 out err s → (held : Held) (bo be : List ℕ) → Told store held out.before bo err.before be →
-      NoneRose f0 f1 out.faults_before out.faults_after err.faults_before err.faults_after → s ≢ S.Memory →
-      (o : Outcome) × (Defined words held o × ((s ≡ o.status) × ((out.after ≡ Some (bo ++ o.out)) × (err.after ≡ Some (be ++ o.err)))))
-  whole s (lines {m} {g} (Ok u) d cf ca w p un) held bo be told none n = whole_lines held bo be m g told d w un
-  whole s (lines (Err put.Failed) d cf ca w p un) held bo be told none n = absurd (none.output p)
-  whole s (lines (Err put.Memory) d cf ca w p un) held bo be told none n = absurd (n refl)
-  whole s (line t text (D.Answer m g) r d cf ca says w p un) held bo be told none n = absurd says
-  whole s (line t text D.Memory r d cf ca says w p un) held bo be told none n = absurd says
-  whole s (line t text d (Err put.Failed) dec cf ca says w p un) held bo be told none n = absurd (none.errors p)
-  whole s (line t text d (Err put.Memory) dec cf ca says w p un) held bo be told none n = absurd (n refl)
-  whole s (line t text D.NotBuilt (Ok u) d cf ca says w p un) held bo be told none n =
-      subst (λ (x : Status). (o : Outcome) × (Defined words held o × ((x ≡ o.status) × ((out.after ≡ Some (bo ++ o.out)) × (err.after ≡ Some (be ++ o.err)))))) (sym says.1)
-      (whole_not_built held bo be told d (subst (λ (bs : List ℕ). Puts err.before err.after all_put bs) says.0 w) un)
-  whole s (line t text (D.Absent bytes) (Ok u) d cf ca says w p un) held bo be told none n =
-      subst (λ (x : Status). (o : Outcome) × (Defined words held o × ((x ≡ o.status) × ((out.after ≡ Some (bo ++ o.out)) × (err.after ≡ Some (be ++ o.err)))))) (sym says.1)
-      (whole_absent held bo be text bytes told d says.0 w un)
-  whole s (line t text (D.Unreadable bytes) (Ok u) d cf ca says w p un) held bo be told none n = absurd (none.files cf)
-  whole s (nothing f uo ue) held bo be told none n = absurd (n refl)
-
-  fronts_lines : (held : Held) (m : FactsModule) (g : Goal) (r : Result (Unit {0}) PutFault) → IsDecided words (Some held) (D.Answer m g) → Writes out.before out.after r (lines_of m g) → IsUntouched err → (o : Outcome) → Defined words held o →
-      PutsFront out.before out.after o.out × PutsFront err.before err.after o.err
-  fronts_lines held m g r x w u o defined =
-      let request = x.0 in
-      let form = x.2 in
-      let legal = form.2 in
-      by_form request form.0 legal (at_defined words held request o (Some form.0) x.1 form.1 defined)
-    where
-      by_form : (request : Request) (bytes : List ℕ) → IsLegal (first_part bytes) request.goal m g → DefinedOf request (Some bytes) o → PutsFront out.before out.after o.out × PutsFront err.before err.after o.err
-      by_form request bytes legal (inl (m', (g', (legal', e)))) =
-          let same_m : m' ≡ m = laws.one_module (first_part bytes) m' m legal'.file legal.file in
-          let query' : IsFactsGoal (query_text request.goal) m g' = subst (λ (n : FactsModule). IsFactsGoal (query_text request.goal) n g') same_m legal'.query in
-          let same_g : g' ≡ g = laws.one_goal (query_text request.goal) m g' g query' legal.query in
-          let out_bytes : o.out ≡ lines_of m g = ap (λ (q : Outcome). q.out) e ∙ ap (λ (n : FactsModule). run_bytes n g') same_m ∙ ap (λ (h : Goal). run_bytes m h) same_g ∙ run_lines laws (first_part bytes) request.goal m g legal in
-          (subst (λ (bs : List ℕ). PutsFront out.before out.after bs) (sym out_bytes) (writes_front out.before out.after r (lines_of m g) w), untouched_front err o.err u)
-      by_form request bytes legal (inr (none, e)) = absurd (none m g legal)
-
-  fronts_line : (held : Held) (t : Status) (text : List ℕ) (d : Decision) → IsDecided words (Some held) d → CountsFaults d f0 f1 → (Rose f0 f1 → ⊥) → Says d text t → PutsFront err.before err.after text → IsUntouched out → (o : Outcome) → Defined words held o →
-      PutsFront out.before out.after o.out × PutsFront err.before err.after o.err
-  fronts_line held t text (D.Answer m g) x cf n says w u o defined = absurd says
-  fronts_line held t text D.Memory x cf n says w u o defined = absurd says
-  fronts_line held t text (D.Unreadable bytes) x cf n says w u o defined = absurd (n cf)
-  fronts_line held t text (D.Absent bytes) x cf n says w u o defined =
-      let e = at_defined words held x.0 o None x.1 x.2 defined in
-      (untouched_front out o.out u, subst (λ (bs : List ℕ). PutsFront err.before err.after bs) (says.0 ∙ x.3 ∙ sym (ap (λ (q : Outcome). q.err) e)) w)
-  fronts_line held t text D.NotBuilt (inl a) cf n says w u o defined =
-      let e : o ≡ not_built = subst (λ (q : Option Request). DefinedFor q held o) a defined in
-      (untouched_front out o.out u, subst (λ (bs : List ℕ). PutsFront err.before err.after bs) (says.0 ∙ sym (ap (λ (q : Outcome). q.err) e)) w)
-  fronts_line held t text D.NotBuilt (inr x) cf n says w u o defined =
-      (untouched_front out o.out u, by_form x.0 x.2.0 x.2.2 (at_defined words held x.0 o (Some x.2.0) x.1 x.2.1 defined))
-    where
-      by_form : (request : Request) (bytes : List ℕ) → IsOfNoForm (first_part bytes) request.goal → DefinedOf request (Some bytes) o → PutsFront err.before err.after o.err
-      by_form request bytes none (inl (m', (g', (legal', e)))) = absurd (none m' g' legal')
-      by_form request bytes none (inr (none', e)) = subst (λ (bs : List ℕ). PutsFront err.before err.after bs) (says.0 ∙ sym (ap (λ (q : Outcome). q.err) e)) w
-
-  pub prefixes : (s : Status) → Happened words store f0 f1 a0 a1 out err s → (held : Held) (bo be : List ℕ) → Told store held out.before bo err.before be → (Rose f0 f1 → ⊥) → (o : Outcome) → Defined words held o →
-      PutsFront out.before out.after o.out × PutsFront err.before err.after o.err
-  prefixes s (lines {m} {g} r d cf ca w p un) held bo be told n o defined = fronts_lines held m g r (store_told words store held (D.Answer m g) told.files d) w un o defined
-  prefixes s (line t text d r dec cf ca says w p un) held bo be told n o defined = fronts_line held t text d (store_told words store held d told.files dec) cf n says (puts_front err.before err.after r text w) un o defined
-  prefixes s (nothing f uo ue) held bo be told n o defined = (untouched_front out o.out uo, untouched_front err o.err ue)
-
-  -- where the count of the files' faults rose
-  pub unread : (s : Status) → Happened words store f0 f1 a0 a1 out err s → (r : Request) → asked words ≡ Some r → f0 < f1 → Wrote out.before out.after [] × PutsFront err.before err.after (unreadable_line r.file)
-  unread s (lines rr d cf ca w p un) r e f = absurd (omega (arith, cf, f))
-  unread s (line t text (D.Answer m g) rr d cf ca says w p un) r e f = absurd says
-  unread s (line t text D.Memory rr d cf ca says w p un) r e f = absurd says
-  unread s (line t text D.NotBuilt rr d cf ca says w p un) r e f = absurd (omega (arith, cf, f))
-  unread s (line t text (D.Absent bytes) rr d cf ca says w p un) r e f = absurd (omega (arith, cf, f))
-  unread s (line t text (D.Unreadable bytes) rr d cf ca says w p un) r e f =
-      let same : d.0 ≡ r = some_same d.0 r (sym d.1 ∙ e) in
-      (untouched_wrote out un, subst (λ (bs : List ℕ). PutsFront err.before err.after bs) (says.0 ∙ d.2 ∙ ap (λ (q : Request). unreadable_line q.file) same) (puts_front err.before err.after rr text w))
-  unread s (nothing f uo ue) r e g = (untouched_wrote out uo, untouched_front err (unreadable_line r.file) ue)
+writes_none : (w0 w1 : Option (List ℕ)) (r : Result (Unit {0}) PutFault) → Writes w0 w1 r [] → Wrote w0 w1 []
+writes_none w0 w1 (Ok u) w = w
+writes_none w0 w1 (Err f) w = front_nothing w0 w1 w
 
 -- a status other than those of a failed writing is the one that was to be answered
 ended_is : (r : Result (Unit {0}) PutFault) (t x : Status) → ended r t ≡ x → x ≢ S.WriteFault → x ≢ S.Memory → t ≡ x
@@ -225,117 +235,249 @@ ended_is (Ok u) t x e w m = e
 ended_is (Err put.Failed) t x e w m = absurd (w (sym e))
 ended_is (Err put.Memory) t x e w m = absurd (m (sym e))
 
-ended_comes : (r : Result (Unit {0}) PutFault) (t : Status) → CanCome t → CanCome (ended r t)
-ended_comes (Ok u) t c = c
-ended_comes (Err put.Failed) t c = tt
-ended_comes (Err put.Memory) t c = tt
+ended_kinds : (r : Result (Unit {0}) PutFault) (t : Status) → (ended r t ≡ t) ⊎ ((ended r t ≡ S.WriteFault) ⊎ (ended r t ≡ S.Memory))
+ended_kinds (Ok u) t = inl refl
+ended_kinds (Err put.Failed) t = inr (inl refl)
+ended_kinds (Err put.Memory) t = inr (inr refl)
 
-module _ (words : List (List ℕ)) (store : Option Held) (f0 f1 a0 a1 : ℕ) (out err : Sinks) where
-  pub absent_cause : (s : Status) → Happened words store f0 f1 a0 a1 out err s → s ≡ S.Absent → Rose a0 a1
-  absent_cause s (lines r d cf ca w p un) e = let q : S.Done ≡ S.Absent = ended_is r S.Done S.Absent e (λ x. cc) (λ x. cc) in cc
-  absent_cause s (line t text (D.Answer m g) r d cf ca says w p un) e = absurd says
-  absent_cause s (line t text D.Memory r d cf ca says w p un) e = absurd says
-  absent_cause s (line t text D.NotBuilt r d cf ca says w p un) e = let q : S.NotBuilt ≡ S.Absent = sym says.1 ∙ ended_is r t S.Absent e (λ x. cc) (λ x. cc) in cc
-  absent_cause s (line t text (D.Absent bytes) r d cf ca says w p un) e = ca
-  absent_cause s (line t text (D.Unreadable bytes) r d cf ca says w p un) e = let q : S.ReadFault ≡ S.Absent = sym says.1 ∙ ended_is r t S.Absent e (λ x. cc) (λ x. cc) in cc
-  absent_cause s (nothing f uo ue) e = cc
+no_command : (words : List (List ℕ)) (m : Meaning) → meaning words ≡ None → meaning words ≡ Some m → ⊥
+no_command words m n e = let q : None ≡ Some m = sym n ∙ e in cc
 
-  pub absent_lacks : (s : Status) → Happened words store f0 f1 a0 a1 out err s → s ≡ S.Absent → (r : Request) × ((asked words ≡ Some r) × LacksFile store r.file)
-  absent_lacks s (lines r d cf ca w p un) e = let q : S.Done ≡ S.Absent = ended_is r S.Done S.Absent e (λ x. cc) (λ x. cc) in cc
-  absent_lacks s (line t text (D.Answer m g) r d cf ca says w p un) e = absurd says
-  absent_lacks s (line t text D.Memory r d cf ca says w p un) e = absurd says
-  absent_lacks s (line t text D.NotBuilt r d cf ca says w p un) e = let q : S.NotBuilt ≡ S.Absent = sym says.1 ∙ ended_is r t S.Absent e (λ x. cc) (λ x. cc) in cc
-  absent_lacks s (line t text (D.Absent bytes) r d cf ca says w p un) e = (d.0, (d.1, d.2))
-  absent_lacks s (line t text (D.Unreadable bytes) r d cf ca says w p un) e = let q : S.ReadFault ≡ S.Absent = sym says.1 ∙ ended_is r t S.Absent e (λ x. cc) (λ x. cc) in cc
-  absent_lacks s (nothing f uo ue) e = cc
+same_command : (words : List (List ℕ)) (m k : Meaning) → meaning words ≡ Some m → meaning words ≡ Some k → m ≡ k
+same_command words m k e f = let q : Some m ≡ Some k = sym e ∙ f in cc
 
-  pub read_cause : (s : Status) → Happened words store f0 f1 a0 a1 out err s → s ≡ S.ReadFault → Rose f0 f1
-  read_cause s (lines r d cf ca w p un) e = let q : S.Done ≡ S.ReadFault = ended_is r S.Done S.ReadFault e (λ x. cc) (λ x. cc) in cc
-  read_cause s (line t text (D.Answer m g) r d cf ca says w p un) e = absurd says
-  read_cause s (line t text D.Memory r d cf ca says w p un) e = absurd says
-  read_cause s (line t text D.NotBuilt r d cf ca says w p un) e = let q : S.NotBuilt ≡ S.ReadFault = sym says.1 ∙ ended_is r t S.ReadFault e (λ x. cc) (λ x. cc) in cc
-  read_cause s (line t text (D.Absent bytes) r d cf ca says w p un) e = let q : S.Absent ≡ S.ReadFault = sym says.1 ∙ ended_is r t S.ReadFault e (λ x. cc) (λ x. cc) in cc
-  read_cause s (line t text (D.Unreadable bytes) r d cf ca says w p un) e = cf
-  read_cause s (nothing f uo ue) e = cc
+module _ (words : List (List ℕ)) (store : Option Held) (f0 f1 a0 a1 : ℕ) (out err : Sinks) (s : Status) (h : Happened words store f0 f1 a0 a1 out err s) where
+  pub whole : Laws → (held : Held) (bo be : List ℕ) → Told store held out.before bo err.before be → NoneRose f0 f1 out.faults_before out.faults_after err.faults_before err.faults_after → s ≢ S.Memory →
+      (o : Outcome) × (Defined words held o × ((s ≡ o.status) × ((out.after ≡ Some (bo ++ o.out)) × (err.after ≡ Some (be ++ o.err)))))
+  whole laws held bo be told none n = at h.written h.output h.errors h.puts h.status
+    where
+      t : Outcome
+      t = told_of h.decision
 
-  ended_kinds : (r : Result (Unit {0}) PutFault) (t : Status) → (ended r t ≡ t) ⊎ ((ended r t ≡ S.WriteFault) ⊎ (ended r t ≡ S.Memory))
-  ended_kinds (Ok u) t = inl refl
-  ended_kinds (Err put.Failed) t = inr (inl refl)
-  ended_kinds (Err put.Memory) t = inr (inr refl)
+      at : (r : Result (Unit {0}) PutFault) → Writes out.before out.after r t.out → Writes err.before err.after r t.err → CountPuts r out.faults_before out.faults_after err.faults_before err.faults_after → s ≡ ended r t.status →
+          (o : Outcome) × (Defined words held o × ((s ≡ o.status) × ((out.after ≡ Some (bo ++ o.out)) × (err.after ≡ Some (be ++ o.err)))))
+      at (Ok u) w v c e = (
+        t,
+        (
+          is_defined laws words held f0 f1 h.decision (subst (λ (x : Option Held). IsDecided words x h.decision) told.files h.decided) h.faults none.files (λ m. n (e ∙ m)),
+          (e, (wrote_told out.before out.after bo t.out told.output w, wrote_told err.before err.after be t.err told.errors v)),
+        ),
+      )
+      at (Err put.Failed) w v (inl c) e = absurd (none.errors c.1)
+      at (Err put.Failed) w v (inr c) e = absurd (none.output c.0)
+      at (Err put.Memory) w v c e = absurd (n e)
 
-  pub read_seen : (s : Status) → Happened words store f0 f1 a0 a1 out err s → f0 < f1 → (s ≡ S.ReadFault) ⊎ ((s ≡ S.WriteFault) ⊎ (s ≡ S.Memory))
-  read_seen s (lines r d cf ca w p un) f = absurd (omega (arith, cf, f))
-  read_seen s (line t text (D.Answer m g) r d cf ca says w p un) f = absurd says
-  read_seen s (line t text D.Memory r d cf ca says w p un) f = absurd says
-  read_seen s (line t text D.NotBuilt r d cf ca says w p un) f = absurd (omega (arith, cf, f))
-  read_seen s (line t text (D.Absent bytes) r d cf ca says w p un) f = absurd (omega (arith, cf, f))
-  read_seen s (line t text (D.Unreadable bytes) r d cf ca says w p un) f =
-      subst (λ (x : Status). (ended r t ≡ x) ⊎ ((ended r t ≡ S.WriteFault) ⊎ (ended r t ≡ S.Memory))) says.1 (ended_kinds r t)
-  read_seen s (nothing f uo ue) g = inr (inr refl)
+  pub prefixes : Laws → (held : Held) (bo be : List ℕ) → Told store held out.before bo err.before be → (Rose f0 f1 → ⊥) → (o : Outcome) → Defined words held o → PutsFront out.before out.after o.out × PutsFront err.before err.after o.err
+  prefixes laws held bo be told n o y = at (one_defined laws words held f0 f1 h.decision (subst (λ (x : Option Held). IsDecided words x h.decision) told.files h.decided) h.faults n o y)
+    where
+      at : (told_of h.decision ≡ o) ⊎ (told_of h.decision ≡ said [] S.Memory) → PutsFront out.before out.after o.out × PutsFront err.before err.after o.err
+      at (inl e) = (
+        subst (λ (x : Outcome). PutsFront out.before out.after x.out) e (writes_front out.before out.after h.written (told_of h.decision).out h.output),
+        subst (λ (x : Outcome). PutsFront err.before err.after x.err) e (writes_front err.before err.after h.written (told_of h.decision).err h.errors),
+      )
+      at (inr e) = (
+        nothing_front out.before out.after o.out (writes_none out.before out.after h.written (subst (λ (x : Outcome). Writes out.before out.after h.written x.out) e h.output)),
+        nothing_front err.before err.after o.err (writes_none err.before err.after h.written (subst (λ (x : Outcome). Writes err.before err.after h.written x.err) e h.errors)),
+      )
 
-  put_cause : (r : Result (Unit {0}) PutFault) (t : Status) (k0 k1 : ℕ) → t ≢ S.WriteFault → PutFaults r k0 k1 → ended r t ≡ S.WriteFault → Rose k0 k1
-  put_cause (Ok u) t k0 k1 n p e = absurd (n e)
-  put_cause (Err put.Failed) t k0 k1 n p e = p
-  put_cause (Err put.Memory) t k0 k1 n p e = cc
+  -- where the count of the files' faults rose
+  pub unread : (m : Meaning) → meaning words ≡ Some m → f0 < f1 → Wrote out.before out.after [] × SaysUnreadable err.before err.after (files_of m)
+  unread m e f = at h.decision h.decided h.faults h.output h.errors
+    where
+      at : (d : Decision) → IsDecided words store d → CountsFaults d f0 f1 → Writes out.before out.after h.written (told_of d).out → Writes err.before err.after h.written (told_of d).err →
+          Wrote out.before out.after [] × SaysUnreadable err.before err.after (files_of m)
+      at D.Usage x cf w v = absurd (omega (arith, cf, f))
+      at (D.Absent line) x cf w v = absurd (omega (arith, cf, f))
+      at (D.Unreadable line) x cf w v =
+          let y = x.stops in
+          let front : PutsFront err.before err.after (unreadable_line y.0) = subst (λ (bs : List ℕ). PutsFront err.before err.after bs) y.1.1 (writes_front err.before err.after h.written line.items v) in
+          (writes_none out.before out.after h.written w, (y.0, subst (λ (k : Meaning). Contains (files_of k) y.0) (same_command words x.command m x.means e) y.1.0, front))
+      at (D.Rejected files broken) x cf w v = absurd (omega (arith, cf, f))
+      at D.NotBuilt x cf w v = absurd (omega (arith, cf, f))
+      at D.Checked x cf w v = absurd (omega (arith, cf, f))
+      at (D.Answers c) x cf w v = absurd (omega (arith, cf, f))
+      at D.Memory x cf w v =
+          let file = get_or (files_of m) 0 [] in (
+            writes_none out.before out.after h.written w,
+            (file, Contains-get_or (files_of m) 0 [] (is_command words m e).some, nothing_front err.before err.after (unreadable_line file) (writes_none err.before err.after h.written v)),
+          )
 
-  says_no_fault : (d : Decision) (text : List ℕ) (t : Status) → Says d text t → t ≢ S.WriteFault
-  says_no_fault (D.Answer m g) text t says e = says
-  says_no_fault D.Memory text t says e = says
-  says_no_fault D.NotBuilt text t says e = let q : S.NotBuilt ≡ S.WriteFault = sym says.1 ∙ e in cc
-  says_no_fault (D.Absent bytes) text t says e = let q : S.Absent ≡ S.WriteFault = sym says.1 ∙ e in cc
-  says_no_fault (D.Unreadable bytes) text t says e = let q : S.ReadFault ≡ S.WriteFault = sym says.1 ∙ e in cc
+  told_status : (x : Status) → s ≡ x → x ≢ S.WriteFault → x ≢ S.Memory → (told_of h.decision).status ≡ x
+  told_status x e w m = ended_is h.written (told_of h.decision).status x (sym h.status ∙ e) w m
 
-  pub write_cause : (s : Status) → Happened words store f0 f1 a0 a1 out err s → s ≡ S.WriteFault → Rose out.faults_before out.faults_after ⊎ Rose err.faults_before err.faults_after
-  write_cause s (lines r d cf ca w p un) e = inl (put_cause r S.Done out.faults_before out.faults_after (λ x. cc) p e)
-  write_cause s (line t text d r dec cf ca says w p un) e = inr (put_cause r t err.faults_before err.faults_after (says_no_fault d text t says) p e)
-  write_cause s (nothing f uo ue) e = cc
+  pub usage_cause : s ≡ S.Usage → meaning words ≡ None
+  usage_cause e = at h.decision h.decided (told_status S.Usage e (λ x. cc) (λ x. cc))
+    where
+      at : (d : Decision) → IsDecided words store d → (told_of d).status ≡ S.Usage → meaning words ≡ None
+      at D.Usage x t = x
+      at (D.Absent line) x t = cc
+      at (D.Unreadable line) x t = cc
+      at (D.Rejected files broken) x t = cc
+      at D.NotBuilt x t = cc
+      at D.Checked x t = cc
+      at (D.Answers c) x t = cc
+      at D.Memory x t = cc
 
-  put_seen : (r : Result (Unit {0}) PutFault) (t : Status) (k0 k1 : ℕ) → PutFaults r k0 k1 → k0 < k1 → ended r t ≡ S.WriteFault
-  put_seen (Ok u) t k0 k1 p h = absurd (omega (arith, p, h))
-  put_seen (Err put.Failed) t k0 k1 p h = refl
-  put_seen (Err put.Memory) t k0 k1 p h = absurd (omega (arith, p, h))
+  pub usage_told : meaning words ≡ None → (s ≡ S.Usage) ⊎ ((s ≡ S.WriteFault) ⊎ (s ≡ S.Memory))
+  usage_told n = at h.decision h.decided h.status
+    where
+      kinds : (t : Status) → s ≡ ended h.written t → (s ≡ t) ⊎ ((s ≡ S.WriteFault) ⊎ (s ≡ S.Memory))
+      kinds t e = subst (λ (x : Status). (x ≡ t) ⊎ ((x ≡ S.WriteFault) ⊎ (x ≡ S.Memory))) (sym e) (ended_kinds h.written t)
 
-  pub write_seen : (s : Status) → Happened words store f0 f1 a0 a1 out err s → (out.faults_before < out.faults_after) ⊎ (err.faults_before < err.faults_after) → s ≡ S.WriteFault
-  write_seen s (lines r d cf ca w p un) (inl h) = put_seen r S.Done out.faults_before out.faults_after p h
-  write_seen s (lines r d cf ca w p un) (inr h) = absurd (omega (arith, un.1, h))
-  write_seen s (line t text d r dec cf ca says w p un) (inl h) = absurd (omega (arith, un.1, h))
-  write_seen s (line t text d r dec cf ca says w p un) (inr h) = put_seen r t err.faults_before err.faults_after p h
-  write_seen s (nothing f uo ue) (inl h) = absurd (omega (arith, uo.1, h))
-  write_seen s (nothing f uo ue) (inr h) = absurd (omega (arith, ue.1, h))
+      at : (d : Decision) → IsDecided words store d → s ≡ ended h.written (told_of d).status → (s ≡ S.Usage) ⊎ ((s ≡ S.WriteFault) ⊎ (s ≡ S.Memory))
+      at D.Usage x e = kinds S.Usage e
+      at (D.Absent line) x e = absurd (no_command words x.command n x.means)
+      at (D.Unreadable line) x e = absurd (no_command words x.command n x.means)
+      at (D.Rejected files broken) x e = absurd (no_command words x.command n x.means)
+      at D.NotBuilt x e = absurd (no_command words x.command n x.means)
+      at D.Checked x e = absurd (no_command words x.command n x.means)
+      at (D.Answers c) x e = absurd (no_command words x.command n x.means)
+      at D.Memory x e = memory (kinds S.Memory e)
+        where
+          memory : (s ≡ S.Memory) ⊎ ((s ≡ S.WriteFault) ⊎ (s ≡ S.Memory)) → (s ≡ S.Usage) ⊎ ((s ≡ S.WriteFault) ⊎ (s ≡ S.Memory))
+          memory (inl z) = inr (inr z)
+          memory (inr z) = inr z
 
-  pub not_built_cause : (s : Status) → Happened words store f0 f1 a0 a1 out err s → s ≡ S.NotBuilt → (asked words ≡ None) ⊎ ((r : Request) × ((asked words ≡ Some r) × HoldsNoForm store r))
-  not_built_cause s (lines r d cf ca w p un) e = let q : S.Done ≡ S.NotBuilt = ended_is r S.Done S.NotBuilt e (λ x. cc) (λ x. cc) in cc
-  not_built_cause s (line t text (D.Answer m g) r d cf ca says w p un) e = absurd says
-  not_built_cause s (line t text D.Memory r d cf ca says w p un) e = absurd says
-  not_built_cause s (line t text D.NotBuilt r (inl n) cf ca says w p un) e = inl n
-  not_built_cause s (line t text D.NotBuilt r (inr x) cf ca says w p un) e = inr (x.0, (x.1, x.2))
-  not_built_cause s (line t text (D.Absent bytes) r d cf ca says w p un) e = let q : S.Absent ≡ S.NotBuilt = sym says.1 ∙ ended_is r t S.NotBuilt e (λ x. cc) (λ x. cc) in cc
-  not_built_cause s (line t text (D.Unreadable bytes) r d cf ca says w p un) e = let q : S.ReadFault ≡ S.NotBuilt = sym says.1 ∙ ended_is r t S.NotBuilt e (λ x. cc) (λ x. cc) in cc
-  not_built_cause s (nothing f uo ue) e = cc
+  pub rejected_cause : s ≡ S.Rejected → (m : Meaning) × ((meaning words ≡ Some m) × ((texts : List (List ℕ)) × (HoldTexts store (files_of m) texts × ((broken : List Broken) × (Breaks library_texts texts (query_of m) broken × (broken ≢ []))))))
+  rejected_cause e = at h.decision h.decided (told_status S.Rejected e (λ x. cc) (λ x. cc))
+    where
+      at : (d : Decision) → IsDecided words store d → (told_of d).status ≡ S.Rejected →
+          (m : Meaning) × ((meaning words ≡ Some m) × ((texts : List (List ℕ)) × (HoldTexts store (files_of m) texts × ((broken : List Broken) × (Breaks library_texts texts (query_of m) broken × (broken ≢ []))))))
+      at D.Usage x t = cc
+      at (D.Absent line) x t = cc
+      at (D.Unreadable line) x t = cc
+      at (D.Rejected files broken) x t = (x.command, (x.means, (x.texts, (x.holds, (broken, x.understood.1)))))
+      at D.NotBuilt x t = cc
+      at D.Checked x t = cc
+      at (D.Answers c) x t = cc
+      at D.Memory x t = cc
 
-  not_both : (r : Request) → asked words ≡ None → asked words ≡ Some r → ⊥
-  not_both r n e = let q : None ≡ Some r = sym n ∙ e in cc
+  pub not_built_cause : s ≡ S.NotBuilt →
+      (m : Meaning) × ((meaning words ≡ Some m) × ((texts : List (List ℕ)) × (HoldTexts store (files_of m) texts × ((l : AreLegal library_texts texts (query_of m)) × ((is_unbuilt m ≡ true) ⊎ (asks l ≡ None))))))
+  not_built_cause e = at h.decision h.decided (told_status S.NotBuilt e (λ x. cc) (λ x. cc))
+    where
+      at : (d : Decision) → IsDecided words store d → (told_of d).status ≡ S.NotBuilt →
+          (m : Meaning) × ((meaning words ≡ Some m) × ((texts : List (List ℕ)) × (HoldTexts store (files_of m) texts × ((l : AreLegal library_texts texts (query_of m)) × ((is_unbuilt m ≡ true) ⊎ (asks l ≡ None))))))
+      at D.Usage x t = cc
+      at (D.Absent line) x t = cc
+      at (D.Unreadable line) x t = cc
+      at (D.Rejected files broken) x t = cc
+      at D.NotBuilt x t = (x.command, (x.means, (x.texts, (x.holds, x.understood))))
+      at D.Checked x t = cc
+      at (D.Answers c) x t = cc
+      at D.Memory x t = cc
 
-  pub not_asked : (s : Status) → Happened words store f0 f1 a0 a1 out err s → asked words ≡ None → (s ≡ S.NotBuilt) ⊎ ((s ≡ S.WriteFault) ⊎ (s ≡ S.Memory))
-  not_asked s (lines r d cf ca w p un) n = absurd (not_both d.0 n d.1)
-  not_asked s (line t text (D.Answer m g) r d cf ca says w p un) n = absurd says
-  not_asked s (line t text D.Memory r d cf ca says w p un) n = absurd says
-  not_asked s (line t text D.NotBuilt r d cf ca says w p un) n = subst (λ (x : Status). (ended r t ≡ x) ⊎ ((ended r t ≡ S.WriteFault) ⊎ (ended r t ≡ S.Memory))) says.1 (ended_kinds r t)
-  not_asked s (line t text (D.Absent bytes) r d cf ca says w p un) n = absurd (not_both d.0 n d.1)
-  not_asked s (line t text (D.Unreadable bytes) r d cf ca says w p un) n = absurd (not_both d.0 n d.1)
-  not_asked s (nothing f uo ue) n = inr (inr refl)
+  pub absent_cause : s ≡ S.Absent → Rose a0 a1
+  absent_cause e = at h.decision h.absents (told_status S.Absent e (λ x. cc) (λ x. cc))
+    where
+      at : (d : Decision) → CountsAbsents d a0 a1 → (told_of d).status ≡ S.Absent → Rose a0 a1
+      at D.Usage x t = cc
+      at (D.Absent line) x t = x
+      at (D.Unreadable line) x t = cc
+      at (D.Rejected files broken) x t = cc
+      at D.NotBuilt x t = cc
+      at D.Checked x t = cc
+      at (D.Answers c) x t = cc
+      at D.Memory x t = cc
 
-  pub can_come : (s : Status) → Happened words store f0 f1 a0 a1 out err s → CanCome s
-  can_come s (lines r d cf ca w p un) = ended_comes r S.Done tt
-  can_come s (line t text (D.Answer m g) r d cf ca says w p un) = absurd says
-  can_come s (line t text D.Memory r d cf ca says w p un) = absurd says
-  can_come s (line t text D.NotBuilt r d cf ca says w p un) = ended_comes r t (subst CanCome (sym says.1) tt)
-  can_come s (line t text (D.Absent bytes) r d cf ca says w p un) = ended_comes r t (subst CanCome (sym says.1) tt)
-  can_come s (line t text (D.Unreadable bytes) r d cf ca says w p un) = ended_comes r t (subst CanCome (sym says.1) tt)
-  can_come s (nothing f uo ue) = tt
+  pub absent_lacks : s ≡ S.Absent → (m : Meaning) × ((meaning words ≡ Some m) × ((file : List ℕ) × Lacks store (files_of m) file))
+  absent_lacks e = at h.decision h.decided (told_status S.Absent e (λ x. cc) (λ x. cc))
+    where
+      at : (d : Decision) → IsDecided words store d → (told_of d).status ≡ S.Absent → (m : Meaning) × ((meaning words ≡ Some m) × ((file : List ℕ) × Lacks store (files_of m) file))
+      at D.Usage x t = cc
+      at (D.Absent line) x t = (x.command, (x.means, (x.stops.0, x.stops.1.0)))
+      at (D.Unreadable line) x t = cc
+      at (D.Rejected files broken) x t = cc
+      at D.NotBuilt x t = cc
+      at D.Checked x t = cc
+      at (D.Answers c) x t = cc
+      at D.Memory x t = cc
 
--- every run of legal sources is good
-pub true_runs : FactsAreGood → (bytes goal : List ℕ) (m : FactsModule) (g : Goal) → IsLegal bytes goal m g → GoodProcedures (program_of m g) × GoodQuery (program_of m g) default_budget default_depth (query_of m g)
-true_runs law bytes goal m g legal =
-    let r = law (database_of m) (question_of m g) (relations_fit m m.predicates) (asks m g legal.query.good.declared) in
-    (r.0, r.1 default_budget default_depth)
+  pub read_cause : s ≡ S.ReadFault → Rose f0 f1
+  read_cause e = at h.decision h.faults (told_status S.ReadFault e (λ x. cc) (λ x. cc))
+    where
+      at : (d : Decision) → CountsFaults d f0 f1 → (told_of d).status ≡ S.ReadFault → Rose f0 f1
+      at D.Usage x t = cc
+      at (D.Absent line) x t = cc
+      at (D.Unreadable line) x t = x
+      at (D.Rejected files broken) x t = cc
+      at D.NotBuilt x t = cc
+      at D.Checked x t = cc
+      at (D.Answers c) x t = cc
+      at D.Memory x t = cc
+
+  pub read_seen : f0 < f1 → (s ≡ S.ReadFault) ⊎ ((s ≡ S.WriteFault) ⊎ (s ≡ S.Memory))
+  read_seen f = at h.decision h.faults h.status
+    where
+      kinds : (t : Status) → s ≡ ended h.written t → (s ≡ t) ⊎ ((s ≡ S.WriteFault) ⊎ (s ≡ S.Memory))
+      kinds t e = subst (λ (x : Status). (x ≡ t) ⊎ ((x ≡ S.WriteFault) ⊎ (x ≡ S.Memory))) (sym e) (ended_kinds h.written t)
+
+      memory : (s ≡ S.Memory) ⊎ ((s ≡ S.WriteFault) ⊎ (s ≡ S.Memory)) → (s ≡ S.ReadFault) ⊎ ((s ≡ S.WriteFault) ⊎ (s ≡ S.Memory))
+      memory (inl z) = inr (inr z)
+      memory (inr z) = inr z
+
+      at : (d : Decision) → CountsFaults d f0 f1 → s ≡ ended h.written (told_of d).status → (s ≡ S.ReadFault) ⊎ ((s ≡ S.WriteFault) ⊎ (s ≡ S.Memory))
+      at D.Usage x t = absurd (omega (arith, x, f))
+      at (D.Absent line) x t = absurd (omega (arith, x, f))
+      at (D.Unreadable line) x t = kinds S.ReadFault t
+      at (D.Rejected files broken) x t = absurd (omega (arith, x, f))
+      at D.NotBuilt x t = absurd (omega (arith, x, f))
+      at D.Checked x t = absurd (omega (arith, x, f))
+      at (D.Answers c) x t = absurd (omega (arith, x, f))
+      at D.Memory x t = memory (kinds S.Memory t)
+
+  told_no_fault : (d : Decision) → (told_of d).status ≢ S.WriteFault
+  told_no_fault D.Usage t = cc
+  told_no_fault (D.Absent line) t = cc
+  told_no_fault (D.Unreadable line) t = cc
+  told_no_fault (D.Rejected files broken) t = cc
+  told_no_fault D.NotBuilt t = cc
+  told_no_fault D.Checked t = cc
+  told_no_fault (D.Answers c) t = cc
+  told_no_fault D.Memory t = cc
+
+  pub write_cause : s ≡ S.WriteFault → Rose out.faults_before out.faults_after ⊎ Rose err.faults_before err.faults_after
+  write_cause e = at h.written h.puts (sym h.status ∙ e)
+    where
+      at : (r : Result (Unit {0}) PutFault) → CountPuts r out.faults_before out.faults_after err.faults_before err.faults_after → ended r (told_of h.decision).status ≡ S.WriteFault →
+          Rose out.faults_before out.faults_after ⊎ Rose err.faults_before err.faults_after
+      at (Ok u) c t = absurd (told_no_fault h.decision t)
+      at (Err put.Failed) (inl c) t = inr c.1
+      at (Err put.Failed) (inr c) t = inl c.0
+      at (Err put.Memory) c t = cc
+
+  pub write_seen : (out.faults_before < out.faults_after) ⊎ (err.faults_before < err.faults_after) → s ≡ S.WriteFault
+  write_seen k = h.status ∙ at h.written h.puts k
+    where
+      at : (r : Result (Unit {0}) PutFault) → CountPuts r out.faults_before out.faults_after err.faults_before err.faults_after → (out.faults_before < out.faults_after) ⊎ (err.faults_before < err.faults_after) →
+          ended r (told_of h.decision).status ≡ S.WriteFault
+      at (Ok u) c (inl k) = absurd (omega (arith, c.0, k))
+      at (Ok u) c (inr k) = absurd (omega (arith, c.1, k))
+      at (Err put.Failed) c k = refl
+      at (Err put.Memory) c (inl k) = absurd (omega (arith, c.0, k))
+      at (Err put.Memory) c (inr k) = absurd (omega (arith, c.1, k))
+
+  pub can_come : CanCome s
+  can_come = subst CanCome (sym h.status) (at h.written)
+    where
+      told_comes : (d : Decision) → CanCome (told_of d).status
+      told_comes D.Usage = tt
+      told_comes (D.Absent line) = tt
+      told_comes (D.Unreadable line) = tt
+      told_comes (D.Rejected files broken) = tt
+      told_comes D.NotBuilt = tt
+      told_comes D.Checked = tt
+      told_comes (D.Answers c) = tt
+      told_comes D.Memory = tt
+
+      at : (r : Result (Unit {0}) PutFault) → CanCome (ended r (told_of h.decision).status)
+      at (Ok u) = told_comes h.decision
+      at (Err put.Failed) = tt
+      at (Err put.Memory) = tt
+
+-- every run of legal sources that ask a question is good
+pub true_runs : FactsFit → QuestionAsks → FactsAreGood → (m : Meaning) (texts : List (List ℕ)) (l : AreLegal library_texts texts (query_of m)) (d : Database) (q : Question) → asks l ≡ Some (d, Some q) →
+    GoodProcedures (system_of d q) × ((n h : ℕ) → GoodQuery (system_of d q) n h (query_procedure d q))
+true_runs fit ask good m texts l d q e =
+    let f = asked_fits fit ask library_texts texts (query_of m) l d q e in
+    good d q f.0 f.1

@@ -1,4 +1,6 @@
-pub mod Calls
-pub mod Forms
-pub mod Lines
 pub mod Puts
+pub mod Answers
+pub mod InTurn
+pub mod Commands
+pub mod Legal
+pub mod Calls

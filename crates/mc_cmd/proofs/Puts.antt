@@ -1,11 +1,28 @@
 -- Several puts, one after another.
-use Rattle.std.proofs.Common.{◌≡◌, ℕ, zero, suc, ◌+◌, ◌<◌, List, [], ◌∷◌, ◌++◌, take, drop, get_or, length, Option, Some, None, Bool, true, false, cond, refl, sym, ap, ◌∙◌, subst, arith, append_assoc, length-append}
-use Rattle.std.proofs.lemmas.List.{take-append-le, take_more, append-nil}
-use Rattle.mc_outside.specs.Meaning.{PutsFront}
-use Rattle.mc_model.specs.Printed.{answer_text}
-use Rattle.mc_facts_form.specs.declared.form.Fact.{Fact}
-use Rattle.mc_cmd.specs.Program.{is_of, facts_of, fact_lines, line_of}
-use Rattle.mc_cmd.specs.Outcome.{Wrote}
+use Rattle.std.proofs.Common.{◌≡◌, ℕ, zero, suc, ◌+◌, ◌<◌, ◌≤◌, List, [], ◌∷◌, ◌++◌, take, drop, get_or, length, map, Option, Some, None, Result, Ok, Err, refl, sym, ap, ◌∙◌, subst, arith, codes, nat_eq, false, append_assoc, length-append}
+use Rattle.std.specs.List.{flat_map}
+use Rattle.std.specs.Result.{IsErrAnd}
+use Rattle.std.proofs.lemmas.List.{take-append-le, take_more, append-nil, take_all, length-map}
+use Rattle.std.proofs.lemmas.Simd.{map-map}
+use Rattle.std.proofs.Math.ListN.{get_or-map as get_or_mapped}
+use Rattle.std.specs.Prelude.{All}
+use Rattle.std.proofs.lemmas.Grind.{flat_map-append}
+use Rattle.mc_outside.specs.Meaning.{Puts, PutsFront}
+use Rattle.mc_outside.specs.declared.traits.PutFault.{PutFault}
+use Rattle.mc_outside.specs.declared.traits.PutFault.TheVariants as put
+use Rattle.std.proofs.lemmas.List.Folds.{flat_map-map}
+use Rattle.mc_model.specs.declared.rule.Broken.{Broken}
+use Rattle.mc_model.specs.declared.program.Clause.{Clause}
+use Rattle.mc_model.specs.Programs.{ClauseForm}
+use Rattle.mc_model.specs.declared.expr.Expr.{Expr}
+use Rattle.mc_model.specs.PlainPrograms.{plain_clause, plain_expression}
+use Rattle.mc_model.specs.Printed.{names_of, answer_text}
+use Rattle.mc_ground.specs.Lines.{fact_lines}
+use Rattle.mc_compile.specs.declared.given.Compiled.{Compiled}
+use Rattle.mc_cmd.specs.Lines.{facts_of, fact_texts, fact_line, head_text, lines_of, AreWide}
+use Rattle.mc_cmd.specs.Outcome.{broken_line, broken_lines}
+use Rattle.mc_cmd.specs.Call.{Wrote}
+use Rattle.mc_cmd.specs.Decisions.{Writes}
 
 pub wrote_more : (w0 w1 w2 : Option (List ℕ)) (a b : List ℕ) → Wrote w0 w1 a → Wrote w1 w2 b → Wrote w0 w2 (a ++ b)
 wrote_more None w1 w2 a b x y = let z : Wrote None w2 b = subst (λ (w : Option (List ℕ)). Wrote w w2 b) x y in z
@@ -26,50 +43,104 @@ front_more (Some before) w1 w2 a b c x y =
     let e : take (length a + z.0) (a ++ (b ++ c)) ≡ a ++ take z.0 b = take_past a (b ++ c) z.0 ∙ ap (λ (bs : List ℕ). a ++ bs) (take-append-le z.0 b c z.1) in
     (length a + z.0, omega (arith, z.1, length-append a (b ++ c), length-append b c), z.2 ∙ ap Some (append_assoc before a (take z.0 b) ∙ ap (λ (bs : List ℕ). before ++ bs) (sym e)))
 
-pub facts_of-append : (name : List ℕ) (arity : ℕ) (xs ys : List Fact) → facts_of name arity (xs ++ ys) ≡ facts_of name arity xs ++ facts_of name arity ys
-facts_of-append name arity [] ys = refl
-facts_of-append name arity (x ∷ xs) ys = by_test (is_of name arity x) (facts_of-append name arity xs ys)
-  where
-    by_test : (t : Bool) → facts_of name arity (xs ++ ys) ≡ facts_of name arity xs ++ facts_of name arity ys →
-        cond t (x ∷ facts_of name arity (xs ++ ys)) (facts_of name arity (xs ++ ys)) ≡ cond t (x ∷ facts_of name arity xs) (facts_of name arity xs) ++ facts_of name arity ys
-    by_test true e = ap (λ (fs : List Fact). x ∷ fs) e
-    by_test false e = e
+-- a sink that is as it was was given nothing
+pub wrote_nothing : (w0 w1 : Option (List ℕ)) → w1 ≡ w0 → Wrote w0 w1 []
+wrote_nothing None w1 e = e
+wrote_nothing (Some before) w1 e = e ∙ ap Some (sym (append-nil before))
 
-pub fact_lines-append : (variables : List (List ℕ)) (xs ys : List Fact) → fact_lines variables (xs ++ ys) ≡ fact_lines variables xs ++ fact_lines variables ys
-fact_lines-append variables [] ys = refl
-fact_lines-append variables (x ∷ xs) ys = ap (λ (bs : List ℕ). answer_text variables x.constants ++ bs) (fact_lines-append variables xs ys) ∙ sym (append_assoc (answer_text variables x.constants) (fact_lines variables xs) (fact_lines variables ys))
+-- all of some bytes is a front part of them
+pub wrote_front : (w0 w1 : Option (List ℕ)) (bytes : List ℕ) → Wrote w0 w1 bytes → PutsFront w0 w1 bytes
+wrote_front None w1 bytes e = e
+wrote_front (Some before) w1 bytes e = (length bytes, omega arith, e ∙ ap (λ (bs : List ℕ). Some (before ++ bs)) (sym (take_all (length bytes) bytes (omega arith))))
 
--- the lines of facts that stand before and after others
-abbrev pub lines : (variables : List (List ℕ)) (name : List ℕ) → List Fact → List ℕ
-lines variables name facts = fact_lines variables (facts_of name (length variables) facts)
+pub nothing_front : (w0 w1 : Option (List ℕ)) (bytes : List ℕ) → Wrote w0 w1 [] → PutsFront w0 w1 bytes
+nothing_front None w1 bytes e = e
+nothing_front (Some before) w1 bytes e = (0, omega arith, e)
 
-pub lines-append : (variables : List (List ℕ)) (name : List ℕ) (xs ys : List Fact) → lines variables name (xs ++ ys) ≡ lines variables name xs ++ lines variables name ys
-lines-append variables name xs ys = ap (fact_lines variables) (facts_of-append name (length variables) xs ys) ∙ fact_lines-append variables (facts_of name (length variables) xs) (facts_of name (length variables) ys)
+-- a front part of nothing is nothing
+pub front_nothing : (w0 w1 : Option (List ℕ)) → PutsFront w0 w1 [] → Wrote w0 w1 []
+front_nothing None w1 p = p
+front_nothing (Some before) w1 p = p.2 ∙ ap (λ (bs : List ℕ). Some (before ++ bs)) (take_all p.0 [] (omega arith))
 
-one_line : (variables : List (List ℕ)) (name : List ℕ) (fact : Fact) → lines variables name (fact ∷ []) ≡ line_of variables name fact
-one_line variables name fact = by_test (is_of name (length variables) fact)
-  where
-    by_test : (t : Bool) → fact_lines variables (cond t (fact ∷ []) []) ≡ cond t (answer_text variables fact.constants) []
-    by_test true = append-nil (answer_text variables fact.constants)
-    by_test false = refl
+pub writes_front : (w0 w1 : Option (List ℕ)) (r : Result (Unit {0}) PutFault) (bytes : List ℕ) → Writes w0 w1 r bytes → PutsFront w0 w1 bytes
+writes_front w0 w1 (Ok u) bytes e = wrote_front w0 w1 bytes e
+writes_front w0 w1 (Err f) bytes e = e
 
-pub next_taken : (facts : List Fact) (i : ℕ) (fact : Fact) → i < length facts → fact ≡ get_or facts i fact → take (i + 1) facts ≡ take i facts ++ (fact ∷ [])
-next_taken facts i fact h e = take_more facts i fact h ∙ ap (λ (f : Fact). take i facts ++ (f ∷ [])) (sym e)
+pub writes_nothing : (w0 w1 : Option (List ℕ)) (r : Result (Unit {0}) PutFault) → Wrote w0 w1 [] → Writes w0 w1 r []
+writes_nothing w0 w1 (Ok u) e = e
+writes_nothing w0 w1 (Err f) e = wrote_front w0 w1 [] e
 
-taken_dropped : (i : ℕ) (facts : List Fact) → take i facts ++ drop i facts ≡ facts
-taken_dropped zero facts = refl
+-- one put is a writing
+pub put_writes : (w0 w1 : Option (List ℕ)) (r : Result (Unit {0}) PutFault) (bytes : List ℕ) → Puts w0 w1 r bytes → Writes w0 w1 r bytes
+put_writes None w1 (Ok u) bytes e = e
+put_writes None w1 (Err f) bytes e = e
+put_writes (Some before) w1 (Ok u) bytes e = e
+put_writes (Some before) w1 (Err put.Failed) bytes e = e
+put_writes (Some before) w1 (Err put.Memory) bytes e = (0, omega arith, e ∙ ap Some (sym (append-nil before)))
+
+pub next_taken : {X : Type 0} (xs : List X) (i : ℕ) (x : X) → i < length xs → x ≡ get_or xs i x → take (i + 1) xs ≡ take i xs ++ (x ∷ [])
+next_taken xs i x h e = take_more xs i x h ∙ ap (λ y. take i xs ++ (y ∷ [])) (sym e)
+
+pub taken_dropped : {X : Type 0} (i : ℕ) (xs : List X) → take i xs ++ drop i xs ≡ xs
+taken_dropped zero xs = refl
 taken_dropped (suc i) [] = refl
-taken_dropped (suc i) (fact ∷ facts) = ap (λ (fs : List Fact). fact ∷ fs) (taken_dropped i facts)
+taken_dropped (suc i) (x ∷ xs) = ap (λ ys. x ∷ ys) (taken_dropped i xs)
 
--- the lines up to a fact and its own are those up to the next
-pub lines_next : (variables : List (List ℕ)) (name : List ℕ) (facts : List Fact) (i : ℕ) (fact : Fact) → take (i + 1) facts ≡ take i facts ++ (fact ∷ []) → lines variables name (take (i + 1) facts) ≡ lines variables name (take i facts) ++ line_of variables name fact
-lines_next variables name facts i fact e =
-    ap (lines variables name) e ∙ lines-append variables name (take i facts) (fact ∷ []) ∙ ap (λ (bs : List ℕ). lines variables name (take i facts) ++ bs) (one_line variables name fact)
+-- the pieces up to one and its own are those up to the next
+pub pieces_next : {X : Type 0} (f : X → List ℕ) (xs : List X) (i : ℕ) (x : X) → take (i + 1) xs ≡ take i xs ++ (x ∷ []) → flat_map f (take (i + 1) xs) ≡ flat_map f (take i xs) ++ f x
+pieces_next f xs i x e = ap (flat_map f) e ∙ flat_map-append f (take i xs) (x ∷ []) ∙ ap (λ (bs : List ℕ). flat_map f (take i xs) ++ bs) (append-nil (f x))
 
--- all lines are those up to a fact, its own, and those after it
-pub lines_split : (variables : List (List ℕ)) (name : List ℕ) (facts : List Fact) (i : ℕ) (fact : Fact) → take (i + 1) facts ≡ take i facts ++ (fact ∷ []) →
-    lines variables name facts ≡ lines variables name (take i facts) ++ (line_of variables name fact ++ lines variables name (drop (i + 1) facts))
-lines_split variables name facts i fact e =
-    ap (lines variables name) (sym (taken_dropped (i + 1) facts)) ∙ lines-append variables name (take (i + 1) facts) (drop (i + 1) facts)
-    ∙ ap (λ (bs : List ℕ). bs ++ lines variables name (drop (i + 1) facts)) (lines_next variables name facts i fact e)
-    ∙ append_assoc (lines variables name (take i facts)) (line_of variables name fact) (lines variables name (drop (i + 1) facts))
+-- all pieces are those up to one, its own, and those after it
+pub pieces_split : {X : Type 0} (f : X → List ℕ) (xs : List X) (i : ℕ) (x : X) → take (i + 1) xs ≡ take i xs ++ (x ∷ []) →
+    flat_map f xs ≡ flat_map f (take i xs) ++ (f x ++ flat_map f (drop (i + 1) xs))
+pieces_split f xs i x e =
+    ap (flat_map f) (sym (taken_dropped (i + 1) xs)) ∙ flat_map-append f (take (i + 1) xs) (drop (i + 1) xs)
+    ∙ ap (λ (bs : List ℕ). bs ++ flat_map f (drop (i + 1) xs)) (pieces_next f xs i x e)
+    ∙ append_assoc (flat_map f (take i xs)) (f x) (flat_map f (drop (i + 1) xs))
+
+-- a loop's puts, one piece each
+pub more_written : {X : Type 0} (f : X → List ℕ) (xs : List X) (i : ℕ) (x : X) (w0 w1 w2 : Option (List ℕ)) → i < length xs → x ≡ get_or xs i x →
+    Wrote w0 w1 (flat_map f (take i xs)) → Wrote w1 w2 (f x) → Wrote w0 w2 (flat_map f (take (i + 1) xs))
+more_written f xs i x w0 w1 w2 h e a b =
+    subst (λ (bs : List ℕ). Wrote w0 w2 bs) (sym (pieces_next f xs i x (next_taken xs i x h e))) (wrote_more w0 w1 w2 (flat_map f (take i xs)) (f x) a b)
+
+pub part_written : {X : Type 0} (f : X → List ℕ) (xs : List X) (i : ℕ) (x : X) (w0 w1 w2 : Option (List ℕ)) → i < length xs → x ≡ get_or xs i x →
+    Wrote w0 w1 (flat_map f (take i xs)) → PutsFront w1 w2 (f x) → PutsFront w0 w2 (flat_map f xs)
+part_written f xs i x w0 w1 w2 h e a b =
+    subst (λ (bs : List ℕ). PutsFront w0 w2 bs) (sym (pieces_split f xs i x (next_taken xs i x h e))) (front_more w0 w1 w2 (flat_map f (take i xs)) (f x) (flat_map f (drop (i + 1) xs)) a b)
+
+-- the lines of broken rules are pieces
+pub broken_pieces : (files : List (List ℕ)) (bs : List Broken) → broken_lines files bs ≡ flat_map (broken_line files) bs
+broken_pieces files [] = refl
+broken_pieces files (b ∷ bs) = ap (λ (ls : List ℕ). broken_line files b ++ ls) (broken_pieces files bs)
+
+-- the lines of a query's facts are pieces
+pub fact_pieces : (c : Compiled) (fs : List Clause) → map plain_clause fs ≡ facts_of c → (fs ≡ [] → ⊥) → lines_of c ≡ flat_map (λ (f : Clause). fact_line c (plain_clause f)) fs
+fact_pieces c [] e n = absurd (n refl)
+fact_pieces c (f ∷ fs) e n =
+    ap (λ (ks : List ClauseForm). fact_lines c.vars (map (fact_texts (names_of c.program)) ks)) (sym e)
+    ∙ flat_map-map (answer_text c.vars) (fact_texts (names_of c.program)) (map plain_clause (f ∷ fs))
+    ∙ flat_map-map (fact_line c) plain_clause (f ∷ fs)
+
+pub no_pieces : (c : Compiled) (fs : List Clause) → map plain_clause fs ≡ facts_of c → fs ≡ [] → lines_of c ≡ codes "false.\n"
+no_pieces c [] e n = ap (λ (ks : List ClauseForm). fact_lines c.vars (map (fact_texts (names_of c.program)) ks)) (sym e)
+no_pieces c (f ∷ fs) e n = cc
+
+-- the texts of a fact's constants, one after another
+pub texts_whole : (names : List (List ℕ)) (items head : List Expr) (i : ℕ) → length items ≤ i → items ≡ head → map (λ (e : Expr). head_text names (plain_expression e)) (take i items) ≡ map (head_text names) (map plain_expression head)
+texts_whole names items head i h e =
+    ap (map (λ (e : Expr). head_text names (plain_expression e))) (take_all i items h ∙ e) ∙ sym (map-map (head_text names) plain_expression head)
+
+-- as many arguments stand in each fact as there are variables
+pub each_wide : (c : Compiled) (fs : List Clause) → map plain_clause fs ≡ facts_of c → AreWide c → All (λ (f : Clause). length c.vars ≡ length f.head) fs
+each_wide c fs e w k d h =
+    let a : All (λ (f : ClauseForm). length c.vars ≡ length f.head) (map plain_clause fs) = subst (λ (ks : List ClauseForm). All (λ (f : ClauseForm). length c.vars ≡ length f.head) ks) (sym e) w in
+    a k (plain_clause d) (omega (arith, h, length-map fs plain_clause)) ∙ ap (λ (f : ClauseForm). length f.head) (get_or_mapped plain_clause fs k d) ∙ length-map (get_or fs k d).head plain_expression
+
+pub some_facts : (fs : List Clause) → nat_eq (length fs) 0 ≡ false → fs ≡ [] → ⊥
+some_facts fs e n = let z : nat_eq 0 0 ≡ false = subst (λ (ks : List Clause). nat_eq (length ks) 0 ≡ false) n e in cc
+
+-- a fault is passed on by a `?`
+pub passed_front : {Y : Type 0} (Q : PutFault → Type 0) (w0 w1 : Option (List ℕ)) (r : Result Y PutFault) (bytes : List ℕ) → IsErrAnd r Q → PutsFront w0 w1 bytes → Writes w0 w1 r bytes
+passed_front Q w0 w1 (Ok y) bytes e p = absurd e
+passed_front Q w0 w1 (Err f) bytes e p = p

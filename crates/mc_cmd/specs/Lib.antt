@@ -1,4 +1,5 @@
 pub mod Codes
 pub mod Outcome
-pub mod Program
-pub mod Words
+pub mod Call
+pub mod Lines
+pub mod Decisions

@@ -1,25 +1,30 @@
--- What a call of the command answers: the bytes on its output and on its error output, and the status. (This project's
--- profile.)
-use Rattle.std.specs.Prelude.{◌≡◌, ◌⊎◌, ℕ, ◌≤◌, List, [], ◌++◌, codes, Option, Some, None, Result, Ok, Err}
+-- What a call of the command answers: the bytes on its output and on its error output, and the status. (This project's profile.)
+use Rattle.std.specs.Prelude.{◌≡◌, ◌≢◌, ◌⊎◌, ℕ, Bool, true, false, List, [], ◌∷◌, ◌++◌, map, codes, decimal, Option, Some, None, slice_index_or}
 use Rattle.std.specs.FinMap as finmap
-use Rattle.mc_outside.specs.Counts.{Rose, PutFaults}
-use Rattle.mc_outside.specs.Meaning.{Held, first_part, Puts, PutsFront}
-use Rattle.mc_outside.specs.declared.traits.PutFault.{PutFault}
-use Rattle.mc_outside.specs.declared.traits.PutFault.TheVariants as put
-use Rattle.mc_facts_form.specs.declared.form.FactsModule.{FactsModule}
-use Rattle.mc_facts_form.specs.declared.form.Goal.{Goal}
-use Rattle.mc_facts_form.specs.Module.{IsFactsFile, IsFactsGoal}
-use Rattle.mc_cmd.specs.Words.{Request, asked, query_text}
-use Rattle.mc_cmd.specs.Program.{run_bytes, lines_of}
+use Rattle.mc_outside.specs.Meaning.{Held, first_part}
+use Rattle.mc_words.specs.Words.{Meaning, Check, Run, Query, Bounds, meaning, query_text}
+use Rattle.mc_model.specs.declared.rule.Broken.{Broken}
+use Rattle.mc_model.specs.Stream.{run_query}
+use Rattle.mc_model.specs.Printed.{printed, rule_name}
+use Rattle.mc_model.specs.Output.{query_bytes}
+use Rattle.mc_ground.specs.Database.{Database, Question, query_procedure, system_of}
+use Rattle.mc_compile.specs.Library.{library_texts}
+use Rattle.mc_compile.specs.Rejected.{AreLegal, Breaks}
+use Rattle.mc_compile.specs.Compiled.{asks}
 use Rattle.mc_cmd.specs.declared.status.Status.{Status}
 use Rattle.mc_cmd.specs.declared.status.Status.TheVariants as S
-use Rattle.mc_cmd.specs.declared.decide.Decision.{Decision}
-use Rattle.mc_cmd.specs.declared.decide.Decision.TheVariants as D
 
 pub record Outcome : Type 0 where
   pub out : List ℕ
   pub err : List ℕ
   pub status : Status
+
+-- a line on the error output, and nothing on the output
+abbrev pub said : List ℕ → Status → Outcome
+said line s = record { out = []; err = line; status = s }
+
+abbrev pub usage_line : List ℕ
+usage_line = codes "merc: usage: merc check|run|query|gen\n"
 
 abbrev pub not_built_line : List ℕ
 not_built_line = codes "merc: not built yet\n"
@@ -30,147 +35,87 @@ absent_line file = codes "merc: no file " ++ (file ++ codes "\n")
 abbrev pub unreadable_line : List ℕ → List ℕ
 unreadable_line file = codes "merc: cannot read " ++ (file ++ codes "\n")
 
-abbrev pub not_built : Outcome
-not_built = record { out = []; err = not_built_line; status = S.NotBuilt }
+-- `FILE:LINE: RULE TEXT`; what isn't in a file is in the query
+abbrev pub broken_line : (files : List (List ℕ)) → Broken → List ℕ
+broken_line files b = slice_index_or files b.at.file (codes "query") ++ (58 ∷ decimal b.at.line ++ (codes ": " ++ (rule_name b.rule ++ (32 ∷ b.what ++ codes "\n"))))
 
-abbrev pub absent : List ℕ → Outcome
-absent file = record { out = []; err = absent_line file; status = S.Absent }
+abbrev pub broken_lines : (files : List (List ℕ)) → List Broken → List ℕ
+broken_lines files [] = []
+broken_lines files (b ∷ bs) = broken_line files b ++ broken_lines files bs
 
-abbrev pub answered : FactsModule → Goal → Outcome
-answered m g = record { out = run_bytes m g; err = []; status = S.Done }
+-- the files that a command names, in order
+abbrev pub files_of : Meaning → List (List ℕ)
+files_of (Check files) = files
+files_of (Run bounds files) = files
+files_of (Query first bounds goal files) = files
 
--- the file's bytes and the goal are of the form
-pub record IsLegal (bytes goal : List ℕ) (m : FactsModule) (g : Goal) : Type 0 where
-  pub file : IsFactsFile bytes m
-  pub query : IsFactsGoal (query_text goal) m g
+-- the text of its query
+abbrev pub query_of : Meaning → Option (List ℕ)
+query_of (Check files) = None
+query_of (Run bounds files) = None
+query_of (Query first bounds goal files) = Some (query_text goal)
 
--- no module and goal are of the form
-abbrev pub IsOfNoForm : List ℕ → List ℕ → Type 0
-IsOfNoForm bytes goal = (m : FactsModule) (g : Goal) → IsLegal bytes goal m g → ⊥
+-- whether it asks for what isn't built yet: a run of `main`, or a first answer alone
+abbrev pub is_unbuilt : Meaning → Bool
+is_unbuilt (Check files) = false
+is_unbuilt (Run bounds files) = true
+is_unbuilt (Query first bounds goal files) = first
 
--- what is answered of a query over the bytes of a file, where it is there
-abbrev pub DefinedOf : Request → Option (List ℕ) → Outcome → Type 0
-DefinedOf r None o = o ≡ absent r.file
-DefinedOf r (Some bytes) o =
-    ((m : FactsModule) × ((g : Goal) × (IsLegal (first_part bytes) r.goal m g × (o ≡ answered m g)))) ⊎ (IsOfNoForm (first_part bytes) r.goal × (o ≡ not_built))
+-- whether it runs `main`
+abbrev pub is_run : Meaning → Bool
+is_run (Run bounds files) = true
+is_run _ = false
 
-abbrev pub DefinedFor : Option Request → Held → Outcome → Type 0
-DefinedFor None held o = o ≡ not_built
-DefinedFor (Some r) held o = DefinedOf r (finmap.get held r.file) o
+-- the bounds of a run; without one they are nothing
+abbrev pub bounds_of : Meaning → Bounds
+bounds_of (Check files) = record { budget = 0; depth = 0 }
+bounds_of (Run bounds files) = bounds
+bounds_of (Query first bounds goal files) = bounds
+
+-- the bytes that a query's run puts on the output
+abbrev pub run_bytes : Database → Question → Bounds → List ℕ
+run_bytes d q b =
+    query_bytes (printed (map (λ c. c.name) d.constants)) q.variables (run_query (system_of d q).world.outcome (system_of d q).procs b.budget b.depth (query_procedure d q))
+
+abbrev pub answered : Option Question → Database → Bounds → List ℕ
+answered None d b = []
+answered (Some q) d b = run_bytes d q b
+
+-- What is answered of a command whose files hold these texts.
+pub data Answers (m : Meaning) (texts : List (List ℕ)) : Outcome → Type 0 where
+  -- the sources break rules
+  rejected : {broken : List Broken} → Breaks library_texts texts (query_of m) broken → broken ≢ [] → Answers m texts (said (broken_lines (files_of m) broken) S.Rejected)
+  -- they break none, and something is asked for that isn't built yet
+  not_built : (l : AreLegal library_texts texts (query_of m)) → (is_unbuilt m ≡ true) ⊎ (asks l ≡ None) → Answers m texts (said not_built_line S.NotBuilt)
+  -- they break none, and the query, where there is one, is answered
+  done : (l : AreLegal library_texts texts (query_of m)) {d : Database} {q : Option Question} → is_unbuilt m ≡ false → asks l ≡ Some (d, q) →
+      Answers m texts (record { out = answered q d (bounds_of m); err = []; status = S.Done })
+
+-- the texts that files hold, as much of each as is read, or the first file that isn't there
+pub data Texts : Type 0 where
+  These : List (List ℕ) → Texts
+  Missing : (file : List ℕ) → Texts
+
+abbrev pub with_text : List ℕ → Texts → Texts
+with_text text (These texts) = These (text ∷ texts)
+with_text text (Missing file) = Missing file
+
+abbrev pub text_or_missing : (file : List ℕ) → Option (List ℕ) → Texts → Texts
+text_or_missing file None rest = Missing file
+text_or_missing file (Some bytes) rest = with_text (first_part bytes) rest
+
+abbrev pub texts_in : Held → (files : List (List ℕ)) → Texts
+texts_in held [] = These []
+texts_in held (f ∷ fs) = text_or_missing f (finmap.get held f) (texts_in held fs)
+
+abbrev pub AnswersOver : Meaning → Texts → Outcome → Type 0
+AnswersOver m (These texts) o = Answers m texts o
+AnswersOver m (Missing file) o = o ≡ said (absent_line file) S.Absent
+
+abbrev pub DefinedFor : Option Meaning → Held → Outcome → Type 0
+DefinedFor None held o = o ≡ said usage_line S.Usage
+DefinedFor (Some m) held o = AnswersOver m (texts_in held (files_of m)) o
 
 -- the defined answer of a list of words, by the bytes of each file
 abbrev pub Defined : List (List ℕ) → Held → Outcome → Type 0
-Defined words held o = DefinedFor (asked words) held o
-
--- what is told of a file is that it is not there, or that it and the goal are of this form, or of none
-abbrev pub LacksFile : Option Held → List ℕ → Type 0
-LacksFile None file = Unit {0}
-LacksFile (Some held) file = finmap.get held file ≡ None
-
-abbrev pub HoldsForm : Option Held → Request → FactsModule → Goal → Type 0
-HoldsForm None r m g = Unit {0}
-HoldsForm (Some held) r m g = (bytes : List ℕ) × (finmap.get held r.file ≡ Some bytes) × IsLegal (first_part bytes) r.goal m g
-
-abbrev pub HoldsNoForm : Option Held → Request → Type 0
-HoldsNoForm None r = Unit {0}
-HoldsNoForm (Some held) r = (bytes : List ℕ) × (finmap.get held r.file ≡ Some bytes) × IsOfNoForm (first_part bytes) r.goal
-
--- what a decision says of a file's bytes and a goal
-abbrev pub Understood : Decision → (bytes goal : List ℕ) → Type 0
-Understood (D.Answer m g) bytes goal = IsLegal bytes goal m g
-Understood D.NotBuilt bytes goal = IsOfNoForm bytes goal
-Understood (D.Absent line) bytes goal = ⊥
-Understood (D.Unreadable line) bytes goal = ⊥
-Understood D.Memory bytes goal = Unit {0}
-
--- what a decision says of the words and the files
-abbrev pub IsDecided : List (List ℕ) → Option Held → Decision → Type 0
-IsDecided words held (D.Answer m g) =
-    (r : Request) × (asked words ≡ Some r) × HoldsForm held r m g × ((bytes : List ℕ) × IsLegal bytes r.goal m g)
-IsDecided words held D.NotBuilt = (asked words ≡ None) ⊎ ((r : Request) × (asked words ≡ Some r) × HoldsNoForm held r)
-IsDecided words held (D.Absent line) = (r : Request) × (asked words ≡ Some r) × LacksFile held r.file × (line.items ≡ absent_line r.file)
-IsDecided words held (D.Unreadable line) = (r : Request) × (asked words ≡ Some r) × (line.items ≡ unreadable_line r.file)
-IsDecided words held D.Memory = Unit {0}
-
--- and of the counts of the files
-abbrev pub CountsFaults : Decision → ℕ → ℕ → Type 0
-CountsFaults (D.Answer m g) before now = now ≡ before
-CountsFaults D.NotBuilt before now = now ≡ before
-CountsFaults (D.Absent line) before now = now ≡ before
-CountsFaults (D.Unreadable line) before now = Rose before now
-CountsFaults D.Memory before now = Unit {0}
-
-abbrev pub CountsAbsents : Decision → ℕ → ℕ → Type 0
-CountsAbsents (D.Answer m g) before now = now ≡ before
-CountsAbsents D.NotBuilt before now = now ≡ before
-CountsAbsents (D.Absent line) before now = Rose before now
-CountsAbsents (D.Unreadable line) before now = now ≡ before
-CountsAbsents D.Memory before now = Unit {0}
-
--- a sink was given these bytes
-abbrev pub Wrote : Option (List ℕ) → Option (List ℕ) → List ℕ → Type 0
-Wrote None after bytes = after ≡ None
-Wrote (Some before) after bytes = after ≡ Some (before ++ bytes)
-
--- what is written of several pieces: all of them, or some from the front
-abbrev pub Writes : {T : Type 0} → Option (List ℕ) → Option (List ℕ) → Result T PutFault → List ℕ → Type 0
-Writes before after (Ok u) bytes = Wrote before after bytes
-Writes before after (Err e) bytes = PutsFront before after bytes
-
--- the store tells what it holds, and the sinks what was written
-pub record Told (store : Option Held) (held : Held) (out : Option (List ℕ)) (before_out : List ℕ) (err : Option (List ℕ)) (before_err : List ℕ) : Type 0 where
-  pub files : store ≡ Some held
-  pub output : out ≡ Some before_out
-  pub errors : err ≡ Some before_err
-
--- no count of faults rose
-pub record NoneRose (files0 files1 out0 out1 err0 err1 : ℕ) : Type 0 where
-  pub files : Rose files0 files1 → ⊥
-  pub output : Rose out0 out1 → ⊥
-  pub errors : Rose err0 err1 → ⊥
-
--- the status after a writing: the given one where all was written
-abbrev pub ended : {T : Type 0} → Result T PutFault → Status → Status
-ended (Ok u) s = s
-ended (Err put.Failed) s = S.WriteFault
-ended (Err put.Memory) s = S.Memory
-
--- the line that goes to the error output after a decision, and the status of it
-abbrev pub Says : Decision → List ℕ → Status → Type 0
-Says (D.Answer m g) line s = ⊥
-Says D.NotBuilt line s = (line ≡ not_built_line) × (s ≡ S.NotBuilt)
-Says (D.Absent bytes) line s = (line ≡ bytes.items) × (s ≡ S.Absent)
-Says (D.Unreadable bytes) line s = (line ≡ bytes.items) × (s ≡ S.ReadFault)
-Says D.Memory line s = ⊥
-
--- A sink before and after a call: what was written, and the count of faults.
-pub record Sinks : Type 0 where
-  pub before : Option (List ℕ)
-  pub after : Option (List ℕ)
-  pub faults_before : ℕ
-  pub faults_after : ℕ
-
-abbrev pub IsUntouched : Sinks → Type 0
-IsUntouched k = (k.after ≡ k.before) × (k.faults_after ≡ k.faults_before)
-
--- What a call did: it put the answers' lines on the output, or one line on the error output, or nothing.
-pub data Happened (words : List (List ℕ)) (store : Option Held) (faults0 faults1 absents0 absents1 : ℕ) (out err : Sinks) : Status → Type 0 where
-  lines : {m : FactsModule} {g : Goal} (r : Result (Unit {0}) PutFault) → IsDecided words store (D.Answer m g) → CountsFaults (D.Answer m g) faults0 faults1 → CountsAbsents (D.Answer m g) absents0 absents1 →
-      Writes out.before out.after r (lines_of m g) → PutFaults r out.faults_before out.faults_after → IsUntouched err → Happened words store faults0 faults1 absents0 absents1 out err (ended r S.Done)
-  line : (s : Status) (text : List ℕ) (d : Decision) (r : Result (Unit {0}) PutFault) → IsDecided words store d → CountsFaults d faults0 faults1 → CountsAbsents d absents0 absents1 → Says d text s →
-      Puts err.before err.after r text → PutFaults r err.faults_before err.faults_after → IsUntouched out → Happened words store faults0 faults1 absents0 absents1 out err (ended r s)
-  nothing : faults0 ≤ faults1 → IsUntouched out → IsUntouched err → Happened words store faults0 faults1 absents0 absents1 out err S.Memory
-
--- the status is one of those that can come at this stage
-abbrev pub CanCome : Status → Type 0
-CanCome S.Done = Unit {0}
-CanCome S.Rejected = ⊥
-CanCome S.Usage = ⊥
-CanCome S.Threw = ⊥
-CanCome S.Budget = ⊥
-CanCome S.TooDeep = ⊥
-CanCome S.ReadFault = Unit {0}
-CanCome S.WriteFault = Unit {0}
-CanCome S.Memory = Unit {0}
-CanCome S.Absent = Unit {0}
-CanCome S.NotBuilt = Unit {0}
+Defined words held o = DefinedFor (meaning words) held o

@@ -1,83 +1,17 @@
-ghost use Rattle.std.specs.Prelude.{◌≡◌, ◌≤◌, false, map, string_bytes, IsTrue, ◌↔◌, IfOk, IfSome, IfNone, Some, None};
-ghost use Rattle.mc_cmd.specs.Words.{asked, begins_with_dash, query_text, stops_after, is_blank};
-ghost use Rattle.mc_cmd.specs.Outcome.{Understood, IsDecided, CountsFaults, CountsAbsents, absent_line, unreadable_line};
+ghost use Rattle.std.specs.Prelude.{◌≡◌, ◌≤◌, ◌||◌, length, map, option_map, string_bytes, IfOk, IfErr};
+ghost use Rattle.mc_words.specs.Plain.{plain_command, plain_text, plain_texts};
+ghost use Rattle.mc_compile.specs.Reading.{texts_of, text_of};
+ghost use Rattle.mc_compile.specs.Compiled.{is_first};
+ghost use Rattle.mc_cmd.specs.Outcome.{absent_line, unreadable_line, files_of, query_of, is_run, is_unbuilt};
+ghost use Rattle.mc_cmd.specs.Call.{HoldTexts};
+ghost use Rattle.mc_cmd.specs.Decisions.{CountsAbsents, CountsFaults, IsDecided, IsHeld, IsStopped, Stops, StopsAt, Understood, given_names};
 
-use mc_facts_form::{FactsModule, FormFault, Goal, facts_of, goal_of, one_module};
+use crate::decision::Decision;
+use mc_base::{Memory, Row, Text};
+use mc_compile::{CompileFault, Given, Query, compile};
 use mc_outside::{FileAnswer, Files};
+use mc_words::{Command, query_text, read_words};
 use std::alloc::{AllocError, Global};
-
-/// What is to be answered, before anything is written.
-#[derive(Drop)]
-pub enum Decision {
-    /// The facts of the goal's predicate, one line each.
-    Answer(FactsModule, Goal),
-    NotBuilt,
-    /// There is no such file: the line that says so.
-    Absent(Vec<u8>),
-    /// The file could not be read: the line that says so.
-    Unreadable(Vec<u8>),
-    Memory,
-}
-
-/// Whether a word begins with `-`.
-fn begins_with_dash(word: &str) -> bool
-    ensures { result ≡ begins_with_dash word.now }
-{
-    match word.as_bytes() {
-        [] => false,
-        [first, ..] => *first == b'-',
-    }
-}
-
-/// The goal and the file that the words ask for.
-fn request(words: &Vec<String>) -> Option<(&str, &str)>
-    ensures some { IfSome result (λ r. asked (map string_bytes words.now.items) ≡ Some (record { goal = r.0.now; file = r.1.now })) }
-    ensures none { IfNone result (asked (map string_bytes words.now.items) ≡ None) }
-{
-    let [_, command, goal, file] = words.as_slice() else {
-        return None;
-    };
-    if command.as_str() == "query"
-        && !begins_with_dash(goal.as_str())
-        && !begins_with_dash(file.as_str())
-    {
-        Some((goal.as_str(), file.as_str()))
-    } else {
-        None
-    }
-}
-
-/// The text of a query: the goal with its full stop, and a line end.
-fn query_text(alloc: Global, goal: &str) -> Result<Vec<u8>, AllocError>
-    ensures { IfOk result (λ text. text.items ≡ query_text goal.now) }
-{
-    let mut text = goal.as_bytes().to_vec(alloc)?;
-    if stops(goal.as_bytes()) {
-        text.extend_from_slice(b"\n")?;
-    } else {
-        text.extend_from_slice(b" .\n")?;
-    }
-    Ok(text)
-}
-
-/// Whether the last byte that isn't blank is a full stop.
-fn stops(goal: &[u8]) -> bool
-    ensures { result ≡ stops_after false goal.now }
-{
-    let mut stops = false;
-    for byte in goal {
-        if !is_blank(*byte) {
-            stops = *byte == b'.';
-        }
-    }
-    stops
-}
-
-fn is_blank(byte: u8) -> bool
-    ensures { result ≡ is_blank byte }
-{
-    (9 <= byte && byte <= 13) || byte == 32
-}
 
 fn absent_line(alloc: Global, file: &str) -> Result<Vec<u8>, AllocError>
     ensures { IfOk result (λ line. line.items ≡ absent_line file.now) }
@@ -97,47 +31,130 @@ fn unreadable_line(alloc: Global, file: &str) -> Result<Vec<u8>, AllocError>
     Ok(line)
 }
 
-/// What the bytes of the file and the goal ask for.
-fn read_both(alloc: Global, bytes: &[u8], goal: &str) -> Decision
-    ensures { Understood result bytes.now goal.now }
+/// What is decided of a file that isn't read.
+fn stopped(alloc: Global, file: &str, answer: FileAnswer) -> Decision
+    ensures { IsStopped file.now answer result }
 {
-    one_module();
-    let facts = match facts_of(alloc, bytes) {
-        Ok(facts) => facts,
-        Err(FormFault::NotOfForm) => return Decision::NotBuilt,
-        Err(FormFault::Memory) => return Decision::Memory,
-    };
-    let Ok(text) = query_text(alloc, goal) else {
-        return Decision::Memory;
-    };
-    match goal_of(alloc, text.as_slice(), &facts) {
-        Ok(goal) => Decision::Answer(facts, goal),
-        Err(FormFault::NotOfForm) => Decision::NotBuilt,
-        Err(FormFault::Memory) => Decision::Memory,
-    }
-}
-
-/// Reads the words and the file, and decides what is to be answered. Only here are files read.
-pub fn decide<F: Files>(alloc: Global, words: &Vec<String>, files: &mut F) -> Decision
-    ensures decided { IsDecided (map string_bytes words.now.items) (F.held files.old) result }
-    ensures held { F.held files.new ≡ F.held files.old }
-    ensures faults_later { F.faults files.old ≤ F.faults files.new }
-    ensures faults { CountsFaults result (F.faults files.old) (F.faults files.new) }
-    ensures absents { CountsAbsents result (F.absents files.old) (F.absents files.new) }
-{
-    let Some((goal, file)) = request(words) else {
-        return Decision::NotBuilt;
-    };
-    match files.read(alloc, file) {
-        Ok(bytes) => read_both(alloc, bytes.as_slice(), goal),
-        Err(FileAnswer::Absent) => match absent_line(alloc, file) {
+    match answer {
+        FileAnswer::Absent => match absent_line(alloc, file) {
             Ok(line) => Decision::Absent(line),
             Err(_) => Decision::Memory,
         },
-        Err(FileAnswer::Failed) => match unreadable_line(alloc, file) {
+        FileAnswer::Failed => match unreadable_line(alloc, file) {
             Ok(line) => Decision::Unreadable(line),
             Err(_) => Decision::Memory,
         },
-        Err(FileAnswer::Memory) => Decision::Memory,
+        FileAnswer::Memory => Decision::Memory,
+    }
+}
+
+/// Reads one file.
+fn read_file<F: Files>(alloc: Global, name: &str, files: &mut F) -> Result<Given, Decision>
+    ensures named { IfOk result (λ given. given.name ≡ name.now) }
+    ensures read { IfOk result (λ given. IsHeld (F.held files.old) name.now given.bytes) }
+    ensures stopped { IfErr result (StopsAt (F.held files.old) name.now) }
+    ensures held { F.held files.new ≡ F.held files.old }
+    ensures counted { IfOk result (λ _. (F.faults files.new ≡ F.faults files.old) × (F.absents files.new ≡ F.absents files.old)) }
+    ensures faults { IfErr result (λ decision. CountsFaults decision (F.faults files.old) (F.faults files.new)) }
+    ensures absents { IfErr result (λ decision. CountsAbsents decision (F.absents files.old) (F.absents files.new)) }
+{
+    let bytes = match files.read(alloc, name) {
+        Ok(bytes) => bytes,
+        Err(answer) => return Err(stopped(alloc, name, answer)),
+    };
+    Ok(Given {
+        name: Text::new(alloc, name.as_bytes())?,
+        bytes: Text::from_vec(bytes),
+    })
+}
+
+/// Reads files, one after another. The first that is absent or can't be read ends it.
+fn read_files<F: Files>(
+    alloc: Global,
+    names: &[&str],
+    files: &mut F,
+) -> Result<Row<Given>, Decision>
+    requires { length names.now ≤ 64 }
+    ensures named { IfOk result (λ sources. given_names sources ≡ plain_texts names.now) }
+    ensures read { IfOk result (λ sources. HoldTexts (F.held files.old) (plain_texts names.now) (texts_of sources)) }
+    ensures stopped { IfErr result (Stops (F.held files.old) (plain_texts names.now)) }
+    ensures held { F.held files.new ≡ F.held files.old }
+    ensures counted { IfOk result (λ _. (F.faults files.new ≡ F.faults files.old) × (F.absents files.new ≡ F.absents files.old)) }
+    ensures faults { IfErr result (λ decision. CountsFaults decision (F.faults files.old) (F.faults files.new)) }
+    ensures absents { IfErr result (λ decision. CountsAbsents decision (F.absents files.old) (F.absents files.new)) }
+{
+    let mut sources = Row::new(alloc);
+    for name in names {
+        let source = read_file(alloc, name, files)?;
+        sources.push(source)?;
+    }
+    Ok(sources)
+}
+
+fn files_of<'c, 'a>(command: &'c Command<'a>) -> &'c [&'a str]
+    ensures { plain_texts result.now ≡ files_of (plain_command command.now) }
+{
+    match command {
+        Command::Check(files) | Command::Run(_, files) | Command::Query { files, .. } => {
+            files.as_slice()
+        }
+    }
+}
+
+/// The query of a command, where it has one.
+fn query_of(alloc: Global, command: &Command<'_>) -> Result<Option<Query>, Memory>
+    ensures text { IfOk result (λ query. text_of query ≡ query_of (plain_command command.now)) }
+    ensures unbuilt { IfOk result (λ query. (is_run (plain_command command.now) || is_first query) ≡ is_unbuilt (plain_command command.now)) }
+{
+    let Command::Query { first, goal, .. } = command else {
+        return Ok(None);
+    };
+    let text = query_text(alloc, goal)?;
+    Ok(Some(Query {
+        text: Text::new(alloc, text.as_slice())?,
+        first: *first,
+    }))
+}
+
+/// Whether a command runs `main`.
+fn is_run(command: &Command<'_>) -> bool
+    ensures { result ≡ is_run (plain_command command.now) }
+{
+    matches!(command, Command::Run(..))
+}
+
+/// Compiles the files of a command, and decides by that.
+fn compiled(alloc: Global, command: &Command<'_>, sources: Row<Given>) -> Decision
+    requires { given_names sources ≡ files_of (plain_command command.now) }
+    ensures { Understood (plain_command command.now) (texts_of sources) result }
+{
+    let query = match query_of(alloc, command) {
+        Ok(query) => query,
+        Err(Memory) => return Decision::Memory,
+    };
+    match compile(alloc, &sources, query.as_ref(), is_run(command)) {
+        Ok(compiled) if query.is_some() => Decision::Answers(compiled),
+        Ok(_) => Decision::Checked,
+        Err(CompileFault::Rejected(broken)) => Decision::Rejected(sources, broken),
+        Err(CompileFault::NotBuilt) => Decision::NotBuilt,
+        Err(CompileFault::Memory) => Decision::Memory,
+    }
+}
+
+/// Reads the words and the files, and decides what is to be answered. Only here are files read.
+pub fn decide<F: Files>(alloc: Global, words: &Vec<String>, files: &mut F) -> Decision
+    ensures decided { IsDecided (map string_bytes words.now.items) (F.held files.old) result }
+    ensures held { F.held files.new ≡ F.held files.old }
+    ensures faults { CountsFaults result (F.faults files.old) (F.faults files.new) }
+    ensures absents { CountsAbsents result (F.absents files.old) (F.absents files.new) }
+{
+    let command = match read_words(alloc, words) {
+        Ok(Some(command)) => command,
+        Ok(None) => return Decision::Usage,
+        Err(Memory) => return Decision::Memory,
+    };
+    match read_files(alloc, files_of(&command), files) {
+        Ok(sources) => compiled(alloc, &command, sources),
+        Err(decision) => decision,
     }
 }

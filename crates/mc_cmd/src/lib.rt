@@ -2,6 +2,7 @@
 #![tactic(auto)]
 
 mod decide;
+mod decision;
 mod status;
 #[cfg(test)]
 mod tests;

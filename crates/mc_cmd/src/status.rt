@@ -4,15 +4,25 @@ ghost use Rattle.mc_cmd.specs.Codes.{code_of};
 /// How a call of the command ended.
 #[derive(Clone, Copy, Debug, PartialEq, Eq)]
 pub enum Status {
+    /// What was asked is answered.
     Done,
+    /// The sources break rules.
     Rejected,
+    /// The words mean no command.
     Usage,
+    /// The run threw an exception that nothing caught.
     Threw,
+    /// The run made as many calls as it may.
     Budget,
+    /// The calls of the run stood as high as they may.
     TooDeep,
+    /// A file or the input could not be read.
     ReadFault,
+    /// The output or the error output could not be written.
     WriteFault,
+    /// There was no room.
     Memory,
+    /// There is no file of that name.
     Absent,
     /// What was asked is not built yet. This answer goes when every program runs.
     NotBuilt,

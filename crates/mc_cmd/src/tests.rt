@@ -15,6 +15,13 @@ parent(bob, cid).
 parent(ann, bob).
 ";
 
+const LINES: &[u8] =
+    b"X = ann, Y = bob.\nX = ann, Y = cid.\nX = bob, Y = cid.\nX = ann, Y = bob.\n";
+
+const USAGE: &[u8] = b"merc: usage: merc check|run|query|gen\n";
+
+const NOT_BUILT: &[u8] = b"merc: not built yet\n";
+
 /// What a call of the command answered.
 #[derive(Drop)]
 struct Answered {
@@ -22,6 +29,9 @@ struct Answered {
     out: Vec<u8>,
     err: Vec<u8>,
 }
+
+/// A file of a store, by its name.
+type File<'a> = (&'a str, &'a [u8]);
 
 /// The calls that fail: those of the files, of the output and of the error output, by their numbers.
 #[derive(Clone, Copy)]
@@ -46,18 +56,17 @@ fn words(alloc: Global, rest: &[&str]) -> Result<Vec<String>, AllocError> {
     Ok(words)
 }
 
-/// Calls the command on one file in memory, or on none where it has no name.
+/// Calls the command on files in memory.
 fn call(
     rt: &impl Abort,
     alloc: Global,
     rest: &[&str],
-    file: &str,
-    bytes: &[u8],
+    files: &[File<'_>],
     failing: &Failing,
 ) -> Result<Answered, AllocError> {
     let mut held = Vec::new(alloc);
-    if !file.is_empty() {
-        held.push((String::from_str(alloc, file)?, bytes.to_vec(alloc)?))?;
+    for (name, bytes) in files {
+        held.push((String::from_str(alloc, name)?, bytes.to_vec(alloc)?))?;
     }
     assert!(rt; MemFiles::are_distinct(held.as_slice()));
     let mut files = MemFiles::new(held, failing.files.to_vec(alloc)?);
@@ -79,224 +88,278 @@ fn check(rt: &impl Abort, answered: &Answered, status: Status, out: &[u8], err: 
     assert!(rt; answered.err.as_slice() == err);
 }
 
-const LINES: &[u8] =
-    b"X = ann, Y = bob.\nX = ann, Y = cid.\nX = bob, Y = cid.\nX = ann, Y = bob.\n";
-
 #[test]
-fn the_first_path_in_rows(rt: HostRuntime) -> Result<(), Fail> {
+fn facts_are_answered(rt: HostRuntime) -> Result<(), Fail> {
     let alloc = rt.alloc();
+    let files: [File<'_>; 1] = [("family.m", FAMILY)];
     let query = ["query", "parent(X, Y)", "family.m"];
-
-    let answers = call(&rt, alloc, &query, "family.m", FAMILY, &NONE)?;
-    check(&rt, &answers, Status::Done, LINES, b"");
-
-    let absent = call(&rt, alloc, &query, "", b"", &NONE)?;
     check(
         &rt,
-        &absent,
-        Status::Absent,
+        &call(&rt, alloc, &query, &files, &NONE)?,
+        Status::Done,
+        LINES,
         b"",
-        b"merc: no file family.m\n",
     );
-
-    let unreadable = Failing {
-        files: &[1],
-        ..NONE
-    };
-    let unread = call(&rt, alloc, &query, "family.m", FAMILY, &unreadable)?;
+    let ended = ["query", "--", "parent(X, Y) .", "family.m"];
     check(
         &rt,
-        &unread,
-        Status::ReadFault,
+        &call(&rt, alloc, &ended, &files, &NONE)?,
+        Status::Done,
+        LINES,
         b"",
-        b"merc: cannot read family.m\n",
     );
-
-    let second_put = Failing { out: &[2], ..NONE };
-    let cut = call(&rt, alloc, &query, "family.m", FAMILY, &second_put)?;
-    check(&rt, &cut, Status::WriteFault, b"X = ann, Y = bob.\n", b"");
-
-    let twice = ["query", "parent(X, X)", "family.m"];
-    let not_built = call(&rt, alloc, &twice, "family.m", FAMILY, &NONE)?;
+    let qualified = ["query", "--budget=1", "family.parent(A, B)", "family.m"];
     check(
         &rt,
-        &not_built,
-        Status::NotBuilt,
+        &call(&rt, alloc, &qualified, &files, &NONE)?,
+        Status::Done,
+        b"A = ann, B = bob.\nA = ann, B = cid.\nA = bob, B = cid.\nA = ann, B = bob.\n",
         b"",
-        b"merc: not built yet\n",
+    );
+    check(
+        &rt,
+        &call(&rt, alloc, &["check", "family.m"], &files, &NONE)?,
+        Status::Done,
+        b"",
+        b"",
     );
     Ok(())
 }
 
 #[test]
-fn statuses_have_their_codes(rt: HostRuntime) {
-    assert!(rt; status_code(Status::Done) == 0);
-    assert!(rt; status_code(Status::Absent) == 9);
-    assert!(rt; status_code(Status::NotBuilt) == 10);
+fn what_is_not_built_is_told(rt: HostRuntime) -> Result<(), Fail> {
+    let alloc = rt.alloc();
+    let files: [File<'_>; 1] = [("family.m", FAMILY)];
+    let lists: [&[&str]; 5] = [
+        &["query", "--first", "parent(X, Y)", "family.m"],
+        &["query", "parent(X, X)", "family.m"],
+        &["query", "parent(ann, Y)", "family.m"],
+        &["query", "parent(X, _)", "family.m"],
+        &["run", "family.m"],
+    ];
+    for list in lists {
+        check(
+            &rt,
+            &call(&rt, alloc, list, &files, &NONE)?,
+            Status::NotBuilt,
+            b"",
+            NOT_BUILT,
+        );
+    }
+    Ok(())
 }
 
 #[test]
-fn each_failing_call_is_told(rt: HostRuntime) -> Result<(), Fail> {
+fn other_words_tell_the_usage(rt: HostRuntime) -> Result<(), Fail> {
     let alloc = rt.alloc();
+    let files: [File<'_>; 1] = [("family.m", FAMILY)];
+    let lists: [&[&str]; 7] = [
+        &[],
+        &["check"],
+        &["query", "parent(X, Y)"],
+        &["check", "-x", "family.m"],
+        &["query", "--budget", "0", "loop", "deep.m"],
+        &["query", "--budget", "5", "--budget", "6", "loop", "deep.m"],
+        &["ask", "parent(X, Y)", "family.m"],
+    ];
+    for list in lists {
+        check(
+            &rt,
+            &call(&rt, alloc, list, &files, &NONE)?,
+            Status::Usage,
+            b"",
+            USAGE,
+        );
+    }
+    Ok(())
+}
+
+#[test]
+fn up_to_64_files_are_read(rt: HostRuntime) -> Result<(), Fail> {
+    let alloc = rt.alloc();
+    let mut list = Vec::new(alloc);
+    list.push("check")?;
+    for _ in 0..64 {
+        list.push("none.m")?;
+    }
+    check(
+        &rt,
+        &call(&rt, alloc, list.as_slice(), &[], &NONE)?,
+        Status::Absent,
+        b"",
+        b"merc: no file none.m\n",
+    );
+    list.push("none.m")?;
+    check(
+        &rt,
+        &call(&rt, alloc, list.as_slice(), &[], &NONE)?,
+        Status::Usage,
+        b"",
+        USAGE,
+    );
+    Ok(())
+}
+
+#[test]
+fn the_first_file_that_is_not_read_is_named(rt: HostRuntime) -> Result<(), Fail> {
+    let alloc = rt.alloc();
+    let files: [File<'_>; 2] = [("family.m", FAMILY), ("broken.m", b"p(")];
+    let absent = ["check", "family.m", "none.m", "nothing.m"];
+    check(
+        &rt,
+        &call(&rt, alloc, &absent, &files, &NONE)?,
+        Status::Absent,
+        b"",
+        b"merc: no file none.m\n",
+    );
+    // A fault of a file before it isn't told.
+    check(
+        &rt,
+        &call(&rt, alloc, &["check", "broken.m", "none.m"], &files, &NONE)?,
+        Status::Absent,
+        b"",
+        b"merc: no file none.m\n",
+    );
+    let list = ["check", "family.m", "broken.m", "none.m"];
+    for (number, name) in [(1, "family.m"), (2, "broken.m"), (3, "none.m")] {
+        let numbers = [number];
+        let failing = Failing {
+            files: &numbers,
+            ..NONE
+        };
+        let unread = call(&rt, alloc, &list, &files, &failing)?;
+        let mut line = b"merc: cannot read ".to_vec(alloc)?;
+        line.extend_from_slice(name.as_bytes())?;
+        line.extend_from_slice(b"\n")?;
+        check(&rt, &unread, Status::ReadFault, b"", line.as_slice());
+    }
+    Ok(())
+}
+
+#[test]
+fn each_failing_put_is_told(rt: HostRuntime) -> Result<(), Fail> {
+    let alloc = rt.alloc();
+    let files: [File<'_>; 1] = [("family.m", FAMILY)];
     let query = ["query", "parent(X, Y)", "family.m"];
     // Each of the four puts on the output in turn.
     for (number, written) in [(1, 0), (2, 18), (3, 36), (4, 54)] {
-        let out = [number];
-        let failing = Failing { out: &out, ..NONE };
-        let cut = call(&rt, alloc, &query, "family.m", FAMILY, &failing)?;
+        let numbers = [number];
+        let failing = Failing {
+            out: &numbers,
+            ..NONE
+        };
+        let cut = call(&rt, alloc, &query, &files, &failing)?;
         let (front, _) = LINES.split_at(written);
         check(&rt, &cut, Status::WriteFault, front, b"");
     }
     // The one put on the error output.
     let failing = Failing { err: &[1], ..NONE };
-    let absent = call(&rt, alloc, &query, "", b"", &failing)?;
-    check(&rt, &absent, Status::WriteFault, b"", b"");
-    let words = call(
-        &rt,
-        alloc,
-        &["run", "family.m"],
-        "family.m",
-        FAMILY,
-        &failing,
-    )?;
-    check(&rt, &words, Status::WriteFault, b"", b"");
-    Ok(())
-}
-
-#[test]
-fn other_words_are_not_built(rt: HostRuntime) -> Result<(), Fail> {
-    let alloc = rt.alloc();
-    let lists: [&[&str]; 7] = [
-        &[],
-        &["query"],
-        &["query", "parent(X, Y)"],
-        &["check", "parent(X, Y)", "family.m"],
-        &["query", "-parent(X, Y)", "family.m"],
-        &["query", "parent(X, Y)", "-family.m"],
-        &["query", "parent(X, Y)", "family.m", "family.m"],
-    ];
+    let lists: [&[&str]; 3] = [&[], &["check", "none.m"], &["run", "family.m"]];
     for list in lists {
-        let answered = call(&rt, alloc, list, "family.m", FAMILY, &NONE)?;
-        check(
-            &rt,
-            &answered,
-            Status::NotBuilt,
-            b"",
-            b"merc: not built yet\n",
-        );
+        let cut = call(&rt, alloc, list, &files, &failing)?;
+        check(&rt, &cut, Status::WriteFault, b"", b"");
     }
-    Ok(())
-}
-
-/// The module of the family with one piece of its text in the place of another.
-fn changed(alloc: Global, old: &str, new: &str) -> Result<String, AllocError> {
-    let text =
-        ":- module family.\n:- interface.\n:- type person ---> ann ; bob ; cid.\n:- pred parent(person::out, person::out) is nondet.\n:- implementation.\nparent(ann, bob).\nparent(ann, cid).\nparent(bob, cid).\nparent(ann, bob).\n";
-    text.replacen(alloc, old, new, 1)
-}
-
-#[test]
-fn each_condition_of_the_form_counts(rt: HostRuntime) -> Result<(), Fail> {
-    let alloc = rt.alloc();
-    let query = ["query", "parent(X, Y)", "family.m"];
-    for (old, new) in [
-        (":- module family.", ":- module list."),
-        (":- module family.", ":- module 'family'."),
-        (":- module family.", ":- module is."),
-        (":- module family.\n", ""),
-        (":- interface.\n", ""),
-        (":- implementation.\n", ""),
-        ("type person ---> ann", "type int ---> ann"),
-        ("---> ann ;", "---> a ;"),
-        ("---> ann ;", "---> ann ; ann ;"),
-        ("; cid.", "; div."),
-        ("person::out, person", "person::in, person"),
-        ("person::out, person", "human::out, person"),
-        ("is nondet", "is multi"),
-        (
-            "is nondet.",
-            "is nondet.\n:- pred parent(person::out, person::out) is nondet.",
-        ),
-        (
-            "is nondet.",
-            "is nondet.\n:- pred child(person::out) is nondet.",
-        ),
-        ("parent(ann, bob).", "parent(ann, eve)."),
-        ("parent(ann, bob).", "parent(ann)."),
-        ("parent(ann, bob).", "likes(ann, bob)."),
-        ("parent(ann, bob).", "parent(ann, bob)"),
-        ("parent(ann, bob).", "parent (ann, bob)."),
-        ("parent(ann, bob).", "parent(ann, X)."),
-        ("parent(ann, bob).", "parent(ann, bob). % \u{e9}"),
-        ("parent(ann, bob).", "parent(ann, bob). /*"),
-    ] {
-        let source = changed(alloc, old, new)?;
-        let answered = call(&rt, alloc, &query, "family.m", source.as_bytes(), &NONE)?;
-        check(
-            &rt,
-            &answered,
-            Status::NotBuilt,
-            b"",
-            b"merc: not built yet\n",
-        );
-    }
-    for goal in [
-        "parent(X)",
-        "parent(X, X)",
-        "parent(X, ann)",
-        "parent(_, Y)",
-        "parent(_X, Y)",
-        "child(X)",
-        "parent(X, Y), parent(Y, Z)",
-        "parent(X, Y). parent(X, Y)",
-        "parent (X, Y)",
-        "",
-        ".",
-        "parent(X, Y) % ",
-    ] {
-        let answered = call(
-            &rt,
-            alloc,
-            &["query", goal, "family.m"],
-            "family.m",
-            FAMILY,
-            &NONE,
-        )?;
-        check(
-            &rt,
-            &answered,
-            Status::NotBuilt,
-            b"",
-            b"merc: not built yet\n",
-        );
-    }
+    // The second of two lines of broken rules.
+    let faulty: [File<'_>; 2] = [("a.m", b"p("), ("b.m", b"p(")];
+    let failing = Failing { err: &[2], ..NONE };
+    let cut = call(&rt, alloc, &["check", "a.m", "b.m"], &faulty, &failing)?;
+    check(
+        &rt,
+        &cut,
+        Status::WriteFault,
+        b"",
+        b"a.m:1: S5 not a term\n",
+    );
     Ok(())
 }
 
 #[test]
-fn comments_and_blanks_are_passed_over(rt: HostRuntime) -> Result<(), Fail> {
+fn broken_rules_are_told(rt: HostRuntime) -> Result<(), Fail> {
     let alloc = rt.alloc();
-    let source = changed(
-        alloc,
-        "parent(ann, bob).",
-        "/* a * b **/ parent( % here\n\tann ,\n bob\x0c) .",
-    )?;
-    for goal in [
-        "parent(X, Y)",
-        "parent(X, Y).",
-        "parent(X, Y) .\n \t",
-        " /* . */ parent(X,Y)",
-        "parent(X, % .\n Y)",
-    ] {
-        let answered = call(
-            &rt,
-            alloc,
-            &["query", goal, "family.m"],
-            "family.m",
-            source.as_bytes(),
-            &NONE,
-        )?;
-        check(&rt, &answered, Status::Done, LINES, b"");
+    let files: [File<'_>; 8] = [
+        ("family.m", FAMILY),
+        ("d.m", b":- module d.\np.\n"),
+        ("empty.m", b""),
+        ("cut.m", b":- module cut.\n:- interface.\np('abc"),
+        ("a.m", b":- module a.\n:- interface.\n:- import_module b.\n"),
+        ("b.m", b":- module b.\n:- interface.\n:- import_module a.\n"),
+        (
+            "c.m",
+            b":- module c.\n:- interface.\n:- import_module nowhere.\n",
+        ),
+        ("two.m", b":- module two.\np :- .\nq(.\n"),
+    ];
+    let rows: [(&[&str], &[u8]); 6] = [
+        (&["check", "d.m"], b"d.m:2: N1 module structure\n"),
+        (&["check", "empty.m"], b"empty.m:1: N1 module structure\n"),
+        (
+            &["check", "cut.m"],
+            b"cut.m:3: S2 quote or comment is not closed\n",
+        ),
+        (
+            &["check", "c.m"],
+            b"c.m:3: N3 module nowhere is not found\n",
+        ),
+        (
+            &["query", "parent(X", "family.m"],
+            b"query:1: S5 not a term\n",
+        ),
+        (
+            &["query", "p(", "two.m", "family.m", "cut.m"],
+            b"two.m:2: S5 not a term\ntwo.m:3: S5 not a term\ncut.m:3: S2 quote or comment is not closed\nquery:1: S5 not a term\n",
+        ),
+    ];
+    for (list, lines) in rows {
+        let refused = call(&rt, alloc, list, &files, &NONE)?;
+        check(&rt, &refused, Status::Rejected, b"", lines);
+    }
+    // Two modules that import each other.
+    let both = call(&rt, alloc, &["check", "a.m", "b.m"], &files, &NONE)?;
+    check(&rt, &both, Status::Done, b"", b"");
+    Ok(())
+}
+
+const COLOURS: &[u8] = b"% Colours, and which is warm.
+:- module colours.
+:- interface.
+:- type colour ---> red ; blue.
+:- pred warm(colour::out) is nondet.
+:- pred cold(colour::out) is nondet.
+:- implementation.
+warm(red). /* and no other */
+";
+
+const FLOWERS: &[u8] = b":- module flowers.
+:- interface.
+:- import_module colours.
+:- implementation.
+of(rose, red).
+:- pred of(flower::out, colour::out) is nondet.
+of( % an aster
+    aster, blue).
+of(rose,blue).
+:- type flower ---> rose ; aster.
+";
+
+#[test]
+fn several_modules_are_answered(rt: HostRuntime) -> Result<(), Fail> {
+    let alloc = rt.alloc();
+    let files: [File<'_>; 2] = [("colours.m", COLOURS), ("flowers.m", FLOWERS)];
+    let rows: [(&[&str], &[u8]); 4] = [
+        (
+            &["query", "of(F, C)", "flowers.m", "colours.m"],
+            b"F = rose, C = red.\nF = aster, C = blue.\nF = rose, C = blue.\n",
+        ),
+        (
+            &["query", "colours.warm(C)", "flowers.m", "colours.m"],
+            b"C = red.\n",
+        ),
+        (&["query", "warm(C)", "colours.m"], b"C = red.\n"),
+        (&["query", "cold(C)", "colours.m"], b"false.\n"),
+    ];
+    for (list, lines) in rows {
+        let answers = call(&rt, alloc, list, &files, &NONE)?;
+        check(&rt, &answers, Status::Done, lines, b"");
     }
     Ok(())
 }
@@ -307,7 +370,7 @@ fn long_source(alloc: Global, length: usize) -> Result<Vec<u8>, AllocError> {
         b":- module long.\n:- interface.\n:- type t ---> aa.\n:- pred p(t::out) is nondet.\n:- implementation.\n".to_vec(
             alloc,
         )?;
-    for _ in 0..400_000 {
+    for _ in 0..1000 {
         source.extend_from_slice(b"p(aa).\n")?;
     }
     for _ in source.len()..length {
@@ -317,22 +380,90 @@ fn long_source(alloc: Global, length: usize) -> Result<Vec<u8>, AllocError> {
 }
 
 #[test]
-fn the_longest_file_is_answered(rt: HostRuntime) -> Result<(), Fail> {
+fn a_file_of_4_mib_is_answered(rt: HostRuntime) -> Result<(), Fail> {
     let alloc = rt.alloc();
     let query = ["query", "p(X)", "long.m"];
     let longest = long_source(alloc, 4_194_304)?;
-    assert!(rt; longest.len() == 4_194_304);
-    let answered = call(&rt, alloc, &query, "long.m", longest.as_slice(), &NONE)?;
+    let answered = call(&rt, alloc, &query, &[("long.m", longest.as_slice())], &NONE)?;
     assert!(rt; answered.status == Status::Done);
-    assert!(rt; answered.out.len() == 400_000 * 8);
+    assert!(rt; answered.out.len() == 1000 * 8);
     let longer = long_source(alloc, 4_194_305)?;
-    let refused = call(&rt, alloc, &query, "long.m", longer.as_slice(), &NONE)?;
+    let refused = call(&rt, alloc, &query, &[("long.m", longer.as_slice())], &NONE)?;
     check(
         &rt,
         &refused,
-        Status::NotBuilt,
+        Status::Rejected,
         b"",
-        b"merc: not built yet\n",
+        b"long.m:1: L1 sources are too long\n",
     );
     Ok(())
+}
+
+/// A module whose one fact has a term with this many `f`, one inside the other.
+fn nested(alloc: Global, count: usize) -> Result<Vec<u8>, AllocError> {
+    let mut source = b":- module nested.\n:- interface.\n:- implementation.\np(".to_vec(alloc)?;
+    for _ in 0..count {
+        source.extend_from_slice(b"f(")?;
+    }
+    source.push(b'a')?;
+    for _ in 0..count {
+        source.push(b')')?;
+    }
+    source.extend_from_slice(b").\n")?;
+    Ok(source)
+}
+
+/// A module whose one clause has this many variables.
+fn of_variables(alloc: Global, count: usize) -> Result<Vec<u8>, AllocError> {
+    let mut source = b":- module wide.\n:- interface.\n:- implementation.\np :- q([_".to_vec(
+        alloc,
+    )?;
+    for _ in 1..count {
+        source.extend_from_slice(b", _")?;
+    }
+    source.extend_from_slice(b"]).\n")?;
+    Ok(source)
+}
+
+#[test]
+fn limits_are_kept(rt: HostRuntime) -> Result<(), Fail> {
+    let alloc = rt.alloc();
+    let deep = nested(alloc, 255)?;
+    let refused = call(
+        &rt,
+        alloc,
+        &["check", "nested.m"],
+        &[("nested.m", deep.as_slice())],
+        &NONE,
+    )?;
+    check(
+        &rt,
+        &refused,
+        Status::Rejected,
+        b"",
+        b"nested.m:4: L2 term is nested deeper than 256\n",
+    );
+    let wide = of_variables(alloc, 4097)?;
+    let refused = call(
+        &rt,
+        alloc,
+        &["check", "wide.m"],
+        &[("wide.m", wide.as_slice())],
+        &NONE,
+    )?;
+    check(
+        &rt,
+        &refused,
+        Status::Rejected,
+        b"",
+        b"wide.m:4: L4 more than 4096 variables\n",
+    );
+    Ok(())
+}
+
+#[test]
+fn statuses_have_their_codes(rt: HostRuntime) {
+    assert!(rt; status_code(Status::Done) == 0);
+    assert!(rt; status_code(Status::Usage) == 2);
+    assert!(rt; status_code(Status::NotBuilt) == 10);
 }

@@ -1,26 +1,32 @@
-ghost use Rattle.std.specs.Prelude.{◌≡◌, ◌≢◌, ◌⊎◌, ◌<◌, ℕ, List, [], map, string_bytes, Some, None, ◌++◌};
+ghost use Rattle.std.specs.Prelude.{◌≡◌, ◌≢◌, ◌⊎◌, ◌<◌, ℕ, List, [], map, string_bytes, true, Some, None, ◌++◌};
 ghost use Rattle.mc_outside.specs.Counts.{Rose};
 ghost use Rattle.mc_outside.specs.Meaning.{Held, PutsFront};
+ghost use Rattle.mc_model.specs.declared.rule.Broken.{Broken};
 ghost use Rattle.mc_model.specs.Good.{GoodProcedures, GoodQuery};
-ghost use Rattle.mc_facts_form.specs.declared.form.FactsModule.{FactsModule};
-ghost use Rattle.mc_facts_form.specs.declared.form.Goal.{Goal};
-ghost use Rattle.mc_cmd.specs.Words.{Request, asked};
-ghost use Rattle.mc_cmd.specs.Program.{program_of, query_of, default_budget, default_depth};
-ghost use Rattle.mc_cmd.specs.Outcome.{Outcome, Defined, IsLegal, LacksFile, HoldsNoForm, unreadable_line, Wrote, Told, NoneRose, Happened, ended, CanCome};
+ghost use Rattle.mc_words.specs.Words.{Meaning, meaning};
+ghost use Rattle.mc_ground.specs.Database.{Database, Question, query_procedure, system_of};
+ghost use Rattle.mc_compile.specs.Library.{library_texts};
+ghost use Rattle.mc_compile.specs.Rejected.{AreLegal, Breaks};
+ghost use Rattle.mc_compile.specs.Compiled.{asks};
+ghost use Rattle.mc_cmd.specs.Outcome.{Outcome, Defined, files_of, query_of, is_unbuilt};
+ghost use Rattle.mc_cmd.specs.Call.{Told, NoneRose, Wrote, Lacks, HoldTexts, SaysUnreadable, CanCome};
+ghost use Rattle.mc_cmd.specs.Decisions.{Happened, ended};
 
-use crate::decide::{Decision, decide};
+use crate::decide::decide;
+use crate::decision::Decision;
 use crate::status::Status;
-use crate::write::put_lines;
-use mc_facts_form::{names_are_bare, one_goal, one_module};
-use mc_ground::{facts_are_answered, facts_are_good};
+use crate::write::{put_answers, put_rules};
+use mc_compile::{at_most_one_breach, compiled_once, facts_fit, not_both, question_asks};
+use mc_ground::{answers_are_lines, facts_are_good};
 use mc_outside::{Files, PutFault, Sink, Source};
 use std::alloc::Global;
 
-/// The command: reads the words and the file, writes the answers of the goal, one line each, or a line that says why it
-/// does not, and answers how it ended.
+/// The command: reads the words and then the files that they name, one after another, and compiles them. Writes the
+/// answers of a query on `out`, one line each, or on `err` the line of each broken rule, or one line that says why
+/// nothing is answered, and answers how it ended.
 ///
-/// At this stage it answers `query GOAL FILE` over modules of ground facts; anything else is `NotBuilt`. The first put that
-/// fails ends the call with `WriteFault`, and nothing more is put. `Memory` ends the call at once.
+/// At this stage modules of facts are answered; what else is legal is `NotBuilt`. The first put that fails ends the call
+/// with `WriteFault`, and nothing more is put. `Memory` ends the call at once.
 pub fn merc<F: Files, I: Source, O: Sink, E: Sink>(
     alloc: Global,
     words: &Vec<String>,
@@ -38,32 +44,38 @@ pub fn merc<F: Files, I: Source, O: Sink, E: Sink>(
     ensures prefix { (held : Held) (before_out before_err : List ℕ) → Told (F.held files.old) held (O.written out.old) before_out (E.written err.old) before_err →
         (Rose (F.faults files.old) (F.faults files.new) → ⊥) → (o : Outcome) → Defined (map string_bytes words.now.items) held o →
         PutsFront (O.written out.old) (O.written out.new) o.out × PutsFront (E.written err.old) (E.written err.new) o.err }
-    // Where the file could not be read, nothing was put on `out`, and on `err` a front part of its line.
-    ensures unreadable { (r : Request) → asked (map string_bytes words.now.items) ≡ Some r → F.faults files.old < F.faults files.new →
-        Wrote (O.written out.old) (O.written out.new) [] × PutsFront (E.written err.old) (E.written err.new) (unreadable_line r.file) }
+    // Where a file could not be read, nothing was put on `out`, and on `err` a front part of its line.
+    ensures unreadable { (m : Meaning) → meaning (map string_bytes words.now.items) ≡ Some m → F.faults files.old < F.faults files.new →
+        Wrote (O.written out.old) (O.written out.new) [] × SaysUnreadable (E.written err.old) (E.written err.new) (files_of m) }
     // Every run of the program that legal sources are is good, and so is the query's run: each printed answer is true in
     // the completion, and each assignment that is not printed is false.
-    ensures truth { (bytes goal : List ℕ) (m : FactsModule) (g : Goal) → IsLegal bytes goal m g →
-        GoodProcedures (program_of m g) × GoodQuery (program_of m g) default_budget default_depth (query_of m g) }
+    ensures truth { (m : Meaning) (texts : List (List ℕ)) (l : AreLegal library_texts texts (query_of m)) (d : Database) (q : Question) → asks l ≡ Some (d, Some q) →
+        GoodProcedures (system_of d q) × ((n h : ℕ) → GoodQuery (system_of d q) n h (query_procedure d q)) }
     // The causes of the answers.
+    ensures usage { result ≡ Status.Usage → meaning (map string_bytes words.now.items) ≡ None }
+    ensures usage_told { meaning (map string_bytes words.now.items) ≡ None → (result ≡ Status.Usage) ⊎ ((result ≡ Status.WriteFault) ⊎ (result ≡ Status.Memory)) }
+    ensures rejected { result ≡ Status.Rejected → (m : Meaning) × ((meaning (map string_bytes words.now.items) ≡ Some m) ×
+        ((texts : List (List ℕ)) × (HoldTexts (F.held files.old) (files_of m) texts × ((broken : List Broken) × (Breaks library_texts texts (query_of m) broken × (broken ≢ [])))))) }
     ensures absent { result ≡ Status.Absent → Rose (F.absents files.old) (F.absents files.new) }
-    ensures absent_told { result ≡ Status.Absent → (r : Request) × ((asked (map string_bytes words.now.items) ≡ Some r) × LacksFile (F.held files.old) r.file) }
+    ensures absent_told { result ≡ Status.Absent → (m : Meaning) × ((meaning (map string_bytes words.now.items) ≡ Some m) × ((file : List ℕ) × Lacks (F.held files.old) (files_of m) file)) }
     ensures read { result ≡ Status.ReadFault → Rose (F.faults files.old) (F.faults files.new) }
     ensures read_seen { F.faults files.old < F.faults files.new → (result ≡ Status.ReadFault) ⊎ ((result ≡ Status.WriteFault) ⊎ (result ≡ Status.Memory)) }
     ensures write { result ≡ Status.WriteFault → Rose (O.faults out.old) (O.faults out.new) ⊎ Rose (E.faults err.old) (E.faults err.new) }
     ensures write_seen { (O.faults out.old < O.faults out.new) ⊎ (E.faults err.old < E.faults err.new) → result ≡ Status.WriteFault }
-    ensures not_built { result ≡ Status.NotBuilt → (asked (map string_bytes words.now.items) ≡ None) ⊎ ((r : Request) × ((asked (map string_bytes words.now.items) ≡ Some r) × HoldsNoForm (F.held files.old) r)) }
-    ensures not_asked { asked (map string_bytes words.now.items) ≡ None → (result ≡ Status.NotBuilt) ⊎ ((result ≡ Status.WriteFault) ⊎ (result ≡ Status.Memory)) }
+    ensures not_built { result ≡ Status.NotBuilt → (m : Meaning) × ((meaning (map string_bytes words.now.items) ≡ Some m) ×
+        ((texts : List (List ℕ)) × (HoldTexts (F.held files.old) (files_of m) texts × ((l : AreLegal library_texts texts (query_of m)) × ((is_unbuilt m ≡ true) ⊎ (asks l ≡ None)))))) }
     ensures others { CanCome result }
     // The files stay, and the input is not touched.
     ensures held { F.held files.new ≡ F.held files.old }
     ensures input { input.new ≡ input.old }
 {
+    answers_are_lines();
     facts_are_good();
-    facts_are_answered();
-    one_module();
-    one_goal();
-    names_are_bare();
+    facts_fit();
+    question_asks();
+    compiled_once();
+    not_both();
+    at_most_one_breach();
     let _ = input;
     carry_out(alloc, words, files, out, err)
 }
@@ -80,20 +92,22 @@ fn carry_out<F: Files, O: Sink, E: Sink>(
         (record { before = E.written err.old; after = E.written err.new; faults_before = E.faults err.old; faults_after = E.faults err.new }) result }
     ensures held { F.held files.new ≡ F.held files.old }
 {
+    facts_fit();
+    question_asks();
     match decide(alloc, words, files) {
-        Decision::Answer(facts, goal) => ended(
-            put_lines(
-                alloc,
-                &goal.name,
-                &goal.variables,
-                facts.facts.as_slice(),
-                out,
-            ),
-            Status::Done,
+        Decision::Usage => ended(
+            err.put(b"merc: usage: merc check|run|query|gen\n"),
+            Status::Usage,
         ),
-        Decision::NotBuilt => ended(err.put(b"merc: not built yet\n"), Status::NotBuilt),
         Decision::Absent(line) => ended(err.put(line.as_slice()), Status::Absent),
         Decision::Unreadable(line) => ended(err.put(line.as_slice()), Status::ReadFault),
+        Decision::Rejected(sources, broken) => ended(
+            put_rules(alloc, &sources, broken.as_slice(), err),
+            Status::Rejected,
+        ),
+        Decision::NotBuilt => ended(err.put(b"merc: not built yet\n"), Status::NotBuilt),
+        Decision::Checked => Status::Done,
+        Decision::Answers(compiled) => ended(put_answers(alloc, &compiled, out), Status::Done),
         Decision::Memory => Status::Memory,
     }
 }

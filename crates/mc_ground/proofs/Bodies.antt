@@ -1,13 +1,20 @@
 -- What the bodies of ground facts do.
-use Rattle.std.proofs.Common.{◌≡◌, ℕ, zero, suc, ◌<◌, ◌≤◌, List, [], ◌∷◌, ◌++◌, map, length, replicate, Option, Some, None, Bool, true, false, cond, nat_eq, refl, ap, ◌∙◌, subst, arith}
+use Rattle.std.proofs.Common.{◌≡◌, ℕ, suc, ◌<◌, ◌≤◌, List, [], ◌∷◌, ◌++◌, map, length, Option, Some, None, Bool, true, false, cond, nat_eq, refl, ap, ◌∙◌, arith}
 use Rattle.mc_model.specs.Values.{Val}
 use Rattle.mc_model.specs.Items.{Items, End, Answer, append, bind, cut}
 use Rattle.mc_model.specs.Scheduled as S
 use Rattle.mc_model.specs.Stream.{Bindings, Calls, put, meet, and_then, unify, made_items, stream, stream_all, stream_any, enter, leave, ready, is_bound}
 use Rattle.mc_model.specs.Outcomes.{Outcome}
 use Rattle.mc_model.specs.declared.builtin.Builtin.{Builtin}
-use Rattle.mc_ground.specs.Database.{constant_of, from, bound_to, fact_body, body_of}
-use Rattle.mc_ground.specs.Laws.{Wide, answers_of, answer_of}
+use Rattle.mc_ground.specs.Database.{Database, constant_of, from, bound_to, fact_body, body_of}
+use Rattle.mc_ground.specs.Laws.{RowFits, RowsFit, answers_of, answer_of}
+
+-- the initial, and the final, insts of arguments of these types that are all `out`
+abbrev pub firsts : List ℕ → List ℕ
+firsts us = map (λ u. 0) us
+
+abbrev pub lasts : List ℕ → List ℕ
+lasts us = map (λ u. 1) us
 
 -- nothing is bound from a variable on
 abbrev pub Unbound : ℕ → Bindings → Type 0
@@ -69,44 +76,43 @@ module _ (outcome : Builtin → List Val → Outcome) (C : Calls) (h : ℕ) wher
   body_answers (row ∷ other ∷ rows) e u = each_once (row ∷ other ∷ rows) e u
 
 -- a call with nothing but outputs enters with nothing bound
-pub entered : (x n : ℕ) (vs : List (Option Val)) → (y : ℕ) → enter (from x n) (replicate n 0) vs y ≡ None
-entered x zero vs y = refl
-entered x (suc n) [] y = refl
-entered x (suc n) (v ∷ vs) y = on (nat_eq y x) v (entered (suc x) n vs y)
+pub entered : (x : ℕ) (us : List ℕ) (vs : List (Option Val)) → (y : ℕ) → enter (from x (length us)) (firsts us) vs y ≡ None
+entered x [] vs y = refl
+entered x (u ∷ us) [] y = refl
+entered x (u ∷ us) (v ∷ vs) y = on (nat_eq y x) v (entered (suc x) us vs y)
   where
     on : (t : Bool) (v : Option Val) {o : Option Val} → o ≡ None → cond t (cond (is_bound 0) v None) o ≡ None
     on true v e = refl
     on false v e = e
 
-pub all_ready : (n : ℕ) (vs : List (Option Val)) → length vs ≡ n → ready (replicate n 0) vs ≡ true
-all_ready zero [] e = refl
-all_ready zero (v ∷ vs) e = absurd (omega (arith, e))
-all_ready (suc n) [] e = absurd (omega (arith, e))
-all_ready (suc n) (None ∷ vs) e = all_ready n vs (omega (arith, e))
-all_ready (suc n) (Some v ∷ vs) e = all_ready n vs (omega (arith, e))
+pub all_ready : (us : List ℕ) (vs : List (Option Val)) → length vs ≡ length us → ready (firsts us) vs ≡ true
+all_ready [] [] e = refl
+all_ready [] (v ∷ vs) e = absurd (omega (arith, e))
+all_ready (u ∷ us) [] e = absurd (omega (arith, e))
+all_ready (u ∷ us) (None ∷ vs) e = all_ready us vs (omega (arith, e))
+all_ready (u ∷ us) (Some v ∷ vs) e = all_ready us vs (omega (arith, e))
 
--- the outputs are the constants
-pub left_bound : (x : ℕ) (row : List ℕ) (e : Bindings) → leave (from x (length row)) (replicate (length row) 1) (puts x row e) ≡ answer_of row
-left_bound x [] e = refl
-left_bound x (s ∷ row) e =
-    let here : puts (suc x) row (put x (constant_of s) e) x ≡ Some (constant_of s) = puts_below (suc x) x row (put x (constant_of s) e) (omega arith) ∙ put_same x (constant_of s) e in
-    cc (here, left_bound (suc x) row (put x (constant_of s) e))
+module _ (d : Database) where
+  -- the outputs are the constants
+  left_bound : (x : ℕ) (us row : List ℕ) (e : Bindings) → RowFits d us row → leave (from x (length us)) (lasts us) (puts x row e) ≡ answer_of row
+  left_bound x [] [] e f = refl
+  left_bound x [] (s ∷ row) e f = absurd f
+  left_bound x (u ∷ us) [] e f = absurd f
+  left_bound x (u ∷ us) (s ∷ row) e f =
+      let here : puts (suc x) row (put x (constant_of s) e) x ≡ Some (constant_of s) = puts_below (suc x) x row (put x (constant_of s) e) (omega arith) ∙ put_same x (constant_of s) e in
+      cc (here, left_bound (suc x) us row (put x (constant_of s) e) f.1.1)
 
-pub left_bound_at : (n : ℕ) (row : List ℕ) (e : Bindings) → length row ≡ n → leave (from 0 n) (replicate n 1) (puts 0 row e) ≡ answer_of row
-left_bound_at n row e h = subst (λ m. leave (from 0 m) (replicate m 1) (puts 0 row e) ≡ answer_of row) h (left_bound 0 row e)
+  pub left_each : (us : List ℕ) (rows : List (List ℕ)) (e : Bindings) → RowsFit d us rows → map (λ a. leave (from 0 (length us)) (lasts us) a) (map (λ row. puts 0 row e) rows) ≡ map answer_of rows
+  left_each us [] e f = refl
+  left_each us (row ∷ rows) e f = cc (left_bound 0 us row e f.0, left_each us rows e f.1)
 
-pub left_each : (n : ℕ) (rows : List (List ℕ)) (e : Bindings) → Wide n rows → map (λ a. leave (from 0 n) (replicate n 1) a) (map (λ row. puts 0 row e) rows) ≡ map answer_of rows
-left_each n [] e w = refl
-left_each n (row ∷ rows) e w = cc (left_bound_at n row e w.0, left_each n rows e w.1)
-
--- variables that are unbound from x on meet constants
-pub unify_row : (x : ℕ) (row : List ℕ) (e : Bindings) → Unbound x e → unify (from x (length row)) (answer_of row) e ≡ Some (puts x row e)
-unify_row x [] e u = refl
-unify_row x (s ∷ row) e u = met (e x) (u x (omega arith)) ∙ unify_row (suc x) row (put x (constant_of s) e) (unbound_put x (constant_of s) e u)
-  where
-    met : (o : Option Val) → o ≡ None → and_then (meet x (constant_of s) e o) (unify (from (suc x) (length row)) (answer_of row)) ≡ unify (from (suc x) (length row)) (answer_of row) (put x (constant_of s) e)
-    met None n = refl
-    met (Some v) n = cc
-
-pub unify_row_at : (n : ℕ) (row : List ℕ) (e : Bindings) → length row ≡ n → Unbound 0 e → unify (from 0 n) (answer_of row) e ≡ Some (puts 0 row e)
-unify_row_at n row e h u = subst (λ m. unify (from 0 m) (answer_of row) e ≡ Some (puts 0 row e)) h (unify_row 0 row e u)
+  -- variables that are unbound from x on meet constants
+  pub unify_row : (x : ℕ) (us row : List ℕ) (e : Bindings) → RowFits d us row → Unbound x e → unify (from x (length us)) (answer_of row) e ≡ Some (puts x row e)
+  unify_row x [] [] e f u = refl
+  unify_row x [] (s ∷ row) e f u = absurd f
+  unify_row x (t ∷ us) [] e f u = absurd f
+  unify_row x (t ∷ us) (s ∷ row) e f u = met (e x) (u x (omega arith)) ∙ unify_row (suc x) us row (put x (constant_of s) e) f.1.1 (unbound_put x (constant_of s) e u)
+    where
+      met : (o : Option Val) → o ≡ None → and_then (meet x (constant_of s) e o) (unify (from (suc x) (length us)) (answer_of row)) ≡ unify (from (suc x) (length us)) (answer_of row) (put x (constant_of s) e)
+      met None n = refl
+      met (Some v) n = cc

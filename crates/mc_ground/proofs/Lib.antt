@@ -1,4 +1,5 @@
 pub mod Bodies
 pub mod Goods
+pub mod Lines
 pub mod Runs
 pub mod Truths

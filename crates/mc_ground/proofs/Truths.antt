@@ -3,11 +3,11 @@ use Rattle.std.proofs.Common.{◌≡◌, ◌≢◌, ◌⊎◌, inl, inr, ℕ, ze
 use Rattle.std.proofs.lemmas.Bool.{eqb-true, eqb-false, eq-eqb}
 use Rattle.mc_model.specs.Values.{Val, int, char, str, con, state, no_vals, val_then}
 use Rattle.mc_model.specs.Items.{Each}
-use Rattle.mc_model.specs.Programs.{made, no_expressions, expressions, Formula, Call, And, no_formulas}
+use Rattle.mc_model.specs.Programs.{made, no_expressions, expressions, Formula, Call, And, no_formulas, ClauseForm}
 use Rattle.mc_model.specs.Truth.{Assignment, Facts, Choice, values, AllApplied, YesBy, Yes, NoBy, AllYesBy, OneNoBy, equated, at_arguments, SomeClause, NoClause}
 use Rattle.mc_model.specs.Good.{Extends, Hit}
-use Rattle.mc_ground.specs.Database.{constant_of, from, fact, variables_from, query_predicate}
-use Rattle.mc_ground.specs.Laws.{Wide, answers_of, answer_of}
+use Rattle.mc_ground.specs.Database.{Database, constant_of, from, fact, variables_from, query_predicate}
+use Rattle.mc_ground.specs.Laws.{RowFits, RowsFit, answers_of, answer_of}
 
 -- an answer's constants are the values that extend it
 extended : (row : List ℕ) (ws : List Val) → Extends (answer_of row) ws → ws ≡ map constant_of row
@@ -87,6 +87,10 @@ module _ (C : Facts) where
       this_or (inr d) (inl found) = inl found
       this_or (inr e) (inr none) = inr ((λ s d. fact_false d 0 row us s e), none)
 
+-- the clause of a query with so many variables
+abbrev pub query_clause : (p n : ℕ) → ClauseForm
+query_clause p n = record { head = variables_from 0 n; body = Call p (expressions (variables_from 0 n)) }
+
 -- what the query's clause says, by what is said of calls
 module _ (C : Facts) where
   -- the values of variables from x on
@@ -132,7 +136,7 @@ module _ (C : Facts) where
       at_x true e = refl
       at_x false e = cc
 
-  pub query_clause_true : (p : ℕ) (ws : List Val) → C.yes p ws → SomeClause C (record { head = variables_from 0 (length ws); body = Call p (expressions (variables_from 0 (length ws))) } ∷ []) ws
+  pub query_clause_true : (p : ℕ) (ws : List Val) → C.yes p ws → SomeClause C (query_clause p (length ws) ∷ []) ws
   query_clause_true p ws y =
       let s = assigned 0 ws in
       let d : Choice = (λ j. s) in
@@ -159,7 +163,7 @@ module _ (C : Facts) where
 
   -- the query's clause is false of values that extend no fact's answer
   pub query_clause_false : (D : Facts) (p : ℕ) (rows : List (List ℕ)) (ws : List Val) → ((us : List Val) → NoClause D (map fact rows) us → C.no p us) → Each (λ os. Hit false ws os → ⊥) (answers_of (map answer_of rows)) →
-      NoClause C (record { head = variables_from 0 (length ws); body = Call p (expressions (variables_from 0 (length ws))) } ∷ []) ws
+      NoClause C (query_clause p (length ws) ∷ []) ws
   query_clause_false D p rows ws none n = ((λ s d. either d s (fact_found D rows ws (map s (from 0 (length ws))) n)), tt)
     where
       either : (d : Choice) (s : Assignment) → ((row : List ℕ) × Extends (answer_of row) (map s (from 0 (length ws))) × (Extends (answer_of row) ws → ⊥)) ⊎ NoClause D (map fact rows) (map s (from 0 (length ws))) →
@@ -169,14 +173,16 @@ module _ (C : Facts) where
           last_false d 0 0 ws s (Call p (expressions (variables_from 0 (length ws)))) (λ j. inr (subst (C.no p) (sym (values_of 0 (length ws) s (d j))) (none (map s (from 0 (length ws))) denied)))
 
   -- it is true of each fact's answer, where the call is
-  pub query_clauses_true : (p v : ℕ) (rows : List (List ℕ)) → Wide v rows → Each (λ os. (ws : List Val) → Extends os ws → C.yes p ws) (answers_of (map answer_of rows)) →
-      Each (λ os. (ws : List Val) → Extends os ws → SomeClause C (query_predicate p v).clauses ws) (answers_of (map answer_of rows))
-  query_clauses_true p v [] w y = tt
-  query_clauses_true p v (row ∷ rows) w y =
-      ((λ ws e. subst (λ n. SomeClause C (query_predicate p n).clauses ws) (extended_length row ws e ∙ w.0) (query_clause_true p ws (y.0 ws e))), query_clauses_true p v rows w.1 y.1)
+  pub query_clauses_true : (d : Database) (p : ℕ) (us : List ℕ) (rows : List (List ℕ)) → RowsFit d us rows → Each (λ os. (ws : List Val) → Extends os ws → C.yes p ws) (answers_of (map answer_of rows)) →
+      Each (λ os. (ws : List Val) → Extends os ws → SomeClause C (query_predicate p us).clauses ws) (answers_of (map answer_of rows))
+  query_clauses_true d p us [] f y = tt
+  query_clauses_true d p us (row ∷ rows) f y =
+      ((λ ws e. subst (λ n. SomeClause C (query_clause p n ∷ []) ws) (extended_length us row ws f.0 e) (query_clause_true p ws (y.0 ws e))), query_clauses_true d p us rows f.1 y.1)
     where
-      extended_length : (row : List ℕ) (ws : List Val) → Extends (answer_of row) ws → length ws ≡ length row
-      extended_length [] [] e = refl
-      extended_length [] (w ∷ ws) e = absurd e
-      extended_length (s ∷ row) [] e = absurd e
-      extended_length (s ∷ row) (w ∷ ws) e = omega (arith, extended_length row ws e.1)
+      extended_length : (us row : List ℕ) (ws : List Val) → RowFits d us row → Extends (answer_of row) ws → length ws ≡ length us
+      extended_length [] [] [] f e = refl
+      extended_length [] [] (w ∷ ws) f e = absurd e
+      extended_length [] (s ∷ row) ws f e = absurd f
+      extended_length (u ∷ us) [] ws f e = absurd f
+      extended_length (u ∷ us) (s ∷ row) [] f e = absurd e
+      extended_length (u ∷ us) (s ∷ row) (w ∷ ws) f e = omega (arith, extended_length us row ws f.1.1 e.1)

@@ -1,8 +1,9 @@
--- A program of ground facts over one enumeration type, in the terms of the language: its clauses, its procedures and a
+-- A program of ground facts over enumeration types, in the terms of the language: its clauses, its procedures and a
 -- query over it. (Mercury Language Reference Manual: Syntax, facts; Types, enumerations; Modes, `out`.)
-use Rattle.std.specs.Prelude.{ℕ, zero, suc, List, [], ◌∷◌, map, length, get_or, replicate, None, true, false}
+use Rattle.std.specs.Prelude.{ℕ, zero, suc, List, [], ◌∷◌, ◌++◌, map, length, get_or, None, true, false}
 use Rattle.mc_model.specs.Values.{Val, con, no_vals}
 use Rattle.mc_model.specs.Programs.{TypeTerm, union_type, no_types, Expression, variable, made, no_expressions, expressions, Call, And, no_formulas, Constructor, ClauseForm, Predicate, Source}
+use Rattle.mc_model.specs.PlainPrograms.{no_symbol, no_pred}
 use Rattle.mc_model.specs.Scheduled as S
 use Rattle.mc_model.specs.Scheduled.{Node, node, Procedure}
 use Rattle.mc_model.specs.Insts.{InstNode, free, ground, unique, dead}
@@ -12,16 +13,23 @@ use Rattle.mc_model.specs.declared.builtin.Builtin.{Builtin}
 use Rattle.mc_model.specs.declared.det.Det.{Det}
 use Rattle.mc_model.specs.declared.det.Most.TheVariants.{Many}
 
--- a predicate whose clauses are facts: its name, how many arguments it has, and for each fact the numbers of its constants
-pub record Relation : Type 0 where
+-- a constant: its module, its name, and the number of its type
+pub record Constant : Type 0 where
+  pub module_name : List ℕ
   pub name : List ℕ
-  pub arity : ℕ
+  pub of_type : ℕ
+
+-- a predicate whose clauses are facts: its module, its name, the numbers of its arguments' types, and for each fact the numbers of its constants
+pub record Relation : Type 0 where
+  pub module_name : List ℕ
+  pub name : List ℕ
+  pub types : List ℕ
   pub rows : List (List ℕ)
 
--- a module of facts: its name, the constants of its type, in order, and its predicates
+-- modules of facts: the numbers of each type's constants, in order, the constants, and the predicates
 pub record Database : Type 0 where
-  pub module_name : List ℕ
-  pub constants : List (List ℕ)
+  pub types : List (List ℕ)
+  pub constants : List Constant
   pub relations : List Relation
 
 -- a query `p(V, ..)`: the predicate's number, and the variables' names
@@ -30,7 +38,7 @@ pub record Question : Type 0 where
   pub variables : List (List ℕ)
 
 abbrev pub no_relation : Relation
-no_relation = record { name = []; arity = 0; rows = [] }
+no_relation = record { module_name = []; name = []; types = []; rows = [] }
 
 abbrev pub relation_at : Database → ℕ → Relation
 relation_at d k = get_or d.relations k no_relation
@@ -44,28 +52,29 @@ from n (suc k) = n ∷ from (suc n) k
 abbrev pub constant_of : ℕ → Val
 constant_of s = con s no_vals
 
--- the constructors: constants of the one type, whose number is 0
-abbrev pub constructor_at : Database → ℕ → Constructor
-constructor_at d k =
-    record {
-      name = record { module_name = d.module_name; bytes = get_or d.constants k []; arity = 0 };
-      of_type = 0;
-      args = [];
-    }
+-- the constructor that a constant is
+abbrev pub constructor_of : Constant → Constructor
+constructor_of c = record { name = record { module_name = c.module_name; bytes = c.name; arity = 0 }; of_type = c.of_type; args = [] }
+
+abbrev pub no_constant : Constant
+no_constant = record { module_name = []; name = []; of_type = 0 }
+
+abbrev pub constant_at : Database → ℕ → Constant
+constant_at d k = get_or d.constants k no_constant
 
 -- a fact `p(c, ..).`: its head holds constants, and its body is `true`
 abbrev pub fact : List ℕ → ClauseForm
 fact row = record { head = map (λ s. made s no_expressions) row; body = And no_formulas }
 
--- so many arguments of the type
-abbrev pub the_types : ℕ → List TypeTerm
-the_types n = replicate n (union_type 0 no_types)
+-- arguments of enumeration types
+abbrev pub the_types : List ℕ → List TypeTerm
+the_types us = map (λ u. union_type u no_types) us
 
-abbrev pub predicate_of : Database → Relation → Predicate
-predicate_of d r =
+abbrev pub predicate_of : Relation → Predicate
+predicate_of r =
     record {
-      name = record { module_name = d.module_name; bytes = r.name; arity = r.arity };
-      types = the_types r.arity;
+      name = record { module_name = r.module_name; bytes = r.name; arity = length r.types };
+      types = the_types r.types;
       clauses = map fact r.rows;
       builtin = None;
     }
@@ -74,22 +83,26 @@ predicate_of d r =
 abbrev pub variables_from : ℕ → ℕ → List Expression
 variables_from n k = map variable (from n k)
 
-abbrev pub query_predicate : ℕ → ℕ → Predicate
-query_predicate p n =
+abbrev pub query_predicate : (relation : ℕ) → (types : List ℕ) → Predicate
+query_predicate p us =
     record {
-      name = record { module_name = []; bytes = []; arity = n };
-      types = the_types n;
-      clauses = record { head = variables_from 0 n; body = Call p (expressions (variables_from 0 n)) } ∷ [];
+      name = record { module_name = []; bytes = []; arity = length us };
+      types = the_types us;
+      clauses = record { head = variables_from 0 (length us); body = Call p (expressions (variables_from 0 (length us))) } ∷ [];
       builtin = None;
     }
 
--- the predicates by number: those of the module, and then the query
+-- the query's variables have the types of the predicate that is asked
+abbrev pub asked_types : Database → Question → List ℕ
+asked_types d q = (relation_at d q.relation).types
+
+-- the predicates by number: those of the modules, and then the query
 abbrev pub source_of : Database → Question → Source
 source_of d q =
     record {
-      symbols = constructor_at d;
-      symbols_of = λ u. from 0 (length d.constants);
-      preds = λ k. get_or (map (predicate_of d) d.relations) k (query_predicate q.relation (length q.variables));
+      symbols = λ k. get_or (map constructor_of d.constants) k no_symbol;
+      symbols_of = λ u. get_or d.types u [];
+      preds = λ k. get_or (map predicate_of d.relations ++ query_predicate q.relation (asked_types d q) ∷ []) k no_pred;
     }
 
 -- `is nondet`
@@ -114,25 +127,25 @@ body_of (row ∷ []) = fact_body row
 body_of (row ∷ rows) = plain (S.Disj (S.nodes (map fact_body (row ∷ rows))))
 
 -- a procedure all of whose arguments are `out`: `free` at the call, `ground` at an answer
-abbrev pub all_out : ℕ → ℕ → Node → Procedure
-all_out p n body =
+abbrev pub all_out : (pred : ℕ) → (types : List ℕ) → Node → Procedure
+all_out p us body =
     record {
       pred = p;
-      head = from 0 n;
-      first = replicate n 0;
-      last = replicate n 1;
+      head = from 0 (length us);
+      first = map (λ u. 0) us;
+      last = map (λ u. 1) us;
       body = body;
       det = nondet;
-      var_types = the_types n;
+      var_types = the_types us;
     }
 
 abbrev pub procedure_at : Database → ℕ → Procedure
-procedure_at d k = all_out k (relation_at d k).arity (body_of (relation_at d k).rows)
+procedure_at d k = all_out k (relation_at d k).types (body_of (relation_at d k).rows)
 
 -- the query's procedure calls the predicate's one procedure with its variables
 abbrev pub query_procedure : Database → Question → Procedure
 query_procedure d q =
-    all_out (length d.relations) (length q.variables) (plain (S.Call q.relation (from 0 (length q.variables)) [] false))
+    all_out (length d.relations) (asked_types d q) (plain (S.Call q.relation (from 0 (length (asked_types d q))) [] false))
 
 -- the four nodes that stand for the builtin insts
 abbrev pub builtin_insts : ℕ → InstNode

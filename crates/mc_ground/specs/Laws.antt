@@ -4,22 +4,27 @@ use Rattle.mc_model.specs.Values.{Val}
 use Rattle.mc_model.specs.Items.{Items, End, Answer, Called}
 use Rattle.mc_model.specs.Stream.{run_query}
 use Rattle.mc_model.specs.Good.{GoodProcedures, GoodQuery}
-use Rattle.mc_ground.specs.Database.{Relation, Database, Question, relation_at, constant_of, query_procedure, system_of}
+use Rattle.mc_ground.specs.Database.{Relation, Database, Question, constant_at, relation_at, asked_types, constant_of, query_procedure, system_of}
 
--- each row has so many constants
-abbrev pub Wide : ℕ → List (List ℕ) → Type 0
-Wide n [] = Unit {0}
-Wide n (row ∷ rows) = (length row ≡ n) × Wide n rows
+-- a fact has a constant of each argument's type
+abbrev pub RowFits : Database → (types row : List ℕ) → Type 0
+RowFits d [] [] = Unit {0}
+RowFits d (u ∷ us) (s ∷ row) = (s < length d.constants) × (((constant_at d s).of_type ≡ u) × RowFits d us row)
+RowFits d _ _ = ⊥
 
--- each fact has as many constants as its predicate has arguments
-abbrev pub Fits : List Relation → Type 0
-Fits [] = Unit {0}
-Fits (r ∷ rs) = Wide r.arity r.rows × Fits rs
+abbrev pub RowsFit : Database → (types : List ℕ) → List (List ℕ) → Type 0
+RowsFit d us [] = Unit {0}
+RowsFit d us (row ∷ rows) = RowFits d us row × RowsFit d us rows
+
+-- each fact has constants of its predicate's types
+abbrev pub Fits : Database → List Relation → Type 0
+Fits d [] = Unit {0}
+Fits d (r ∷ rs) = RowsFit d r.types r.rows × Fits d rs
 
 -- the query is of a predicate of the module, with a variable for each argument
 pub record Asks (d : Database) (q : Question) : Type 0 where
   pub declared : q.relation < length d.relations
-  pub arguments : length q.variables ≡ (relation_at d q.relation).arity
+  pub arguments : length q.variables ≡ length (asked_types d q)
 
 -- the answers of a list, and then its end
 abbrev pub answers_of : {A : Type 0} → List A → Items A
@@ -36,11 +41,11 @@ rows_of d q = (relation_at d q.relation).rows
 
 -- every run of a program of ground facts, and every run of a query over it, is good
 abbrev pub FactsAreGood : Type 0
-FactsAreGood = (d : Database) (q : Question) → Fits d.relations → Asks d q → GoodProcedures (system_of d q) × ((n h : ℕ) → GoodQuery (system_of d q) n h (query_procedure d q))
+FactsAreGood = (d : Database) (q : Question) → Fits d d.relations → Asks d q → GoodProcedures (system_of d q) × ((n h : ℕ) → GoodQuery (system_of d q) n h (query_procedure d q))
 
 -- with a budget and a height a query makes its one call, and answers each fact of its predicate in order
 abbrev pub FactsAreAnswered : Type 0
 FactsAreAnswered =
-    (d : Database) (q : Question) → Fits d.relations → Asks d q → (n h : ℕ) →
+    (d : Database) (q : Question) → Fits d d.relations → Asks d q → (n h : ℕ) →
     run_query (system_of d q).world.outcome (system_of d q).procs (suc n) (suc h) (query_procedure d q) ≡
     Called (record { proc = q.relation; args = map (λ v. None) q.variables }) (answers_of (map answer_of (rows_of d q)))

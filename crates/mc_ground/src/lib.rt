@@ -1,7 +1,8 @@
-//! Programs of ground facts in the terms of the language, and that their runs are good.
+//! Programs of ground facts in the terms of the language, that their runs are good, and the bytes of their queries.
 #![tactic(auto)]
 
 ghost use Rattle.mc_ground.specs.Laws.{FactsAreGood, FactsAreAnswered};
+ghost use Rattle.mc_ground.specs.Lines.{AnswersAreLines, BareAnswersAreLines};
 
 /// Every run of a program of ground facts, and every run of a query over it, is good: answers are true in the
 /// completion, and none is omitted.
@@ -12,4 +13,15 @@ pub fn facts_are_good()
 /// A query over ground facts answers each fact of its predicate, in source order.
 pub fn facts_are_answered()
     ensures { FactsAreAnswered }
+{}
+
+/// A query over ground facts puts out the line of each fact of its predicate, in source order, and `false.` where there
+/// is none.
+pub fn answers_are_lines()
+    ensures { AnswersAreLines }
+{}
+
+/// The same where the names of the constants are bare: the lines hold these names as they are.
+pub fn bare_answers_are_lines()
+    ensures { BareAnswersAreLines }
 {}

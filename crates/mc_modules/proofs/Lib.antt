@@ -1,0 +1,15 @@
+mod Blamed
+mod Counts
+mod FileLaws
+mod Joined
+mod Kept
+mod Listed
+mod Numbers
+mod Places
+mod Puts
+pub mod Sights
+mod Sole
+mod Standings
+mod Starts
+mod Tables
+mod Uses

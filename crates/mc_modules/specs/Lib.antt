@@ -1,6 +1,12 @@
 pub mod Files
-pub mod Things
-pub mod Occurrences
 pub mod Visible
 pub mod Faults
+pub mod Linked
+pub mod Candidates
 pub mod Rows
+pub mod Sights
+pub mod Passes
+pub mod Index
+pub mod Refused
+pub mod Tables
+pub mod Steps

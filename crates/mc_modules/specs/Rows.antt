@@ -7,7 +7,7 @@ use Rattle.mc_model.specs.declared.rule.Rule.{Rule}
 use Rattle.mc_model.specs.declared.rule.Rule.TheVariants as R
 use Rattle.mc_decl_forms.specs.Plain.{It, ModuleStart, ModuleEnd, Interface, Implementation, Imports, UseOnly, AbstractType, UnionType, SameType, Pred, Clause}
 use Rattle.mc_modules.specs.Files.{File}
-use Rattle.mc_modules.specs.Things.{named}
+use Rattle.mc_item_names.specs.Plain.{id}
 use Rattle.mc_modules.specs.Faults.{shown, link_faults}
 
 -- items on the lines of a file from one on
@@ -87,24 +87,24 @@ defines_u = UnionType (atom (codes "u")) (just (atom (codes "d")))
 -- a name that nothing visible has; that an imported module's interface has; that it has and doesn't show; that a module has which is only used
 abbrev pub Names : Type 0
 Names =
-    (alone (start ∷ Interface ∷ uses_u ∷ []) ≡ one R.N4 0 3 (shown (named (codes "u") 0) ++ codes " is not visible"))
+    (alone (start ∷ Interface ∷ uses_u ∷ []) ≡ one R.N4 0 3 (shown (id (codes "u") 0) ++ codes " is not visible"))
     × (beside (start ∷ Interface ∷ Imports ((codes "b" ∷ []) ∷ []) ∷ uses_u ∷ []) (ModuleStart (codes "b" ∷ []) ∷ Interface ∷ defines_u ∷ []) ≡ [])
-    × (beside (start ∷ Interface ∷ Imports ((codes "b" ∷ []) ∷ []) ∷ uses_u ∷ []) (ModuleStart (codes "b" ∷ []) ∷ Implementation ∷ defines_u ∷ []) ≡ one R.N4 0 4 (shown (named (codes "u") 0) ++ codes " is not visible"))
-    × (beside (start ∷ Interface ∷ UseOnly ((codes "b" ∷ []) ∷ []) ∷ uses_u ∷ []) (ModuleStart (codes "b" ∷ []) ∷ Interface ∷ defines_u ∷ []) ≡ one R.N4 0 4 (shown (named (codes "u") 0) ++ codes " is not visible"))
+    × (beside (start ∷ Interface ∷ Imports ((codes "b" ∷ []) ∷ []) ∷ uses_u ∷ []) (ModuleStart (codes "b" ∷ []) ∷ Implementation ∷ defines_u ∷ []) ≡ one R.N4 0 4 (shown (id (codes "u") 0) ++ codes " is not visible"))
+    × (beside (start ∷ Interface ∷ UseOnly ((codes "b" ∷ []) ∷ []) ∷ uses_u ∷ []) (ModuleStart (codes "b" ∷ []) ∷ Interface ∷ defines_u ∷ []) ≡ one R.N4 0 4 (shown (id (codes "u") 0) ++ codes " is not visible"))
 
 -- a type that is defined twice, a constructor that stands twice in one union; an abstract type and its definition; an abstract type alone; an own type `int`
 abbrev pub Definitions : Type 0
 Definitions =
-    (alone (start ∷ Interface ∷ defines_u ∷ defines_u ∷ []) ≡ one R.N5 0 4 (shown (named (codes "u") 0) ++ codes " is defined twice"))
-    × (alone (start ∷ Interface ∷ UnionType (atom (codes "u")) (two (atom (codes "d")) (atom (codes "d"))) ∷ []) ≡ one R.N5 0 3 (shown (named (codes "d") 0) ++ codes " is defined twice"))
+    (alone (start ∷ Interface ∷ defines_u ∷ defines_u ∷ []) ≡ one R.N5 0 4 (shown (id (codes "u") 0) ++ codes " is defined twice"))
+    × (alone (start ∷ Interface ∷ UnionType (atom (codes "u")) (two (atom (codes "d")) (atom (codes "d"))) ∷ []) ≡ one R.N5 0 3 (shown (id (codes "d") 0) ++ codes " is defined twice"))
     × (alone (start ∷ Interface ∷ AbstractType (atom (codes "u")) ∷ Implementation ∷ defines_u ∷ []) ≡ [])
-    × (alone (start ∷ Interface ∷ AbstractType (atom (codes "u")) ∷ []) ≡ one R.N6 0 3 (shown (named (codes "u") 0) ++ codes " has no definition"))
-    × (alone (start ∷ Interface ∷ UnionType (atom (codes "int")) (just (atom (codes "d"))) ∷ SameType (atom (codes "t")) (atom (codes "int")) ∷ []) ≡ one R.N8 0 4 (shown (named (codes "int") 0) ++ codes " has two meanings"))
+    × (alone (start ∷ Interface ∷ AbstractType (atom (codes "u")) ∷ []) ≡ one R.N6 0 3 (shown (id (codes "u") 0) ++ codes " has no definition"))
+    × (alone (start ∷ Interface ∷ UnionType (atom (codes "int")) (just (atom (codes "d"))) ∷ SameType (atom (codes "t")) (atom (codes "int")) ∷ []) ≡ one R.N8 0 4 (shown (id (codes "int") 0) ++ codes " has two meanings"))
 
 -- a clause of what isn't declared; a declaration without clauses; one without modes; one with both
 abbrev pub Predicates : Type 0
 Predicates =
-    (alone (start ∷ Implementation ∷ clause ∷ []) ≡ one R.N7 0 3 (shown (named (codes "p") 0) ++ codes " is not declared"))
-    × (alone (start ∷ Interface ∷ declared ∷ []) ≡ one R.N6 0 3 (shown (named (codes "p") 0) ++ codes " has no definition"))
-    × (alone (start ∷ Interface ∷ Pred (atom (codes "p")) None ∷ Implementation ∷ clause ∷ []) ≡ one R.M5 0 3 (shown (named (codes "p") 0) ++ codes " has no mode"))
+    (alone (start ∷ Implementation ∷ clause ∷ []) ≡ one R.N7 0 3 (shown (id (codes "p") 0) ++ codes " is not declared"))
+    × (alone (start ∷ Interface ∷ declared ∷ []) ≡ one R.N6 0 3 (shown (id (codes "p") 0) ++ codes " has no definition"))
+    × (alone (start ∷ Interface ∷ Pred (atom (codes "p")) None ∷ Implementation ∷ clause ∷ []) ≡ one R.M5 0 3 (shown (id (codes "p") 0) ++ codes " has no mode"))
     × (alone (start ∷ Interface ∷ declared ∷ Implementation ∷ clause ∷ []) ≡ [])

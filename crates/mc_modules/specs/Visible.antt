@@ -1,11 +1,13 @@
 -- What a module sees (the Mercury manual: The module system).
-use Rattle.std.specs.Prelude.{ℕ, ◌+◌, ◌-◌, Bool, true, false, cond, not, nat_eq, nat_le, nat_lt, ◌&&◌, List, [], ◌∷◌, ◌++◌, length, Option, Some, None, codes, drop, slice_index_or}
-use Rattle.std.specs.Str.{bytes_eq}
+use Rattle.std.specs.Prelude.{ℕ, ◌+◌, ◌-◌, Bool, true, false, cond, not, nat_eq, nat_le, ◌&&◌, List, [], ◌∷◌, ◌++◌, length, Option, Some, None, codes, drop, slice_index_or}
+use Rattle.std.specs.Option.{is_some}
+use Rattle.std.specs.Str.{bytes_eq, chars, is_utf8}
 use Rattle.std.specs.Set.{is_member}
 use Rattle.mc_decl_forms.specs.Plain.{Path, It, Imports, UseOnly}
-use Rattle.mc_modules.specs.Files.{File, Standing, standing, joined, module_names}
-use Rattle.mc_modules.specs.Things.{Kind, TypeKind, InstKind, ModeKind, FuncKind, SymbolKind, Named, named, is_named, declares, last_part}
-use Rattle.mc_modules.specs.Occurrences.{Use}
+use Rattle.mc_item_names.specs.declared.thing.Kind.{Kind}
+use Rattle.mc_item_names.specs.declared.thing.Kind.TheVariants as K
+use Rattle.mc_item_names.specs.Plain.{Id, id, is_id, Us}
+use Rattle.mc_modules.specs.Files.{File, Standing, standing, joined, module_names, things_of, shown_of, has}
 
 -- the library's modules are the last nine files
 abbrev pub library_size : ℕ
@@ -71,62 +73,58 @@ abbrev pub seen : List File → ℕ → List ℕ
 seen files k = only_used files (standing (file_at files k)) (bare files k)
 
 -- types, insts and modes that every module sees
-abbrev pub builtin_names : Kind → List Named
-builtin_names TypeKind = named (codes "int") 0 ∷ named (codes "char") 0 ∷ named (codes "string") 0 ∷ []
-builtin_names InstKind = named (codes "free") 0 ∷ named (codes "ground") 0 ∷ named (codes "unique") 0 ∷ named (codes "dead") 0 ∷ named (codes "clobbered") 0 ∷ []
-builtin_names ModeKind =
-    named (codes "in") 0 ∷ named (codes "out") 0 ∷ named (codes "di") 0 ∷ named (codes "uo") 0 ∷ named (codes "in") 1 ∷ named (codes "out") 1 ∷ []
+abbrev pub builtin_names : Kind → List Id
+builtin_names K.DefinedType = id (codes "int") 0 ∷ id (codes "char") 0 ∷ id (codes "string") 0 ∷ []
+builtin_names K.Inst = id (codes "free") 0 ∷ id (codes "ground") 0 ∷ id (codes "unique") 0 ∷ id (codes "dead") 0 ∷ id (codes "clobbered") 0 ∷ []
+builtin_names K.Mode = id (codes "in") 0 ∷ id (codes "out") 0 ∷ id (codes "di") 0 ∷ id (codes "uo") 0 ∷ id (codes "in") 1 ∷ id (codes "out") 1 ∷ []
 builtin_names _ = []
 
-abbrev pub is_builtin : Kind → Named → Bool
-is_builtin k x = is_member is_named (builtin_names k) x
+abbrev pub is_builtin : Kind → Id → Bool
+is_builtin k x = is_member is_id (builtin_names k) x
 
--- whether a module of these has a thing that another sees, or that it has for itself
-abbrev pub has_thing : List File → (own : ℕ) → Kind → Named → ℕ → Bool
-has_thing files own k x j = declares (nat_eq own j) k x (standing (file_at files j))
+-- whether a module has a thing, for itself or for another
+abbrev pub has_thing : List File → (own : ℕ) → Kind → Id → ℕ → Bool
+has_thing files own k x j = has k x (cond (nat_eq own j) (things_of (standing (file_at files j))) (shown_of (standing (file_at files j))))
 
-abbrev pub how_many : List File → (own : ℕ) → Kind → Named → List ℕ → ℕ
+abbrev pub how_many : List File → (own : ℕ) → Kind → Id → List ℕ → ℕ
 how_many files own k x [] = 0
 how_many files own k x (j ∷ js) = cond (has_thing files own k x j) 1 0 + how_many files own k x js
-
--- the parts before the last
-abbrev pub qualifier : Path → Path
-qualifier [] = []
-qualifier (w ∷ []) = []
-qualifier (w ∷ (v ∷ vs)) = w ∷ qualifier (v ∷ vs)
-
-abbrev pub is_qualified : Path → Bool
-is_qualified (w ∷ (v ∷ vs)) = true
-is_qualified _ = false
 
 -- those of these modules that a qualifier means
 abbrev pub among : Option ℕ → List ℕ → List ℕ
 among None ks = []
 among (Some k) ks = cond (is_member nat_eq ks k) (k ∷ []) []
 
--- the modules in which a name is looked up that a module uses
-abbrev pub searched : List File → (own : ℕ) → Path → List ℕ
-searched files own w = cond (is_qualified w) (among (module_of files (joined (qualifier w))) (seen files own)) (bare files own)
+abbrev pub is_qualified : Path → Bool
+is_qualified [] = false
+is_qualified _ = true
+
+-- the modules in which a name with these qualifiers is looked up that a module uses
+abbrev pub searched : List File → (own : ℕ) → (qualifiers : Path) → List ℕ
+searched files own [] = bare files own
+searched files own (w ∷ ws) = among (module_of files (joined (w ∷ ws))) (seen files own)
 
 -- how many meanings a name has that a module uses, as a thing of a kind
-abbrev pub meanings_as : List File → (own : ℕ) → Kind → Use → ℕ
-meanings_as files own k u =
-    cond (not (is_qualified u.path) && is_builtin k (named (last_part u.path) u.arity)) 1 0
-    + how_many files own k (named (last_part u.path) u.arity) (searched files own u.path)
+abbrev pub meanings_as : List File → (own : ℕ) → Kind → Us → ℕ
+meanings_as files own k u = cond (not (is_qualified u.qualifiers) && is_builtin k u.id) 1 0 + how_many files own k u.id (searched files own u.qualifiers)
 
--- how many bytes a character has that begins with this one (UTF-8)
-abbrev pub character_length : ℕ → ℕ
-character_length b = cond (nat_lt b 128) 1 (cond (nat_lt b 224) 2 (cond (nat_lt b 240) 3 4))
+abbrev pub sole : List ℕ → Option ℕ
+sole (c ∷ []) = Some c
+sole _ = None
 
--- a name of one character, which means that character
-abbrev pub is_character : Path → ℕ → Bool
-is_character ((b ∷ bs) ∷ []) n = nat_eq n 0 && nat_eq (length bs + 1) (character_length b)
-is_character _ n = false
+-- the character that a name is, where it is just one
+abbrev pub sole_character : List ℕ → Option ℕ
+sole_character w = cond (is_utf8 w) (sole (chars w)) None
+
+-- the character that a name without qualifiers and arguments may mean
+abbrev pub character : (qualifiers : Path) → Id → Option ℕ
+character [] x = cond (nat_eq x.arity 0) (sole_character x.name) None
+character _ x = None
 
 -- How many meanings a name has: a term's name is a constructor, a function or a character.
-abbrev pub meanings_of : List File → (own : ℕ) → Kind → Use → ℕ
-meanings_of files own SymbolKind u = meanings_as files own SymbolKind u + (meanings_as files own FuncKind u + cond (is_character u.path u.arity) 1 0)
+abbrev pub meanings_of : List File → (own : ℕ) → Kind → Us → ℕ
+meanings_of files own K.Symbol u = meanings_as files own K.Symbol u + (meanings_as files own K.Func u + cond (is_some (character u.qualifiers u.id)) 1 0)
 meanings_of files own k u = meanings_as files own k u
 
-abbrev pub meanings : List File → (own : ℕ) → Use → ℕ
+abbrev pub meanings : List File → (own : ℕ) → Us → ℕ
 meanings files own u = meanings_of files own u.kind u

@@ -1,0 +1,5 @@
+use Rattle.mc_cmd.proofs.InTurn.{read_held}
+use Rattle.mc_cmd.proofs.decide.read_file.Goals as goal
+
+pub returns-clause-read : goal.returns-clause-read
+returns-clause-read g c = read_held _ c.args.name.now c.in-Ok.bytes c.from_vec.result (c.in-Ok.ensures {u = tt}).bytes c.from_vec.ensures

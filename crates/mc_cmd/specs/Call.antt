@@ -1,0 +1,45 @@
+-- How a call went: what it told, put and counted. (This project's profile.)
+use Rattle.std.specs.Prelude.{◌≡◌, ℕ, List, ◌++◌, Contains, Option, Some, None}
+use Rattle.mc_outside.specs.Counts.{Rose}
+use Rattle.mc_outside.specs.Meaning.{Held, PutsFront}
+use Rattle.mc_cmd.specs.declared.status.Status.{Status}
+use Rattle.mc_cmd.specs.declared.status.Status.TheVariants as S
+use Rattle.mc_cmd.specs.Outcome.{texts_in, These, Missing, unreadable_line}
+
+-- the store tells what it holds, and the sinks what was written
+pub record Told (store : Option Held) (held : Held) (out : Option (List ℕ)) (before_out : List ℕ) (err : Option (List ℕ)) (before_err : List ℕ) : Type 0 where
+  pub files : store ≡ Some held
+  pub output : out ≡ Some before_out
+  pub errors : err ≡ Some before_err
+
+-- no count of faults rose
+pub record NoneRose (files0 files1 out0 out1 err0 err1 : ℕ) : Type 0 where
+  pub files : Rose files0 files1 → ⊥
+  pub output : Rose out0 out1 → ⊥
+  pub errors : Rose err0 err1 → ⊥
+
+-- a sink was given these bytes
+abbrev pub Wrote : Option (List ℕ) → Option (List ℕ) → List ℕ → Type 0
+Wrote None after bytes = after ≡ None
+Wrote (Some before) after bytes = after ≡ Some (before ++ bytes)
+
+-- where it is told what the files hold, the first of these that isn't there is this one
+abbrev pub Lacks : Option Held → List (List ℕ) → List ℕ → Type 0
+Lacks None files file = Contains files file
+Lacks (Some held) files file = texts_in held files ≡ Missing file
+
+-- on the error output was put a front part of the line that says of one of the files that it can't be read
+abbrev pub SaysUnreadable : Option (List ℕ) → Option (List ℕ) → List (List ℕ) → Type 0
+SaysUnreadable before after files = (file : List ℕ) × Contains files file × PutsFront before after (unreadable_line file)
+
+-- the status is one of those that can come at this stage
+abbrev pub CanCome : Status → Type 0
+CanCome S.Threw = ⊥
+CanCome S.Budget = ⊥
+CanCome S.TooDeep = ⊥
+CanCome _ = Unit {0}
+
+-- where it is told what the files hold, these are their texts
+abbrev pub HoldTexts : Option Held → (files texts : List (List ℕ)) → Type 0
+HoldTexts None files texts = Unit {0}
+HoldTexts (Some held) files texts = texts_in held files ≡ These texts

@@ -1,0 +1,197 @@
+-- What is answered of linked files and a goal.
+use Rattle.std.proofs.Common.{◌≡◌, ℕ, Bool, true, false, List, [], ◌∷◌, ◌++◌, map, length, take, drop, Option, Some, None, Result, Ok, Err, subst, refl, ap, sym, ◌∙◌}
+use Rattle.std.specs.Option.{is_some, option_map}
+use Rattle.std.specs.Prelude.{slice_index_or, IfOk}
+use Rattle.std.proofs.lemmas.List.{map-append, length-map, take-append-drop, take-map}
+use Rattle.mc_syntax.specs.Plain.{plain_term}
+use Rattle.mc_syntax.specs.declared.term.Term.{Term}
+use Rattle.mc_model.specs.declared.program.Symbol.{Symbol}
+use Rattle.mc_model.specs.declared.program.Pred.{Pred}
+use Rattle.mc_modules.specs.declared.names.Named.{Named}
+use Rattle.mc_model.specs.Programs.{ClauseForm, Predicate}
+use Rattle.mc_model.specs.PlainPrograms.{plain_pred, plain_symbol}
+use Rattle.mc_model.specs.declared.program.TypeDef.{TypeDef}
+use Rattle.mc_decl_forms.specs.Terms.{is_distinct}
+use Rattle.mc_modules.specs.Files.{File, plain_files}
+use Rattle.mc_modules.specs.Linked.{Defined, plain_names, plain_named, linked, each, flat, types_of, preds_of}
+use Rattle.mc_items.specs.declared.entry.Entry.{Entry}
+use Rattle.mc_items.specs.Files.{plain_entry}
+use Rattle.mc_ground.specs.Database.{Question, predicate_of, query_predicate}
+use Rattle.mc_compile.specs.declared.given.Compiled.{Compiled}
+use Rattle.mc_compile.specs.declared.facts.enums.Enums.{Enums}
+use Rattle.mc_compile.specs.declared.facts.query.Asked.{Asked}
+use Rattle.mc_compile.specs.Facts.{LinkedFiles, Fact, facts, database, question, given_preds, given_types, signatures, constants, names_of, or_none}
+use Rattle.mc_compile.specs.Compiled.{over_facts, with_question, query_predicates, goal_number, goal_variables}
+use Rattle.mc_compile.specs.Passes.{everywhere, all_plain, all_import_given, is_plain, imports_given, is_sound, all_some, signatures_through, facts_through, put_facts, put_all, table_through, no_clauses, predicates_over, AreEnums, count_types, linked_of, IsFormed, plain_question}
+use Rattle.mc_compile.specs.declared.facts.sources.Sources.{Sources}
+use Rattle.mc_compile.specs.Answered.{IsAnswered, IsBuilt, IsMade, query_preds, goal_behind}
+use Rattle.mc_compile.proofs.Forms.{refuted, plain_none, imports_none, sound_none, some_through, all_facts, table_all, signatures_all, all_there}
+use Rattle.mc_compile.proofs.Builds.{facts_put, relations_all, preds_counted, asked_as, relations_counted, question_below, facts_are, no_facts, nothing_over, types_counted, first_of, same_names, repeated_names}
+
+pub not_plain : (P : LinkedFiles) (goal : Option Term) → all_plain P.given ≡ false → IsAnswered P goal None
+not_plain P goal e = nothing_over P goal (no_facts P (refuted P (λ own i. is_plain i) (plain_none P) 0 P.given e))
+
+pub not_given : (P : LinkedFiles) (goal : Option Term) → all_import_given P ≡ false → IsAnswered P goal None
+not_given P goal e = nothing_over P goal (no_facts P (refuted P (λ own i. imports_given P i) (imports_none P) 0 P.given e))
+
+pub not_sound : (P : LinkedFiles) (goal : Option Term) → None ≡ all_some (signatures_through P 0 P.given) → IsAnswered P goal None
+not_sound P goal e = nothing_over P goal (no_facts P (refuted P (is_sound P) (sound_none P) 0 P.given (sym (some_through P 0 P.given) ∙ ap is_some (sym e))))
+
+sound : (P : LinkedFiles) (uss : List (List ℕ)) → Some uss ≡ all_some (signatures_through P 0 P.given) → everywhere (is_sound P) 0 P.given ≡ true
+sound P uss e = sym (some_through P 0 P.given) ∙ ap is_some (sym e)
+
+facts_whole : (P : LinkedFiles) (uss : List (List ℕ)) → all_plain P.given ≡ true → all_import_given P ≡ true → is_distinct (names_of (constants P)) ≡ true → Some uss ≡ all_some (signatures_through P 0 P.given) → facts P ≡ facts_through P 0 P.given
+facts_whole P uss p g d s = facts_are P d ∙ all_facts P 0 P.given p g (sound P uss s)
+
+pub types_known : (P : LinkedFiles) (uss : List (List ℕ)) → Some uss ≡ all_some (signatures_through P 0 P.given) → map (λ us. Some us) uss ≡ signatures P
+types_known P uss e = all_there (signatures_through P 0 P.given) uss (sym e) ∙ sym (signatures_all P 0 P.given)
+
+pub counted_known : (P : LinkedFiles) (uss : List (List ℕ)) → Some uss ≡ all_some (signatures_through P 0 P.given) → length uss ≡ length (given_preds P)
+counted_known P uss e =
+    sym (length-map uss (λ us. Some us)) ∙ ap length (all_there (signatures_through P 0 P.given) uss (sym e)) ∙ sym (preds_counted P 0 P.given)
+
+nothing_put : (t : List (List ClauseForm)) (o : Option (List Fact)) → None ≡ put_all t o → o ≡ None
+nothing_put t None e = refl
+nothing_put t (Some fs) e = cc
+
+something_put : (t table : List (List ClauseForm)) (o : Option (List Fact)) → Some table ≡ put_all t o → (fs : List Fact) × (o ≡ Some fs) × (put_facts fs t ≡ table)
+something_put t table None e = cc
+something_put t table (Some fs) e = (fs, refl, cc)
+
+pub no_fact : (P : LinkedFiles) (goal : Option Term) (uss : List (List ℕ)) → all_plain P.given ≡ true → all_import_given P ≡ true → is_distinct (names_of (constants P)) ≡ true → Some uss ≡ all_some (signatures_through P 0 P.given) →
+    None ≡ table_through P 0 (no_clauses uss) P.given → IsAnswered P goal None
+no_fact P goal uss p g d s e =
+    nothing_over P goal (facts_whole P uss p g d s ∙ nothing_put (no_clauses uss) (facts_through P 0 P.given) (e ∙ table_all P 0 (no_clauses uss) P.given))
+
+over_none : (P : LinkedFiles) (goal : Term) (o : Option (List Fact)) → question P (plain_term goal) ≡ None → over_facts P (Some goal) o ≡ None
+over_none P goal None e = refl
+over_none P goal (Some fs) e = ap (with_question (database P fs)) e
+
+pub no_question : (P : LinkedFiles) (goal : Term) → question P (plain_term goal) ≡ None → IsAnswered P (Some goal) None
+no_question P goal e = over_none P goal (facts P) e
+
+-- the question of a goal, where there is one
+abbrev pub IsAskedBy : LinkedFiles → Option Term → Option Question → Type 0
+IsAskedBy P None q = q ≡ None
+IsAskedBy P (Some goal) None = ⊥
+IsAskedBy P (Some goal) (Some q) = question P (plain_term goal) ≡ Some q
+
+over_some : (P : LinkedFiles) (goal : Option Term) (q : Option Question) (o : Option (List Fact)) (fs : List Fact) → o ≡ Some fs → IsAskedBy P goal q → over_facts P goal o ≡ Some (database P fs, q)
+over_some P None q o fs e a = rw (e, a) refl
+over_some P (Some goal) None o fs e a = absurd a
+over_some P (Some goal) (Some q) o fs e a = ap (over_facts P (Some goal)) e ∙ ap (with_question (database P fs)) a
+
+queried : (P : LinkedFiles) (goal : Option Term) (uss : List (List ℕ)) (fs : List Fact) (q : Option Question) → map (λ us. Some us) uss ≡ signatures P → IsAskedBy P goal q → query_preds uss q ≡ query_predicates (database P fs) q
+queried P goal uss fs None e a = refl
+queried P None uss fs (Some q) e a = cc
+queried P (Some goal) uss fs (Some q) e a =
+    ap (λ us. query_predicate q.relation us ∷ []) (ap (λ ss. or_none (slice_index_or ss q.relation None)) e ∙ sym (asked_as P fs q (question_below P (plain_term goal) q a)))
+
+numbered : (P : LinkedFiles) (fs : List Fact) (n : ℕ) (q : Option Question) → n ≡ length (given_preds P) → goal_behind n q ≡ goal_number (database P fs) q
+numbered P fs n None e = refl
+numbered P fs n (Some q) e = e ∙ sym (relations_counted P fs)
+
+pub answered : (P : LinkedFiles) (goal : Option Term) (enums : Enums) (uss : List (List ℕ)) (table : List (List ClauseForm)) (q : Option Question) (c : Compiled) →
+    all_plain P.given ≡ true → all_import_given P ≡ true → is_distinct (names_of (constants P)) ≡ true → Some uss ≡ all_some (signatures_through P 0 P.given) →
+    Some table ≡ table_through P 0 (no_clauses uss) P.given → AreEnums (given_types P) enums → IsAskedBy P goal q → IsBuilt enums (predicates_over (given_preds P) uss table) uss q c →
+    IsAnswered P goal (Some c)
+answered P goal enums uss table q c p g d s t enumerated a built =
+    let put = something_put (no_clauses uss) table (facts_through P 0 P.given) (t ∙ table_all P 0 (no_clauses uss) P.given) in
+    let fs = put.0 in
+    let known = types_known P uss s in
+    let counted = counted_known P uss s in
+    let relations : predicates_over (given_preds P) uss table ≡ map predicate_of (database P fs).relations =
+    ap (predicates_over (given_preds P) uss) (sym put.2 ∙ facts_put uss fs) ∙ sym (relations_all (signatures P) uss fs (given_preds P) known counted) in
+    let length_known : length (predicates_over (given_preds P) uss table) ≡ length (given_preds P) =
+    ap length relations ∙ length-map (database P fs).relations predicate_of ∙ relations_counted P fs in (
+      database P fs,
+      q,
+      over_some P goal q (facts P) fs (facts_whole P uss p g d s ∙ put.1) a,
+      record {
+        types = ap (map (λ (t : TypeDef). t.symbols)) built.types ∙ enumerated.groups;
+        symbols = ap (map plain_symbol) built.symbols ∙ enumerated.constructors;
+        preds = built.preds ∙ ap (λ z. z ++ query_preds uss q) relations ∙ ap (λ z. map predicate_of (database P fs).relations ++ z) (queried P goal uss fs q known a);
+        goal = built.goal ∙ numbered P fs (length (predicates_over (given_preds P) uss table)) q length_known;
+        vars = built.vars;
+      },
+    )
+
+-- what a program of formed files is built over
+pub types_taken : (files : List (List Entry)) (g : ℕ) (of : File → List Defined) (mine : List Defined) → mine ≡ flat (each of (plain_files files)) →
+    take (length (flat (each of (plain_files (take g files))))) mine ≡ flat (each of (plain_files (take g files)))
+types_taken files g of mine e =
+    let split : plain_files files ≡ plain_files (take g files) ++ plain_files (drop g files) =
+    ap plain_files (sym (take-append-drop g files)) ∙ map-append (map plain_entry) (take g files) (drop g files) in
+    ap (take (length (flat (each of (plain_files (take g files)))))) (e ∙ ap (λ fs. flat (each of fs)) split) ∙ first_of of (plain_files (take g files)) (plain_files (drop g files))
+
+pub formed : (s : Sources) (files : List (List Entry)) (g : ℕ) → s.given.now ≡ take g files → s.files.now ≡ files → plain_names s.names.now ≡ linked (plain_files files) →
+    s.types ≡ count_types (plain_files (take g files)) → all_plain (plain_files (take g files)) ≡ true → all_import_given (linked_of s) ≡ true → IsFormed s
+formed s files g given all names counted plain imports =
+    let mine : (linked_of s).given ≡ plain_files (take g files) = ap plain_files given in
+    record {
+      counted = counted ∙ sym (types_counted 0 (plain_files (take g files)) plain) ∙ ap (λ fs. length (flat (each types_of fs))) (sym mine);
+      plain = ap all_plain mine ∙ plain;
+      imports = imports;
+      types = taken types_of (linked_of s).names.types (ap (λ l. l.types) names) mine;
+      preds = taken preds_of (linked_of s).names.preds (ap (λ l. l.preds) names) mine;
+    }
+  where
+    taken : (of : File → List Defined) (ds : List Defined) → ds ≡ flat (each of (plain_files files)) → (linked_of s).given ≡ plain_files (take g files) → take (length (flat (each of (linked_of s).given))) ds ≡ flat (each of (linked_of s).given)
+    taken of ds e mine = ap (λ fs. take (length (flat (each of fs))) ds) mine ∙ types_taken files g of ds e ∙ ap (λ fs. flat (each of fs)) (sym mine)
+
+pub preds_known : (s : Sources) (uss : List (List ℕ)) (xs : List Named) → IsFormed s → length uss ≡ length (given_preds (linked_of s)) → xs ≡ take (length uss) s.names.now.preds → map plain_named xs ≡ given_preds (linked_of s)
+preds_known s uss xs f counted is =
+    ap (map plain_named) is ∙ sym (take-map plain_named (length uss) s.names.now.preds) ∙ ap (λ n. take n (map plain_named s.names.now.preds)) counted ∙ f.preds
+
+pub types_enumerated : (s : Sources) (xs : List Named) (e : Enums) → IsFormed s → xs ≡ take s.types s.names.now.types → AreEnums (map plain_named xs) e → AreEnums (given_types (linked_of s)) e
+types_enumerated s xs e f is enumerated =
+    subst (λ ds. AreEnums ds e) (ap (map plain_named) is ∙ sym (take-map plain_named s.types s.names.now.types) ∙ ap (λ n. take n (map plain_named s.names.now.types)) f.counted ∙ f.types) enumerated
+
+pub distinct_known : (P : LinkedFiles) (e : Enums) (b : Bool) → AreEnums (given_types P) e → b ≡ is_distinct (map (λ (s : Symbol). s.name.name) e.symbols) → b ≡ is_distinct (names_of (constants P))
+distinct_known P e b enumerated is = is ∙ ap is_distinct (same_names e.symbols (constants P) enumerated.constructors)
+
+pub not_distinct : (P : LinkedFiles) (goal : Option Term) → is_distinct (names_of (constants P)) ≡ false → IsAnswered P goal None
+not_distinct P goal e = nothing_over P goal (repeated_names P e)
+
+pub asked_none : (P : LinkedFiles) (goal : Option Term) → goal ≡ None → IsAskedBy P goal None
+asked_none P None e = refl
+asked_none P (Some t) e = cc
+
+pub asked_some : (P : LinkedFiles) (goal : Option Term) (t : Term) (q : Question) → goal ≡ Some t → question P (plain_term t) ≡ Some q → IsAskedBy P goal (Some q)
+asked_some P None t q e a = cc
+asked_some P (Some u) t q e a = let same : u ≡ t = cc in ap (λ z. question P (plain_term z)) same ∙ a
+
+pub if_ok : {A E : Type 0} (r : Result A E) (Q R : A → Type 0) → ((a : A) → Q a → R a) → IfOk r Q → IfOk r R
+if_ok (Ok a) Q R f h = f a h
+if_ok (Err e) Q R f h = tt
+
+pub built_with : (enums : Enums) (ps : List Predicate) (preds : List Pred) (uss : List (List ℕ)) (q : Option Question) (goal : ℕ) (vars : List (List ℕ)) (c : Compiled) →
+    map plain_pred preds ≡ ps ++ query_preds uss q → goal ≡ goal_behind (length ps) q → vars ≡ goal_variables q → IsMade enums preds goal vars c → IsBuilt enums ps uss q c
+built_with enums ps preds uss q goal vars c e f g made =
+    record { types = made.types; symbols = made.symbols; preds = ap (map plain_pred) made.preds_are ∙ e; goal = made.goal_is ∙ f; vars = made.vars_are ∙ g }
+
+-- the same where the types of arguments are seen through a slice
+pub answered_by : (P : LinkedFiles) (goal : Option Term) (enums : Enums) (uss seen : List (List ℕ)) (table : List (List ClauseForm)) (q : Option Question) (c : Compiled) →
+    seen ≡ uss → all_plain P.given ≡ true → all_import_given P ≡ true → is_distinct (names_of (constants P)) ≡ true → Some uss ≡ all_some (signatures_through P 0 P.given) →
+    Some table ≡ table_through P 0 (no_clauses uss) P.given → AreEnums (given_types P) enums → IsAskedBy P goal q → IsBuilt enums (predicates_over (given_preds P) seen table) seen q c →
+    IsAnswered P goal (Some c)
+answered_by P goal enums uss seen table q c same p g d s t enumerated a built =
+    answered P goal enums uss table q c p g d s t enumerated a (subst (λ z. IsBuilt enums (predicates_over (given_preds P) z table) z q c) same built)
+
+append_nothing : {A : Type 0} (xs : List A) → xs ++ [] ≡ xs
+append_nothing [] = refl
+append_nothing (x ∷ xs) = ap (λ l. x ∷ l) (append_nothing xs)
+
+pub built_none : (enums : Enums) (ps : List Predicate) (preds : List Pred) (uss : List (List ℕ)) (asked : Option Asked) (vars : List (List ℕ)) (c : Compiled) →
+    asked ≡ None → vars ≡ [] → map plain_pred preds ≡ ps → IsMade enums preds 0 vars c → IsBuilt enums ps uss (option_map plain_question asked) c
+built_none enums ps preds uss None vars c e f g made = built_with enums ps preds uss None 0 vars c (g ∙ sym (append_nothing ps)) refl f made
+built_none enums ps preds uss (Some a) vars c e f g made = cc
+
+pub built_some : (enums : Enums) (ps : List Predicate) (preds : List Pred) (uss : List (List ℕ)) (asked : Option Asked) (a : Asked) (goal : ℕ) (vars : List (List ℕ)) (c : Compiled) →
+    asked ≡ Some a → vars ≡ a.variables → goal ≡ length ps → map plain_pred preds ≡ ps ++ query_predicate a.relation (or_none (slice_index_or (map (λ us. Some us) uss) a.relation None)) ∷ [] →
+    IsMade enums preds goal vars c → IsBuilt enums ps uss (option_map plain_question asked) c
+built_some enums ps preds uss asked a goal vars c e f g h made =
+    subst (λ q. IsBuilt enums ps uss q c) (sym (ap (option_map plain_question) e)) (built_with enums ps preds uss (Some (plain_question a)) goal vars c h g f made)
+
+pub pushed : (preds new : List Pred) (p : Pred) (ps : List Predicate) (q : Predicate) → new ≡ preds ++ p ∷ [] → map plain_pred preds ≡ ps → plain_pred p ≡ q → map plain_pred new ≡ ps ++ q ∷ []
+pushed preds new p ps q is e f = ap (map plain_pred) is ∙ map-append plain_pred preds (p ∷ []) ∙ ap (λ z. z ++ plain_pred p ∷ []) e ∙ ap (λ z. ps ++ z ∷ []) f

@@ -1,0 +1,260 @@
+-- What the passes build: predicates with their clauses, and the numbers of types and predicates.
+use Rattle.std.proofs.Common.{◌≡◌, ℕ, ◌+◌, ◌<◌, zero, suc, Bool, true, false, cond, ◌&&◌, List, [], ◌∷◌, ◌++◌, map, length, get_or, take, Option, Some, None, nat_eq, nat_lt, refl, ap, sym, ◌∙◌, append_assoc, length-append, arith}
+use Rattle.std.proofs.lemmas.List.{map-append}
+use Rattle.std.specs.Prelude.{slice_index_or}
+use Rattle.mc_syntax.specs.Plain.{Tm, at, Var, Int, Str, App, Items, Tailed, Conj, Disj}
+use Rattle.mc_syntax.specs.declared.term.Term.{Term}
+use Rattle.mc_decl_forms.specs.Terms.{is_distinct}
+use Rattle.mc_model.specs.Programs.{Constructor}
+use Rattle.mc_model.specs.declared.program.Symbol.{Symbol}
+use Rattle.mc_model.specs.PlainPrograms.{plain_symbol}
+use Rattle.mc_decl_forms.specs.Plain.{It, ModuleStart, ModuleEnd, Interface, Implementation, Imports, UseOnly, AbstractType, UnionType, SameType, SameInst, BoundInst, ModeDef, Pred, Func, Mode, Pragma, Clause}
+use Rattle.mc_item_names.specs.Things.{things}
+use Rattle.mc_modules.specs.Files.{File, Section, Standing, section_after, standing, standing_from, is_empty}
+use Rattle.mc_modules.specs.Linked.{Defined, each, flat, types_by, types_in, types_of, of_kind, is_pred, sorted_in, preds_of, name_of}
+use Rattle.mc_ground.specs.Database.{Constant, Question, constructor_of, fact, predicate_of, no_relation, asked_types}
+use Rattle.mc_compile.specs.Facts.{LinkedFiles, Fact, signature_by, rows_of, relations_from, names_of, or_none, given_preds, signatures, database, constants, facts, facts_from, below, asked, question, variables}
+use Rattle.mc_compile.specs.Compiled.{over_facts}
+use Rattle.mc_compile.specs.Passes.{every, everywhere, is_plain, signatures_over, signatures_through, put_clause, put_facts, no_clauses, tables_from, predicates_over, types_by_item, count_types_in, count_types}
+
+one_more : (b : Bool) (row : List ℕ) (xs ys : List (List ℕ)) (last : List (List ℕ)) → xs ≡ ys ++ last → cond b (row ∷ xs) xs ≡ cond b (row ∷ ys) ys ++ last
+one_more true row xs ys last e = ap (λ z. row ∷ z) e
+one_more false row xs ys last e = e
+
+rows_more : (n : ℕ) (fs : List Fact) (g : Fact) → rows_of n (fs ++ g ∷ []) ≡ rows_of n fs ++ cond (nat_eq g.0 n) (g.1 ∷ []) []
+rows_more n [] g = refl
+rows_more n (f ∷ fs) g = one_more (nat_eq f.0 n) f.1 (rows_of n (fs ++ g ∷ [])) (rows_of n fs) (cond (nat_eq g.0 n) (g.1 ∷ []) []) (rows_more n fs g)
+
+append_nil : {A : Type 0} (xs : List A) → xs ++ [] ≡ xs
+append_nil [] = refl
+append_nil (x ∷ xs) = ap (λ l. x ∷ l) (append_nil xs)
+
+rows_other : (n p : ℕ) (fs : List Fact) (row : List ℕ) → nat_eq p n ≡ false → rows_of n (fs ++ (p, row) ∷ []) ≡ rows_of n fs
+rows_other n p fs row e = rows_more n fs (p, row) ∙ ap (λ b. rows_of n fs ++ cond b (row ∷ []) []) e ∙ append_nil (rows_of n fs)
+
+rows_same : (n p : ℕ) (fs : List Fact) (row : List ℕ) → nat_eq p n ≡ true → rows_of n (fs ++ (p, row) ∷ []) ≡ rows_of n fs ++ row ∷ []
+rows_same n p fs row e = rows_more n fs (p, row) ∙ ap (λ b. rows_of n fs ++ cond b (row ∷ []) []) e
+
+differ : (p n : ℕ) → p < n → nat_eq p n ≡ false
+differ p n e = grind (arith, e)
+
+table_below : (n p : ℕ) (uss : List (List ℕ)) (fs : List Fact) (row : List ℕ) → p < n → tables_from n uss (fs ++ (p, row) ∷ []) ≡ tables_from n uss fs
+table_below n p [] fs row e = refl
+table_below n p (us ∷ uss) fs row e =
+    ap (λ z. map fact z ∷ tables_from (n + 1) uss (fs ++ (p, row) ∷ [])) (rows_other n p fs row (differ p n e))
+    ∙ ap (λ z. map fact (rows_of n fs) ∷ z) (table_below (n + 1) p uss fs row (omega (arith, e)))
+
+-- p is the number n + k
+table_put : (n k p : ℕ) (uss : List (List ℕ)) (fs : List Fact) (row : List ℕ) → p ≡ n + k → put_clause k (fact row) (tables_from n uss fs) ≡ tables_from n uss (fs ++ (p, row) ∷ [])
+table_put n k p [] fs row e = past k
+  where
+    past : (j : ℕ) → put_clause j (fact row) [] ≡ []
+    past zero = refl
+    past (suc j) = refl
+table_put n zero p (us ∷ uss) fs row e =
+    let same : p ≡ n = omega (arith, e) in
+    let here : nat_eq p n ≡ true = grind (arith, same) in
+    ap (λ z. z ∷ tables_from (n + 1) uss fs) (sym (map-append fact (rows_of n fs) (row ∷ [])) ∙ ap (map fact) (sym (rows_same n p fs row here)))
+    ∙ ap (λ z. map fact (rows_of n (fs ++ (p, row) ∷ [])) ∷ z) (sym (table_below (n + 1) p uss fs row (omega (arith, e))))
+table_put n (suc k) p (us ∷ uss) fs row e =
+    let other : nat_eq p n ≡ false = grind (arith, e) in
+    ap (λ z. map fact (rows_of n fs) ∷ z) (table_put (n + 1) k p uss fs row (omega (arith, e)))
+    ∙ ap (λ z. map fact z ∷ tables_from (n + 1) uss (fs ++ (p, row) ∷ [])) (sym (rows_other n p fs row other))
+
+tables_put : (uss : List (List ℕ)) (fs gs : List Fact) → put_facts gs (tables_from 0 uss fs) ≡ tables_from 0 uss (fs ++ gs)
+tables_put uss fs [] = ap (tables_from 0 uss) (sym (append_nil fs))
+tables_put uss fs (g ∷ gs) =
+    ap (put_facts gs) (table_put 0 g.0 g.0 uss fs g.1 (omega arith))
+    ∙ tables_put uss (fs ++ g ∷ []) gs
+    ∙ ap (tables_from 0 uss) (append_assoc fs (g ∷ []) gs)
+
+tables_none : (n : ℕ) (uss : List (List ℕ)) → no_clauses uss ≡ tables_from n uss []
+tables_none n [] = refl
+tables_none n (us ∷ uss) = ap (λ z. [] ∷ z) (tables_none (n + 1) uss)
+
+pub facts_put : (uss : List (List ℕ)) (fs : List Fact) → put_facts fs (no_clauses uss) ≡ tables_from 0 uss fs
+facts_put uss fs = ap (put_facts fs) (tables_none 0 uss) ∙ tables_put uss [] fs
+
+index_there : (pre : List (Option (List ℕ))) (us : Option (List ℕ)) (post : List (Option (List ℕ))) → slice_index_or (pre ++ us ∷ post) (length pre) None ≡ us
+index_there [] us post = refl
+index_there (x ∷ pre) us post = index_there pre us post
+
+relations_at : (p : ℕ) (ss pre : List (Option (List ℕ))) (uss : List (List ℕ)) (fs : List Fact) (ds : List Defined) → p ≡ length pre → ss ≡ pre ++ map (λ us. Some us) uss → length uss ≡ length ds →
+    map predicate_of (relations_from p ss fs ds) ≡ predicates_over ds uss (tables_from p uss fs)
+relations_at p ss pre [] fs [] e f g = refl
+relations_at p ss pre (us ∷ uss) fs [] e f g = absurd (omega (arith, g))
+relations_at p ss pre [] fs (d ∷ ds) e f g = absurd (omega (arith, g))
+relations_at p ss pre (us ∷ uss) fs (d ∷ ds) e f g =
+    let here : slice_index_or ss p None ≡ Some us = ap (λ z. slice_index_or z p None) f ∙ ap (λ n. slice_index_or (pre ++ Some us ∷ map (λ vs. Some vs) uss) n None) e ∙ index_there pre (Some us) (map (λ vs. Some vs) uss) in
+    let longer : p + 1 ≡ length (pre ++ Some us ∷ []) = grind (arith, e, length-append pre (Some us ∷ [])) in
+    let others : map predicate_of (relations_from (p + 1) ss fs ds) ≡ predicates_over ds uss (tables_from (p + 1) uss fs) =
+    relations_at (p + 1) ss (pre ++ Some us ∷ []) uss fs ds longer (f ∙ sym (append_assoc pre (Some us ∷ []) (map (λ vs. Some vs) uss))) (omega (arith, g)) in
+    rw (here, others) refl
+
+pub relations_all : (ss : List (Option (List ℕ))) (uss : List (List ℕ)) (fs : List Fact) (ds : List Defined) → map (λ us. Some us) uss ≡ ss → length uss ≡ length ds →
+    map predicate_of (relations_from 0 ss fs ds) ≡ predicates_over ds uss (tables_from 0 uss fs)
+relations_all ss uss fs ds e g = relations_at 0 ss [] uss fs ds refl (sym e) g
+
+type_count : (m : List ℕ) (all : List Standing) (s : Standing) (i : It) → is_plain i ≡ true → length (types_by m all s i) ≡ types_by_item i
+type_count m all s (UnionType h ts) e = refl
+type_count m all s (ModuleStart w) e = refl
+type_count m all s (ModuleEnd w) e = refl
+type_count m all s Interface e = refl
+type_count m all s Implementation e = refl
+type_count m all s (Imports ws) e = refl
+type_count m all s (UseOnly ws) e = refl
+type_count m all s (AbstractType h) e = cc
+type_count m all s (SameType h t) e = cc
+type_count m all s (SameInst h t) e = cc
+type_count m all s (BoundInst h ts) e = cc
+type_count m all s (ModeDef h t) e = cc
+type_count m all s (Pred t d) e = refl
+type_count m all s (Func t d) e = cc
+type_count m all s (Mode t d) e = cc
+type_count m all s Pragma e = refl
+type_count m all s (Clause t) e = refl
+
+and_left : (a b : Bool) → (a && b) ≡ true → a ≡ true
+and_left true b e = refl
+and_left false b e = cc
+
+and_right : (a b : Bool) → (a && b) ≡ true → b ≡ true
+and_right true b e = e
+and_right false b e = cc
+
+types_counted_in : (m : List ℕ) (all : List Standing) (b : Bool) (s : Section) (es : File) → every is_plain es ≡ true → length (types_in m all (standing_from b s es)) ≡ count_types_in es
+types_counted_in m all b s [] p = refl
+types_counted_in m all b s (e ∷ es) p =
+    let st : Standing = record { item = e.0; at = e.1; section = s; is_first = b; is_last = is_empty es } in
+    length-append (types_by m all st e.0) (types_in m all (standing_from false (section_after s e.0) es))
+    ∙ ap (λ n. n + length (types_in m all (standing_from false (section_after s e.0) es))) (type_count m all st e.0 (and_left _ _ p))
+    ∙ ap (λ n. types_by_item e.0 + n) (types_counted_in m all false (section_after s e.0) es (and_right _ _ p))
+
+pub types_counted : (k : ℕ) (fs : List File) → everywhere (λ own i. is_plain i) k fs ≡ true → length (flat (each types_of fs)) ≡ count_types fs
+types_counted k [] p = refl
+types_counted k (f ∷ fs) p =
+    length-append (types_of f) (flat (each types_of fs))
+    ∙ ap (λ n. n + length (flat (each types_of fs))) (types_counted_in (name_of f) (standing f) true _ f (and_left _ _ p))
+    ∙ ap (λ n. count_types_in f + n) (types_counted (k + 1) fs (and_right _ _ p))
+
+pred_count : (P : LinkedFiles) (k : ℕ) (m : List ℕ) (s : Standing) (i : It) → length (of_kind m s (is_pred i) (things i)) ≡ length (signature_by P k i)
+pred_count P k m s (UnionType h ts) = refl
+pred_count P k m s (ModuleStart w) = refl
+pred_count P k m s (ModuleEnd w) = refl
+pred_count P k m s Interface = refl
+pred_count P k m s Implementation = refl
+pred_count P k m s (Imports ws) = refl
+pred_count P k m s (UseOnly ws) = refl
+pred_count P k m s (AbstractType h) = refl
+pred_count P k m s (SameType h t) = refl
+pred_count P k m s (SameInst h t) = refl
+pred_count P k m s (BoundInst h ts) = refl
+pred_count P k m s (ModeDef h t) = refl
+pred_count P k m s (Pred t d) = refl
+pred_count P k m s (Func t d) = refl
+pred_count P k m s (Mode t d) = refl
+pred_count P k m s Pragma = refl
+pred_count P k m s (Clause t) = refl
+
+preds_counted_in : (P : LinkedFiles) (k : ℕ) (m : List ℕ) (b : Bool) (s : Section) (es : File) → length (sorted_in is_pred m (standing_from b s es)) ≡ length (signatures_over P k es)
+preds_counted_in P k m b s [] = refl
+preds_counted_in P k m b s (e ∷ es) =
+    let st : Standing = record { item = e.0; at = e.1; section = s; is_first = b; is_last = is_empty es } in
+    length-append (of_kind m st (is_pred e.0) (things e.0)) (sorted_in is_pred m (standing_from false (section_after s e.0) es))
+    ∙ ap (λ n. n + length (sorted_in is_pred m (standing_from false (section_after s e.0) es))) (pred_count P k m st e.0)
+    ∙ ap (λ n. length (signature_by P k e.0) + n) (preds_counted_in P k m false (section_after s e.0) es)
+    ∙ sym (length-append (signature_by P k e.0) (signatures_over P k es))
+
+pub preds_counted : (P : LinkedFiles) (k : ℕ) (fs : List File) → length (flat (each preds_of fs)) ≡ length (signatures_through P k fs)
+preds_counted P k [] = refl
+preds_counted P k (f ∷ fs) =
+    length-append (preds_of f) (flat (each preds_of fs))
+    ∙ ap (λ n. n + length (flat (each preds_of fs))) (preds_counted_in P k (name_of f) true _ f)
+    ∙ ap (λ n. length (signatures_over P k f) + n) (preds_counted P (k + 1) fs)
+    ∙ sym (length-append (signatures_over P k f) (signatures_through P (k + 1) fs))
+
+flat_append : (xs ys : List (List Defined)) → flat (xs ++ ys) ≡ flat xs ++ flat ys
+flat_append [] ys = refl
+flat_append (x ∷ xs) ys = ap (λ z. x ++ z) (flat_append xs ys) ∙ sym (append_assoc x (flat xs) (flat ys))
+
+each_append : (of : File → List Defined) (fs gs : List File) → each of (fs ++ gs) ≡ each of fs ++ each of gs
+each_append of [] gs = refl
+each_append of (f ∷ fs) gs = ap (λ z. of f ∷ z) (each_append of fs gs)
+
+take_front : {A : Type 0} (xs ys : List A) → take (length xs) (xs ++ ys) ≡ xs
+take_front [] ys = refl
+take_front (x ∷ xs) ys = ap (λ z. x ∷ z) (take_front xs ys)
+
+pub first_of : (of : File → List Defined) (fs gs : List File) → take (length (flat (each of fs))) (flat (each of (fs ++ gs))) ≡ flat (each of fs)
+first_of of fs gs =
+    ap (take (length (flat (each of fs)))) (ap flat (each_append of fs gs) ∙ flat_append (each of fs) (each of gs)) ∙ take_front (flat (each of fs)) (flat (each of gs))
+
+symbol_names : (ss : List Symbol) → map (λ (c : Constructor). c.name.bytes) (map plain_symbol ss) ≡ map (λ (s : Symbol). s.name.name) ss
+symbol_names [] = refl
+symbol_names (s ∷ ss) = ap (λ z. s.name.name ∷ z) (symbol_names ss)
+
+constant_names : (cs : List Constant) → map (λ (c : Constructor). c.name.bytes) (map constructor_of cs) ≡ names_of cs
+constant_names [] = refl
+constant_names (c ∷ cs) = ap (λ z. c.name ∷ z) (constant_names cs)
+
+pub same_names : (ss : List Symbol) (cs : List Constant) → map plain_symbol ss ≡ map constructor_of cs → map (λ (s : Symbol). s.name.name) ss ≡ names_of cs
+same_names ss cs e = sym (symbol_names ss) ∙ ap (map (λ (c : Constructor). c.name.bytes)) e ∙ constant_names cs
+
+relation_type_at : (p : ℕ) (ss : List (Option (List ℕ))) (fs : List Fact) (ds : List Defined) (k j : ℕ) → k < length ds → j ≡ p + k → (get_or (relations_from p ss fs ds) k no_relation).types ≡ or_none (slice_index_or ss j None)
+relation_type_at p ss fs [] k j e f = absurd (omega (arith, e))
+relation_type_at p ss fs (d ∷ ds) zero j e f = let g : j ≡ p = omega (arith, f) in rw g refl
+relation_type_at p ss fs (d ∷ ds) (suc k) j e f = relation_type_at (p + 1) ss fs ds k j (omega (arith, e)) (omega (arith, f))
+
+pub asked_as : (P : LinkedFiles) (fs : List Fact) (q : Question) → q.relation < length (given_preds P) → asked_types (database P fs) q ≡ or_none (slice_index_or (signatures P) q.relation None)
+asked_as P fs q e = relation_type_at 0 (signatures P) fs (given_preds P) q.relation q.relation e (omega arith)
+
+relation_count : (p : ℕ) (ss : List (Option (List ℕ))) (fs : List Fact) (ds : List Defined) → length (relations_from p ss fs ds) ≡ length ds
+relation_count p ss fs [] = refl
+relation_count p ss fs (d ∷ ds) = let e = relation_count (p + 1) ss fs ds in grind (arith, e)
+
+pub relations_counted : (P : LinkedFiles) (fs : List Fact) → length (database P fs).relations ≡ length (given_preds P)
+relations_counted P fs = relation_count 0 (signatures P) fs (given_preds P)
+
+asked_below : (P : LinkedFiles) (n : ℕ) (o : Option ℕ) (xs : Option (List (List ℕ))) (q : Question) → asked P (below n o) xs ≡ Some q → q.relation < n
+asked_below P n None xs q e = cc
+asked_below P n (Some k) xs q e = within (nat_lt k n) refl xs e
+  where
+    built : (p : ℕ) (ys : List (List ℕ)) (b : Bool) → cond b (Some (record { relation = p; variables = ys })) None ≡ Some q → p ≡ q.relation
+    built p ys false h = cc
+    built p ys true h = cc
+
+    within : (b : Bool) → nat_lt k n ≡ b → (ys : Option (List (List ℕ))) → asked P (cond b (Some k) None) ys ≡ Some q → q.relation < n
+    within false h ys g = cc
+    within true h None g = cc
+    within true h (Some zs) g = let same : k ≡ q.relation = built k zs _ g in grind (arith, same, h)
+
+only_call : (b : Bool) (o : Option Question) (q : Question) → cond b o None ≡ Some q → o ≡ Some q
+only_call true o q e = e
+only_call false o q e = cc
+
+pub question_below : (P : LinkedFiles) (t : Tm) (q : Question) → question P t ≡ Some q → q.relation < length (given_preds P)
+question_below P (at (App w ts) l) q e = asked_below P (length (given_preds P)) _ (variables ts) q (only_call _ _ q e)
+question_below P (at (Var w) l) q e = cc
+question_below P (at (Int n) l) q e = cc
+question_below P (at (Str s) l) q e = cc
+question_below P (at (Items ts) l) q e = cc
+question_below P (at (Tailed ts t) l) q e = cc
+question_below P (at (Conj ts) l) q e = cc
+question_below P (at (Disj ts) l) q e = cc
+
+-- the facts of files that pass
+pub facts_are : (P : LinkedFiles) → is_distinct (names_of (constants P)) ≡ true → facts P ≡ facts_from P 0 P.given
+facts_are P e = rw e refl
+
+pub repeated_names : (P : LinkedFiles) → is_distinct (names_of (constants P)) ≡ false → facts P ≡ None
+repeated_names P e = rw e refl
+
+none_either : (b : Bool) (o : Option (List Fact)) → o ≡ None → cond b o None ≡ None
+none_either true o e = e
+none_either false o e = refl
+
+pub no_facts : (P : LinkedFiles) → facts_from P 0 P.given ≡ None → facts P ≡ None
+no_facts P e = none_either (is_distinct (names_of (constants P))) (facts_from P 0 P.given) e
+
+pub nothing_over : (P : LinkedFiles) (goal : Option Term) → facts P ≡ None → over_facts P goal (facts P) ≡ None
+nothing_over P goal e = ap (over_facts P goal) e

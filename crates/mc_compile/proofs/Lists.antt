@@ -1,0 +1,18 @@
+-- Lists that are empty together, and the last of those that a loop has passed.
+use Rattle.std.proofs.Common.{◌≡◌, ℕ, ◌+◌, ◌<◌, List, [], ◌∷◌, ◌++◌, map, take, length, get_or, refl, sym, ap, ◌∙◌}
+use Rattle.std.proofs.lemmas.List.{take_more, map-append}
+
+pub first_empty : {A : Type 0} (xs ys : List A) → xs ++ ys ≡ [] → xs ≡ []
+first_empty [] ys e = refl
+first_empty (x ∷ xs) ys e = cc
+
+pub second_empty : {A : Type 0} (xs ys : List A) → xs ++ ys ≡ [] → ys ≡ []
+second_empty [] ys e = e
+second_empty (x ∷ xs) ys e = cc
+
+pub both_empty : {A : Type 0} (xs ys : List A) → xs ≡ [] → ys ≡ [] → xs ++ ys ≡ []
+both_empty xs ys e f = ap (λ zs. zs ++ ys) e ∙ f
+
+-- what one more element stands for
+pub map_more : {A B : Type 0} (f : A → B) (xs : List A) (i : ℕ) (d : A) (y : B) → i < length xs → y ≡ f (get_or xs i d) → map f (take (i + 1) xs) ≡ map f (take i xs) ++ y ∷ []
+map_more f xs i d y inside is = ap (map f) (take_more xs i d inside) ∙ map-append f (take i xs) (get_or xs i d ∷ []) ∙ ap (λ z. map f (take i xs) ++ z ∷ []) (sym is)

@@ -1,0 +1,80 @@
+-- What sources are compiled to (this project's phases; so far modules of facts alone).
+use Rattle.std.specs.Prelude.{◌≡◌, ◌≢◌, ◌⊎◌, ℕ, ◌+◌, Bool, true, false, List, [], ◌∷◌, ◌++◌, map, length, Option, Some, None}
+use Rattle.mc_syntax.specs.Plain.{plain_term}
+use Rattle.mc_syntax.specs.declared.term.Term.{Term}
+use Rattle.mc_model.specs.declared.program.TypeDef.{TypeDef}
+use Rattle.mc_model.specs.Programs.{Predicate}
+use Rattle.mc_model.specs.PlainPrograms.{plain_symbol, plain_pred}
+use Rattle.mc_modules.specs.Linked.{linked}
+use Rattle.mc_ground.specs.Database.{Database, Question, constructor_of, predicate_of, query_predicate, asked_types}
+use Rattle.mc_compile.specs.declared.given.Query.{Query}
+use Rattle.mc_compile.specs.declared.given.Compiled.{Compiled}
+use Rattle.mc_compile.specs.declared.given.CompileFault.{CompileFault}
+use Rattle.mc_compile.specs.declared.given.CompileFault.TheVariants as F
+use Rattle.mc_compile.specs.Sources.{items_from}
+use Rattle.mc_compile.specs.Rejected.{AreLegal, Breaks}
+use Rattle.mc_compile.specs.Facts.{LinkedFiles, facts, database, question}
+
+-- the files of legal sources, with their names
+abbrev pub files_of : {library texts : List (List ℕ)} {query : Option (List ℕ)} → AreLegal library texts query → LinkedFiles
+files_of {texts = texts} l =
+    record {
+      given = items_from 0 l.sources.files;
+      all = items_from 0 l.sources.files ++ items_from (length texts + 1) l.modules;
+      names = linked (items_from 0 l.sources.files ++ items_from (length texts + 1) l.modules);
+    }
+
+abbrev pub with_question : Database → Option Question → Option (Database × Option Question)
+with_question d None = None
+with_question d (Some q) = Some (d, Some q)
+
+abbrev pub asked_of : LinkedFiles → Option Term → Database → Option (Database × Option Question)
+asked_of P None d = Some (d, None)
+asked_of P (Some goal) d = with_question d (question P (plain_term goal))
+
+abbrev pub over_facts : LinkedFiles → Option Term → Option (List (ℕ × List ℕ)) → Option (Database × Option Question)
+over_facts P goal None = None
+over_facts P goal (Some fs) = asked_of P goal (database P fs)
+
+-- The program that files are, and the query that a goal is; None where an item or the goal isn't of the form that is compiled so far.
+abbrev pub asks : {library texts : List (List ℕ)} {query : Option (List ℕ)} → AreLegal library texts query → Option (Database × Option Question)
+asks l = over_facts (files_of l) l.sources.goal (facts (files_of l))
+
+abbrev pub query_predicates : Database → Option Question → List Predicate
+query_predicates d None = []
+query_predicates d (Some q) = query_predicate q.relation (asked_types d q) ∷ []
+
+abbrev pub goal_number : Database → Option Question → ℕ
+goal_number d None = 0
+goal_number d (Some q) = length d.relations
+
+abbrev pub goal_variables : Option Question → List (List ℕ)
+goal_variables None = []
+goal_variables (Some q) = q.variables
+
+-- the program over a database: its types, constructors and predicates, the query's behind the others, its number and its variables
+pub record IsProgram (d : Database) (q : Option Question) (c : Compiled) : Type 0 where
+  pub types : map (λ (t : TypeDef). t.symbols) c.program.types ≡ d.types
+  pub symbols : map plain_symbol c.program.symbols ≡ map constructor_of d.constants
+  pub preds : map plain_pred c.program.preds ≡ map predicate_of d.relations ++ query_predicates d q
+  pub goal : c.goal ≡ goal_number d q
+  pub vars : c.vars ≡ goal_variables q
+
+-- whether the first answer alone is wanted
+abbrev pub is_first : Option Query → Bool
+is_first None = false
+is_first (Some q) = q.first
+
+-- The sources are legal, and compiled to a program over the database that they are.
+pub record IsCompiled (library texts : List (List ℕ)) (query : Option (List ℕ)) (c : Compiled) : Type 0 where
+  pub legal : AreLegal library texts query
+  pub database : Database
+  pub question : Option Question
+  pub asked : asks legal ≡ Some (database, question)
+  pub program : IsProgram database question c
+
+-- Why sources aren't compiled: they break rules; or they are legal, and a run of `main`, the first answer alone, or a form that isn't compiled yet is asked for.
+abbrev pub IsFault : (library texts : List (List ℕ)) → (query : Option (List ℕ)) → (unbuilt : Bool) → CompileFault → Type 0
+IsFault library texts query unbuilt (F.Rejected broken) = Breaks library texts query broken × (broken ≢ [])
+IsFault library texts query unbuilt F.NotBuilt = (l : AreLegal library texts query) × ((unbuilt ≡ true) ⊎ (asks l ≡ None))
+IsFault library texts query unbuilt F.Memory = Unit {0}

@@ -1,0 +1,321 @@
+-- The form of modules of facts, which is compiled so far, and the program that they are: enumeration types, predicates whose arguments are all `out`, facts of constants, and a query that is one call over variables. (Mercury Language Reference Manual: Syntax, facts; Types, enumerations; Modes.)
+use Rattle.std.specs.Prelude.{ℕ, ◌+◌, Bool, true, false, cond, not, nat_eq, nat_lt, nat_le, ◌&&◌, ◌||◌, List, [], ◌∷◌, ◌++◌, map, length, Option, Some, None, codes, slice_get, slice_index_or}
+use Rattle.std.specs.Option.{is_some}
+use Rattle.std.specs.Str.{bytes_eq}
+use Rattle.mc_syntax.specs.Plain.{Tm, Tms, at, no_term, more_terms, Var, App}
+use Rattle.mc_syntax.specs.Names.{count}
+use Rattle.mc_model.specs.declared.det.Det.{Det}
+use Rattle.mc_model.specs.declared.det.Most.{Most}
+use Rattle.mc_model.specs.declared.det.Most.TheVariants.{Many}
+use Rattle.mc_model.specs.declared.program.Candidate.{Candidate}
+use Rattle.mc_model.specs.declared.program.Candidate.TheVariants as C
+use Rattle.mc_clause_forms.specs.declared.connective.Parts.{Parts}
+use Rattle.mc_clause_forms.specs.declared.connective.Parts.TheVariants.{Arguments}
+use Rattle.mc_clause_forms.specs.Goals.{connective, parts}
+use Rattle.mc_clause_forms.specs.Clauses.{operands}
+use Rattle.mc_decl_forms.specs.Plain.{Path, It, ModuleStart, ModuleEnd, Interface, Implementation, Imports, UseOnly, UnionType, Pred, Func, Pragma, Clause}
+use Rattle.mc_decl_forms.specs.Terms.{pair, is_the_word, has_none, is_distinct}
+use Rattle.mc_item_names.specs.Plain.{Id, id, is_id, qualifiers, last_part}
+use Rattle.mc_item_names.specs.Things.{symbol_name}
+use Rattle.mc_item_names.specs.Occurrences.{is_truth}
+use Rattle.mc_modules.specs.Files.{File, Standing, standing, joined}
+use Rattle.mc_modules.specs.declared.names.Scope.{Scope}
+use Rattle.mc_modules.specs.Faults.{is_number}
+use Rattle.mc_modules.specs.Visible.{module_of}
+use Rattle.mc_modules.specs.Linked.{Defined, Linked, each, flat, types_of, preds_of}
+use Rattle.mc_modules.specs.Candidates.{candidates, fitting, looked_in}
+use Rattle.mc_ground.specs.Database.{Constant, Relation, Database, Question, from}
+
+-- Files that were linked: those that were given, all of them with the library's behind, and their names.
+pub record LinkedFiles : Type 0 where
+  pub given : List File
+  pub all : List File
+  pub names : Linked
+
+-- the types and the predicates that the given files define
+abbrev pub given_types : LinkedFiles → List Defined
+given_types P = flat (each types_of P.given)
+
+abbrev pub given_preds : LinkedFiles → List Defined
+given_preds P = flat (each preds_of P.given)
+
+-- whether a module of this name is given
+abbrev pub is_below : Option ℕ → ℕ → Bool
+is_below None n = false
+is_below (Some k) n = nat_lt k n
+
+abbrev pub are_given : LinkedFiles → List Path → Bool
+are_given P [] = true
+are_given P (w ∷ ws) = is_below (module_of P.all (joined w)) (length P.given) && are_given P ws
+
+-- a constant of a type: a name of two or more bytes
+abbrev pub is_constant : Tm → Bool
+is_constant (at (App (w ∷ []) ts) l) = has_none ts && nat_le 2 (length w)
+is_constant _ = false
+
+abbrev pub are_constants : Tms → Bool
+are_constants no_term = true
+are_constants (more_terms t ts) = is_constant t && are_constants ts
+
+abbrev pub has_no_parameters : Tm → Bool
+has_no_parameters (at (App w ts) l) = has_none ts
+has_no_parameters _ = false
+
+-- the numbers from n on of the types of a module that have this name, and that the module itself or another sees
+abbrev pub numbers_named : (own : Bool) → (module_name : List ℕ) → Id → (n : ℕ) → List Defined → List ℕ
+numbers_named own m x n [] = []
+numbers_named own m x n (d ∷ ds) =
+    cond (bytes_eq d.name.module m && ((own || d.exported) && is_id (id d.name.name d.name.arity) x)) (n ∷ numbers_named own m x (n + 1) ds) (numbers_named own m x (n + 1) ds)
+
+abbrev pub name_in_scope : Option Scope → List ℕ
+name_in_scope None = []
+name_in_scope (Some s) = s.module
+
+abbrev pub module_name_at : Linked → ℕ → List ℕ
+module_name_at l j = name_in_scope (slice_get l.scopes j)
+
+-- the numbers of the types that a name means
+abbrev pub type_numbers : Linked → (own : ℕ) → Id → List ℕ → List ℕ
+type_numbers l own x [] = []
+type_numbers l own x (j ∷ js) = numbers_named (nat_eq own j) (module_name_at l j) x 0 l.types ++ type_numbers l own x js
+
+abbrev pub sole : List ℕ → Option ℕ
+sole (k ∷ []) = Some k
+sole _ = None
+
+abbrev pub below : ℕ → Option ℕ → Option ℕ
+below n None = None
+below n (Some k) = cond (nat_lt k n) (Some k) None
+
+-- the number of the given type that a name without arguments means
+abbrev pub type_number : LinkedFiles → (own : ℕ) → Tm → Option ℕ
+type_number P own (at (App w ts) l) =
+    cond (has_none ts) (below (length (given_types P)) (sole (type_numbers P.names own (id (last_part w) 0) (looked_in P.names (slice_get P.names.scopes own) (qualifiers w))))) None
+type_number P own _ = None
+
+abbrev pub is_out : Tm → Bool
+is_out (at (App w ts) l) = is_the_word (codes "out") w && has_none ts
+is_out _ = false
+
+-- the type of an argument `T::out`
+abbrev pub argument_type : LinkedFiles → (own : ℕ) → Option (Tm × Tm) → Option ℕ
+argument_type P own None = None
+argument_type P own (Some p) = cond (is_out p.1) (type_number P own p.0) None
+
+abbrev pub with_number : Option ℕ → Option (List ℕ) → Option (List ℕ)
+with_number (Some k) (Some ks) = Some (k ∷ ks)
+with_number _ _ = None
+
+abbrev pub argument_types : LinkedFiles → (own : ℕ) → Tms → Option (List ℕ)
+argument_types P own no_term = Some []
+argument_types P own (more_terms t ts) = with_number (argument_type P own (pair (codes "::") t)) (argument_types P own ts)
+
+-- the types of the arguments of a predicate, of which there is one at least
+abbrev pub signature : LinkedFiles → (own : ℕ) → Tm → Option (List ℕ)
+signature P own (at (App w (more_terms t ts)) l) = argument_types P own (more_terms t ts)
+signature P own _ = None
+
+abbrev pub is_many : Most → Bool
+is_many Many = true
+is_many _ = false
+
+abbrev pub is_nondet : Option Det → Bool
+is_nondet None = false
+is_nondet (Some d) = d.can_fail && (is_many d.most && not d.committed)
+
+-- the constructor that is the one candidate
+abbrev pub sole_constructor : List Candidate → Option ℕ
+sole_constructor (C.Con k ∷ []) = Some k
+sole_constructor _ = None
+
+-- the number of a constant
+abbrev pub constant_number : LinkedFiles → (own : ℕ) → Tm → Option ℕ
+constant_number P own (at (App w ts) l) = cond (has_none ts) (sole_constructor (candidates P.names own (qualifiers w) (id (last_part w) 0))) None
+constant_number P own _ = None
+
+abbrev pub constant_numbers : LinkedFiles → (own : ℕ) → Tms → Option (List ℕ)
+constant_numbers P own no_term = Some []
+constant_numbers P own (more_terms t ts) = with_number (constant_number P own t) (constant_numbers P own ts)
+
+-- the constants of types that are numbered from u on
+abbrev pub constants_in : (module_name : List ℕ) → (u : ℕ) → Tms → List Constant
+constants_in m u no_term = []
+constants_in m u (more_terms t ts) = record { module_name = m; name = (symbol_name t).name; of_type = u } ∷ constants_in m u ts
+
+abbrev pub constants_by : (module_name : List ℕ) → (u : ℕ) → It → List Constant
+constants_by m u (UnionType h ts) = constants_in m u ts
+constants_by m u i = []
+
+abbrev pub constants_from : (u : ℕ) → List Defined → List Constant
+constants_from u [] = []
+constants_from u (d ∷ ds) = constants_by d.name.module u d.item ++ constants_from (u + 1) ds
+
+abbrev pub constants : LinkedFiles → List Constant
+constants P = constants_from 0 (given_types P)
+
+abbrev pub type_in : Option Constant → Option ℕ
+type_in None = None
+type_in (Some c) = Some c.of_type
+
+abbrev pub type_at : List Constant → ℕ → Option ℕ
+type_at cs k = type_in (slice_get cs k)
+
+-- whether constants are of these types, one after another
+abbrev pub are_of : List Constant → (types row : List ℕ) → Bool
+are_of cs [] [] = true
+are_of cs (u ∷ us) (k ∷ ks) = is_number (type_at cs k) u && are_of cs us ks
+are_of cs _ _ = false
+
+-- a fact: the number of its predicate, and the numbers of its constants
+abbrev pub Fact : Type 0
+Fact = ℕ × List ℕ
+
+-- the predicate of the module itself that a name is of
+abbrev pub sole_predicate : List Candidate → Option ℕ
+sole_predicate (C.Pred k ∷ []) = Some k
+sole_predicate _ = None
+
+abbrev pub own_predicate : Linked → (own : ℕ) → Id → Option ℕ
+own_predicate l own x = sole_predicate (fitting l true x (slice_index_or l.declared own []))
+
+abbrev pub fact_of : List Constant → (pred : ℕ) → Option (List ℕ) → Option (List ℕ) → Option Fact
+fact_of cs p (Some us) (Some row) = cond (are_of cs us row) (Some (p, row)) None
+fact_of cs p _ _ = None
+
+-- the types of the arguments that an item declares of a predicate; a function is none
+abbrev pub signature_by : LinkedFiles → (own : ℕ) → It → List (Option (List ℕ))
+signature_by P own (Pred t d) = cond (is_nondet d) (signature P own t) None ∷ []
+signature_by P own (Func t d) = None ∷ []
+signature_by P own i = []
+
+abbrev pub signatures_in : LinkedFiles → (own : ℕ) → List Standing → List (Option (List ℕ))
+signatures_in P own [] = []
+signatures_in P own (s ∷ ss) = signature_by P own s.item ++ signatures_in P own ss
+
+abbrev pub signatures_from : LinkedFiles → (own : ℕ) → List File → List (Option (List ℕ))
+signatures_from P own [] = []
+signatures_from P own (f ∷ fs) = signatures_in P own (standing f) ++ signatures_from P (own + 1) fs
+
+-- the types of the arguments of each given predicate, by its number
+abbrev pub signatures : LinkedFiles → List (Option (List ℕ))
+signatures P = signatures_from P 0 P.given
+
+abbrev pub fact_over : LinkedFiles → (own : ℕ) → Option ℕ → Tms → Option Fact
+fact_over P own None ts = None
+fact_over P own (Some p) ts = fact_of (constants P) p (slice_index_or (signatures P) p None) (constant_numbers P own ts)
+
+-- a fact without a body: its predicate is one of the module itself, and its constants are of the declared types
+abbrev pub bare_fact : LinkedFiles → (own : ℕ) → Tm → Option Fact
+bare_fact P own (at (App (w ∷ []) ts) l) = fact_over P own (own_predicate P.names own (id w (count ts))) ts
+bare_fact P own _ = None
+
+abbrev pub is_rule_or_function : Tm → Bool
+is_rule_or_function t = is_some (operands (codes ":-") t) || is_some (operands (codes "=") t)
+
+abbrev pub as_list : Option Fact → Option (List Fact)
+as_list None = None
+as_list (Some f) = Some (f ∷ [])
+
+abbrev pub nothing_where : Bool → Option (List Fact)
+nothing_where b = cond b (Some []) None
+
+-- the facts that an item of the form is: one or none; None where it isn't of the form
+abbrev pub facts_by : LinkedFiles → (own : ℕ) → It → Option (List Fact)
+facts_by P own (ModuleStart w) = Some []
+facts_by P own (ModuleEnd w) = Some []
+facts_by P own Interface = Some []
+facts_by P own Implementation = Some []
+facts_by P own (Imports ws) = nothing_where (are_given P ws)
+facts_by P own (UseOnly ws) = nothing_where (are_given P ws)
+facts_by P own (UnionType h ts) = nothing_where (has_no_parameters h && are_constants ts)
+facts_by P own (Pred t d) = nothing_where (is_nondet d && is_some (signature P own t))
+facts_by P own Pragma = Some []
+facts_by P own (Clause t) = cond (is_rule_or_function t) None (as_list (bare_fact P own t))
+facts_by P own i = None
+
+abbrev pub both : Option (List Fact) → Option (List Fact) → Option (List Fact)
+both (Some fs) (Some gs) = Some (fs ++ gs)
+both _ _ = None
+
+abbrev pub facts_in : LinkedFiles → (own : ℕ) → List Standing → Option (List Fact)
+facts_in P own [] = Some []
+facts_in P own (s ∷ ss) = both (facts_by P own s.item) (facts_in P own ss)
+
+abbrev pub facts_from : LinkedFiles → (own : ℕ) → List File → Option (List Fact)
+facts_from P own [] = Some []
+facts_from P own (f ∷ fs) = both (facts_in P own (standing f)) (facts_from P (own + 1) fs)
+
+abbrev pub names_of : List Constant → List (List ℕ)
+names_of cs = map (λ c. c.name) cs
+
+-- The facts of the given files, in order, where each item is of the form and no two constants have one name.
+abbrev pub facts : LinkedFiles → Option (List Fact)
+facts P = cond (is_distinct (names_of (constants P))) (facts_from P 0 P.given) None
+
+-- the facts of a predicate
+abbrev pub rows_of : ℕ → List Fact → List (List ℕ)
+rows_of p [] = []
+rows_of p (f ∷ fs) = cond (nat_eq f.0 p) (f.1 ∷ rows_of p fs) (rows_of p fs)
+
+abbrev pub or_none : Option (List ℕ) → List ℕ
+or_none None = []
+or_none (Some us) = us
+
+abbrev pub relations_from : (p : ℕ) → List (Option (List ℕ)) → List Fact → List Defined → List Relation
+relations_from p ss fs [] = []
+relations_from p ss fs (d ∷ ds) =
+    record { module_name = d.name.module; name = d.name.name; types = or_none (slice_index_or ss p None); rows = rows_of p fs } ∷ relations_from (p + 1) ss fs ds
+
+abbrev pub how_many : It → ℕ
+how_many (UnionType h ts) = count ts
+how_many i = 0
+
+-- the numbers of each type's constants, which are numbered from n on
+abbrev pub groups_from : (n : ℕ) → List Defined → List (List ℕ)
+groups_from n [] = []
+groups_from n (d ∷ ds) = from n (how_many d.item) ∷ groups_from (n + how_many d.item) ds
+
+-- the program of ground facts that files of the form are
+abbrev pub database : LinkedFiles → List Fact → Database
+database P fs = record { types = groups_from 0 (given_types P); constants = constants P; relations = relations_from 0 (signatures P) fs (given_preds P) }
+
+-- the predicates among candidates: a goal's name means no other
+abbrev pub predicates : List Candidate → List Candidate
+predicates [] = []
+predicates (C.Pred k ∷ cs) = C.Pred k ∷ predicates cs
+predicates (c ∷ cs) = predicates cs
+
+-- the name of a variable that doesn't begin with `_`
+abbrev pub is_hidden : List ℕ → Bool
+is_hidden [] = true
+is_hidden (b ∷ bs) = nat_eq b 95
+
+abbrev pub variable : Tm → Option (List ℕ)
+variable (at (Var x) l) = cond (is_hidden x) None (Some x)
+variable _ = None
+
+abbrev pub with_name : Option (List ℕ) → Option (List (List ℕ)) → Option (List (List ℕ))
+with_name (Some x) (Some xs) = Some (x ∷ xs)
+with_name _ _ = None
+
+abbrev pub variables : Tms → Option (List (List ℕ))
+variables no_term = Some []
+variables (more_terms t ts) = with_name (variable t) (variables ts)
+
+abbrev pub are_arguments : Parts → Bool
+are_arguments Arguments = true
+are_arguments _ = false
+
+-- a call, and no form of the language
+abbrev pub is_call : Path → Tms → Bool
+is_call w ts = are_arguments (parts (connective w (count ts))) && not (is_truth w ts)
+
+abbrev pub asked : LinkedFiles → Option ℕ → Option (List (List ℕ)) → Option Question
+asked P (Some p) (Some xs) = cond (is_distinct xs && nat_eq (length xs) (length (or_none (slice_index_or (signatures P) p None)))) (Some (record { relation = p; variables = xs })) None
+asked P _ _ = None
+
+-- The query that a goal is: one call of a given predicate over distinct variables, one for each argument.
+abbrev pub question : LinkedFiles → Tm → Option Question
+question P (at (App w ts) l) =
+    cond (is_call w ts) (asked P (below (length (given_preds P)) (sole_predicate (predicates (candidates P.names 0 (qualifiers w) (id (last_part w) (count ts)))))) (variables ts)) None
+question P _ = None

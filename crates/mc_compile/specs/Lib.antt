@@ -1,0 +1,11 @@
+pub mod Sources
+pub mod Rejected
+pub mod Facts
+pub mod Compiled
+pub mod Passes
+pub mod Answered
+pub mod Library
+pub mod Reading
+pub mod Naming
+pub mod Laws
+pub mod FactsLaws

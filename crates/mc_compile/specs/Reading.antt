@@ -1,0 +1,63 @@
+-- What the phase that reads answers.
+use Rattle.std.specs.Prelude.{◌≡◌, ◌≢◌, ℕ, ◌+◌, List, [], ◌∷◌, ◌++◌, map, Option, Some, None}
+use Rattle.mc_syntax.specs.declared.term.Term.{Term}
+use Rattle.mc_model.specs.declared.rule.Broken.{Broken}
+use Rattle.mc_items.specs.declared.entry.Entry.{Entry}
+use Rattle.mc_modules.specs.Files.{plain_files}
+use Rattle.mc_compile.specs.declared.given.CompileFault.{CompileFault}
+use Rattle.mc_compile.specs.declared.given.CompileFault.TheVariants as C
+use Rattle.mc_compile.specs.declared.given.Given.{Given}
+use Rattle.mc_compile.specs.declared.given.Query.{Query}
+use Rattle.mc_compile.specs.declared.reader.Reader.{Reader}
+use Rattle.mc_compile.specs.declared.reading.Read.{Read}
+use Rattle.mc_compile.specs.Sources.{Reading, FileReads, QueryReads, counted, rules_of, items_of, items_from}
+use Rattle.mc_compile.specs.Rejected.{AreRead, IsLibrary, reading_rules}
+
+-- the bytes of files, and of a query
+abbrev pub texts_of : List Given → List (List ℕ)
+texts_of fs = map (λ (f : Given). f.bytes) fs
+
+abbrev pub text_of : Option Query → Option (List ℕ)
+text_of None = None
+text_of (Some q) = Some q.text
+
+-- rules that are broken, and why sources aren't compiled
+abbrev pub IsRejected : List Broken → CompileFault → Type 0
+IsRejected broken (C.Rejected bs) = (bs ≡ broken) × (bs ≢ [])
+IsRejected broken C.NotBuilt = ⊥
+IsRejected broken C.Memory = Unit {0}
+
+-- One more file is read. Its items are put behind the others where it breaks no rule.
+pub record IsOneMore (text : List ℕ) (old new : Reader) : Type 0 where
+  pub reading : Reading
+  pub reads : FileReads old.bytes text reading
+  pub number : new.number ≡ old.number + 1
+  pub bytes : new.bytes ≡ old.bytes + counted text
+  pub broken : new.broken.items ≡ old.broken.items ++ rules_of old.number reading
+  pub files : rules_of old.number reading ≡ [] → plain_files new.files.items ≡ plain_files old.files.items ++ items_of old.number reading ∷ []
+
+-- The query is read, behind the files.
+pub record IsQueryRead (query : Option (List ℕ)) (goal : Option Term) (old new : Reader) : Type 0 where
+  pub rules : List Broken
+  pub reads : QueryReads old.number query goal rules
+  pub broken : new.broken.items ≡ old.broken.items ++ rules
+  pub files : new.files.items ≡ old.files.items
+
+-- Files are read that are the library's modules, numbered from one on.
+pub record IsLibraryRead (library : List (List ℕ)) (first : ℕ) (files : List (List Entry)) : Type 0 where
+  pub modules : List Reading
+  pub is_library : IsLibrary library modules
+  pub items : plain_files files ≡ items_from first modules
+
+-- The sources are read, and break no rule of reading.
+pub record HasRead (texts : List (List ℕ)) (query : Option (List ℕ)) (read : Read) : Type 0 where
+  pub sources : AreRead texts query
+  pub sound : reading_rules sources ≡ []
+  pub items : plain_files read.files ≡ items_from 0 sources.files
+  pub same_goal : read.goal ≡ sources.goal
+
+-- why sources aren't read
+abbrev pub IsUnread : (texts : List (List ℕ)) → Option (List ℕ) → CompileFault → Type 0
+IsUnread texts query (C.Rejected bs) = (r : AreRead texts query) × (bs ≡ reading_rules r) × (bs ≢ [])
+IsUnread texts query C.NotBuilt = ⊥
+IsUnread texts query C.Memory = Unit {0}

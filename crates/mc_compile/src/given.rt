@@ -1,0 +1,49 @@
+use mc_base::{Memory, Row, Text};
+use mc_model::program::Program;
+use mc_model::rule::Broken;
+
+/// A file, by its name and its bytes.
+#[derive(Debug, Drop)]
+pub struct Given {
+    pub name: Text,
+    pub bytes: Text,
+}
+
+/// A query: the text of its goal, and whether its first answer alone is wanted.
+#[derive(Debug, Drop)]
+pub struct Query {
+    pub text: Text,
+    pub first: bool,
+}
+
+/// A program, the number of its goal's predicate, and the names of the goal's variables. Without a query the number is 0
+/// and there are no variables.
+#[derive(Drop)]
+pub struct Compiled {
+    pub program: Program,
+    pub goal: u32,
+    pub vars: Row<Text>,
+}
+
+/// Why sources aren't compiled.
+#[derive(Debug, PartialEq, Eq, Drop)]
+pub enum CompileFault {
+    /// The rules that are broken, of the first phase that has a fault: one for each faulty item, in the order of the
+    /// files, and the query's last.
+    Rejected(Row<Broken>),
+    /// The sources are legal, and what they ask for isn't built yet.
+    NotBuilt,
+    /// There is no room.
+    Memory,
+}
+
+impl From<Memory> for CompileFault {
+    ghost use Rattle.std.specs.Prelude.{◌≡◌};
+    ghost use Rattle.mc_compile.specs.declared.given.CompileFault.TheVariants as fault_of;
+
+    ghost from_gives = { λ _ fault. fault ≡ fault_of.Memory };
+
+    fn from(_: Memory) -> CompileFault {
+        CompileFault::Memory
+    }
+}

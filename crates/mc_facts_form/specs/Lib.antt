@@ -1,5 +1,0 @@
-pub mod Words
-pub mod Form
-pub mod Reading
-pub mod Module
-pub mod Laws

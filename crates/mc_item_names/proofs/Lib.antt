@@ -1,0 +1,4 @@
+mod Parts
+mod Steps
+mod Views
+pub mod Laws

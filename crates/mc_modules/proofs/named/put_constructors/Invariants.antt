@@ -1,0 +1,11 @@
+use Rattle.std.proofs.Common.{◌≡◌, ◌++◌, drop, map}
+use Rattle.mc_syntax.specs.Plain.{plain_term, tms}
+use Rattle.mc_decl_forms.specs.Plain.{plain_item}
+use Rattle.mc_modules.specs.Linked.{constructors, plain_named}
+use Rattle.mc_modules.specs.Passes.{plain_section, stands}
+use Rattle.mc_modules.proofs.named.put_constructors.Given as goal
+
+abbrev pub invariant-loop-term : goal.invariant-loop-term
+invariant-loop-term l =
+    map plain_named l.symbols.items ++ constructors l.home (stands (plain_item l.entry.decl) l.entry.at (plain_section l.section)) (plain_term l.head) (tms (map plain_term (drop l.term-index l.terms)))
+    ≡ map plain_named l.fn.symbols.items ++ constructors l.home (stands (plain_item l.entry.decl) l.entry.at (plain_section l.section)) (plain_term l.head) (tms (map plain_term l.terms))

@@ -1,0 +1,32 @@
+use Rattle.std.proofs.Common.{◌≡◌, ◌+◌, [], ◌++◌, cond, drop, map, ap, sym, ◌∙◌}
+use Rattle.mc_decl_forms.specs.Plain.{plain_item}
+use Rattle.mc_items.specs.Files.{plain_entry}
+use Rattle.mc_item_names.specs.Plain.{plain_thing}
+use Rattle.mc_item_names.specs.Sets.{put_all}
+use Rattle.mc_item_names.specs.Things.{things}
+use Rattle.mc_modules.specs.Files.{NoSection, is_shown, section_after}
+use Rattle.mc_modules.specs.Passes.{plain_section, things_pass, shown_pass}
+use Rattle.mc_modules.proofs.Puts.{drop_item, put_more}
+use Rattle.mc_modules.proofs.part.Declared.of.Goals as goal
+
+pub loop-entry-preserved : goal.loop-entry-preserved
+loop-entry-preserved c =
+    let es = c.args.file.now in
+    let i = c.loop-entry.entry-index in
+    let e = c.entry-item.result in
+    let s = plain_section c.loop-entry.section in
+    let rest = map plain_entry (drop (i + 1) es) in
+    let left = drop_item es i e c.loop-entry-test.true c.entry-item.is in
+    let found = ap (map plain_thing) c.as_slice.ensures.value ∙ (c.in_ok-things.ensures {u = tt}) in
+    let found_again = ap (map plain_thing) c.as_slice-in-loop-entry.ensures.value ∙ (c.in_ok-things.ensures {u = tt}) in
+    record {
+      all =
+          put_more c.loop-entry.all c.put_things.new.set (things (plain_item e.decl)) (things_pass rest) _
+          ((c.in_ok-put_things.ensures {u = tt}) ∙ ap (put_all c.loop-entry.all) found)
+          (sym (ap (λ xs. put_all c.loop-entry.all (things_pass (map plain_entry xs))) left) ∙ c.loop-entry.invariant.all);
+      shown =
+          ap (λ t. put_all c.put_shown.new.set (shown_pass t rest)) c.after-section.ensures
+          ∙ put_more c.loop-entry.shown c.put_shown.new.set (cond (is_shown s) (things (plain_item e.decl)) []) (shown_pass (section_after s (plain_item e.decl)) rest) _
+          ((c.in_ok-put_shown.ensures {u = tt}) ∙ ap (λ ts. put_all c.loop-entry.shown (cond (is_shown s) ts [])) found_again)
+          (sym (ap (λ xs. put_all c.loop-entry.shown (shown_pass s (map plain_entry xs))) left) ∙ c.loop-entry.invariant.shown);
+    }

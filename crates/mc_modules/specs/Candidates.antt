@@ -1,0 +1,55 @@
+-- What a name in a term or a goal may mean (the Mercury manual: Overload resolution; the order is this project's).
+use Rattle.std.specs.Prelude.{ℕ, Bool, false, cond, nat_eq, ◌&&◌, ◌||◌, List, [], ◌∷◌, ◌++◌, Option, Some, None, slice_get, slice_index_or}
+use Rattle.std.specs.Str.{bytes_eq}
+use Rattle.mc_decl_forms.specs.Plain.{Path}
+use Rattle.mc_item_names.specs.Plain.{Id, is_id, id}
+use Rattle.mc_model.specs.declared.program.Candidate.{Candidate}
+use Rattle.mc_model.specs.declared.program.Candidate.TheVariants as C
+use Rattle.mc_modules.specs.declared.names.Scope.{Scope}
+use Rattle.mc_modules.specs.Files.{joined}
+use Rattle.mc_modules.specs.Visible.{character}
+use Rattle.mc_modules.specs.Linked.{Defined, Linked}
+
+-- what a candidate is the number of; a character has none
+abbrev pub defined_by : Linked → Candidate → Option Defined
+defined_by l (C.Con k) = slice_get l.symbols k
+defined_by l (C.Func k) = slice_get l.preds k
+defined_by l (C.Pred k) = slice_get l.preds k
+defined_by l (C.Char c) = None
+
+-- whether this has the name, and the module sees it
+abbrev pub fits : (own : Bool) → Id → Option Defined → Bool
+fits own x None = false
+fits own x (Some d) = (own || d.exported) && is_id (id d.name.name d.name.arity) x
+
+-- those that fit, in order
+abbrev pub fitting : Linked → (own : Bool) → Id → List Candidate → List Candidate
+fitting l own x [] = []
+fitting l own x (c ∷ cs) = cond (fits own x (defined_by l c)) (c ∷ fitting l own x cs) (fitting l own x cs)
+
+abbrev pub fitting_in : Linked → (own : ℕ) → Id → List ℕ → List Candidate
+fitting_in l own x [] = []
+fitting_in l own x (j ∷ js) = fitting l (nat_eq own j) x (slice_index_or l.declared j []) ++ fitting_in l own x js
+
+abbrev pub is_module : List ℕ → Option Scope → Bool
+is_module w None = false
+is_module w (Some s) = bytes_eq s.«module» w
+
+-- those of these modules that have a name
+abbrev pub named_so : Linked → List ℕ → List ℕ → List ℕ
+named_so l w [] = []
+named_so l w (j ∷ js) = cond (is_module w (slice_get l.scopes j)) (j ∷ named_so l w js) (named_so l w js)
+
+-- the modules in which a name with these qualifiers is looked up
+abbrev pub looked_in : Linked → Option Scope → (qualifiers : Path) → List ℕ
+looked_in l None qs = []
+looked_in l (Some s) [] = s.bare
+looked_in l (Some s) (w ∷ ws) = named_so l (joined (w ∷ ws)) s.seen
+
+abbrev pub as_character : Option ℕ → List Candidate
+as_character None = []
+as_character (Some c) = C.Char c ∷ []
+
+-- The candidates for a name in a module: those of the module itself first, then those of the modules that it imports, in the order of first import; in a module in the order of declaration; last the character.
+abbrev pub candidates : Linked → (own : ℕ) → (qualifiers : Path) → Id → List Candidate
+candidates l own qs x = fitting_in l own x (looked_in l (slice_get l.scopes own) qs) ++ as_character (character qs x)

@@ -1,0 +1,39 @@
+-- What each module has by name: as much of it as a look-up needs.
+use Rattle.std.specs.Prelude.{◌≡◌, ℕ, Bool, false, cond, List, [], ◌∷◌, Option, Some, None, slice_get, slice_index_or}
+use Rattle.std.specs.Option.{option_map}
+use Rattle.std.specs.Str.{bytes_eq}
+use Rattle.mc_model.specs.declared.program.Candidate.{Candidate}
+use Rattle.mc_model.specs.declared.program.Candidate.TheVariants as C
+use Rattle.mc_modules.specs.declared.names.Named.{Named}
+
+-- candidates by their names
+abbrev pub Index : Type 0
+Index = List (List ℕ × List Candidate)
+
+-- those of a name
+abbrev pub listed : Index → List ℕ → List Candidate
+listed [] w = []
+listed (e ∷ es) w = cond (bytes_eq w e.0) e.1 (listed es w)
+
+abbrev pub its_name : Named → List ℕ
+its_name n = n.name.name
+
+-- the name that a candidate has, where these are the constructors and those the functions and predicates
+abbrev pub name_at : (symbols preds : List Named) → Candidate → Option (List ℕ)
+name_at ss ps (C.Con k) = option_map its_name (slice_get ss k)
+name_at ss ps (C.Func k) = option_map its_name (slice_get ps k)
+name_at ss ps (C.Pred k) = option_map its_name (slice_get ps k)
+name_at ss ps (C.Char c) = None
+
+abbrev pub is_called : List ℕ → Option (List ℕ) → Bool
+is_called w None = false
+is_called w (Some v) = bytes_eq w v
+
+-- those candidates that have a name, in order
+abbrev pub called : (symbols preds : List Named) → List ℕ → List Candidate → List Candidate
+called ss ps w [] = []
+called ss ps w (c ∷ cs) = cond (is_called w (name_at ss ps c)) (c ∷ called ss ps w cs) (called ss ps w cs)
+
+-- Each module's index lists just those that it declares.
+abbrev pub IsIndex : (symbols preds : List Named) → List Index → (declared : List (List Candidate)) → Type 0
+IsIndex ss ps index declared = (j : ℕ) (w : List ℕ) → listed (slice_index_or index j []) w ≡ called ss ps w (slice_index_or declared j [])

@@ -1,0 +1,215 @@
+-- The names of a program (the Mercury manual: The module system).
+use Rattle.std.specs.Prelude.{ℕ, ◌+◌, Bool, true, false, cond, nat_eq, ◌||◌, List, [], ◌∷◌, ◌++◌, map, length, take, slice_index_or, Option, Some, None}
+use Rattle.std.specs.Set.{is_member}
+use Rattle.mc_syntax.specs.Plain.{Tm, Tms, at, no_term, more_terms, App}
+use Rattle.mc_model.specs.declared.program.Name.{Name}
+use Rattle.mc_model.specs.declared.program.Place.{Place}
+use Rattle.mc_decl_forms.specs.Plain.{It, AbstractType, UnionType, SameType, SameInst, BoundInst, ModeDef, Pred, Func, plain_item}
+use Rattle.mc_item_names.specs.declared.thing.Kind.{Kind}
+use Rattle.mc_item_names.specs.declared.thing.Kind.TheVariants as K
+use Rattle.mc_item_names.specs.Plain.{Id, Th, thing, is_thing}
+use Rattle.mc_item_names.specs.Things.{head_name, symbol_name, things}
+use Rattle.mc_model.specs.declared.program.Candidate.{Candidate}
+use Rattle.mc_model.specs.declared.program.Candidate.TheVariants as C
+use Rattle.mc_modules.specs.declared.names.Named.{Named}
+use Rattle.mc_modules.specs.declared.names.Scope.{Scope}
+use Rattle.mc_modules.specs.declared.names.Names.{Names}
+use Rattle.mc_modules.specs.Files.{File, Standing, standing, module_name, things_of, shown_of, is_shown, has}
+use Rattle.mc_modules.specs.Visible.{bare, seen, file_at}
+
+-- what is declared or defined: its name, its item, where that stands, and whether other modules see it
+pub record Defined : Type 0 where
+  pub name : Name
+  pub item : It
+  pub at : Place
+  pub exported : Bool
+
+-- a file's name; a file that is no module has none
+abbrev pub name_or_none : Option (List ℕ) → List ℕ
+name_or_none None = []
+name_or_none (Some w) = w
+
+abbrev pub name_in : (home : List ℕ) → Id → Name
+name_in m x = record { «module» = m; name = x.name; arity = x.arity }
+
+abbrev pub defined : (home : List ℕ) → Standing → (exported : Bool) → It → Id → Defined
+defined m s e i x = record { name = name_in m x; item = i; at = s.at; exported = e }
+
+-- A type, at its definition, or where it has none at its declaration. Others see it where an interface declares or defines it.
+abbrev pub types_by : (home : List ℕ) → (all : List Standing) → Standing → It → List Defined
+types_by m all s (AbstractType h) = cond (is_member is_thing (things_of all) (thing K.DefinedType (head_name h))) [] (defined m s (has K.DefinedType (head_name h) (shown_of all)) s.item (head_name h) ∷ [])
+types_by m all s (UnionType h ts) = defined m s (has K.DefinedType (head_name h) (shown_of all)) s.item (head_name h) ∷ []
+types_by m all s (SameType h t) = defined m s (has K.DefinedType (head_name h) (shown_of all)) s.item (head_name h) ∷ []
+types_by m all s i = []
+
+-- the head of a type without its parameters
+abbrev pub bare_head : Tm → Tm
+bare_head (at (App w ts) l) = at (App w no_term) l
+bare_head t = t
+
+-- the constructors of a union, each as a union of it alone
+abbrev pub constructors : (home : List ℕ) → Standing → (head : Tm) → Tms → List Defined
+constructors m s h no_term = []
+constructors m s h (more_terms t ts) = defined m s (is_shown s.section) (UnionType (bare_head h) (more_terms t no_term)) (symbol_name t) ∷ constructors m s h ts
+
+abbrev pub symbols_by : (home : List ℕ) → Standing → It → List Defined
+symbols_by m s (UnionType h ts) = constructors m s h ts
+symbols_by m s i = []
+
+-- those of an item's things that are of a kind, each with the whole item
+abbrev pub of_kind : (home : List ℕ) → Standing → (wanted : Bool) → List Th → List Defined
+of_kind m s wanted [] = []
+of_kind m s wanted (t ∷ ts) = cond wanted (defined m s (is_shown s.section) s.item t.id ∷ []) []
+
+abbrev pub is_pred : It → Bool
+is_pred (Pred t d) = true
+is_pred (Func t d) = true
+is_pred i = false
+
+abbrev pub is_inst : It → Bool
+is_inst (SameInst h t) = true
+is_inst (BoundInst h ts) = true
+is_inst i = false
+
+abbrev pub is_mode : It → Bool
+is_mode (ModeDef h t) = true
+is_mode i = false
+
+-- what a file has of each sort, in order
+abbrev pub types_in : (home : List ℕ) → (all rest : List Standing) → List Defined
+types_in m all [] = []
+types_in m all (s ∷ ss) = types_by m all s s.item ++ types_in m all ss
+
+abbrev pub symbols_in : (home : List ℕ) → List Standing → List Defined
+symbols_in m [] = []
+symbols_in m (s ∷ ss) = symbols_by m s s.item ++ symbols_in m ss
+
+abbrev pub sorted_in : (is_sort : It → Bool) → (home : List ℕ) → List Standing → List Defined
+sorted_in is_sort m [] = []
+sorted_in is_sort m (s ∷ ss) = of_kind m s (is_sort s.item) (things s.item) ++ sorted_in is_sort m ss
+
+abbrev pub name_of : File → List ℕ
+name_of f = name_or_none (module_name f)
+
+abbrev pub types_of : File → List Defined
+types_of f = types_in (name_of f) (standing f) (standing f)
+
+abbrev pub symbols_of : File → List Defined
+symbols_of f = symbols_in (name_of f) (standing f)
+
+abbrev pub preds_of : File → List Defined
+preds_of f = sorted_in is_pred (name_of f) (standing f)
+
+abbrev pub insts_of : File → List Defined
+insts_of f = sorted_in is_inst (name_of f) (standing f)
+
+abbrev pub modes_defined : File → List Defined
+modes_defined f = sorted_in is_mode (name_of f) (standing f)
+
+-- what each of some files has
+abbrev pub each : (File → List Defined) → List File → List (List Defined)
+each of [] = []
+each of (f ∷ fs) = of f ∷ each of fs
+
+abbrev pub flat : List (List Defined) → List Defined
+flat [] = []
+flat (ds ∷ dss) = ds ++ flat dss
+
+-- The numbers of things from one on that another module sees, or that the module has for itself.
+abbrev pub numbers : (own : Bool) → (from : ℕ) → List Defined → List ℕ
+numbers own n [] = []
+numbers own n (d ∷ ds) = cond (own || d.exported) (n ∷ numbers own (n + 1) ds) (numbers own (n + 1) ds)
+
+-- how many things the files before this one have
+abbrev pub before : (file : ℕ) → List (List Defined) → ℕ
+before k dss = length (flat (take k dss))
+
+abbrev pub has_of : (file : ℕ) → List (List Defined) → List Defined
+has_of k dss = slice_index_or dss k []
+
+-- the numbers of what a module sees among what each file has, in the order of the modules that it sees
+abbrev pub visible : (own : ℕ) → List ℕ → List (List Defined) → List ℕ
+visible own [] dss = []
+visible own (j ∷ js) dss = numbers (nat_eq own j) (before j dss) (has_of j dss) ++ visible own js dss
+
+abbrev pub scope : List File → (own : ℕ) → Scope
+scope files own =
+    record {
+      «module» = name_of (file_at files own);
+      types = visible own (seen files own) (each types_of files);
+      symbols = visible own (seen files own) (each symbols_of files);
+      preds = visible own (seen files own) (each preds_of files);
+      insts = visible own (seen files own) (each insts_of files);
+      modes = visible own (seen files own) (each modes_defined files);
+      bare = bare files own;
+      seen = seen files own;
+    }
+
+abbrev pub scopes_from : List File → (own : ℕ) → List File → List Scope
+scopes_from files own [] = []
+scopes_from files own (f ∷ fs) = scope files own ∷ scopes_from files (own + 1) fs
+
+-- what a thing is by its number, where constructors go on from `c`, and functions and predicates from `p`
+abbrev pub as_numbered : Kind → (c p : ℕ) → List Candidate
+as_numbered K.Symbol c p = C.Con c ∷ []
+as_numbered K.Func c p = C.Func p ∷ []
+as_numbered K.Pred c p = C.Pred p ∷ []
+as_numbered _ c p = []
+
+-- the numbers behind it
+abbrev pub next_con : Kind → ℕ → ℕ
+next_con K.Symbol c = c + 1
+next_con _ c = c
+
+abbrev pub next_pred : Kind → ℕ → ℕ
+next_pred K.Func p = p + 1
+next_pred K.Pred p = p + 1
+next_pred _ p = p
+
+-- Constructors, functions and predicates in the order of their declarations, each by its number: constructors are numbered from `c` on, functions and predicates from `p` on.
+abbrev pub numbered : (c p : ℕ) → List Th → List Candidate
+numbered c p [] = []
+numbered c p (t ∷ ts) = as_numbered t.kind c p ++ numbered (next_con t.kind c) (next_pred t.kind p) ts
+
+-- what each module has that a name in a term or a goal may mean
+abbrev pub declared_from : List File → (own : ℕ) → List File → List (List Candidate)
+declared_from files own [] = []
+declared_from files own (f ∷ fs) = numbered (before own (each symbols_of files)) (before own (each preds_of files)) (things_of (standing f)) ∷ declared_from files (own + 1) fs
+
+-- The names of a program: what is defined, in the order of the files and their items; what each module sees; and what each has that a name in a term or a goal may mean.
+pub record Linked : Type 0 where
+  pub types : List Defined
+  pub symbols : List Defined
+  pub preds : List Defined
+  pub insts : List Defined
+  pub modes : List Defined
+  pub scopes : List Scope
+  pub declared : List (List Candidate)
+
+abbrev pub linked : List File → Linked
+linked files =
+    record {
+      types = flat (each types_of files);
+      symbols = flat (each symbols_of files);
+      preds = flat (each preds_of files);
+      insts = flat (each insts_of files);
+      modes = flat (each modes_defined files);
+      scopes = scopes_from files 0 files;
+      declared = declared_from files 0 files;
+    }
+
+-- the values that these stand for
+abbrev pub plain_named : Named → Defined
+plain_named d = record { name = d.name; item = plain_item d.decl; at = d.at; exported = d.exported }
+
+abbrev pub plain_names : Names → Linked
+plain_names n =
+    record {
+      types = map plain_named n.types;
+      symbols = map plain_named n.symbols;
+      preds = map plain_named n.preds;
+      insts = map plain_named n.insts;
+      modes = map plain_named n.modes;
+      scopes = n.scopes;
+      declared = n.declared;
+    }

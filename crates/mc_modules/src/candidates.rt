@@ -1,0 +1,155 @@
+ghost use Rattle.std.specs.Prelude.{◌≡◌, ◌++◌, [], nat_eq, Some, slice_get, slice_index_or, map, IfOk, OnOk};
+ghost use Rattle.mc_item_names.specs.Plain.{Id, id, qualifiers, last_part, plain_id};
+ghost use Rattle.mc_modules.specs.Visible.{character};
+ghost use Rattle.mc_modules.specs.Linked.{plain_named, plain_names};
+ghost use Rattle.mc_modules.specs.Candidates.{defined_by, fits, fitting, fitting_in, is_module, named_so, looked_in, as_character, candidates};
+
+use crate::character::sole_character;
+use crate::column::put_where;
+use crate::module_names::joined;
+use crate::names::{Named, Names};
+use mc_base::{Copied, Memory, Row, Text};
+use mc_item_names::{Indicator, Kind, Used};
+use mc_items::row;
+use mc_model::program::Candidate;
+use std::alloc::Global;
+
+impl Names {
+    /// What a name over so many arguments may mean in a module, which has a number: first what the module itself has, then
+    /// what the modules have that it imports, in the order of first import, in each in the order of declaration; last
+    /// the character. A qualified name means what the modules of that name have among those that the module sees.
+    pub fn candidates(
+        &self,
+        alloc: Global,
+        own: u32,
+        name: &Row<Text>,
+        arity: u32,
+    ) -> Result<Row<Candidate>, Memory>
+        ensures { IfOk result (λ all. all ≡ candidates (plain_names self.now) own (qualifiers name.now) (id (last_part name.now) arity)) }
+    {
+        let used = Used::of(Kind::Symbol, name.as_slice(), arity as usize);
+        let mut all = Vec::new(alloc);
+        let modules = self.looked_in(alloc, own, used.qualifiers)?;
+        self.put_of_modules(own, modules.as_slice(), used.id, &mut all)?;
+        put_character(used.qualifiers, used.id, &mut all)?;
+        row(all)
+    }
+
+    /// The modules in which a name with these qualifiers is looked up.
+    pub fn looked_in(
+        &self,
+        alloc: Global,
+        own: u32,
+        qualifiers: &[Text],
+    ) -> Result<Row<u32>, Memory>
+        ensures { IfOk result (λ all. all ≡ looked_in (plain_names self.now) (slice_get self.now.scopes own) qualifiers.now) }
+    {
+        if own >= self.scopes.len() {
+            return Ok(Row::new(alloc));
+        }
+        let scope = self.scopes.get(own);
+        if qualifiers.is_empty() {
+            return scope.bare.copied(alloc);
+        }
+        let name = joined(alloc, qualifiers)?;
+        self.named_so(alloc, &name, scope.seen.as_slice())
+    }
+
+    // Those of these modules that have a name.
+    fn named_so(&self, alloc: Global, name: &Text, modules: &[u32]) -> Result<Row<u32>, Memory>
+        ensures { IfOk result (λ all. all ≡ named_so (plain_names self.now) name.now modules.now) }
+    {
+        let mut all = Vec::new(alloc);
+        for module in modules {
+            put_where(self.is_named(*module, name), *module, &mut all)?;
+        }
+        row(all)
+    }
+
+    fn is_named(&self, number: u32, name: &Text) -> bool
+        ensures { result ≡ is_module name.now (slice_get self.now.scopes number) }
+    {
+        number < self.scopes.len() && self.scopes.get(number).module.bytes() == name.bytes()
+    }
+
+    // Puts in what these modules have of a name.
+    fn put_of_modules(
+        &self,
+        own: u32,
+        modules: &[u32],
+        id: Indicator,
+        all: &mut Vec<Candidate>,
+    ) -> Result<(), Memory>
+        ensures { OnOk result (all.new.items ≡ all.old.items ++ fitting_in (plain_names self.now) own (plain_id id.entry) modules.now) }
+    {
+        for module in modules {
+            self.put_of_module(own, *module, id, all)?;
+        }
+        Ok(())
+    }
+
+    // Puts in what a module has of a name that another sees, or the module itself.
+    fn put_of_module(
+        &self,
+        own: u32,
+        number: u32,
+        id: Indicator,
+        all: &mut Vec<Candidate>,
+    ) -> Result<(), Memory>
+        ensures { OnOk result (all.new.items ≡ all.old.items ++ fitting (plain_names self.now) (nat_eq own number) (plain_id id.entry) (slice_index_or self.now.declared number [])) }
+    {
+        self.put_fitting(own == number, id, self.called(number, id.name), all)
+    }
+
+    fn put_fitting(
+        &self,
+        own: bool,
+        id: Indicator,
+        candidates: &[Candidate],
+        all: &mut Vec<Candidate>,
+    ) -> Result<(), Memory>
+        ensures { OnOk result (all.new.items ≡ all.old.items ++ fitting (plain_names self.now) own (plain_id id.entry) candidates.now) }
+    {
+        for candidate in candidates {
+            put_where(self.fits(own, id, *candidate), *candidate, all)?;
+        }
+        Ok(())
+    }
+
+    // Whether a candidate has the name, and is seen.
+    fn fits(&self, own: bool, id: Indicator, candidate: Candidate) -> bool
+        ensures { result ≡ fits own (plain_id id.entry) (defined_by (plain_names self.now) candidate) }
+    {
+        match candidate {
+            Candidate::Con(k) => fits_at(own, id, &self.symbols, k),
+            Candidate::Func(k) => fits_at(own, id, &self.preds, k),
+            Candidate::Pred(k) => fits_at(own, id, &self.preds, k),
+            Candidate::Char(_) => false,
+        }
+    }
+}
+
+fn fits_at(own: bool, id: Indicator, names: &Row<Named>, k: u32) -> bool
+    ensures { result ≡ fits own (plain_id id.entry) (slice_get (map plain_named names.now) k) }
+{
+    k < names.len() && fits_named(own, id, names.get(k))
+}
+
+fn fits_named(own: bool, id: Indicator, named: &Named) -> bool
+    ensures { result ≡ fits own (plain_id id.entry) (Some (plain_named named.now)) }
+{
+    let name = &named.name;
+    (own || named.exported) && (name.arity as usize == id.arity && name.name.bytes() == id.name)
+}
+
+fn put_character(qualifiers: &[Text], id: Indicator, all: &mut Vec<Candidate>) -> Result<(), Memory>
+    ensures { OnOk result (all.new.items ≡ all.old.items ++ as_character (character qualifiers.now (plain_id id.entry))) }
+{
+    if !qualifiers.is_empty() || id.arity != 0 {
+        return Ok(());
+    }
+    if let Some(character) = sole_character(id.name) {
+        all.push(Candidate::Char(character))?;
+    }
+    Ok(())
+}

@@ -1,0 +1,99 @@
+ghost use Rattle.std.specs.Prelude.{◌≡◌, ◌+◌, ◌++◌, List, [], map, length, IfOk, OnOk};
+ghost use Rattle.mc_items.specs.Files.{plain_entry};
+ghost use Rattle.mc_item_names.specs.Plain.{Th, plain_thing};
+ghost use Rattle.mc_modules.specs.Files.{plain_files};
+ghost use Rattle.mc_modules.specs.Linked.{each, symbols_of, preds_of, plain_named, as_numbered, next_con, next_pred, numbered, declared_from};
+ghost use Rattle.mc_modules.specs.Passes.{things_pass};
+
+use crate::column::Column;
+use mc_base::{Memory, Row};
+use mc_item_names::{Kind, Thing, things};
+use mc_items::{Entry, row};
+use mc_model::program::Candidate;
+use std::alloc::Global;
+
+// Candidates that are numbered so far, and the numbers of the next ones.
+#[derive(Drop)]
+struct Numbered {
+    all: Vec<Candidate>,
+    con: u32,
+    pred: u32,
+}
+
+// The number behind another.
+fn next(number: u32) -> Result<u32, Memory>
+    ensures { IfOk result (λ n. n ≡ number + 1) }
+{
+    if number == u32::MAX {
+        return Err(Memory);
+    }
+    Ok(number + 1)
+}
+
+impl Numbered {
+    fn put(&mut self, kind: Kind) -> Result<(), Memory>
+        ensures all { OnOk result (self.new.all.items ≡ self.old.all.items ++ as_numbered kind self.old.con self.old.pred) }
+        ensures con { OnOk result (self.new.con ≡ next_con kind self.old.con) }
+        ensures pred { OnOk result (self.new.pred ≡ next_pred kind self.old.pred) }
+    {
+        match kind {
+            Kind::Symbol => {
+                self.all.push(Candidate::Con(self.con))?;
+                self.con = next(self.con)?;
+                Ok(())
+            }
+            Kind::Func => {
+                self.all.push(Candidate::Func(self.pred))?;
+                self.pred = next(self.pred)?;
+                Ok(())
+            }
+            Kind::Pred => {
+                self.all.push(Candidate::Pred(self.pred))?;
+                self.pred = next(self.pred)?;
+                Ok(())
+            }
+            _ => Ok(()),
+        }
+    }
+
+    fn put_all(&mut self, things: &[Thing]) -> Result<(), Memory>
+        ensures { OnOk result ((ts : List Th) → self.new.all.items ++ numbered self.new.con self.new.pred ts ≡ self.old.all.items ++ numbered self.old.con self.old.pred (map plain_thing things.now ++ ts)) }
+    {
+        for thing in things {
+            self.put(thing.kind)?;
+        }
+        Ok(())
+    }
+}
+
+// The constructors, functions and predicates of a file, each by its number.
+fn numbered_in(alloc: Global, con: u32, pred: u32, file: &[Entry]) -> Result<Row<Candidate>, Memory>
+    ensures { IfOk result (λ all. all ≡ numbered con pred (things_pass (map plain_entry file.now))) }
+{
+    let all = Vec::new(alloc);
+    let mut found = Numbered { all, con, pred };
+    for entry in file {
+        let things = things(alloc, &entry.decl)?;
+        found.put_all(things.as_slice())?;
+    }
+    row(found.all)
+}
+
+/// What each module has that a name in a term or a goal may mean.
+pub fn declared(
+    alloc: Global,
+    files: &[Row<Entry>],
+    symbols: &Column,
+    preds: &Column,
+) -> Result<Row<Row<Candidate>>, Memory>
+    requires symbols { map (map plain_named) symbols.now.has.items ≡ each symbols_of (plain_files files.now) }
+    requires preds { map (map plain_named) preds.now.has.items ≡ each preds_of (plain_files files.now) }
+    ensures { IfOk result (λ all. all ≡ declared_from (plain_files files.now) 0 (plain_files files.now)) }
+{
+    let mut all = Vec::new(alloc);
+    for own in 0..files.len() {
+        let file = files[own].as_slice();
+        all.push(numbered_in(alloc, symbols.start(own), preds.start(own), file)?)?;
+    }
+    row(all)
+}

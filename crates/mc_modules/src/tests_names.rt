@@ -1,0 +1,195 @@
+use crate::tests::files;
+use crate::{Candidate, Named, Names, link};
+use mc_base::{Row, Text};
+use mc_decl_forms::Decl;
+use std::alloc::Global;
+use std::process::Abort;
+use std::test::Fail;
+
+// Four modules, of which the first imports the third and then the second, and only uses the fourth.
+const MODULES: &str = "\
+#module a.@#interface.@#import_module c.@#type t ---> x ; y. #func x = t. #type r ---> z.@\
+#implementation.@#import_module b.@#use_module d.@x = y.`\
+#module b.@#interface.@#type u ---> x.@#implementation.@#type v ---> z.`\
+#module c.@#interface.@#type w ---> x.`\
+#module d.@#interface.@#type s ---> x.";
+
+// An abstract type with its definition, a type by another, a predicate, an inst and a mode; and a module that sees them.
+const ROWS: &str = "\
+#module a.@#interface.@#type t(A).@#type q == int.@#pred p(t(int)::in) is det.@#inst i == ground.@#mode m == i >> i.@\
+#implementation.@#type t(A) ---> k(A).@p(_).`\
+#module b.@#interface.@#import_module a.";
+
+fn linked(alloc: Global, row: &str) -> Result<Option<Names>, Fail> {
+    let files = match files(alloc, row) {
+        Ok(files) => files,
+        Err(_) => return Ok(None),
+    };
+    Ok(link(alloc, &Row::from_vec(files)).ok())
+}
+
+// What candidates are, by their numbers.
+fn told(alloc: Global, candidates: &[Candidate]) -> Result<Vec<u8>, Fail> {
+    let mut out = Vec::new(alloc);
+    for candidate in candidates {
+        let one = match candidate {
+            Candidate::Con(k) => format!(in alloc; "con {k} ")?,
+            Candidate::Func(k) => format!(in alloc; "func {k} ")?,
+            Candidate::Pred(k) => format!(in alloc; "pred {k} ")?,
+            Candidate::Char(c) => format!(in alloc; "char {c} ")?,
+        };
+        out.extend_from_slice(one.as_bytes())?;
+    }
+    Ok(out)
+}
+
+// What a name may mean in a module.
+fn meaning(
+    alloc: Global,
+    names: &Names,
+    own: u32,
+    name: &str,
+    arity: u32,
+) -> Result<Vec<u8>, Fail> {
+    let mut parts = Vec::new(alloc);
+    for part in name.split('.') {
+        parts.push(Text::new(alloc, part.as_bytes())?)?;
+    }
+    let found = names.candidates(alloc, own, &Row::from_vec(parts), arity)?;
+    told(alloc, found.as_slice())
+}
+
+// What a thing is: its name, its line, and whether other modules see it.
+fn shown(alloc: Global, named: &Named) -> Result<Vec<u8>, Fail> {
+    let mut out = named.name.module.bytes().to_vec(alloc)?;
+    out.push(b'.')?;
+    out.extend_from_slice(named.name.name.bytes())?;
+    let rest = format!(in alloc;
+        "/{} {} {}",
+        named.name.arity, named.at.line, named.exported
+    )?;
+    out.extend_from_slice(rest.as_bytes())?;
+    Ok(out)
+}
+
+fn is_told(
+    rt: &impl Abort,
+    alloc: Global,
+    names: &Names,
+    own: u32,
+    name: &str,
+    arity: u32,
+    wanted: &str,
+) -> Result<(), Fail> {
+    let answer = meaning(alloc, names, own, name, arity)?;
+    assert_eq!(rt; answer.as_slice(), wanted.as_bytes(), "{name}");
+    Ok(())
+}
+
+#[test]
+fn own_names_come_first_and_the_character_last(rt: HostRuntime) -> Result<(), Fail> {
+    let alloc = rt.alloc();
+    let Some(names) = linked(alloc, MODULES)? else {
+        panic!(&rt; "not linked");
+    };
+    assert_eq!(rt;
+        told(alloc, names.declared.get(0).as_slice())?.as_slice(),
+        b"con 0 con 1 func 0 con 2 ".as_slice()
+    );
+    is_told(
+        &rt,
+        alloc,
+        &names,
+        0,
+        "x",
+        0,
+        "con 0 func 0 con 5 con 3 char x ",
+    )?;
+    is_told(&rt, alloc, &names, 0, "x", 1, "")?;
+    is_told(&rt, alloc, &names, 0, "xx", 0, "")?;
+    is_told(&rt, alloc, &names, 1, "x", 0, "con 3 char x ")?;
+    is_told(&rt, alloc, &names, 1, "z", 0, "con 4 char z ")?;
+    is_told(&rt, alloc, &names, 0, "z", 0, "con 2 char z ")?;
+    is_told(&rt, alloc, &names, 3, "x", 0, "con 6 char x ")?;
+    Ok(())
+}
+
+#[test]
+fn a_qualifier_chooses_among_the_modules_that_are_seen(rt: HostRuntime) -> Result<(), Fail> {
+    let alloc = rt.alloc();
+    let Some(names) = linked(alloc, MODULES)? else {
+        panic!(&rt; "not linked");
+    };
+    is_told(&rt, alloc, &names, 0, "a.x", 0, "con 0 func 0 ")?;
+    is_told(&rt, alloc, &names, 0, "b.x", 0, "con 3 ")?;
+    is_told(&rt, alloc, &names, 0, "b.z", 0, "")?;
+    is_told(&rt, alloc, &names, 0, "c.x", 0, "con 5 ")?;
+    is_told(&rt, alloc, &names, 0, "d.x", 0, "con 6 ")?;
+    is_told(&rt, alloc, &names, 1, "a.x", 0, "")?;
+    is_told(&rt, alloc, &names, 0, "e.x", 0, "")?;
+    Ok(())
+}
+
+#[test]
+fn a_type_stands_at_its_definition_and_is_seen_by_its_declaration(
+    rt: HostRuntime,
+) -> Result<(), Fail> {
+    let alloc = rt.alloc();
+    let Some(names) = linked(alloc, ROWS)? else {
+        panic!(&rt; "not linked");
+    };
+    assert_eq!(rt; names.types.len(), 2);
+    assert_eq!(rt;
+        shown(alloc, names.types.get(0))?.as_slice(),
+        b"a.q/0 4 true".as_slice()
+    );
+    assert_eq!(rt;
+        shown(alloc, names.types.get(1))?.as_slice(),
+        b"a.t/1 9 true".as_slice()
+    );
+    assert_eq!(rt; names.symbols.len(), 1);
+    assert_eq!(rt;
+        shown(alloc, names.symbols.get(0))?.as_slice(),
+        b"a.k/1 9 false".as_slice()
+    );
+    assert!(rt; matches!(&names.symbols.get(0).decl, Decl::UnionType(_, _)));
+    assert_eq!(rt;
+        shown(alloc, names.preds.get(0))?.as_slice(),
+        b"a.p/1 5 true".as_slice()
+    );
+    assert_eq!(rt;
+        shown(alloc, names.insts.get(0))?.as_slice(),
+        b"a.i/0 6 true".as_slice()
+    );
+    assert_eq!(rt;
+        shown(alloc, names.modes.get(0))?.as_slice(),
+        b"a.m/0 7 true".as_slice()
+    );
+    Ok(())
+}
+
+#[test]
+fn a_module_sees_its_own_and_what_others_export(rt: HostRuntime) -> Result<(), Fail> {
+    let alloc = rt.alloc();
+    let Some(names) = linked(alloc, ROWS)? else {
+        panic!(&rt; "not linked");
+    };
+    assert_eq!(rt; names.scopes.len(), 11);
+    let own = names.scopes.get(0);
+    let other = names.scopes.get(1);
+    assert_eq!(rt; own.module.bytes(), b"a".as_slice());
+    assert_eq!(rt; own.symbols.as_slice(), [0u32].as_slice());
+    assert_eq!(rt; other.types.as_slice(), [0u32, 1].as_slice());
+    assert_eq!(rt; other.symbols.len(), 0);
+    assert_eq!(rt; other.preds.as_slice(), [0u32].as_slice());
+    assert_eq!(rt; other.bare.as_slice(), [1u32, 0].as_slice());
+    assert_eq!(rt; other.seen.as_slice(), [1u32, 0].as_slice());
+    Ok(())
+}
+
+#[test]
+fn what_breaks_a_rule_is_not_linked(rt: HostRuntime) -> Result<(), Fail> {
+    let alloc = rt.alloc();
+    assert!(rt; linked(alloc, "#module a.@#interface.@#import_module b.")?.is_none());
+    Ok(())
+}
