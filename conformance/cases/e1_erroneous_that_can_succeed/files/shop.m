@@ -1,0 +1,5 @@
+:- module shop.
+:- interface.
+:- implementation.
+:- pred stops is erroneous.
+stops.

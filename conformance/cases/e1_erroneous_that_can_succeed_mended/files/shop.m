@@ -1,0 +1,6 @@
+:- module shop.
+:- interface.
+:- implementation.
+:- import_module require.
+:- pred stops is erroneous.
+stops :- error("closed").

@@ -1,0 +1,3 @@
+:- module people.
+:- interface.
+:- type person ---> ann ; bob ; cid.

@@ -1,0 +1,5 @@
+:- module shop.
+:- interface.
+:- implementation.
+:- pred gives(int::out) is det.
+gives(X) :- X = Y, Y = 1.

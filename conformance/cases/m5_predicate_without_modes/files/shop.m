@@ -1,0 +1,7 @@
+:- module shop.
+:- interface.
+:- type drink ---> green ; black.
+:- pred sells(drink).
+:- implementation.
+sells(green).
+sells(black).

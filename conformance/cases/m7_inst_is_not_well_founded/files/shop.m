@@ -1,0 +1,4 @@
+:- module shop.
+:- interface.
+:- implementation.
+:- inst boxed == boxed.

@@ -1,0 +1,4 @@
+:- module shop.
+:- interface.
+:- implementation.
+:- inst boxed == bound(empty ; box(boxed)).

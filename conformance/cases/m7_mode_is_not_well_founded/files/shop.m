@@ -1,0 +1,4 @@
+:- module shop.
+:- interface.
+:- implementation.
+:- mode give == give.

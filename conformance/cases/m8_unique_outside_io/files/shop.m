@@ -1,0 +1,5 @@
+:- module shop.
+:- interface.
+:- implementation.
+:- pred takes(int::di) is det.
+takes(_).

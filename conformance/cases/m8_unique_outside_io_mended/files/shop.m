@@ -1,0 +1,5 @@
+:- module shop.
+:- interface.
+:- implementation.
+:- pred takes(int::in) is det.
+takes(_).

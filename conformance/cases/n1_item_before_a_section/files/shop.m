@@ -1,0 +1,8 @@
+:- module shop.
+:- type price ---> cheap ; dear.
+:- interface.
+:- type drink ---> green ; black.
+:- pred sells(drink::out) is nondet.
+:- implementation.
+sells(green).
+sells(black).

@@ -1,0 +1,8 @@
+:- module town.shop.
+:- interface.
+:- type drink ---> green ; black.
+:- pred sells(drink::out) is nondet.
+:- implementation.
+sells(green).
+sells(black).
+:- end_module town.shop.

@@ -1,0 +1,6 @@
+:- interface.
+:- type drink ---> green ; black.
+:- pred sells(drink::out) is nondet.
+:- implementation.
+sells(green).
+sells(black).

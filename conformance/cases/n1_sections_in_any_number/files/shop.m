@@ -1,0 +1,9 @@
+:- module shop.
+:- implementation.
+sells(green).
+:- interface.
+:- type drink ---> green ; black.
+:- interface.
+:- pred sells(drink::out) is nondet.
+:- implementation.
+sells(black).

@@ -1,0 +1,2 @@
+:- module list.
+:- interface.

@@ -1,0 +1,2 @@
+:- module lists.
+:- interface.

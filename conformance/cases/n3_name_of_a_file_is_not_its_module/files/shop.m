@@ -1,0 +1,3 @@
+:- module shop.
+:- interface.
+:- import_module tea.

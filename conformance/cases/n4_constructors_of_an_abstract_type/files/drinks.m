@@ -1,0 +1,5 @@
+:- module drinks.
+:- interface.
+:- type drink.
+:- implementation.
+:- type drink ---> green ; black.

@@ -1,0 +1,3 @@
+:- module menu.
+:- interface.
+:- import_module drinks.

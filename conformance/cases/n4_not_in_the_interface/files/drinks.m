@@ -1,0 +1,4 @@
+:- module drinks.
+:- interface.
+:- implementation.
+:- type drink ---> green ; black.

@@ -1,0 +1,2 @@
+:- module town.
+:- interface.

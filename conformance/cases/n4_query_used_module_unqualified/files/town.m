@@ -1,0 +1,3 @@
+:- module town.
+:- interface.
+:- use_module family.

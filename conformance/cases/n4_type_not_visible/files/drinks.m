@@ -1,0 +1,4 @@
+:- module drinks.
+:- interface.
+:- type drink ---> green ; black.
+:- implementation.

@@ -1,0 +1,5 @@
+:- module shop.
+:- interface.
+:- pred sells(drink::out) is nondet.
+:- implementation.
+sells(green).

@@ -1,0 +1,6 @@
+:- module shop.
+:- interface.
+:- use_module drinks.
+:- pred sells(drinks.drink::out) is nondet.
+:- implementation.
+sells(drinks.green).

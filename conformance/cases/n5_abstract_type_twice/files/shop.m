@@ -1,0 +1,10 @@
+:- module shop.
+:- interface.
+:- type drink ---> green ; black.
+:- type price.
+:- type price.
+:- pred sells(drink::out) is nondet.
+:- implementation.
+sells(green).
+sells(black).
+:- type price ---> cheap ; dear.

@@ -1,0 +1,7 @@
+:- module shop.
+:- interface.
+:- type drink ---> green ; black ; green.
+:- pred sells(drink::out) is nondet.
+:- implementation.
+sells(green).
+sells(black).

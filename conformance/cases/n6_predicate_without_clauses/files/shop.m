@@ -1,0 +1,5 @@
+:- module shop.
+:- interface.
+:- type drink ---> green ; black.
+:- pred sells(drink::out) is nondet.
+:- implementation.

@@ -1,0 +1,5 @@
+:- module tea.
+:- interface.
+:- import_module shop.
+:- implementation.
+sells(green).

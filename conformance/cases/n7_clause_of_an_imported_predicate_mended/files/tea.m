@@ -1,0 +1,6 @@
+:- module tea.
+:- interface.
+:- import_module shop.
+:- implementation.
+:- pred sells(drink::out) is nondet.
+sells(green).

@@ -1,0 +1,7 @@
+:- module shop.
+:- interface.
+:- import_module aa.
+:- type colour ---> green ; black.
+:- pred cup(colour::out) is nondet.
+:- implementation.
+cup(green).

@@ -1,0 +1,3 @@
+:- module aa.
+:- interface.
+:- type colour ---> red ; blue.

@@ -1,0 +1,6 @@
+:- module shop.
+:- interface.
+:- import_module aa, bb.
+:- pred cup(colour::out) is nondet.
+:- implementation.
+cup(red).

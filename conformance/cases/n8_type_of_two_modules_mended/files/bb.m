@@ -1,0 +1,3 @@
+:- module bb.
+:- interface.
+:- type colour ---> green ; black.

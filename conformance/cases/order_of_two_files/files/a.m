@@ -1,0 +1,3 @@
+:- module a.
+:- interface.
+:- foo.

@@ -1,0 +1,3 @@
+:- module b.
+:- interface.
+1.

@@ -1,0 +1,4 @@
+:- module town.
+:- interface.
+:- implementation.
+:- import_module family.

@@ -1,0 +1,3 @@
+:- module town.
+:- interface.
+:- import_module family.

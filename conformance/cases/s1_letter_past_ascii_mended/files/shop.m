@@ -1,0 +1,7 @@
+:- module shop.
+:- interface.
+:- type drink ---> 'grün' ; black.
+:- pred sells(drink::out) is nondet.
+:- implementation.
+sells('grün').
+sells(black).

@@ -1,0 +1,8 @@
+:- module shop.
+:- interface.
+:- type drink ---> green ; black.
+:- pred sells(drink::out) is nondet.
+:- implementation.
+/* what is sold
+sells(green).
+sells(black).

@@ -1,0 +1,11 @@
+:- module shop.
+:- interface.
+:- type drink ---> green ; black.
+:- pred sells(drink::out) is nondet.
+:- implementation.
+
+% a comment
+sells
+  green.
+sells(green).
+sells(black).

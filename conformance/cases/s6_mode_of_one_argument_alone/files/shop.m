@@ -1,0 +1,9 @@
+:- module shop.
+:- interface.
+:- type drink ---> green ; black.
+:- pred sells(drink::out) is nondet.
+:- pred pairs(drink::out, drink) is nondet.
+:- implementation.
+sells(green).
+sells(black).
+pairs(green, black).

@@ -1,0 +1,3 @@
+:- module shop.
+:- interface.
+:- type box ---> box(T).

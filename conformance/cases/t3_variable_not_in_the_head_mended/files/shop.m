@@ -1,0 +1,3 @@
+:- module shop.
+:- interface.
+:- type box(T) ---> box(T).

@@ -1,0 +1,4 @@
+:- module shop.
+:- interface.
+:- type cup == mug.
+:- type mug == cup.

@@ -1,0 +1,9 @@
+:- module shop.
+:- interface.
+:- type drink ---> green ; black.
+:- pred sells(drink::out) is nondet.
+:- implementation.
+:- pred pours(drink::in(any)) is semidet.
+pours(green).
+sells(green).
+sells(black).

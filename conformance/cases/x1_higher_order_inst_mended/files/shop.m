@@ -1,0 +1,8 @@
+:- module shop.
+:- interface.
+:- type drink ---> green ; black.
+:- pred sells(drink::out) is nondet.
+:- implementation.
+:- type price ---> cheap ; dear.
+sells(green).
+sells(black).

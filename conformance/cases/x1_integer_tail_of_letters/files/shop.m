@@ -1,0 +1,9 @@
+:- module shop.
+:- interface.
+:- type drink ---> green ; black.
+:- pred sells(drink::out) is nondet.
+:- implementation.
+:- pred price(int::out) is nondet.
+price(350c).
+sells(green).
+sells(black).
