@@ -327,6 +327,7 @@ const COLOURS: &[u8] = b"% Colours, and which is warm.
 :- pred cold(colour::out) is nondet.
 :- implementation.
 warm(red). /* and no other */
+cold(blue).
 ";
 
 const FLOWERS: &[u8] = b":- module flowers.
@@ -355,7 +356,7 @@ fn several_modules_are_answered(rt: HostRuntime) -> Result<(), Fail> {
             b"C = red.\n",
         ),
         (&["query", "warm(C)", "colours.m"], b"C = red.\n"),
-        (&["query", "cold(C)", "colours.m"], b"false.\n"),
+        (&["query", "cold(C)", "colours.m"], b"C = blue.\n"),
     ];
     for (list, lines) in rows {
         let answers = call(&rt, alloc, list, &files, &NONE)?;
