@@ -1,16 +1,16 @@
 -- What one pass over a file finds is what the file has.
-use Rattle.std.proofs.Common.{◌≡◌, ℕ, ◌+◌, Bool, true, false, cond, ◌||◌, List, [], ◌∷◌, ◌++◌, map, length, refl, ap, sym, ◌∙◌, arith}
+use Rattle.std.proofs.Common.{◌≡◌, ℕ, Bool, true, false, cond, List, [], ◌∷◌, ◌++◌, refl, ap, ◌∙◌}
 use Rattle.std.specs.Set.{is_member}
 use Rattle.mc_syntax.specs.Plain.{Tm, Tms, no_term, more_terms}
-use Rattle.mc_decl_forms.specs.Plain.{It, ModuleStart, ModuleEnd, Interface, Implementation, Imports, UseOnly, AbstractType, UnionType, SameType, SameInst, BoundInst, ModeDef, Pred, Func, Mode, Pragma, Clause}
+use Rattle.mc_decl_forms.specs.Plain.{It, AbstractType, UnionType, SameType}
 use Rattle.mc_item_names.specs.declared.thing.Kind.TheVariants as K
 use Rattle.mc_item_names.specs.Plain.{Id, Th, thing, is_thing}
 use Rattle.mc_item_names.specs.Things.{head_name, symbol_name, things}
 use Rattle.mc_item_names.specs.Sets.{put_all}
 use Rattle.mc_item_names.proofs.Laws.{is_member-put_all}
-use Rattle.mc_modules.specs.Files.{File, Section, NoSection, section_after, is_shown, is_empty, Standing, standing_from, standing, things_of, shown_of, has}
-use Rattle.mc_modules.specs.Linked.{Defined, defined, types_by, constructors, symbols_by, of_kind, types_in, symbols_in, sorted_in, is_pred, is_inst, is_mode, name_of, types_of, symbols_of, preds_of, insts_of, modes_defined, bare_head}
-use Rattle.mc_modules.specs.Passes.{stands, has_type, has_definition, types_with, types_pass, symbols_pass, sorted_pass, things_pass, shown_pass}
+use Rattle.mc_modules.specs.Files.{File, Section, NoSection, section_after, is_shown, is_empty, Standing, standing_from, standing, things_of, shown_of}
+use Rattle.mc_modules.specs.Linked.{defined, types_by, constructors, symbols_by, of_kind, types_in, symbols_in, sorted_in, is_pred, is_inst, is_mode, name_of, types_of, symbols_of, preds_of, insts_of, modes_defined, bare_head}
+use Rattle.mc_modules.specs.Passes.{stands, has_type, types_with, types_pass, symbols_pass, sorted_pass, things_pass, shown_pass}
 
 pub things_found : (b : Bool) (s : Section) (es : File) → things_of (standing_from b s es) ≡ things_pass es
 things_found b s [] = refl

@@ -1,6 +1,6 @@
 -- Candidates by their names.
-use Rattle.std.proofs.Common.{◌≡◌, ℕ, ◌+◌, ◌<◌, ◌≤◌, Bool, true, false, cond, ◌&&◌, ◌||◌, nat_eq, List, [], ◌∷◌, ◌++◌, map, length, take, get_or, Option, Some, None, zero, suc, refl, ap, sym, ◌∙◌, true≢false, arith, append_assoc, if◌then◌else◌, Vec}
-use Rattle.std.specs.Prelude.{slice_get, slice_index_or}
+use Rattle.std.proofs.Common.{◌≡◌, ℕ, Bool, true, false, cond, ◌&&◌, ◌||◌, nat_eq, List, [], ◌∷◌, ◌++◌, map, length, get_or, Option, Some, None, zero, suc, refl, ap, sym, ◌∙◌, true≢false, arith, if◌then◌else◌, Vec}
+use Rattle.std.specs.Prelude.{slice_get}
 use Rattle.std.specs.Option.{option_map}
 use Rattle.std.specs.Cmp.Lexicographic.{nat_list_eq_equiv}
 use Rattle.std.specs.Map.{lookup}
@@ -9,7 +9,7 @@ use Rattle.std.proofs.lemmas.Option.{slice_get-map}
 use Rattle.indexmap.specs.IndexMap.{insert_entry}
 use Rattle.mc_model.specs.declared.program.Candidate.{Candidate}
 use Rattle.mc_model.specs.declared.program.Candidate.TheVariants as C
-use Rattle.mc_item_names.specs.Plain.{Id, id, is_id}
+use Rattle.mc_item_names.specs.Plain.{Id}
 use Rattle.mc_modules.specs.declared.names.Named.{Named}
 use Rattle.mc_modules.specs.Linked.{Defined, Linked, plain_named}
 use Rattle.mc_modules.specs.Candidates.{defined_by, fits, fitting}

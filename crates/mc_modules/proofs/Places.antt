@@ -1,12 +1,11 @@
 -- Files by their places.
-use Rattle.std.proofs.Common.{◌≡◌, ℕ, zero, suc, ◌+◌, ◌<◌, ◌≤◌, List, [], ◌∷◌, ◌++◌, map, length, get_or, drop, refl, ap, sym, ◌∙◌, arith, rules}
-use Rattle.std.proofs.lemmas.List.{length-map, get_or-map, append_assoc, append-nil, drop-map}
+use Rattle.std.proofs.Common.{◌≡◌, ℕ, zero, suc, ◌+◌, ◌<◌, List, [], ◌∷◌, map, length, get_or, drop, refl, ap, sym, ◌∙◌, arith}
+use Rattle.std.proofs.lemmas.List.{length-map, get_or-map}
 use Rattle.mc_items.specs.declared.entry.Entry.{Entry}
 use Rattle.mc_items.specs.Files.{plain_entry}
 use Rattle.mc_modules.specs.declared.names.Named.{Named}
-use Rattle.mc_modules.specs.declared.names.Scope.{Scope}
 use Rattle.mc_modules.specs.declared.sight.Sight.{Sight}
-use Rattle.mc_modules.specs.Files.{File, plain_files, standing, things_of, NoSection}
+use Rattle.mc_modules.specs.Files.{File, plain_files, NoSection}
 use Rattle.mc_modules.specs.Visible.{file_at}
 use Rattle.mc_modules.specs.Linked.{Defined, each, plain_named, numbered, before, symbols_of, preds_of, declared_from, scope, scopes_from}
 use Rattle.mc_modules.specs.Passes.{things_pass}

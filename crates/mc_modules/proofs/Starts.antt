@@ -1,9 +1,8 @@
 -- Numbers of what each file has.
-use Rattle.std.proofs.Common.{◌≡◌, ℕ, ◌+◌, ◌<◌, ◌≤◌, Bool, true, false, nat_eq, cond, ◌||◌, List, [], ◌∷◌, ◌++◌, zero, suc, map, length, take, get_or, drop, refl, ap, sym, ◌∙◌, arith, length-append}
-use Rattle.std.specs.Prelude.{slice_index_or}
-use Rattle.std.proofs.lemmas.List.{length-map, get_or_past, append-nil, append_assoc, get_or-map}
+use Rattle.std.proofs.Common.{◌≡◌, ℕ, ◌+◌, ◌<◌, ◌≤◌, Bool, true, false, ◌||◌, List, [], ◌∷◌, ◌++◌, zero, suc, map, length, take, get_or, refl, ap, sym, ◌∙◌, arith, length-append}
+use Rattle.std.proofs.lemmas.List.{length-map, get_or_past, get_or-map}
 use Rattle.mc_modules.specs.declared.names.Named.{Named}
-use Rattle.mc_modules.specs.Linked.{Defined, numbers, before, has_of, visible, flat, plain_named}
+use Rattle.mc_modules.specs.Linked.{Defined, numbers, before, has_of, flat, plain_named}
 use Rattle.mc_modules.specs.Passes.{starts_from, kept}
 
 pub length-starts_from : {A : Type 0} (n : ℕ) (xss : List (List A)) → length (starts_from n xss) ≡ length xss

@@ -2,7 +2,7 @@
 use Rattle.std.proofs.Common.{◌≡◌, ℕ, List, [], ◌∷◌, ap}
 use Rattle.mc_decl_forms.specs.Plain.{Path}
 use Rattle.mc_item_names.specs.declared.thing.Kind.{Kind}
-use Rattle.mc_item_names.specs.Plain.{Id, id, Us, qualifiers, last_part}
+use Rattle.mc_item_names.specs.Plain.{id, Us, qualifiers, last_part}
 use Rattle.mc_item_names.specs.Occurrences.{used}
 
 abbrev first : Us → List Us → Us

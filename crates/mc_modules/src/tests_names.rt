@@ -2,6 +2,7 @@ use crate::tests::files;
 use crate::{Candidate, Named, Names, link};
 use mc_base::{Row, Text};
 use mc_decl_forms::Decl;
+use mc_items::row;
 use std::alloc::Global;
 use std::process::Abort;
 use std::test::Fail;
@@ -20,12 +21,19 @@ const ROWS: &str = "\
 #implementation.@#type t(A) ---> k(A).@p(_).`\
 #module b.@#interface.@#import_module a.";
 
-fn linked(alloc: Global, row: &str) -> Result<Option<Names>, Fail> {
-    let files = match files(alloc, row) {
+fn linked(alloc: Global, texts: &str) -> Result<Option<Names>, Fail> {
+    let files = match files(alloc, texts) {
         Ok(files) => files,
         Err(_) => return Ok(None),
     };
-    Ok(link(alloc, &Row::from_vec(files)).ok())
+    Ok(link(alloc, &row(files)?).ok())
+}
+
+fn nth<'a, T>(rt: &impl Abort, row: &'a Row<T>, k: usize) -> &'a T {
+    match row.as_slice().get(k) {
+        Some(item) => item,
+        None => panic!(rt; "too few"),
+    }
 }
 
 // What candidates are, by their numbers.
@@ -55,7 +63,7 @@ fn meaning(
     for part in name.split('.') {
         parts.push(Text::new(alloc, part.as_bytes())?)?;
     }
-    let found = names.candidates(alloc, own, &Row::from_vec(parts), arity)?;
+    let found = names.candidates(alloc, own, &row(parts)?, arity)?;
     told(alloc, found.as_slice())
 }
 
@@ -93,7 +101,7 @@ fn own_names_come_first_and_the_character_last(rt: HostRuntime) -> Result<(), Fa
         panic!(&rt; "not linked");
     };
     assert_eq!(rt;
-        told(alloc, names.declared.get(0).as_slice())?.as_slice(),
+        told(alloc, nth(&rt, &names.declared, 0).as_slice())?.as_slice(),
         b"con 0 con 1 func 0 con 2 ".as_slice()
     );
     is_told(
@@ -140,29 +148,29 @@ fn a_type_stands_at_its_definition_and_is_seen_by_its_declaration(
     };
     assert_eq!(rt; names.types.len(), 2);
     assert_eq!(rt;
-        shown(alloc, names.types.get(0))?.as_slice(),
+        shown(alloc, nth(&rt, &names.types, 0))?.as_slice(),
         b"a.q/0 4 true".as_slice()
     );
     assert_eq!(rt;
-        shown(alloc, names.types.get(1))?.as_slice(),
+        shown(alloc, nth(&rt, &names.types, 1))?.as_slice(),
         b"a.t/1 9 true".as_slice()
     );
     assert_eq!(rt; names.symbols.len(), 1);
     assert_eq!(rt;
-        shown(alloc, names.symbols.get(0))?.as_slice(),
+        shown(alloc, nth(&rt, &names.symbols, 0))?.as_slice(),
         b"a.k/1 9 false".as_slice()
     );
-    assert!(rt; matches!(&names.symbols.get(0).decl, Decl::UnionType(_, _)));
+    assert!(rt; matches!(&nth(&rt, &names.symbols, 0).decl, Decl::UnionType(_, _)));
     assert_eq!(rt;
-        shown(alloc, names.preds.get(0))?.as_slice(),
+        shown(alloc, nth(&rt, &names.preds, 0))?.as_slice(),
         b"a.p/1 5 true".as_slice()
     );
     assert_eq!(rt;
-        shown(alloc, names.insts.get(0))?.as_slice(),
+        shown(alloc, nth(&rt, &names.insts, 0))?.as_slice(),
         b"a.i/0 6 true".as_slice()
     );
     assert_eq!(rt;
-        shown(alloc, names.modes.get(0))?.as_slice(),
+        shown(alloc, nth(&rt, &names.modes, 0))?.as_slice(),
         b"a.m/0 7 true".as_slice()
     );
     Ok(())
@@ -175,8 +183,8 @@ fn a_module_sees_its_own_and_what_others_export(rt: HostRuntime) -> Result<(), F
         panic!(&rt; "not linked");
     };
     assert_eq!(rt; names.scopes.len(), 11);
-    let own = names.scopes.get(0);
-    let other = names.scopes.get(1);
+    let own = nth(&rt, &names.scopes, 0);
+    let other = nth(&rt, &names.scopes, 1);
     assert_eq!(rt; own.module.bytes(), b"a".as_slice());
     assert_eq!(rt; own.symbols.as_slice(), [0u32].as_slice());
     assert_eq!(rt; other.types.as_slice(), [0u32, 1].as_slice());

@@ -1,4 +1,4 @@
-use Rattle.std.proofs.Common.{◌≡◌, ◌+◌, ◌∷◌, drop, map, ap, sym, ◌∙◌, arith}
+use Rattle.std.proofs.Common.{◌+◌, ◌∷◌, drop, map, ap, sym, ◌∙◌, arith}
 use Rattle.mc_items.specs.Files.{plain_entry}
 use Rattle.mc_modules.specs.Files.{plain_files}
 use Rattle.mc_modules.specs.Linked.{symbols_of, preds_of, before, numbered, declared_from}

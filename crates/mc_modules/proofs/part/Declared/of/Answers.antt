@@ -1,10 +1,10 @@
-use Rattle.std.proofs.Common.{◌≡◌, ◌+◌, [], ◌++◌, cond, drop, map, ap, sym, ◌∙◌}
+use Rattle.std.proofs.Common.{◌+◌, [], cond, drop, map, ap, sym, ◌∙◌}
 use Rattle.mc_decl_forms.specs.Plain.{plain_item}
 use Rattle.mc_items.specs.Files.{plain_entry}
 use Rattle.mc_item_names.specs.Plain.{plain_thing}
 use Rattle.mc_item_names.specs.Sets.{put_all}
 use Rattle.mc_item_names.specs.Things.{things}
-use Rattle.mc_modules.specs.Files.{NoSection, is_shown, section_after}
+use Rattle.mc_modules.specs.Files.{is_shown, section_after}
 use Rattle.mc_modules.specs.Passes.{plain_section, things_pass, shown_pass}
 use Rattle.mc_modules.proofs.Puts.{drop_item, put_more}
 use Rattle.mc_modules.proofs.part.Declared.of.Goals as goal

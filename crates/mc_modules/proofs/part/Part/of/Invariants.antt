@@ -1,6 +1,5 @@
-use Rattle.std.proofs.Common.{◌≡◌, ◌++◌, [], drop, map}
+use Rattle.std.proofs.Common.{◌≡◌, ◌++◌, drop, map}
 use Rattle.mc_items.specs.Files.{plain_entry}
-use Rattle.mc_item_names.specs.Sets.{put_all}
 use Rattle.mc_modules.specs.Files.{NoSection}
 use Rattle.mc_modules.specs.Linked.{is_pred, is_inst, is_mode, plain_named}
 use Rattle.mc_modules.specs.Passes.{plain_section, types_pass, symbols_pass, sorted_pass}
