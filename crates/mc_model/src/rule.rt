@@ -1,7 +1,8 @@
 use crate::program::Place;
-use mc_base::{Row, Text};
+use mc_base::Text;
 
-/// The rules that a source can break, by the names that the program prints, in the order of its phases.
+/// The rules that a source can break, by the names that the program prints, in the order of its phases; those of fact
+/// tables (F) stand where their phases have them. Those of certificate files (C) stand last, for they are of a file alone.
 #[derive(Clone, Copy, Debug, PartialEq, Eq)]
 pub enum Rule {
     S1,
@@ -15,6 +16,7 @@ pub enum Rule {
     L2,
     L3,
     L4,
+    F3,
     N1,
     N2,
     N3,
@@ -24,6 +26,9 @@ pub enum Rule {
     N7,
     N8,
     M5,
+    F1,
+    F2,
+    F4,
     T3,
     T4,
     T5,
@@ -42,6 +47,9 @@ pub enum Rule {
     E3,
     E4,
     U1,
+    C1,
+    C2,
+    C3,
 }
 
 /// A broken rule, with its place and what the program says of it.
@@ -50,11 +58,4 @@ pub struct Broken {
     pub rule: Rule,
     pub at: Place,
     pub what: Text,
-}
-
-/// The faults of reading or linking: the first broken rule of each faulty item, in source order, or want of memory.
-#[derive(Debug, PartialEq, Eq, Drop)]
-pub enum ItemsFault {
-    Broken(Row<Broken>),
-    Memory,
 }

@@ -7,7 +7,7 @@ use crate::expr::Expr;
 use crate::flat::Flat;
 use crate::inst::{Choice, InstRef, ModeDecl, Sig};
 use crate::program::{Clause, Goal, Name, Place, Pred, Program, Resolved, Symbol, TypeDef};
-use crate::rule::{Broken, ItemsFault, Rule};
+use crate::rule::{Broken, Rule};
 use crate::sched::{Arm, GoalNode, On, Proc, Sched};
 use crate::ty::Ty;
 use crate::value::Value;
@@ -274,6 +274,6 @@ fn answers_of_phases_are_built_and_dropped(rt: HostRuntime) -> Result<(), Memory
     };
     let faults = only(alloc, broken)?;
     assert_eq!(rt; faults.get(0).rule, Rule::E2);
-    assert_ne!(rt; ItemsFault::Broken(faults), ItemsFault::Memory);
+    drop(faults);
     Ok(())
 }

@@ -60,6 +60,7 @@ fn rule_name(rule: Rule) -> &'static [u8; 2]
         Rule::L2 => b"L2",
         Rule::L3 => b"L3",
         Rule::L4 => b"L4",
+        Rule::F3 => b"F3",
         Rule::N1 => b"N1",
         Rule::N2 => b"N2",
         Rule::N3 => b"N3",
@@ -69,6 +70,9 @@ fn rule_name(rule: Rule) -> &'static [u8; 2]
         Rule::N7 => b"N7",
         Rule::N8 => b"N8",
         Rule::M5 => b"M5",
+        Rule::F1 => b"F1",
+        Rule::F2 => b"F2",
+        Rule::F4 => b"F4",
         Rule::T3 => b"T3",
         Rule::T4 => b"T4",
         Rule::T5 => b"T5",
@@ -87,6 +91,9 @@ fn rule_name(rule: Rule) -> &'static [u8; 2]
         Rule::E3 => b"E3",
         Rule::E4 => b"E4",
         Rule::U1 => b"U1",
+        Rule::C1 => b"C1",
+        Rule::C2 => b"C2",
+        Rule::C3 => b"C3",
     }
 }
 
