@@ -15,7 +15,7 @@ use Rattle.mc_model.proofs.Equality.{value_same, same_of}
 use Rattle.mc_model.proofs.FlatGoals.{in_left, in_right, in_either, AllFlatYes, OneFlatNo, all_split, one_split}
 
 -- two values are the same or not
-same_or_not : (v w : Val) → (v ≡ w) ⊎ (v ≢ w)
+pub same_or_not : (v w : Val) → (v ≡ w) ⊎ (v ≢ w)
 same_or_not v w = by_test (same_value v w) refl
   where
     by_test : (t : Bool) → same_value v w ≡ t → (v ≡ w) ⊎ (v ≢ w)
@@ -76,7 +76,7 @@ mutual
       (cases_lt x (m + parts t))
 
 -- how many parts of a term are made variables where the term itself is not
-abbrev inner : Expression → ℕ
+abbrev pub inner : Expression → ℕ
 inner (variable x) = 0
 inner (constant v) = 0
 inner (made f ts) = parts_all ts
@@ -112,7 +112,7 @@ abbrev mutual
   all_values_of s c k no_expressions = []
   all_values_of s c k (expression_then t ts) = all_values s c k t ++ all_values_of s c (k + parts t) ts
 
-abbrev inner_values : Assignment → Assignment → ℕ → Expression → List Val
+abbrev pub inner_values : Assignment → Assignment → ℕ → Expression → List Val
 inner_values s c k (variable x) = []
 inner_values s c k (constant v) = []
 inner_values s c k (made f ts) = all_values_of s c k ts
@@ -129,7 +129,7 @@ mutual
   all_length_of s c k no_expressions = refl
   all_length_of s c k (expression_then t ts) = length-append (all_values s c k t) (all_values_of s c (k + parts t) ts) ∙ ap₂ (λ a b. a + b) (all_length s c k t) (all_length_of s c (k + parts t) ts)
 
-inner_length : (s c : Assignment) (k : ℕ) (t : Expression) → length (inner_values s c k t) ≡ inner t
+pub inner_length : (s c : Assignment) (k : ℕ) (t : Expression) → length (inner_values s c k t) ≡ inner t
 inner_length s c k (variable x) = refl
 inner_length s c k (constant v) = refl
 inner_length s c k (made f ts) = all_length_of s c k ts
@@ -186,7 +186,7 @@ module _ (C : Facts) (names : ℕ → ℕ) (n : ℕ) (s w : Assignment) where
           (ap (λ l. map w (l ++ rs.variables)) (one_variable names m t) ∙ ap₂ (λ v l. v ∷ l) i.0 j.0, (i.1, j.1))
 
     -- an equation of a variable and a term, whose application has the variable's value
-    equate_yes : (b : Expression) (k m z : ℕ) → m ≡ n + k → k + parts b ≤ suc bound → Same (variables_in b) → ((p : ℕ) (ts : Expressions) → b ≡ applied p ts → c (k + parts_all ts) ≡ w z) →
+    pub equate_yes : (b : Expression) (k m z : ℕ) → m ≡ n + k → k + parts b ≤ suc bound → Same (variables_in b) → ((p : ℕ) (ts : Expressions) → b ≡ applied p ts → c (k + parts_all ts) ≡ w z) →
         AllFlatYes C w (equate names m z b).goals → (w z ≡ value s c k b) × Applied C s c k b
     equate_yes (variable x) k m z e l same top y = (y.0 ∙ sym (same x (inl refl)), tt)
     equate_yes (constant v) k m z e l same top y = (y.0, tt)
@@ -203,17 +203,17 @@ module _ (C : Facts) (names : ℕ → ℕ) (n : ℕ) (s w : Assignment) where
         (sym t, (i.1, subst (C.yes p) (map-append w r.variables (z ∷ []) ∙ ap₂ (λ l v. l ++ v ∷ []) i.0 (sym t)) q.1.0))
 
   -- the choice of the made variables' values, and of the value of the variable that the last application stands for
-  abbrev chosen : ℕ → ℕ → Assignment
+  abbrev pub chosen : ℕ → ℕ → Assignment
   chosen total z j = cond (nat_eq (suc j) total) (w z) (w (n + j))
 
-  chosen_made : (total z j : ℕ) → j < total - 1 → chosen total z j ≡ w (n + j)
+  pub chosen_made : (total z j : ℕ) → j < total - 1 → chosen total z j ≡ w (n + j)
   chosen_made total z j l = by_test (nat_eq (suc j) total) (eqb-true (suc j) total)
     where
       by_test : (t : Bool) → (t ≡ true → suc j ≡ total) → cond t (w z) (w (n + j)) ≡ w (n + j)
       by_test true e = absurd (omega (arith, e refl, l))
       by_test false e = refl
 
-  chosen_last : (total z j : ℕ) → suc j ≡ total → chosen total z j ≡ w z
+  pub chosen_last : (total z j : ℕ) → suc j ≡ total → chosen total z j ≡ w z
   chosen_last total z j e = by_test (nat_eq (suc j) total) (eq-eqb (suc j) total e)
     where
       by_test : (t : Bool) → t ≡ true → cond t (w z) (w (n + j)) ≡ w z
@@ -339,7 +339,7 @@ module _ (C : Facts) (names : ℕ → ℕ) (n : ℕ) (s w : Assignment) where
           (λ z. inr (terms_no ts (k + parts t) r.next (pre ++ all_values s c k t) post (omega (arith, e, next_is names m t)) (same_second (variables_in t) (variables_in_all ts) same) (regrouped t k pre (all_values_of s c (k + parts t) ts ++ post) q') (longer t k pre l) z))
           (one_split C w r.goals rs.goals h)
 
-    equate_no : (b : Expression) (k m z : ℕ) (pre post : List Val) → m ≡ n + k → Same (variables_in b) → whole ≡ pre ++ (inner_values s c k b ++ post) → length pre ≡ k → OneFlatNo C w (equate names m z b).goals → Misapplied C s c k b ⊎ (w z ≢ value s c k b)
+    pub equate_no : (b : Expression) (k m z : ℕ) (pre post : List Val) → m ≡ n + k → Same (variables_in b) → whole ≡ pre ++ (inner_values s c k b ++ post) → length pre ≡ k → OneFlatNo C w (equate names m z b).goals → Misapplied C s c k b ⊎ (w z ≢ value s c k b)
     equate_no (variable x) k m z pre post e same q l h = ⊎_elim (λ d. inr (λ a. d (a ∙ same x (inl refl)))) (λ a. absurd a) h
     equate_no (constant v) k m z pre post e same q l h = ⊎_elim (λ d. inr d) (λ a. absurd a) h
     equate_no (made f ts) k m z pre post e same q l h =
@@ -418,7 +418,7 @@ call_above names m x ts h = all_made_above names m x ts h
 pub call_has : (names : ℕ → ℕ) (m x : ℕ) (s c : Assignment) (ts : Expressions) → m ≤ x → x < m + length (all_values_of s c 0 ts) → In x (name_terms names m ts).made_variables
 call_has names m x s c ts a l = all_made_have names m x ts a (omega (arith, l, all_length_of s c 0 ts))
 
-inner_next : (names : ℕ → ℕ) (m z : ℕ) (b : Expression) → (equate names m z b).next ≡ m + inner b
+pub inner_next : (names : ℕ → ℕ) (m z : ℕ) (b : Expression) → (equate names m z b).next ≡ m + inner b
 inner_next names m z (variable x) = omega arith
 inner_next names m z (constant v) = omega arith
 inner_next names m z (made f ts) = nexts_are names m ts
@@ -485,10 +485,10 @@ module _ (n : ℕ) (u : Assignment) (whole : List Val) where
   other true v w e = cc
   other false v w e = refl
 
-  put_low : (x : ℕ) → x < n → put_in x ≡ u x
+  pub put_low : (x : ℕ) → x < n → put_in x ≡ u x
   put_low x l = picked (nat_lt x n) (u x) (get_or whole (x - n) (u x)) (lt-ltb x n l)
 
-  put_high : (x : ℕ) → n + length whole ≤ x → put_in x ≡ u x
+  pub put_high : (x : ℕ) → n + length whole ≤ x → put_in x ≡ u x
   put_high x l = other (nat_lt x n) (u x) (get_or whole (x - n) (u x)) (le-ltb x n (omega (arith, l))) ∙ get_or-eq_default whole (u x) (omega (arith, l))
 
   pub put_at : (j : ℕ) (pre post : List Val) (v : Val) → whole ≡ pre ++ v ∷ post → length pre ≡ j → put_in (n + j) ≡ v

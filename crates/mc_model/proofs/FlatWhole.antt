@@ -16,10 +16,10 @@ only h = ⊎_elim (λ a. a) (λ b. absurd b) h
 
 -- a disjunction of flat goals is true where one is, and false where all are
 module _ (C : Facts) (u : Assignment) where
-  abbrev OneFlatYes : List Flat_goal → Type 0
+  abbrev pub OneFlatYes : List Flat_goal → Type 0
   OneFlatYes gs = FlatOneYes C (flats gs) u
 
-  abbrev AllFlatNo : List Flat_goal → Type 0
+  abbrev pub AllFlatNo : List Flat_goal → Type 0
   AllFlatNo gs = FlatAllNo C (flats gs) u
 
   one_yes_split : (gs hs : List Flat_goal) → OneFlatYes (gs ++ hs) → OneFlatYes gs ⊎ OneFlatYes hs
@@ -52,16 +52,16 @@ module _ (C : Facts) (u : Assignment) where
   disjunct_no (F.Not g) h = h.0
   disjunct_no (F.Exists vs g) h = h.0
 
-  disjuncts_yes : (gs : List Flat_goal) → OneFlatYes (all_disjuncts gs) → OneFlatYes gs
+  pub disjuncts_yes : (gs : List Flat_goal) → OneFlatYes (all_disjuncts gs) → OneFlatYes gs
   disjuncts_yes [] n = n
   disjuncts_yes (g ∷ gs) n = ⊎_elim (λ a. inl (disjunct_yes g a)) (λ b. inr (disjuncts_yes gs b)) (one_yes_split (disjuncts g) (all_disjuncts gs) n)
 
-  disjuncts_no : (gs : List Flat_goal) → AllFlatNo (all_disjuncts gs) → AllFlatNo gs
+  pub disjuncts_no : (gs : List Flat_goal) → AllFlatNo (all_disjuncts gs) → AllFlatNo gs
   disjuncts_no [] y = tt
   disjuncts_no (g ∷ gs) y = let z = all_no_split (disjuncts g) (all_disjuncts gs) y in (disjunct_no g z.0, disjuncts_no gs z.1)
 
 -- whether a number is in a list
-is_in_true : (x : ℕ) (xs : List ℕ) → is_in x xs ≡ true → In x xs
+pub is_in_true : (x : ℕ) (xs : List ℕ) → is_in x xs ≡ true → In x xs
 is_in_true x [] e = cc
 is_in_true x (y ∷ ys) e = by_test (nat_eq x y) refl e (is_in_true x ys)
   where
@@ -106,17 +106,17 @@ not_in_list x xs n = by_test (is_in x xs) refl
     by_test true e = absurd (n (is_in_true x xs e))
     by_test false e = e
 
-in_map : (names : ℕ → ℕ) (z : ℕ) (xs : List ℕ) → In z (map names xs) → (x : ℕ) × In x xs × (z ≡ names x)
+pub in_map : (names : ℕ → ℕ) (z : ℕ) (xs : List ℕ) → In z (map names xs) → (x : ℕ) × In x xs × (z ≡ names x)
 in_map names z [] i = absurd i
 in_map names z (x ∷ xs) i = ⊎_elim (λ e. (x, inl refl, e)) (λ j. let r = in_map names z xs j in (r.0, inr r.1, r.2)) i
 
 -- some assignment
-nothing : Assignment
+pub nothing : Assignment
 nothing x = int (pos 0)
 
 -- the numbers that a goal takes begin at the first that is given
 mutual
-  goal_next : (names : ℕ → ℕ) (m : ℕ) (g : Formula) → m ≤ (conjuncts_of names m g).next
+  pub goal_next : (names : ℕ → ℕ) (m : ℕ) (g : Formula) → m ≤ (conjuncts_of names m g).next
   goal_next names m (Equal a b) = omega (arith, (equation_numbered names m nothing nothing a b).next)
   goal_next names m (Call p ts) = omega (arith, call_next names m nothing nothing ts)
   goal_next names m (And gs) = goals_next names m gs
@@ -137,7 +137,7 @@ mutual
   disjuncts_next names m (formula_then g gs) = omega (arith, goal_next names m g, disjuncts_next names (conjuncts_of names m g).next gs)
 
 mutual
-  goal_above : (names : ℕ → ℕ) (m x : ℕ) (g : Formula) → In x (conjuncts_of names m g).made_variables → m ≤ x
+  pub goal_above : (names : ℕ → ℕ) (m x : ℕ) (g : Formula) → In x (conjuncts_of names m g).made_variables → m ≤ x
   goal_above names m x (Equal a b) h = (equation_numbered names m nothing nothing a b).above x h
   goal_above names m x (Call p ts) h = call_above names m x ts h
   goal_above names m x (And gs) h = goals_above names m x gs h
@@ -167,20 +167,25 @@ module _ (C : Facts) (d f : Choice) where
     yes_same i (Not g) s e y = y
     yes_same i (Exists vs g) s e y = y
 
-    all_yes_same : (i : ℕ) (gs : Formulas) (s : Assignment) → AgreeFrom i (atoms_all gs) → AllYesBy C d i gs s → AllYesBy C f i gs s
+    pub all_yes_same : (i : ℕ) (gs : Formulas) (s : Assignment) → AgreeFrom i (atoms_all gs) → AllYesBy C d i gs s → AllYesBy C f i gs s
     all_yes_same i no_formulas s e y = tt
     all_yes_same i (formula_then g gs) s e y =
         (yes_same i g s (λ j a b. e j a (omega (arith, b))) y.0, all_yes_same (i + atoms g) gs s (λ j a b. e j (omega (arith, a)) (omega (arith, b))) y.1)
 
 -- one choice up to a number, and another from there on
-abbrev joined : ℕ → Choice → Choice → Choice
+abbrev pub joined : ℕ → Choice → Choice → Choice
 joined k d f j x = cond (nat_lt j k) (d j x) (f j x)
 
-joined_first : (k : ℕ) (d f : Choice) (j : ℕ) → j < k → d j ≡ joined k d f j
+pub joined_first : (k : ℕ) (d f : Choice) (j : ℕ) → j < k → d j ≡ joined k d f j
 joined_first k d f j l = λ i. λ x. sym (picked (nat_lt j k) (d j x) (f j x) (lt-ltb j k l)) i
 
-joined_second : (k : ℕ) (d f : Choice) (j : ℕ) → k ≤ j → f j ≡ joined k d f j
+pub joined_second : (k : ℕ) (d f : Choice) (j : ℕ) → k ≤ j → f j ≡ joined k d f j
 joined_second k d f j l = λ i. λ x. sym (other (nat_lt j k) (d j x) (f j x) (le-ltb j k l)) i
+
+-- values that an assignment has, another has that agrees with it there
+pub values_same : (w v : Assignment) (m : ℕ) (whole : List Val) → ((x : ℕ) → m ≤ x → x < m + length whole → v x ≡ w x) → HasValues w m whole → HasValues v m whole
+values_same w v m whole same h j pre post x e l =
+    same (m + j) (omega arith) (omega (arith, ap length e, length-append pre (x ∷ post), l)) ∙ h j pre post x e l
 
 module _ (C : Facts) (names : ℕ → ℕ) (xs : List ℕ) (n : ℕ) (numbers : Numbers names xs n) where
   abbrev Agree : Assignment → Assignment → Type 0
@@ -209,11 +214,11 @@ module _ (C : Facts) (names : ℕ → ℕ) (xs : List ℕ) (n : ℕ) (numbers : 
       (in_or_not x vs)
 
   -- and the other way round
-  abbrev renamed : List ℕ → Assignment → Assignment → Assignment
+  abbrev pub renamed : List ℕ → Assignment → Assignment → Assignment
   renamed [] s w y = w y
   renamed (v ∷ vs) s w y = cond (nat_eq y (names v)) (s v) (renamed vs s w y)
 
-  renamed_off : (vs : List ℕ) (s w : Assignment) → SameOff (map names vs) w (renamed vs s w)
+  pub renamed_off : (vs : List ℕ) (s w : Assignment) → SameOff (map names vs) w (renamed vs s w)
   renamed_off [] s w y out = refl
   renamed_off (v ∷ vs) s w y out = other (nat_eq y (names v)) (s v) (renamed vs s w y) (differs (nat_eq y (names v)) (eqb-true y (names v))) ∙ renamed_off vs s w y (λ h. out (inr h))
     where
@@ -221,7 +226,7 @@ module _ (C : Facts) (names : ℕ → ℕ) (xs : List ℕ) (n : ℕ) (numbers : 
       differs true e = absurd (out (inl (e refl)))
       differs false e = refl
 
-  renamed_at : (vs : List ℕ) (s w : Assignment) (x : ℕ) → ((y : ℕ) → In y vs → In y xs) → In x xs → In x vs → renamed vs s w (names x) ≡ s x
+  pub renamed_at : (vs : List ℕ) (s w : Assignment) (x : ℕ) → ((y : ℕ) → In y vs → In y xs) → In x xs → In x vs → renamed vs s w (names x) ≡ s x
   renamed_at [] s w x among i h = absurd h
   renamed_at (v ∷ vs) s w x among i h =
       by_test (nat_eq (names x) (names v)) (eqb-true (names x) (names v)) (λ e. eq-eqb (names x) (names v) (ap names e)) (renamed_at vs s w x (λ y j. among y (inr j)) i)
@@ -236,7 +241,7 @@ module _ (C : Facts) (names : ℕ → ℕ) (xs : List ℕ) (n : ℕ) (numbers : 
 
   -- the made variables get the values of the parts, atom by atom
   abbrev mutual
-    written : Choice → (i m : ℕ) → Formula → Assignment → Assignment → Assignment
+    pub written : Choice → (i m : ℕ) → Formula → Assignment → Assignment → Assignment
     written d i m (Equal a b) s w = put_in m w (equation_values s (d i) a b)
     written d i m (Call p ts) s w = put_in m w (all_values_of s (d i) 0 ts)
     written d i m (And gs) s w = all_written d i m gs s w
@@ -250,7 +255,7 @@ module _ (C : Facts) (names : ℕ → ℕ) (xs : List ℕ) (n : ℕ) (numbers : 
     all_written d i m (formula_then g gs) s w = all_written d (i + atoms g) (conjuncts_of names m g).next gs s (written d i m g s w)
 
   mutual
-    written_off : (d : Choice) (i m : ℕ) (g : Formula) (s w : Assignment) → SameOff (conjuncts_of names m g).made_variables w (written d i m g s w)
+    pub written_off : (d : Choice) (i m : ℕ) (g : Formula) (s w : Assignment) → SameOff (conjuncts_of names m g).made_variables w (written d i m g s w)
     written_off d i m (Equal a b) s w = put_off m w (equation_values s (d i) a b) (equation names m a b).made_variables (equation_numbered names m s (d i) a b).has
     written_off d i m (Call p ts) s w = put_off m w (all_values_of s (d i) 0 ts) (name_terms names m ts).made_variables (λ x a l. call_has names m x s (d i) ts a l)
     written_off d i m (And gs) s w = all_written_off d i m gs s w
@@ -267,7 +272,7 @@ module _ (C : Facts) (names : ℕ → ℕ) (xs : List ℕ) (n : ℕ) (numbers : 
         all_written_off d (i + atoms g) r.next gs s (written d i m g s w) x (λ h. out (in_right x r.made_variables rest h)) ∙ written_off d i m g s w x (λ h. out (in_left x r.made_variables rest h))
 
   abbrev mutual
-    Fits : Choice → (i m : ℕ) → Formula → Assignment → Assignment → Type 0
+    pub Fits : Choice → (i m : ℕ) → Formula → Assignment → Assignment → Type 0
     Fits d i m (Equal a b) s w = HasValues w m (equation_values s (d i) a b)
     Fits d i m (Call p ts) s w = HasValues w m (all_values_of s (d i) 0 ts)
     Fits d i m (And gs) s w = AllFit d i m gs s w
@@ -280,12 +285,8 @@ module _ (C : Facts) (names : ℕ → ℕ) (xs : List ℕ) (n : ℕ) (numbers : 
     AllFit d i m no_formulas s w = Unit {0}
     AllFit d i m (formula_then g gs) s w = Fits d i m g s w × AllFit d (i + atoms g) (conjuncts_of names m g).next gs s w
 
-  values_same : (w v : Assignment) (m : ℕ) (whole : List Val) → ((x : ℕ) → m ≤ x → x < m + length whole → v x ≡ w x) → HasValues w m whole → HasValues v m whole
-  values_same w v m whole same h j pre post x e l =
-      same (m + j) (omega arith) (omega (arith, ap length e, length-append pre (x ∷ post), l)) ∙ h j pre post x e l
-
   mutual
-    fits_same : (d : Choice) (i m : ℕ) (g : Formula) (s w v : Assignment) → ((x : ℕ) → m ≤ x → x < (conjuncts_of names m g).next → v x ≡ w x) → Fits d i m g s w → Fits d i m g s v
+    pub fits_same : (d : Choice) (i m : ℕ) (g : Formula) (s w v : Assignment) → ((x : ℕ) → m ≤ x → x < (conjuncts_of names m g).next → v x ≡ w x) → Fits d i m g s w → Fits d i m g s v
     fits_same d i m (Equal a b) s w v same h = values_same w v m (equation_values s (d i) a b) (λ x l k. same x l (omega (arith, k, (equation_numbered names m s (d i) a b).next))) h
     fits_same d i m (Call p ts) s w v same h = values_same w v m (all_values_of s (d i) 0 ts) (λ x l k. same x l (omega (arith, k, call_next names m s (d i) ts))) h
     fits_same d i m (And gs) s w v same h = all_fit_same d i m gs s w v same h
@@ -303,7 +304,7 @@ module _ (C : Facts) (names : ℕ → ℕ) (xs : List ℕ) (n : ℕ) (numbers : 
         )
 
   mutual
-    written_fits : (d : Choice) (i m : ℕ) (g : Formula) (s w : Assignment) → Fits d i m g s (written d i m g s w)
+    pub written_fits : (d : Choice) (i m : ℕ) (g : Formula) (s w : Assignment) → Fits d i m g s (written d i m g s w)
     written_fits d i m (Equal a b) s w = put_at m w (equation_values s (d i) a b)
     written_fits d i m (Call p ts) s w = put_at m w (all_values_of s (d i) 0 ts)
     written_fits d i m (And gs) s w = all_written_fit d i m gs s w
@@ -367,7 +368,7 @@ module _ (C : Facts) (names : ℕ → ℕ) (xs : List ℕ) (n : ℕ) (numbers : 
   narrow_yes vs s w v among off agree = narrowed_agrees vs [] s w v among (λ x h. absurd h) (λ x out. off x (λ q. out (in_left x (map names vs) [] q))) agree
 
   mutual
-    goal_yes : (g : Formula) → Uses xs g → YesOf g
+    pub goal_yes : (g : Formula) → Uses xs g → YesOf g
     goal_yes (Equal a b) uses i m s w l agree y = let r = equation_yes C names m s w a b (λ x h. agree x (uses x h)) y in ((λ j. r.0), r.1)
     goal_yes (Call p ts) uses i m s w l agree y = let r = call_yes C names m s w p ts (λ x h. agree x (uses x h)) y in ((λ j. r.0), r.1)
     goal_yes (And gs) uses i m s w l agree y = goals_yes gs uses i m s w l agree y
@@ -408,7 +409,7 @@ module _ (C : Facts) (names : ℕ → ℕ) (xs : List ℕ) (n : ℕ) (numbers : 
     one_of_yes (formula_then g gs) uses m s w l agree y =
         ⊎_elim (λ h. inl (alone_yes g (goal_yes g uses.0) m s w l agree h)) (λ h. inr (one_of_yes gs uses.1 (conjuncts_of names m g).next s w (omega (arith, l, goal_next names m g)) agree h)) y
 
-    goal_no : (g : Formula) → Uses xs g → NoOf g
+    pub goal_no : (g : Formula) → Uses xs g → NoOf g
     goal_no (Equal a b) uses d i m s w l agree fits h = equation_no C names m s w (d i) a b (λ x q. agree x (uses x q)) fits h
     goal_no (Call p ts) uses d i m s w l agree fits h = call_no C names m s w (d i) p ts (λ x q. agree x (uses x q)) fits h
     goal_no (And gs) uses d i m s w l agree fits h = goals_no gs uses d i m s w l agree fits h

@@ -1,14 +1,17 @@
 pub mod AcceptedAppend
+pub mod ClauseNumbers
 pub mod Equality
 pub mod FlatAtoms
 pub mod FlatGoals
 pub mod FlatWhole
 pub mod Fronts
+pub mod HeadEquations
 pub mod Inclusions
 pub mod Levels
 pub mod Monotone
 pub mod NoOrder
 pub mod Overs
+pub mod PredicateGoals
 pub mod Prefixes
 pub mod Stages
 pub mod TermViews

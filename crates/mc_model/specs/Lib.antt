@@ -16,6 +16,7 @@ pub mod Outcomes
 pub mod Output
 pub mod PlainGoals
 pub mod PlainPrograms
+pub mod PredicateLaws
 pub mod Printed
 pub mod Programs
 pub mod Proper

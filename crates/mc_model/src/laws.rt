@@ -2,6 +2,7 @@
 ghost use Rattle.mc_model.specs.Laws.{GoalsStay, CallsStay, NoGoalIsBoth, NoCallIsBoth, LevelsSuffice, LevelsSufficeForCalls, LevelsSufficeForQueries, OneLevelMore, BudgetsExtend, BudgetsExtendCalls, BudgetsExtendQueries, SameIsEqual, PlainIsExact, PlainTypesAreExact, PlainTermsAreExact};
 ghost use Rattle.mc_model.specs.Proper.{IncludedSets};
 ghost use Rattle.mc_model.specs.FlatLaws.{FlatGoalsCarry};
+ghost use Rattle.mc_model.specs.PredicateLaws.{PredicatesCarry};
 ghost use Rattle.mc_model.specs.Determinism.{ConjIsMonotone, DisjIsMonotone, IteIsMonotone, NegatedIsMonotone, PrunedIsMonotone, AllowsItself, AllowsInTurn, AllowsOneWay};
 
 /// What is true, or false, at a stage is so at every later one.
@@ -67,4 +68,10 @@ pub fn included_insts_have_included_sets()
 /// Flat truth implies nested truth: a goal of nested terms is true, or false, where its flat goal is.
 pub fn flat_goals_carry_over()
     ensures { FlatGoalsCarry }
+{}
+
+/// A predicate's one normal goal says of its head variables what its clauses say of arguments: a clause is true where
+/// the goal has an answer, and each is false where the goal is for all values of its other variables.
+pub fn predicates_carry_over()
+    ensures { PredicatesCarry }
 {}
