@@ -1,10 +1,9 @@
-ghost use Rattle.std.specs.Prelude.{◌≡◌, map, IfOk};
-ghost use Rattle.mc_syntax.specs.Plain.{plain_term};
+ghost use Rattle.std.specs.Prelude.{◌≡◌, IfOk};
 ghost use Rattle.mc_decl_forms.specs.Plain.{plain_item};
 
 use crate::item::Decl;
-use mc_base::{Copied, Memory, Row};
-use mc_syntax::Term;
+use mc_base::{Copied, Memory};
+use mc_syntax::copied_terms;
 use std::alloc::Global;
 
 impl Decl {
@@ -21,12 +20,18 @@ impl Decl {
             Decl::UseOnly(names) => Decl::UseOnly(names.copied(alloc)?),
             Decl::AbstractType(head) => Decl::AbstractType(head.copied(alloc)?),
             Decl::UnionType(head, constructors) => {
-                Decl::UnionType(head.copied(alloc)?, copied_terms(alloc, constructors)?)
+                Decl::UnionType(
+                    head.copied(alloc)?,
+                    copied_terms(alloc, constructors.as_slice())?,
+                )
             }
             Decl::SameType(head, body) => Decl::SameType(head.copied(alloc)?, body.copied(alloc)?),
             Decl::SameInst(head, body) => Decl::SameInst(head.copied(alloc)?, body.copied(alloc)?),
             Decl::BoundInst(head, symbols) => {
-                Decl::BoundInst(head.copied(alloc)?, copied_terms(alloc, symbols)?)
+                Decl::BoundInst(
+                    head.copied(alloc)?,
+                    copied_terms(alloc, symbols.as_slice())?,
+                )
             }
             Decl::ModeDef(head, body) => Decl::ModeDef(head.copied(alloc)?, body.copied(alloc)?),
             Decl::Pred(signature, determinism) => Decl::Pred(
@@ -46,14 +51,4 @@ impl Decl {
         };
         Ok(copy)
     }
-}
-
-fn copied_terms(alloc: Global, terms: &Row<Term>) -> Result<Row<Term>, Memory>
-    ensures { IfOk result (λ copy. map plain_term copy ≡ map plain_term terms.now) }
-{
-    let mut copy = Row::new(alloc);
-    for term in terms.as_slice() {
-        copy.push(term.copied(alloc)?)?;
-    }
-    Ok(copy)
 }

@@ -1,11 +1,10 @@
 -- What putting things in, one after another, makes.
-use Rattle.std.proofs.Common.{◌≡◌, Bool, true, false, cond, List, [], ◌∷◌, ◌++◌, ◌||◌, refl, ap, sym, ◌∙◌}
+use Rattle.std.proofs.Common.{◌≡◌, Bool, List, [], ◌∷◌, ◌||◌, refl, ap, sym, ◌∙◌}
 use Rattle.std.specs.Cmp.{IsEquivalence}
 use Rattle.std.specs.Cmp.Lexicographic.{nat_list_eq_equiv}
 use Rattle.std.specs.Set.{is_member}
 use Rattle.std.proofs.lemmas.Cmp.{nat_eq_equiv, on_equiv, and_equiv}
-use Rattle.std.proofs.lemmas.List.Folds.{list_any-append}
-use Rattle.std.proofs.lemmas.Map.Steps.{list_any_congr}
+use Rattle.mc_names.proofs.Laws.{or_false, or_assoc, is_member-push_unless}
 use Rattle.mc_item_names.specs.contracts.thing.KindEq.TheImpl.Laws as KindLaws
 use Rattle.mc_item_names.specs.Plain.{Id, Th, is_kind, is_id, is_thing}
 use Rattle.mc_item_names.specs.Sets.{put, put_all}
@@ -27,25 +26,9 @@ is_id_equiv = and_equiv (on_equiv (λ (x : Id). x.arity) nat_eq_equiv) (on_equiv
 pub is_thing_equiv : IsEquivalence is_thing
 is_thing_equiv = and_equiv (on_equiv (λ (t : Th). t.kind) is_kind_equiv) (on_equiv (λ (t : Th). t.id) is_id_equiv)
 
-or_false : (b : Bool) → (b || false) ≡ b
-or_false true = refl
-or_false false = refl
-
-or_assoc : (a b c : Bool) → ((a || b) || c) ≡ (a || (b || c))
-or_assoc true b c = refl
-or_assoc false b c = refl
-
-either : (ts : List Th) (t q : Th) (m : Bool) → is_member is_thing ts t ≡ m → is_member is_thing (cond m ts (ts ++ t ∷ [])) q ≡ (is_member is_thing ts q || is_thing q t)
-either ts t q false h = list_any-append (is_thing q) ts (t ∷ []) ∙ ap (λ b. is_member is_thing ts q || b) (or_false (is_thing q t))
-either ts t q true h = there (is_thing q t) refl
-  where
-    there : (e : Bool) → is_thing q t ≡ e → is_member is_thing ts q ≡ (is_member is_thing ts q || e)
-    there false p = sym (or_false (is_member is_thing ts q))
-    there true p = let e : is_member is_thing ts q ≡ true = list_any_congr is_thing_equiv q t ts p ∙ h in rw e refl
-
 -- a thing is there after another is put in where it was there or is that one
 pub is_member-put : (ts : List Th) (t q : Th) → is_member is_thing (put ts t) q ≡ (is_member is_thing ts q || is_thing q t)
-is_member-put ts t q = either ts t q (is_member is_thing ts t) refl
+is_member-put ts t q = is_member-push_unless is_thing_equiv ts t q (is_member is_thing ts t) refl
 
 -- a thing is there after others are put in where it was there or is one of those
 pub is_member-put_all : (ts us : List Th) (q : Th) → is_member is_thing (put_all ts us) q ≡ (is_member is_thing ts q || is_member is_thing us q)

@@ -8,7 +8,8 @@ use Rattle.mc_item_names.specs.declared.thing.Indicator.{Indicator}
 use Rattle.mc_item_names.specs.declared.thing.Thing.{Thing}
 use Rattle.mc_item_names.specs.declared.used.Used.{Used}
 
--- a name with the number of its arguments; a function's result is no argument
+-- A name without qualifiers, with the number of its arguments, which manuals write `name/arity`; a function's result is
+-- no argument.
 pub record Id : Type 0 where
   pub name : List ℕ
   pub arity : ℕ
@@ -16,10 +17,11 @@ pub record Id : Type 0 where
 abbrev pub id : List ℕ → ℕ → Id
 id w n = record { name = w; arity = n }
 
+-- whether two names are one: the same name over as many arguments
 abbrev pub is_id : Id → Id → Bool
 is_id x y = nat_eq x.arity y.arity && bytes_eq x.name y.name
 
--- what an item declares or defines
+-- A thing that an item declares or defines: what it is, as a type or a predicate, and its name.
 pub record Th : Type 0 where
   pub kind : Kind
   pub id : Id
@@ -38,10 +40,12 @@ is_kind K.Func K.Func = true
 is_kind K.Symbol K.Symbol = true
 is_kind _ _ = false
 
+-- whether two things are one; things of different kinds never are, even by one name
 abbrev pub is_thing : Th → Th → Bool
 is_thing t u = is_kind t.kind u.kind && is_id t.id u.id
 
--- a name as it is used: what it is to mean, the parts before its last, and its last with the number of its arguments
+-- A use of a name: what it is to mean, the parts before its last, and its last part with the number of its arguments. To
+-- mean a `DefinedType` is to mean a type of either kind; a `Symbol` is a constructor, a function or a character.
 pub record Us : Type 0 where
   pub kind : Kind
   pub qualifiers : Path

@@ -1,4 +1,4 @@
-ghost use Rattle.std.specs.Prelude.{◌≡◌, [], not, IfOk, OnOk, OnErr};
+ghost use Rattle.std.specs.Prelude.{◌≡◌, [], not, false, IfOk, OnOk, OnErr};
 ghost use Rattle.std.specs.Set.{is_member};
 ghost use Rattle.mc_item_names.specs.Plain.{is_thing, plain_thing};
 ghost use Rattle.mc_item_names.specs.Sets.{put};
@@ -35,11 +35,12 @@ impl<'a> ThingSet<'a> {
     }
 
     /// Puts a thing in, where the set doesn't have it yet, and answers whether it was new. After want of memory the
-    /// set is as it was.
+    /// set is as it was; a thing that is there wants none.
     pub fn insert(&mut self, thing: Thing<'a>) -> Result<bool, Memory>
         ensures added { IfOk result (λ added. added ≡ not (is_member is_thing self.old (plain_thing thing.entry))) }
         ensures ok { OnOk result (self.new ≡ put self.old (plain_thing thing.entry)) }
         ensures err { OnErr result (self.new ≡ self.old) }
+        ensures absent { OnErr result (is_member is_thing self.old (plain_thing thing.entry) ≡ false) }
     {
         let added = self.things.insert(thing)?;
         Ok(added)

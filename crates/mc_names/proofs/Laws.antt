@@ -1,5 +1,5 @@
 -- What putting names in, one after another, makes.
-use Rattle.std.proofs.Common.{◌≡◌, ℕ, ◌+◌, Bool, true, false, cond, List, [], ◌∷◌, ◌++◌, ◌||◌, length, refl, ap, sym, ◌∙◌, arith, append_assoc, length-append}
+use Rattle.std.proofs.Common.{◌≡◌, ℕ, ◌+◌, Bool, true, false, cond, List, [], ◌∷◌, ◌++◌, ◌||◌, length, Result, Ok, Err, OnErr, refl, ap, sym, ◌∙◌, arith, append_assoc, length-append}
 use Rattle.std.specs.Cmp.{IsEquivalence}
 use Rattle.std.specs.Cmp.Lexicographic.{nat_list_eq_equiv}
 use Rattle.std.specs.Set.{is_member, distinct_count, unique_keys}
@@ -12,11 +12,16 @@ pub put_all-append : (names xs ys : List (List ℕ)) → put_all names (xs ++ ys
 put_all-append names [] ys = refl
 put_all-append names (x ∷ xs) ys = put_all-append (put names x) xs ys
 
-or_false : (b : Bool) → (b || false) ≡ b
+-- what holds at all holds where there is an error
+pub on_err_always : {T E P : Type 0} (r : Result T E) → P → OnErr r P
+on_err_always (Ok x) p = tt
+on_err_always (Err e) p = p
+
+pub or_false : (b : Bool) → (b || false) ≡ b
 or_false true = refl
 or_false false = refl
 
-or_assoc : (a b c : Bool) → ((a || b) || c) ≡ (a || (b || c))
+pub or_assoc : (a b c : Bool) → ((a || b) || c) ≡ (a || (b || c))
 or_assoc true b c = refl
 or_assoc false b c = refl
 
@@ -44,9 +49,10 @@ module _ {K : Type 0} {eq : K → K → Bool} (laws : IsEquivalence eq) where
   distinct_count-push (y ∷ ys) x =
       one_more y x ys (ys ++ x ∷ []) (is_member eq ys y) refl (eq y x) refl (laws.symm x y) (is_member-push ys x y) (distinct_count-push ys x) (λ e. sym (list_any_congr laws y x ys e))
 
-  either : (names : List K) (x q : K) (m : Bool) → is_member eq names x ≡ m → is_member eq (cond m names (names ++ x ∷ [])) q ≡ (is_member eq names q || eq q x)
-  either names x q false h = is_member-push names x q
-  either names x q true h = there (eq q x) refl
+  -- a member is there after one more is put in, unless that is there, where it was there or is that one
+  pub is_member-push_unless : (names : List K) (x q : K) (m : Bool) → is_member eq names x ≡ m → is_member eq (cond m names (names ++ x ∷ [])) q ≡ (is_member eq names q || eq q x)
+  is_member-push_unless names x q false h = is_member-push names x q
+  is_member-push_unless names x q true h = there (eq q x) refl
     where
       there : (e : Bool) → eq q x ≡ e → is_member eq names q ≡ (is_member eq names q || e)
       there false p = sym (or_false (is_member eq names q))
@@ -54,23 +60,23 @@ module _ {K : Type 0} {eq : K → K → Bool} (laws : IsEquivalence eq) where
 
 -- a name is there after another is put in where it was there or is that one
 pub is_member-put : (names : List (List ℕ)) (x q : List ℕ) → is_member bytes_eq (put names x) q ≡ (is_member bytes_eq names q || bytes_eq q x)
-is_member-put names x q = either nat_list_eq_equiv names x q (is_member bytes_eq names x) refl
+is_member-put names x q = is_member-push_unless nat_list_eq_equiv names x q (is_member bytes_eq names x) refl
 
 -- a name is there after others are put in where it was there or is one of those
 pub is_member-put_all : (names xs : List (List ℕ)) (q : List ℕ) → is_member bytes_eq (put_all names xs) q ≡ (is_member bytes_eq names q || is_member bytes_eq xs q)
 is_member-put_all names [] q = sym (or_false (is_member bytes_eq names q))
 is_member-put_all names (x ∷ xs) q = is_member-put_all (put names x) xs q ∙ ap (λ b. b || is_member bytes_eq xs q) (is_member-put names x q) ∙ or_assoc (is_member bytes_eq names q) (bytes_eq q x) (is_member bytes_eq xs q)
 
-length-either : (m : Bool) (names : List (List ℕ)) (x : List ℕ) → length (cond m names (names ++ x ∷ [])) ≡ length names + cond m 0 1
-length-either true names x = omega arith
-length-either false names x = length-append names (x ∷ [])
+length-push_unless : (m : Bool) (names : List (List ℕ)) (x : List ℕ) → length (cond m names (names ++ x ∷ [])) ≡ length names + cond m 0 1
+length-push_unless true names x = omega arith
+length-push_unless false names x = length-append names (x ∷ [])
 
 counts : (names ys xs : List (List ℕ)) → length names ≡ distinct_count bytes_eq ys → ((q : List ℕ) → is_member bytes_eq names q ≡ is_member bytes_eq ys q)
     → length (put_all names xs) ≡ distinct_count bytes_eq (ys ++ xs)
 counts names ys [] e same = e ∙ sym (ap (distinct_count bytes_eq) (append_none ys))
 counts names ys (x ∷ xs) e same =
     counts (put names x) (ys ++ x ∷ []) xs
-    (length-either (is_member bytes_eq names x) names x ∙ rw (e, same x) (sym (distinct_count-push nat_list_eq_equiv ys x)))
+    (length-push_unless (is_member bytes_eq names x) names x ∙ rw (e, same x) (sym (distinct_count-push nat_list_eq_equiv ys x)))
     (λ q. is_member-put names x q ∙ rw (same q) (sym (is_member-push nat_list_eq_equiv ys x q)))
     ∙ ap (distinct_count bytes_eq) (append_assoc ys (x ∷ []) xs)
 

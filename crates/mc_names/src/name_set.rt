@@ -1,4 +1,4 @@
-ghost use Rattle.std.specs.Prelude.{◌≡◌, ◌<◌, ◌^◌, [], not, length, IfOk, OnOk, OnErr};
+ghost use Rattle.std.specs.Prelude.{◌≡◌, ◌<◌, ◌^◌, [], not, false, length, IfOk, OnOk, OnErr};
 ghost use Rattle.std.specs.Set.{is_member};
 ghost use Rattle.std.specs.Str.{bytes_eq};
 ghost use Rattle.mc_names.specs.Names.{put};
@@ -33,11 +33,12 @@ impl<'a> NameSet<'a> {
     }
 
     /// Puts a name in, where the set doesn't have it yet, and answers whether it was new. After want of memory the
-    /// set is as it was.
+    /// set is as it was; a name that is there wants none.
     pub fn insert(&mut self, name: &'a [u8]) -> Result<bool, Memory>
         ensures added { IfOk result (λ added. added ≡ not (is_member bytes_eq self.old name.now)) }
         ensures ok { OnOk result (self.new ≡ put self.old name.now) }
         ensures err { OnErr result (self.new ≡ self.old) }
+        ensures absent { OnErr result (is_member bytes_eq self.old name.now ≡ false) }
     {
         let added = self.names.insert(name)?;
         Ok(added)

@@ -69,8 +69,9 @@ fn copied_row(alloc: Global, terms: &Row<Term>, last: Option<Term>) -> Result<Ro
     }
 }
 
+/// A row of copies of these terms, in order.
 #[cycle(copy)]
-fn copied_terms(alloc: Global, terms: &[Term]) -> Result<Row<Term>, Memory>
+pub fn copied_terms(alloc: Global, terms: &[Term]) -> Result<Row<Term>, Memory>
     requires { length terms.now < 2 ^ 32 }
     ensures { IfOk result (λ copy. map plain_term copy ≡ map plain_term terms.now) }
 {

@@ -8,6 +8,7 @@ mod parts;
 mod same;
 mod term;
 
+pub use copy::copied_terms;
 pub use parts::arity;
 pub use term::{Node, Term};
 
