@@ -92,7 +92,7 @@ other : (t : Bool) (v w : Val) → t ≡ false → cond t v w ≡ w
 other true v w e = cc
 other false v w e = refl
 
-in_list : (x : ℕ) (xs : List ℕ) → In x xs → is_in x xs ≡ true
+pub in_list : (x : ℕ) (xs : List ℕ) → In x xs → is_in x xs ≡ true
 in_list x xs i = by_test (is_in x xs) refl
   where
     by_test : (t : Bool) → is_in x xs ≡ t → is_in x xs ≡ true

@@ -1,4 +1,5 @@
 pub mod AcceptedAppend
+pub mod AcceptedBranches
 pub mod ClauseNumbers
 pub mod Equality
 pub mod FlatAtoms
@@ -8,6 +9,7 @@ pub mod Fronts
 pub mod HeadEquations
 pub mod Inclusions
 pub mod Levels
+pub mod ListInsts
 pub mod Monotone
 pub mod NoOrder
 pub mod Overs

@@ -21,6 +21,7 @@ pub mod Printed
 pub mod Programs
 pub mod Proper
 pub mod Rows
+pub mod RowsOfBranches
 pub mod RowsOfBuiltins
 pub mod RowsOfGoals
 pub mod RowsOfLists

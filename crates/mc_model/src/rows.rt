@@ -1,5 +1,6 @@
 //! Computed examples of the definitions: programs written out as scheduled procedures, and what their runs do. Each is
 //! the contract of a function that does nothing, and each group has an equation that does not hold.
+ghost use Rattle.mc_model.specs.RowsOfBranches.{BranchesAreAccepted};
 ghost use Rattle.mc_model.specs.RowsOfBuiltins.{NumbersWrap, DivisionRounds, DivisionAtItsEnds, Comparisons, NumbersInTexts, CharactersInTexts, Writing, Reading, InPrograms};
 ghost use Rattle.mc_model.specs.RowsOfGoals.{NegationsQuantify, ConditionsQuantify, ScopesAreWritten, NormalGoals};
 ghost use Rattle.mc_model.specs.RowsOfLists.{Facts, Appends, Members, Queens};
@@ -77,6 +78,11 @@ pub fn normal_goals()
 /// A procedure that is accepted, and two that are not.
 pub fn accepted_procedures()
     ensures { AppendIsAccepted }
+{}
+
+/// Procedures with an if-then-else and with a negation that are accepted, and two that are not.
+pub fn accepted_branches()
+    ensures { BranchesAreAccepted }
 {}
 
 /// Clauses that are well typed, and some that are not.
