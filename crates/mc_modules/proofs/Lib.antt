@@ -1,4 +1,5 @@
 mod Blamed
+mod Chosen
 mod Counts
 mod FileLaws
 mod Joined

@@ -1,4 +1,4 @@
--- Candidates by their names.
+-- Things by their names.
 use Rattle.std.proofs.Common.{◌≡◌, ℕ, Bool, true, false, cond, ◌&&◌, ◌||◌, nat_eq, List, [], ◌∷◌, ◌++◌, map, length, get_or, Option, Some, None, zero, suc, refl, ap, sym, ◌∙◌, true≢false, arith, if◌then◌else◌, Vec}
 use Rattle.std.specs.Prelude.{slice_get}
 use Rattle.std.specs.Option.{option_map}
@@ -15,8 +15,8 @@ use Rattle.mc_modules.specs.Linked.{Defined, Linked, plain_named}
 use Rattle.mc_modules.specs.Candidates.{defined_by, fits, fitting}
 use Rattle.mc_modules.specs.Index.{Index, listed, its_name, name_at, is_called, called, IsIndex}
 
-module _ {K V : Type 0} (name : K → List ℕ) (group : V → List Candidate) where
-  abbrev pub entries_of : List (K × V) → Index
+module _ {K V A : Type 0} (name : K → List ℕ) (group : V → List A) where
+  abbrev pub entries_of : List (K × V) → Index A
   entries_of es = map (λ e. (name e.0, group e.1)) es
 
   there_step : (e : K × V) (es : List (K × V)) (w : List ℕ) (v : V) (b : Bool) → (lookup (λ k. bytes_eq w (name k)) es ≡ Some v → listed (entries_of es) w ≡ group v)
@@ -37,13 +37,13 @@ module _ {K V : Type 0} (name : K → List ℕ) (group : V → List Candidate) w
   listed-absent [] w h = refl
   listed-absent (e ∷ es) w h = absent_step e es w (bytes_eq w (name e.0)) (listed-absent es w) h
 
-  absent : (a b : Bool) (x y n : List Candidate) → (a ≡ true → b ≡ true → true ≡ false) → cond a x (cond b y n) ≡ cond b y (cond a x n)
+  absent : (a b : Bool) (x y n : List A) → (a ≡ true → b ≡ true → true ≡ false) → cond a x (cond b y n) ≡ cond b y (cond a x n)
   absent true true x y n h = absurd (true≢false (h refl refl))
   absent true false x y n h = refl
   absent false true x y n h = refl
   absent false false x y n h = refl
 
-  present : (a : Bool) (x y n : List Candidate) → cond a y n ≡ cond a y (cond a x n)
+  present : (a : Bool) (x y n : List A) → cond a y n ≡ cond a y (cond a x n)
   present true x y n = refl
   present false x y n = refl
 
@@ -63,12 +63,12 @@ module _ {K V : Type 0} (name : K → List ℕ) (group : V → List Candidate) w
     listed-insert [] k v w = refl
     listed-insert (e ∷ es) k v w = step e es (insert_entry eq es k v) k v w (eq k e.0) refl (listed-insert es k v w)
 
--- the same candidates are listed under names that are the same
-pub listed_congr : (index : Index) (w v : List ℕ) → bytes_eq w v ≡ true → listed index w ≡ listed index v
+-- the same is listed under names that are the same
+pub listed_congr : {A : Type 0} (index : Index A) (w v : List ℕ) → bytes_eq w v ≡ true → listed index w ≡ listed index v
 listed_congr [] w v h = refl
 listed_congr (e ∷ es) w v h = rw (nat_list_eq_equiv.congr w v e.0 h, listed_congr es w v h) refl
 
-pub listed_again : (index : Index) (w v : List ℕ) (c : Candidate) → cond (bytes_eq w v) (listed index v ++ c ∷ []) (listed index w) ≡ cond (bytes_eq w v) (listed index w ++ c ∷ []) (listed index w)
+pub listed_again : {A : Type 0} (index : Index A) (w v : List ℕ) (c : A) → cond (bytes_eq w v) (listed index v ++ c ∷ []) (listed index w) ≡ cond (bytes_eq w v) (listed index w ++ c ∷ []) (listed index w)
 listed_again index w v c = by (bytes_eq w v) refl
   where
     by : (b : Bool) → bytes_eq w v ≡ b → cond b (listed index v ++ c ∷ []) (listed index w) ≡ cond b (listed index w ++ c ∷ []) (listed index w)
@@ -108,11 +108,11 @@ module _ (l : Linked) (ss ps : List Named) (s : l.symbols ≡ map plain_named ss
   fitting_called own x (c ∷ cs) = called_step own x c cs (is_called x.name (name_at ss ps c)) refl (fitting_called own x cs)
 
 -- one more module's index
-pub one_more_index : (ss ps : List Named) (index now : List Index) (i : Index) (done after : List (List Candidate)) (cs : List Candidate) → IsIndex ss ps index done → length index ≡ length done → now ≡ index ++ i ∷ [] → after ≡ done ++ cs ∷ []
+pub one_more_index : (ss ps : List Named) (index now : List (Index Candidate)) (i : Index Candidate) (done after : List (List Candidate)) (cs : List Candidate) → IsIndex ss ps index done → length index ≡ length done → now ≡ index ++ i ∷ [] → after ≡ done ++ cs ∷ []
     → ((w : List ℕ) → listed i w ≡ called ss ps w cs) → IsIndex ss ps now after
 one_more_index ss ps index now i done after cs is n e f h j w = rw (e, f) (at_place index done j is n)
   where
-    at_place : (index : List Index) (done : List (List Candidate)) (j : ℕ) → IsIndex ss ps index done → length index ≡ length done → listed (get_or (index ++ i ∷ []) j []) w ≡ called ss ps w (get_or (done ++ cs ∷ []) j [])
+    at_place : (index : List (Index Candidate)) (done : List (List Candidate)) (j : ℕ) → IsIndex ss ps index done → length index ≡ length done → listed (get_or (index ++ i ∷ []) j []) w ≡ called ss ps w (get_or (done ++ cs ∷ []) j [])
     at_place [] [] zero is n = h w
     at_place [] [] (suc j) is n = refl
     at_place [] (d ∷ ds) j is n = absurd (omega (arith, n))

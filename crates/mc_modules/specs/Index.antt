@@ -1,17 +1,17 @@
--- What each module has by name: as much of it as a look-up needs.
-use Rattle.std.specs.Prelude.{◌≡◌, ℕ, Bool, false, cond, List, [], ◌∷◌, Option, Some, None, slice_get, slice_index_or}
+-- What a program and each of its modules has by name: as much of it as a look-up needs.
+use Rattle.std.specs.Prelude.{◌≡◌, ℕ, ◌+◌, Bool, false, cond, List, [], ◌∷◌, Option, Some, None, slice_get, slice_index_or}
 use Rattle.std.specs.Option.{option_map}
 use Rattle.std.specs.Str.{bytes_eq}
 use Rattle.mc_model.specs.declared.program.Candidate.{Candidate}
 use Rattle.mc_model.specs.declared.program.Candidate.TheVariants as C
 use Rattle.mc_modules.specs.declared.names.Named.{Named}
 
--- candidates by their names
-abbrev pub Index : Type 0
-Index = List (List ℕ × List Candidate)
+-- things by their names
+abbrev pub Index : Type 0 → Type 0
+Index A = List (List ℕ × List A)
 
 -- those of a name
-abbrev pub listed : Index → List ℕ → List Candidate
+abbrev pub listed : {A : Type 0} → Index A → List ℕ → List A
 listed [] w = []
 listed (e ∷ es) w = cond (bytes_eq w e.0) e.1 (listed es w)
 
@@ -35,5 +35,27 @@ called ss ps w [] = []
 called ss ps w (c ∷ cs) = cond (is_called w (name_at ss ps c)) (c ∷ called ss ps w cs) (called ss ps w cs)
 
 -- Each module's index lists just those that it declares.
-abbrev pub IsIndex : (symbols preds : List Named) → List Index → (declared : List (List Candidate)) → Type 0
+abbrev pub IsIndex : (symbols preds : List Named) → List (Index Candidate) → (declared : List (List Candidate)) → Type 0
 IsIndex ss ps index declared = (j : ℕ) (w : List ℕ) → listed (slice_index_or index j []) w ≡ called ss ps w (slice_index_or declared j [])
+
+-- the numbers of those things that pass a test, where the first has the number n
+abbrev pub numbers_where : {A : Type 0} → (A → Bool) → (n : ℕ) → List A → List ℕ
+numbers_where p n [] = []
+numbers_where p n (x ∷ xs) = cond (p x) (n ∷ numbers_where p (n + 1) xs) (numbers_where p (n + 1) xs)
+
+-- the numbers of those things that have a name
+abbrev pub numbers_called : List ℕ → (n : ℕ) → List Named → List ℕ
+numbers_called w n ds = numbers_where (λ d. bytes_eq w (its_name d)) n ds
+
+-- The index lists the numbers of just those that have the name.
+abbrev pub IsNumberIndex : List Named → Index ℕ → Type 0
+IsNumberIndex ds index = (w : List ℕ) → listed index w ≡ numbers_called w 0 ds
+
+abbrev pub passes : {A : Type 0} → (A → Bool) → Option A → Bool
+passes p None = false
+passes p (Some x) = p x
+
+-- those of these numbers whose things pass a test
+abbrev pub chosen : {A : Type 0} → (A → Bool) → List A → List ℕ → List ℕ
+chosen p xs [] = []
+chosen p xs (k ∷ ks) = cond (passes p (slice_get xs k)) (k ∷ chosen p xs ks) (chosen p xs ks)

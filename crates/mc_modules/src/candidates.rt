@@ -1,5 +1,5 @@
-ghost use Rattle.std.specs.Prelude.{◌≡◌, ◌++◌, [], nat_eq, Some, slice_get, slice_index_or, map, IfOk, OnOk};
-ghost use Rattle.mc_item_names.specs.Plain.{Id, id, qualifiers, last_part, plain_id};
+ghost use Rattle.std.specs.Prelude.{◌≡◌, ◌++◌, [], true, Some, slice_get, slice_index_or, map, IfOk, OnOk};
+ghost use Rattle.mc_item_names.specs.Plain.{id, qualifiers, last_part, plain_id};
 ghost use Rattle.mc_modules.specs.Visible.{character};
 ghost use Rattle.mc_modules.specs.Linked.{plain_named, plain_names};
 ghost use Rattle.mc_modules.specs.Candidates.{defined_by, fits, fitting, fitting_in, is_module, named_so, looked_in, as_character, candidates};
@@ -35,8 +35,24 @@ impl Names {
         row(all)
     }
 
+    /// What a module itself, which has a number, has of a name without qualifiers over so many arguments, in the order of
+    /// declaration.
+    pub fn own_candidates(
+        &self,
+        alloc: Global,
+        own: u32,
+        name: &[u8],
+        arity: usize,
+    ) -> Result<Row<Candidate>, Memory>
+        ensures { IfOk result (λ all. all ≡ fitting (plain_names self.now) true (id name.now arity) (slice_index_or self.now.declared own [])) }
+    {
+        let mut all = Vec::new(alloc);
+        self.put_of_module(true, own, Indicator { name, arity }, &mut all)?;
+        row(all)
+    }
+
     /// The modules in which a name with these qualifiers is looked up.
-    pub fn looked_in(
+    pub(crate) fn looked_in(
         &self,
         alloc: Global,
         own: u32,
@@ -66,7 +82,8 @@ impl Names {
         row(all)
     }
 
-    fn is_named(&self, number: u32, name: &Text) -> bool
+    /// Whether the module of this number has a name.
+    pub(crate) fn is_named(&self, number: u32, name: &Text) -> bool
         ensures { result ≡ is_module name.now (slice_get self.now.scopes number) }
     {
         number < self.scopes.len() && self.scopes.get(number).module.bytes() == name.bytes()
@@ -83,22 +100,22 @@ impl Names {
         ensures { OnOk result (all.new.items ≡ all.old.items ++ fitting_in (plain_names self.now) own (plain_id id.entry) modules.now) }
     {
         for module in modules {
-            self.put_of_module(own, *module, id, all)?;
+            self.put_of_module(own == *module, *module, id, all)?;
         }
         Ok(())
     }
 
-    // Puts in what a module has of a name that another sees, or the module itself.
+    // Puts in what a module has of a name, for itself or for another.
     fn put_of_module(
         &self,
-        own: u32,
+        own: bool,
         number: u32,
         id: Indicator,
         all: &mut Vec<Candidate>,
     ) -> Result<(), Memory>
-        ensures { OnOk result (all.new.items ≡ all.old.items ++ fitting (plain_names self.now) (nat_eq own number) (plain_id id.entry) (slice_index_or self.now.declared number [])) }
+        ensures { OnOk result (all.new.items ≡ all.old.items ++ fitting (plain_names self.now) own (plain_id id.entry) (slice_index_or self.now.declared number [])) }
     {
-        self.put_fitting(own == number, id, self.called(number, id.name), all)
+        self.put_fitting(own, id, self.called(number, id.name), all)
     }
 
     fn put_fitting(

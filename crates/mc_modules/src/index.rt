@@ -1,7 +1,7 @@
-ghost use Rattle.std.specs.Prelude.{◌≡◌, ℕ, ◌++◌, ◌∷◌, [], List, cond, map, IfOk, OnOk, slice_get, length, ◌<◌};
+ghost use Rattle.std.specs.Prelude.{◌≡◌, ℕ, ◌++◌, ◌∷◌, [], List, cond, map, IfOk, OnOk, slice_get};
 ghost use Rattle.std.specs.Option.{option_map, option_copied};
 ghost use Rattle.std.specs.Str.{bytes_eq};
-ghost use Rattle.mc_modules.specs.Index.{listed, its_name, name_at, is_called, called, IsIndex};
+ghost use Rattle.mc_modules.specs.Index.{listed, its_name, name_at, is_called, called, IsIndex, IsNumberIndex};
 
 use crate::names::Named;
 use indexmap::IndexMap;
@@ -10,23 +10,22 @@ use mc_model::program::Candidate;
 use std::alloc::Global;
 use std::marker::Model;
 
-/// What a module has, by name. A look-up takes the time of one hash.
+/// Things by name. A look-up takes the time of one hash.
 #[derive(Drop)]
-pub struct Index {
-    named: IndexMap<Vec<u8>, Vec<Candidate>>,
+pub struct Index<T> {
+    named: IndexMap<Vec<u8>, Vec<T>>,
 }
 
-impl Model for Index {
+impl<T> Model for Index<T> {
     ghost use Rattle.std.specs.Prelude.{ℕ, List, map};
-    ghost use Rattle.mc_model.specs.declared.program.Candidate.{Candidate};
 
-    ghost Value = { List (List ℕ × List Candidate) };
+    ghost Value = { List (List ℕ × List T) };
 
     ghost view = { λ s. map (λ e. (e.0.items, e.1.items)) s.named.entries };
 }
 
-impl Index {
-    fn new(alloc: Global) -> Index
+impl<T: Copy + Drop> Index<T> {
+    fn new(alloc: Global) -> Index<T>
         ensures { result ≡ [] }
     {
         Index {
@@ -35,7 +34,7 @@ impl Index {
     }
 
     /// Those of a name, in order.
-    pub fn get(&self, name: &[u8]) -> &[Candidate]
+    pub fn get(&self, name: &[u8]) -> &[T]
         ensures { result.now ≡ listed self.now name.now }
     {
         match self.named.get(name) {
@@ -44,46 +43,51 @@ impl Index {
         }
     }
 
-    // Puts a candidate behind the others of its name, which are copied: in legal sources these are as many as the name
-    // has arities.
-    fn put(&mut self, alloc: Global, name: &[u8], candidate: Candidate) -> Result<(), Memory>
-        ensures { OnOk result ((w : List ℕ) → listed self.new w ≡ cond (bytes_eq w name.now) (listed self.old w ++ candidate ∷ []) (listed self.old w)) }
+    // Puts a thing behind the others of its name, which are copied: in legal sources a module has one of each arity.
+    fn put(&mut self, alloc: Global, name: &[u8], item: T) -> Result<(), Memory>
+        ensures { OnOk result ((w : List ℕ) → listed self.new w ≡ cond (bytes_eq w name.now) (listed self.old w ++ item ∷ []) (listed self.old w)) }
     {
         let mut group = Vec::from_slice(alloc, self.get(name))?;
-        group.push(candidate)?;
+        group.push(item)?;
         self.named.insert(Vec::from_slice(alloc, name)?, group)?;
         Ok(())
     }
 
-    // Those of these candidates that have a name, by it.
-    fn of(
-        alloc: Global,
-        symbols: &Row<Named>,
-        preds: &Row<Named>,
-        candidates: &[Candidate],
-    ) -> Result<Index, Memory>
-        ensures { IfOk result (λ index. (w : List ℕ) → listed index w ≡ called symbols.now preds.now w candidates.now) }
-    {
-        let mut index = Index::new(alloc);
-        for candidate in candidates {
-            index.put_named(alloc, name_of(symbols, preds, *candidate), *candidate)?;
-        }
-        Ok(index)
-    }
-
-    fn put_named(
-        &mut self,
-        alloc: Global,
-        name: Option<&[u8]>,
-        candidate: Candidate,
-    ) -> Result<(), Memory>
-        ensures { OnOk result ((w : List ℕ) → listed self.new w ≡ cond (is_called w (option_copied name.entry)) (listed self.old w ++ candidate ∷ []) (listed self.old w)) }
+    fn put_named(&mut self, alloc: Global, name: Option<&[u8]>, item: T) -> Result<(), Memory>
+        ensures { OnOk result ((w : List ℕ) → listed self.new w ≡ cond (is_called w (option_copied name.entry)) (listed self.old w ++ item ∷ []) (listed self.old w)) }
     {
         match name {
-            Some(name) => self.put(alloc, name, candidate),
+            Some(name) => self.put(alloc, name, item),
             None => Ok(()),
         }
     }
+}
+
+/// The numbers of things, by their names.
+pub fn numbers_by_name(alloc: Global, names: &Row<Named>) -> Result<Index<u32>, Memory>
+    ensures { IfOk result (λ index. IsNumberIndex names.now index) }
+{
+    let mut index = Index::new(alloc);
+    for (number, named) in names.as_slice().iter().enumerate() {
+        index.put(alloc, named.name.name.bytes(), number as u32)?;
+    }
+    Ok(index)
+}
+
+// Those of these candidates that have a name, by it.
+fn candidates_by_name(
+    alloc: Global,
+    symbols: &Row<Named>,
+    preds: &Row<Named>,
+    candidates: &[Candidate],
+) -> Result<Index<Candidate>, Memory>
+    ensures { IfOk result (λ index. (w : List ℕ) → listed index w ≡ called symbols.now preds.now w candidates.now) }
+{
+    let mut index = Index::new(alloc);
+    for candidate in candidates {
+        index.put_named(alloc, name_of(symbols, preds, *candidate), *candidate)?;
+    }
+    Ok(index)
 }
 
 // The name of a candidate; a character has none.
@@ -118,12 +122,12 @@ pub fn indices(
     symbols: &Row<Named>,
     preds: &Row<Named>,
     declared: &[Row<Candidate>],
-) -> Result<Vec<Index>, Memory>
+) -> Result<Vec<Index<Candidate>>, Memory>
     ensures { IfOk result (λ all. IsIndex symbols.now preds.now all.items declared.now) }
 {
     let mut all = Vec::new(alloc);
     for candidates in declared {
-        all.push(Index::of(alloc, symbols, preds, candidates.as_slice())?)?;
+        all.push(candidates_by_name(alloc, symbols, preds, candidates.as_slice())?)?;
     }
     Ok(all)
 }

@@ -30,6 +30,7 @@ mod table;
 mod tests;
 #[cfg(test)]
 mod tests_names;
+mod type_candidates;
 
 pub use faults::link_faults;
 pub use goal::goal_rule;

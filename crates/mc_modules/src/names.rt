@@ -1,7 +1,7 @@
 ghost use Rattle.std.specs.Prelude.{◌≡◌, [], slice_index_or, IfOk};
-ghost use Rattle.mc_modules.specs.Index.{called, IsIndex};
+ghost use Rattle.mc_modules.specs.Index.{called, numbers_called, IsIndex, IsNumberIndex};
 
-use crate::index::{Index, indices};
+use crate::index::{Index, indices, numbers_by_name};
 use mc_base::{Memory, Row, Text};
 use mc_decl_forms::Decl;
 use mc_model::program::{Candidate, Name, Place};
@@ -58,12 +58,14 @@ pub struct Names {
     pub modes: Row<Named>,
     pub scopes: Row<Scope>,
     pub declared: Row<Row<Candidate>>,
-    index: Vec<Index>,
+    index: Vec<Index<Candidate>>,
+    type_index: Index<u32>,
     ghost indexed: { IsIndex symbols preds index.items declared },
+    ghost types_indexed: { IsNumberIndex types type_index },
 }
 
 impl Names {
-    /// The names that these are, with an index of those that each module has.
+    /// The names that these are, with an index of those that each module has, and one of the types.
     pub fn of(
         alloc: Global,
         named: NamedRows,
@@ -86,6 +88,7 @@ impl Names {
             modes,
         } = named;
         let index = indices(alloc, &symbols, &preds, declared.as_slice())?;
+        let type_index = numbers_by_name(alloc, &types)?;
         Ok(Names {
             types,
             symbols,
@@ -95,11 +98,19 @@ impl Names {
             scopes,
             declared,
             index,
+            type_index,
         })
     }
 
+    /// The numbers of the types of a name, whatever module they stand in. It takes the time of one hash.
+    pub(crate) fn types_called(&self, name: &[u8]) -> &[u32]
+        ensures { result.now ≡ numbers_called name.now 0 self.now.types }
+    {
+        self.type_index.get(name)
+    }
+
     /// What a module, which has a number, has of a name, in the order of declaration. It takes the time of one hash.
-    pub fn called(&self, number: u32, name: &[u8]) -> &[Candidate]
+    pub(crate) fn called(&self, number: u32, name: &[u8]) -> &[Candidate]
         ensures { result.now ≡ called self.now.symbols self.now.preds name.now (slice_index_or self.now.declared number []) }
     {
         match self.index.get(number as usize) {

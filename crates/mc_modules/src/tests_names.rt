@@ -21,6 +21,15 @@ const ROWS: &str = "\
 #implementation.@#type t(A) ---> k(A).@p(_).`\
 #module b.@#interface.@#import_module a.";
 
+// Four modules, of which the first imports the second and only uses the fourth, with types of one name in two of them and
+// over one argument, an abstract type, and two that only their own modules see.
+const TYPES: &str = "\
+#module a.@#interface.@#import_module b.@#use_module d.@#type t ---> k.@#type t(A) ---> k(A).@\
+#implementation.@#type h ---> l.`\
+#module b.@#interface.@#type t ---> k.@#type s.@#implementation.@#type s ---> l.@#type i ---> m.`\
+#module c.@#interface.@#type r ---> k.`\
+#module d.@#interface.@#type u ---> k.";
+
 fn linked(alloc: Global, texts: &str) -> Result<Option<Names>, Fail> {
     let files = match files(alloc, texts) {
         Ok(files) => files,
@@ -51,6 +60,15 @@ fn told(alloc: Global, candidates: &[Candidate]) -> Result<Vec<u8>, Fail> {
     Ok(out)
 }
 
+// A name by its parts, between which full stops stand.
+fn parts(alloc: Global, name: &str) -> Result<Row<Text>, Fail> {
+    let mut parts = Vec::new(alloc);
+    for part in name.split('.') {
+        parts.push(Text::new(alloc, part.as_bytes())?)?;
+    }
+    Ok(row(parts)?)
+}
+
 // What a name may mean in a module.
 fn meaning(
     alloc: Global,
@@ -59,11 +77,7 @@ fn meaning(
     name: &str,
     arity: u32,
 ) -> Result<Vec<u8>, Fail> {
-    let mut parts = Vec::new(alloc);
-    for part in name.split('.') {
-        parts.push(Text::new(alloc, part.as_bytes())?)?;
-    }
-    let found = names.candidates(alloc, own, &row(parts)?, arity)?;
+    let found = names.candidates(alloc, own, &parts(alloc, name)?, arity)?;
     told(alloc, found.as_slice())
 }
 
@@ -91,6 +105,35 @@ fn is_told(
 ) -> Result<(), Fail> {
     let answer = meaning(alloc, names, own, name, arity)?;
     assert_eq!(rt; answer.as_slice(), wanted.as_bytes(), "{name}");
+    Ok(())
+}
+
+fn is_own(
+    rt: &impl Abort,
+    alloc: Global,
+    names: &Names,
+    own: u32,
+    name: &str,
+    arity: usize,
+    wanted: &str,
+) -> Result<(), Fail> {
+    let found = names.own_candidates(alloc, own, name.as_bytes(), arity)?;
+    let answer = told(alloc, found.as_slice())?;
+    assert_eq!(rt; answer.as_slice(), wanted.as_bytes(), "{name}");
+    Ok(())
+}
+
+fn is_type(
+    rt: &impl Abort,
+    alloc: Global,
+    names: &Names,
+    own: u32,
+    name: &str,
+    arity: u32,
+    wanted: &[u32],
+) -> Result<(), Fail> {
+    let found = names.type_candidates(alloc, own, &parts(alloc, name)?, arity)?;
+    assert_eq!(rt; found.as_slice(), wanted, "{name}");
     Ok(())
 }
 
@@ -135,6 +178,66 @@ fn a_qualifier_chooses_among_the_modules_that_are_seen(rt: HostRuntime) -> Resul
     is_told(&rt, alloc, &names, 0, "d.x", 0, "con 6 ")?;
     is_told(&rt, alloc, &names, 1, "a.x", 0, "")?;
     is_told(&rt, alloc, &names, 0, "e.x", 0, "")?;
+    Ok(())
+}
+
+#[test]
+fn a_module_has_its_own_names_and_no_others(rt: HostRuntime) -> Result<(), Fail> {
+    let alloc = rt.alloc();
+    let Some(names) = linked(alloc, MODULES)? else {
+        panic!(&rt; "not linked");
+    };
+    is_own(&rt, alloc, &names, 0, "x", 0, "con 0 func 0 ")?;
+    is_own(&rt, alloc, &names, 0, "x", 1, "")?;
+    is_own(&rt, alloc, &names, 0, "z", 0, "con 2 ")?;
+    is_own(&rt, alloc, &names, 1, "z", 0, "con 4 ")?;
+    is_own(&rt, alloc, &names, 2, "z", 0, "")?;
+    is_own(&rt, alloc, &names, 99, "x", 0, "")?;
+    let Some(names) = linked(alloc, ROWS)? else {
+        panic!(&rt; "not linked");
+    };
+    is_own(&rt, alloc, &names, 0, "p", 1, "pred 0 ")?;
+    is_own(&rt, alloc, &names, 0, "p", 0, "")?;
+    is_own(&rt, alloc, &names, 1, "p", 1, "")?;
+    Ok(())
+}
+
+#[test]
+fn a_type_is_its_module_s_or_one_that_is_imported(rt: HostRuntime) -> Result<(), Fail> {
+    let alloc = rt.alloc();
+    let Some(names) = linked(alloc, TYPES)? else {
+        panic!(&rt; "not linked");
+    };
+    is_type(&rt, alloc, &names, 0, "t", 0, &[0, 3])?;
+    is_type(&rt, alloc, &names, 0, "t", 1, &[1])?;
+    is_type(&rt, alloc, &names, 0, "t", 2, &[])?;
+    is_type(&rt, alloc, &names, 0, "h", 0, &[2])?;
+    is_type(&rt, alloc, &names, 0, "s", 0, &[4])?;
+    is_type(&rt, alloc, &names, 0, "i", 0, &[])?;
+    is_type(&rt, alloc, &names, 0, "r", 0, &[])?;
+    is_type(&rt, alloc, &names, 0, "u", 0, &[])?;
+    is_type(&rt, alloc, &names, 0, "int", 0, &[])?;
+    is_type(&rt, alloc, &names, 1, "t", 0, &[3])?;
+    is_type(&rt, alloc, &names, 1, "i", 0, &[5])?;
+    is_type(&rt, alloc, &names, 1, "h", 0, &[])?;
+    is_type(&rt, alloc, &names, 99, "t", 0, &[])?;
+    Ok(())
+}
+
+#[test]
+fn a_qualifier_chooses_among_the_types(rt: HostRuntime) -> Result<(), Fail> {
+    let alloc = rt.alloc();
+    let Some(names) = linked(alloc, TYPES)? else {
+        panic!(&rt; "not linked");
+    };
+    is_type(&rt, alloc, &names, 0, "a.t", 0, &[0])?;
+    is_type(&rt, alloc, &names, 0, "b.t", 0, &[3])?;
+    is_type(&rt, alloc, &names, 0, "b.t", 1, &[])?;
+    is_type(&rt, alloc, &names, 0, "b.s", 0, &[4])?;
+    is_type(&rt, alloc, &names, 0, "b.i", 0, &[])?;
+    is_type(&rt, alloc, &names, 0, "c.r", 0, &[])?;
+    is_type(&rt, alloc, &names, 0, "d.u", 0, &[7])?;
+    is_type(&rt, alloc, &names, 1, "a.t", 0, &[])?;
     Ok(())
 }
 

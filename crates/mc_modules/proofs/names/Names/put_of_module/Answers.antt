@@ -1,4 +1,4 @@
-use Rattle.std.proofs.Common.{◌≡◌, [], ◌++◌, nat_eq, refl, ap, ◌∙◌, subst}
+use Rattle.std.proofs.Common.{◌≡◌, [], ◌++◌, refl, ap, ◌∙◌, subst}
 use Rattle.std.specs.Prelude.{OnOk, slice_index_or}
 use Rattle.mc_item_names.specs.Plain.{plain_id}
 use Rattle.mc_modules.specs.Linked.{plain_names}
@@ -9,7 +9,7 @@ use Rattle.mc_modules.proofs.names.Names.put_of_module.Goals as goal
 pub returns : goal.returns
 returns c =
     let names = c.args.self.now in
-    let own = nat_eq c.args.own c.args.number in
+    let own = c.args.own in
     let x = plain_id c.args.id in
     let same = ap (fitting (plain_names names) own x) c.called.ensures ∙ fitting_called (plain_names names) names.symbols names.preds refl refl own x (slice_index_or names.declared c.args.number []) in
     subst (λ cs. OnOk c.put_fitting.result (c.put_fitting.new.all.items ≡ c.args.all.now.items ++ cs)) same c.put_fitting.ensures
