@@ -9,5 +9,4 @@ mod OneBreach
 mod LinkFiles
 mod SomeFiles
 mod FactsFit
-mod Called
 pub mod Compilation

@@ -1,7 +1,6 @@
 -- The form of modules of facts, which is compiled so far, and the program that they are: enumeration types, predicates whose arguments are all `out`, facts of constants, and a query that is one call over variables. (Mercury Language Reference Manual: Syntax, facts; Types, enumerations; Modes.)
 use Rattle.std.specs.Prelude.{ℕ, ◌+◌, Bool, true, false, cond, not, nat_eq, nat_lt, nat_le, ◌&&◌, ◌||◌, List, [], ◌∷◌, ◌++◌, map, length, Option, Some, None, codes, slice_get, slice_index_or}
 use Rattle.std.specs.Option.{is_some}
-use Rattle.std.specs.Str.{bytes_eq}
 use Rattle.mc_syntax.specs.Plain.{Tm, Tms, at, no_term, more_terms, Var, App}
 use Rattle.mc_syntax.specs.Names.{count}
 use Rattle.mc_model.specs.declared.det.Det.{Det}
@@ -15,15 +14,14 @@ use Rattle.mc_clause_forms.specs.Goals.{connective, parts}
 use Rattle.mc_clause_forms.specs.Clauses.{operands}
 use Rattle.mc_decl_forms.specs.Plain.{Path, It, ModuleStart, ModuleEnd, Interface, Implementation, Imports, UseOnly, UnionType, Pred, Func, Pragma, Clause}
 use Rattle.mc_decl_forms.specs.Terms.{pair, is_the_word, has_none, is_distinct}
-use Rattle.mc_item_names.specs.Plain.{Id, id, is_id, qualifiers, last_part}
+use Rattle.mc_item_names.specs.Plain.{Id, id, qualifiers, last_part}
 use Rattle.mc_item_names.specs.Things.{symbol_name}
 use Rattle.mc_item_names.specs.Occurrences.{is_truth}
 use Rattle.mc_modules.specs.Files.{File, Standing, standing, joined}
-use Rattle.mc_modules.specs.declared.names.Scope.{Scope}
 use Rattle.mc_modules.specs.Faults.{is_number}
-use Rattle.mc_modules.specs.Visible.{module_of}
+use Rattle.mc_modules.specs.Visible.{module_of, sole}
 use Rattle.mc_modules.specs.Linked.{Defined, Linked, each, flat, types_of, preds_of}
-use Rattle.mc_modules.specs.Candidates.{candidates, fitting, looked_in}
+use Rattle.mc_modules.specs.Candidates.{candidates, fitting, type_candidates}
 use Rattle.mc_ground.specs.Database.{Constant, Relation, Database, Question, from}
 
 -- Files that were linked: those that were given, all of them with the library's behind, and their names.
@@ -61,28 +59,6 @@ abbrev pub has_no_parameters : Tm → Bool
 has_no_parameters (at (App w ts) l) = has_none ts
 has_no_parameters _ = false
 
--- the numbers from n on of the types of a module that have this name, and that the module itself or another sees
-abbrev pub numbers_named : (own : Bool) → (module_name : List ℕ) → Id → (n : ℕ) → List Defined → List ℕ
-numbers_named own m x n [] = []
-numbers_named own m x n (d ∷ ds) =
-    cond (bytes_eq d.name.module m && ((own || d.exported) && is_id (id d.name.name d.name.arity) x)) (n ∷ numbers_named own m x (n + 1) ds) (numbers_named own m x (n + 1) ds)
-
-abbrev pub name_in_scope : Option Scope → List ℕ
-name_in_scope None = []
-name_in_scope (Some s) = s.module
-
-abbrev pub module_name_at : Linked → ℕ → List ℕ
-module_name_at l j = name_in_scope (slice_get l.scopes j)
-
--- the numbers of the types that a name means
-abbrev pub type_numbers : Linked → (own : ℕ) → Id → List ℕ → List ℕ
-type_numbers l own x [] = []
-type_numbers l own x (j ∷ js) = numbers_named (nat_eq own j) (module_name_at l j) x 0 l.types ++ type_numbers l own x js
-
-abbrev pub sole : List ℕ → Option ℕ
-sole (k ∷ []) = Some k
-sole _ = None
-
 abbrev pub below : ℕ → Option ℕ → Option ℕ
 below n None = None
 below n (Some k) = cond (nat_lt k n) (Some k) None
@@ -90,7 +66,7 @@ below n (Some k) = cond (nat_lt k n) (Some k) None
 -- the number of the given type that a name without arguments means
 abbrev pub type_number : LinkedFiles → (own : ℕ) → Tm → Option ℕ
 type_number P own (at (App w ts) l) =
-    cond (has_none ts) (below (length (given_types P)) (sole (type_numbers P.names own (id (last_part w) 0) (looked_in P.names (slice_get P.names.scopes own) (qualifiers w))))) None
+    cond (has_none ts) (below (length (given_types P)) (sole (type_candidates P.names own (qualifiers w) (id (last_part w) 0)))) None
 type_number P own _ = None
 
 abbrev pub is_out : Tm → Bool

@@ -1,18 +1,13 @@
-ghost use Rattle.std.specs.Prelude.{◌≡◌, nat_eq, ◌&&◌, map, IfOk, OnOk, ◌++◌};
-ghost use Rattle.std.specs.Str.{bytes_eq};
+ghost use Rattle.std.specs.Prelude.{◌≡◌, map, codes, IfOk};
 ghost use Rattle.mc_syntax.specs.Plain.{plain_term, tms};
-ghost use Rattle.mc_item_names.specs.Plain.{id, is_id};
-ghost use Rattle.mc_modules.specs.Linked.{plain_names, plain_named};
-ghost use Rattle.mc_compile.specs.Facts.{numbers_named, module_name_at, type_numbers, sole, below, type_number, is_out, argument_type, argument_types, signature};
 ghost use Rattle.mc_decl_forms.specs.Terms.{pair};
-ghost use Rattle.std.specs.Prelude.{codes};
+ghost use Rattle.mc_modules.specs.Visible.{sole};
+ghost use Rattle.mc_compile.specs.Facts.{below, type_number, is_out, argument_type, argument_types, signature};
 ghost use Rattle.mc_compile.specs.Passes.{linked_of, behind, IsCounted};
 
 use crate::facts::sources::Sources;
 use mc_base::{Memory, Row};
 use mc_decl_forms::{has_none, is_the_word, pair};
-use mc_item_names::{Kind, Used};
-use mc_modules::{Named, Names};
 use mc_syntax::{Node, Term};
 use std::alloc::Global;
 
@@ -73,64 +68,12 @@ impl Sources<'_> {
     {
         match &term.node {
             Node::App(name, arguments) if has_none(arguments) => {
-                let used = Used::of(Kind::DefinedType, name.as_slice(), 0);
-                let modules = self.names.looked_in(alloc, own, used.qualifiers)?;
-                let numbers = self.type_numbers(alloc, own, used.id.name, modules.as_slice())?;
+                let numbers = self.names.type_candidates(alloc, own, name, 0)?;
                 Ok(below(self.types, sole(numbers.as_slice())))
             }
             _ => Ok(None),
         }
     }
-
-    fn type_numbers(
-        &self,
-        alloc: Global,
-        own: u32,
-        name: &[u8],
-        modules: &[u32],
-    ) -> Result<Vec<u32>, Memory>
-        ensures { IfOk result (λ numbers. numbers.items ≡ type_numbers (plain_names self.now.names.now) own (id name.now 0) modules.now) }
-    {
-        let mut numbers = Vec::new(alloc);
-        for module in modules {
-            self.add_types_of(own, *module, name, &mut numbers)?;
-        }
-        Ok(numbers)
-    }
-
-    // Adds the types of this name that a module has, for itself or for another.
-    fn add_types_of(
-        &self,
-        own: u32,
-        module: u32,
-        name: &[u8],
-        numbers: &mut Vec<u32>,
-    ) -> Result<(), Memory>
-        ensures { OnOk result (numbers.new.items ≡ numbers.old.items ++ numbers_named (nat_eq own «module») (module_name_at (plain_names self.now.names.now) «module») (id name.now 0) 0 (map plain_named self.now.names.now.types)) }
-    {
-        let module_name = module_name_at(self.names, module);
-        for (number, named) in self.names.types.as_slice().iter().enumerate() {
-            if is_named(named, module_name, name) && (own == module || named.exported) {
-                numbers.push(number as u32)?;
-            }
-        }
-        Ok(())
-    }
-}
-
-fn module_name_at(names: &Names, module: u32) -> &[u8]
-    ensures { result.now ≡ module_name_at (plain_names names.now) «module» }
-{
-    match names.scopes.as_slice().get(module as usize) {
-        Some(scope) => scope.module.bytes(),
-        None => b"",
-    }
-}
-
-fn is_named(named: &Named, module: &[u8], name: &[u8]) -> bool
-    ensures { result ≡ (bytes_eq named.now.name.«module» «module».now && is_id (id named.now.name.name named.now.name.arity) (id name.now 0)) }
-{
-    named.name.module.bytes() == module && named.name.arity == 0 && named.name.name.bytes() == name
 }
 
 fn is_out(mode: &Term) -> bool
