@@ -12,6 +12,8 @@ mod reader;
 mod reading;
 #[cfg(test)]
 mod tests;
+#[cfg(test)]
+mod tests_form;
 
 pub use compiling::compile;
 pub use given::{CompileFault, Compiled, Given, Query};

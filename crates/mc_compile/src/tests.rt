@@ -36,7 +36,8 @@ fn rules_shown(alloc: Global, broken: &Row<Broken>) -> Result<Vec<u8>, Fail> {
     Ok(out)
 }
 
-fn fault_shown(alloc: Global, fault: CompileFault) -> Result<Vec<u8>, Fail> {
+// Why sources aren't compiled.
+pub fn fault_shown(alloc: Global, fault: CompileFault) -> Result<Vec<u8>, Fail> {
     match fault {
         CompileFault::Rejected(broken) => rules_shown(alloc, &broken),
         CompileFault::NotBuilt => Ok(b"not built".to_vec(alloc)?),
