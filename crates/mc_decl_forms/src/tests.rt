@@ -354,20 +354,29 @@ fn a_union_keeps_its_head_and_constructors(rt: HostRuntime) -> Result<(), Fail> 
     let body = disj(alloc, word(alloc, b"a"), word(alloc, b"b"));
     let definition = two(alloc, b"--->", word(alloc, b"t"), body);
     let item = declaration(alloc, one(alloc, b"type", definition)?)?;
-    match &item {
-        Some(Decl::UnionType(head, constructors)) => {
-            assert!(rt; is_word(head, b"t"));
-            match constructors.as_slice() {
-                [first, last] => {
-                    assert!(rt; is_word(first, b"a"));
-                    assert!(rt; is_word(last, b"b"));
-                }
-                _ => assert!(rt; false),
-            }
-        }
-        _ => assert!(rt; false),
-    }
+    assert!(rt; matches!(&item, Some(union) if is_union_of_two(union)));
     Ok(())
+}
+
+#[test]
+fn a_copied_union_is_the_same(rt: HostRuntime) -> Result<(), Fail> {
+    let alloc = rt.alloc();
+    let constructors = terms2(alloc, word(alloc, b"a"), word(alloc, b"b"))?;
+    let union = Decl::UnionType(word(alloc, b"t")?, constructors);
+    let copy = union.copied(alloc)?;
+    assert!(rt; is_union_of_two(&copy));
+    Ok(())
+}
+
+/// Whether an item is the union `t ---> a ; b`.
+fn is_union_of_two(item: &Decl) -> bool {
+    match item {
+        Decl::UnionType(head, constructors) => match constructors.as_slice() {
+            [first, last] => is_word(head, b"t") && is_word(first, b"a") && is_word(last, b"b"),
+            _ => false,
+        },
+        _ => false,
+    }
 }
 
 fn is_word(term: &Term, name: &[u8]) -> bool {
