@@ -9,7 +9,7 @@ use Rattle.mc_modules.specs.declared.names.Scope.{Scope}
 use Rattle.mc_modules.specs.Files.{joined}
 use Rattle.mc_modules.specs.Visible.{character}
 use Rattle.mc_modules.specs.Linked.{Defined, Linked}
-use Rattle.mc_modules.specs.Index.{numbers_where, chosen}
+use Rattle.mc_modules.specs.Index.{numbers_where}
 
 -- what a candidate is the number of; a character has none
 abbrev pub defined_by : Linked → Candidate → Option Defined
@@ -55,10 +55,11 @@ as_character (Some c) = C.Char c ∷ []
 abbrev pub candidates : Linked → (own : ℕ) → (qualifiers : Path) → Id → List Candidate
 candidates l own qs x = fitting_in l own x (looked_in l (slice_get l.scopes own) qs) ++ as_character (character qs x)
 
--- whether a type stands in the module of this number, has the name, and the other module sees it
+-- whether a type stands in the module of this number and has the name, and the module of the number `own` sees it
 abbrev pub type_fits : Linked → (own : ℕ) → Id → ℕ → Defined → Bool
 type_fits l own x j d = is_module d.name.module (slice_get l.scopes j) && fits (nat_eq own j) x (Some d)
 
+-- the types of these modules that fit
 abbrev pub type_numbers : Linked → (own : ℕ) → Id → List ℕ → List ℕ
 type_numbers l own x [] = []
 type_numbers l own x (j ∷ js) = numbers_where (type_fits l own x j) 0 l.types ++ type_numbers l own x js
@@ -66,16 +67,3 @@ type_numbers l own x (j ∷ js) = numbers_where (type_fits l own x j) 0 l.types 
 -- The types that a name may mean in a module, by their numbers, in the same order. The built-in types are not among them.
 abbrev pub type_candidates : Linked → (own : ℕ) → (qualifiers : Path) → Id → List ℕ
 type_candidates l own qs x = type_numbers l own x (looked_in l (slice_get l.scopes own) qs)
-
--- whether a type has the name
-abbrev pub has_id : Id → Defined → Bool
-has_id x d = is_id (id d.name.name d.name.arity) x
-
--- whether a type stands in the module of this number, and the other module sees it
-abbrev pub type_seen : Linked → (own : ℕ) → ℕ → Defined → Bool
-type_seen l own j d = is_module d.name.module (slice_get l.scopes j) && (nat_eq own j || d.exported)
-
--- those of these types that these modules have, and the other module sees
-abbrev pub types_seen : Linked → (own : ℕ) → (types : List ℕ) → List ℕ → List ℕ
-types_seen l own ks [] = []
-types_seen l own ks (j ∷ js) = chosen (type_seen l own j) l.types ks ++ types_seen l own ks js

@@ -50,12 +50,3 @@ numbers_called w n ds = numbers_where (λ d. bytes_eq w (its_name d)) n ds
 -- The index lists the numbers of just those that have the name.
 abbrev pub IsNumberIndex : List Named → Index ℕ → Type 0
 IsNumberIndex ds index = (w : List ℕ) → listed index w ≡ numbers_called w 0 ds
-
-abbrev pub passes : {A : Type 0} → (A → Bool) → Option A → Bool
-passes p None = false
-passes p (Some x) = p x
-
--- those of these numbers whose things pass a test
-abbrev pub chosen : {A : Type 0} → (A → Bool) → List A → List ℕ → List ℕ
-chosen p xs [] = []
-chosen p xs (k ∷ ks) = cond (passes p (slice_get xs k)) (k ∷ chosen p xs ks) (chosen p xs ks)

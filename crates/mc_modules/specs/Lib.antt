@@ -3,6 +3,7 @@ pub mod Visible
 pub mod Faults
 pub mod Linked
 pub mod Candidates
+pub mod Chosen
 pub mod Rows
 pub mod Sights
 pub mod Passes

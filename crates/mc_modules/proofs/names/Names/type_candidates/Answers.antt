@@ -5,7 +5,8 @@ use Rattle.mc_item_names.specs.Plain.{id, qualifiers, last_part, plain_use}
 use Rattle.mc_item_names.specs.Occurrences.{used}
 use Rattle.mc_modules.specs.Index.{numbers_where}
 use Rattle.mc_modules.specs.Linked.{plain_names}
-use Rattle.mc_modules.specs.Candidates.{looked_in, has_id, types_seen, type_candidates}
+use Rattle.mc_modules.specs.Candidates.{looked_in, type_candidates}
+use Rattle.mc_modules.specs.Chosen.{has_id, types_seen}
 use Rattle.mc_modules.proofs.Uses.{qualifiers_are, id_is}
 use Rattle.mc_modules.proofs.Chosen.{seen_of_id}
 use Rattle.mc_modules.proofs.names.Names.type_candidates.Goals as goal
