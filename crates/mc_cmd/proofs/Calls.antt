@@ -19,7 +19,7 @@ use Rattle.mc_compile.specs.Laws.{AtMostOneBreaks}
 use Rattle.mc_compile.specs.FactsLaws.{FactsFit, QuestionAsks, CompiledOnce, NotBoth}
 use Rattle.mc_compile.specs.declared.given.Compiled.{Compiled}
 use Rattle.mc_cmd.specs.Outcome.{Outcome, said, usage_line, not_built_line, unreadable_line, broken_lines, files_of, query_of, is_unbuilt, bounds_of, answered, Answers, rejected, not_built, done, Texts, These, Missing, texts_in, AnswersOver, DefinedFor, Defined}
-use Rattle.mc_cmd.specs.Call.{Told, NoneRose, Wrote, Lacks, SaysUnreadable, CanCome, HoldTexts}
+use Rattle.mc_cmd.specs.Call.{Told, NoneRose, Wrote, Lacks, SaysUnreadable, CanCome, HoldTexts, WasDone}
 use Rattle.mc_cmd.specs.Lines.{AreWide}
 use Rattle.mc_cmd.specs.Decisions.{AreCompiled, Understood, IsDecided, CountsFaults, CountsAbsents, told_of, Writes, ended, CountPuts, Sinks, Happened}
 use Rattle.mc_cmd.specs.declared.status.Status.{Status}
@@ -29,7 +29,7 @@ use Rattle.mc_cmd.specs.declared.decision.Decision.TheVariants as D
 use Rattle.mc_cmd.proofs.Puts.{wrote_nothing, nothing_front, front_nothing, writes_front, writes_nothing, put_writes}
 use Rattle.mc_cmd.proofs.Answers.{run_agrees, are_wide}
 use Rattle.mc_cmd.proofs.Commands.{HasBounds, is_command}
-use Rattle.mc_cmd.proofs.Legal.{same_database, same_question, nothing_asked, asked_fits}
+use Rattle.mc_cmd.proofs.Legal.{same_database, same_question, checked_done, compiled_done, nothing_asked, asked_fits}
 
 -- the laws that the command stands on
 pub record Laws : Type 0 where
@@ -337,6 +337,19 @@ module _ (words : List (List ℕ)) (store : Option Held) (f0 f1 a0 a1 : ℕ) (ou
           memory : (s ≡ S.Memory) ⊎ ((s ≡ S.WriteFault) ⊎ (s ≡ S.Memory)) → (s ≡ S.Usage) ⊎ ((s ≡ S.WriteFault) ⊎ (s ≡ S.Memory))
           memory (inl z) = inr (inr z)
           memory (inr z) = inr z
+
+  pub done_cause : s ≡ S.Done → WasDone words store
+  done_cause e = at h.decision h.decided (told_status S.Done e (λ x. cc) (λ x. cc))
+    where
+      at : (d : Decision) → IsDecided words store d → (told_of d).status ≡ S.Done → WasDone words store
+      at D.Usage x t = cc
+      at (D.Absent line) x t = cc
+      at (D.Unreadable line) x t = cc
+      at (D.Rejected files broken) x t = cc
+      at D.NotBuilt x t = cc
+      at D.Checked x t = checked_done words store x.command x.means x.texts x.holds x.understood
+      at (D.Answers c) x t = compiled_done words store x.command x.means x.texts x.holds c x.understood
+      at D.Memory x t = cc
 
   pub rejected_cause : s ≡ S.Rejected → (m : Meaning) × ((meaning words ≡ Some m) × ((texts : List (List ℕ)) × (HoldTexts store (files_of m) texts × ((broken : List Broken) × (Breaks library_texts texts (query_of m) broken × (broken ≢ []))))))
   rejected_cause e = at h.decision h.decided (told_status S.Rejected e (λ x. cc) (λ x. cc))

@@ -1,10 +1,11 @@
 -- What legal sources ask.
-use Rattle.std.proofs.Common.{◌≡◌, ◌⊎◌, inl, inr, ℕ, Bool, true, false, ◌||◌, List, [], ◌∷◌, ◌++◌, length, Option, Some, None, refl, sym, ap, ◌∙◌, subst}
+use Rattle.std.proofs.Common.{◌≡◌, ◌≢◌, ◌⊎◌, inl, inr, ℕ, Bool, true, false, ◌||◌, List, [], ◌∷◌, ◌++◌, length, Option, Some, None, refl, sym, ap, ◌∙◌, subst}
 use Rattle.std.specs.Prelude.{is_some}
 use Rattle.mc_syntax.specs.Plain.{Tm, plain_term}
 use Rattle.mc_syntax.specs.declared.term.Term.{Term}
 use Rattle.mc_model.specs.declared.rule.Broken.{Broken}
-use Rattle.mc_words.specs.Words.{Meaning}
+use Rattle.mc_outside.specs.Meaning.{Held}
+use Rattle.mc_words.specs.Words.{Meaning, meaning}
 use Rattle.mc_items.specs.Queries.{IsQueryRefusal}
 use Rattle.mc_items.specs.declared.entry.ItemsFault.TheVariants as I
 use Rattle.mc_ground.specs.Database.{Database, Question}
@@ -19,7 +20,8 @@ use Rattle.mc_compile.specs.Rejected.{AreLegal}
 use Rattle.mc_compile.specs.Compiled.{files_of, with_question, over_facts, asks, is_first, IsProgram, IsCompiled, IsFault}
 use Rattle.mc_compile.specs.Reading.{text_of}
 use Rattle.mc_compile.specs.FactsLaws.{FactsFit, QuestionAsks}
-use Rattle.mc_cmd.specs.Outcome.{query_of, is_run, is_unbuilt}
+use Rattle.mc_cmd.specs.Outcome.{files_of as files_meant, query_of, is_run, is_unbuilt}
+use Rattle.mc_cmd.specs.Call.{HoldTexts, WasDone}
 use Rattle.mc_cmd.specs.Decisions.{AreChecked, AreCompiled}
 
 appended_nothing : {X : Type 0} (xs ys : List X) → xs ++ ys ≡ [] → ys ≡ []
@@ -40,6 +42,19 @@ same_question d e q r x = ap (λ (p : Database × Option Question). p.1) (some_s
 refused_breaks : (k : ℕ) (text : List ℕ) (bs : List Broken) → IsQueryRefusal k text (I.Broken bs) → bs ≡ [] → ⊥
 refused_breaks k text bs (inl r) e = let x = sym r.is ∙ e in cc
 refused_breaks k text bs (inr r) e = let x = sym r.is ∙ e in cc
+
+some_none : (a : Database × Option Question) → ◌≡◌ {A = Option (Database × Option Question)} (Some a) None → ⊥
+some_none a e = cc
+
+some_asked : {library texts : List (List ℕ)} {query : Option (List ℕ)} (l : AreLegal library texts query) (a : Database × Option Question) → asks l ≡ Some a → asks l ≢ None
+some_asked l a e n = some_none a (sym e ∙ n)
+
+-- legal sources that are checked, and those that are answered
+pub checked_done : (words : List (List ℕ)) (store : Option Held) (m : Meaning) → meaning words ≡ Some m → (texts : List (List ℕ)) → HoldTexts store (files_meant m) texts → AreChecked m texts → WasDone words store
+checked_done words store m e texts h a = record { command = m; means = e; built = a.built; texts = texts; holds = h; legal = a.legal; asked = some_asked a.legal (a.database, None) a.asked }
+
+pub compiled_done : (words : List (List ℕ)) (store : Option Held) (m : Meaning) → meaning words ≡ Some m → (texts : List (List ℕ)) → HoldTexts store (files_meant m) texts → (c : Compiled) → AreCompiled m texts c → WasDone words store
+compiled_done words store m e texts h c a = record { command = m; means = e; built = a.built; texts = texts; holds = h; legal = a.legal; asked = some_asked a.legal (a.database, Some a.question) a.asked }
 
 -- without a query nothing is asked
 pub nothing_asked : (library texts : List (List ℕ)) (l : AreLegal library texts None) (d : Database) (q : Option Question) → asks l ≡ Some (d, q) → q ≡ None

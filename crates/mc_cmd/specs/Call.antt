@@ -1,10 +1,14 @@
 -- How a call went: what it told, put and counted. (This project's profile.)
-use Rattle.std.specs.Prelude.{◌≡◌, ℕ, List, ◌++◌, Contains, Option, Some, None}
+use Rattle.std.specs.Prelude.{◌≡◌, ◌≢◌, ℕ, false, List, ◌++◌, Contains, Option, Some, None}
 use Rattle.mc_outside.specs.Counts.{Rose}
 use Rattle.mc_outside.specs.Meaning.{Held, PutsFront}
+use Rattle.mc_words.specs.Words.{Meaning, meaning}
+use Rattle.mc_compile.specs.Library.{library_texts}
+use Rattle.mc_compile.specs.Rejected.{AreLegal}
+use Rattle.mc_compile.specs.Compiled.{asks}
 use Rattle.mc_cmd.specs.declared.status.Status.{Status}
 use Rattle.mc_cmd.specs.declared.status.Status.TheVariants as S
-use Rattle.mc_cmd.specs.Outcome.{texts_in, These, Missing, unreadable_line}
+use Rattle.mc_cmd.specs.Outcome.{texts_in, These, Missing, unreadable_line, files_of, query_of, is_unbuilt}
 
 -- the store tells what it holds, and the sinks what was written
 pub record Told (store : Option Held) (held : Held) (out : Option (List ℕ)) (before_out : List ℕ) (err : Option (List ℕ)) (before_err : List ℕ) : Type 0 where
@@ -43,3 +47,13 @@ CanCome _ = Unit {0}
 abbrev pub HoldTexts : Option Held → (files texts : List (List ℕ)) → Type 0
 HoldTexts None files texts = Unit {0}
 HoldTexts (Some held) files texts = texts_in held files ≡ These texts
+
+-- the words mean a command that is built, whose sources are legal and of the form that is answered
+pub record WasDone (words : List (List ℕ)) (store : Option Held) : Type 0 where
+  pub command : Meaning
+  pub means : meaning words ≡ Some command
+  pub built : is_unbuilt command ≡ false
+  pub texts : List (List ℕ)
+  pub holds : HoldTexts store (files_of command) texts
+  pub legal : AreLegal library_texts texts (query_of command)
+  pub asked : asks legal ≢ None

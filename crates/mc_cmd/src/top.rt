@@ -9,7 +9,7 @@ ghost use Rattle.mc_compile.specs.Library.{library_texts};
 ghost use Rattle.mc_compile.specs.Rejected.{AreLegal, Breaks};
 ghost use Rattle.mc_compile.specs.Compiled.{asks};
 ghost use Rattle.mc_cmd.specs.Outcome.{Outcome, Defined, files_of, query_of, is_unbuilt};
-ghost use Rattle.mc_cmd.specs.Call.{Told, NoneRose, Wrote, Lacks, HoldTexts, SaysUnreadable, CanCome};
+ghost use Rattle.mc_cmd.specs.Call.{Told, NoneRose, Wrote, Lacks, HoldTexts, SaysUnreadable, CanCome, WasDone};
 ghost use Rattle.mc_cmd.specs.Decisions.{Happened, ended};
 
 use crate::decide::decide;
@@ -52,6 +52,7 @@ pub fn merc<F: Files, I: Source, O: Sink, E: Sink>(
     ensures truth { (m : Meaning) (texts : List (List ℕ)) (l : AreLegal library_texts texts (query_of m)) (d : Database) (q : Question) → asks l ≡ Some (d, Some q) →
         GoodProcedures (system_of d q) × ((n h : ℕ) → GoodQuery (system_of d q) n h (query_procedure d q)) }
     // The causes of the answers.
+    ensures done { result ≡ Status.Done → WasDone (map string_bytes words.now.items) (F.held files.old) }
     ensures usage { result ≡ Status.Usage → meaning (map string_bytes words.now.items) ≡ None }
     ensures usage_told { meaning (map string_bytes words.now.items) ≡ None → (result ≡ Status.Usage) ⊎ ((result ≡ Status.WriteFault) ⊎ (result ≡ Status.Memory)) }
     ensures rejected { result ≡ Status.Rejected → (m : Meaning) × ((meaning (map string_bytes words.now.items) ≡ Some m) ×

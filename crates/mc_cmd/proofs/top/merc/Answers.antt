@@ -1,4 +1,4 @@
-use Rattle.mc_cmd.proofs.Calls.{Laws, whole, prefixes, unread, true_runs, usage_cause, usage_told, rejected_cause, not_built_cause, absent_cause, absent_lacks, read_cause, read_seen, write_cause, write_seen, can_come}
+use Rattle.mc_cmd.proofs.Calls.{Laws, whole, prefixes, unread, true_runs, done_cause, usage_cause, usage_told, rejected_cause, not_built_cause, absent_cause, absent_lacks, read_cause, read_seen, write_cause, write_seen, can_come}
 use Rattle.mc_cmd.proofs.top.merc.Goals as goal
 
 pub returns-clause-whole_answer : goal.returns-clause-whole_answer
@@ -16,6 +16,9 @@ returns-clause-unreadable g c = λ m e f. unread _ _ _ _ _ _ _ _ _ c.carry_out.e
 
 pub returns-clause-truth : goal.returns-clause-truth
 returns-clause-truth g c = λ m texts l d q e. true_runs c.facts_fit.ensures c.question_asks.ensures c.facts_are_good.ensures m texts l d q e
+
+pub returns-clause-done : goal.returns-clause-done
+returns-clause-done g c = λ e. done_cause _ _ _ _ _ _ _ _ _ c.carry_out.ensures.happened e
 
 pub returns-clause-usage : goal.returns-clause-usage
 returns-clause-usage g c = λ e. usage_cause _ _ _ _ _ _ _ _ _ c.carry_out.ensures.happened e
