@@ -1,12 +1,13 @@
 -- What is answered of linked files and a goal.
 use Rattle.std.proofs.Common.{◌≡◌, ℕ, Bool, true, false, List, [], ◌∷◌, ◌++◌, map, length, take, drop, Option, Some, None, Result, Ok, Err, subst, refl, ap, sym, ◌∙◌}
 use Rattle.std.specs.Option.{is_some, option_map}
-use Rattle.std.specs.Prelude.{slice_index_or, IfOk}
+use Rattle.std.specs.Prelude.{slice_index_or, IfOk, IfSome}
 use Rattle.std.proofs.lemmas.List.{map-append, length-map, take-append-drop, take-map}
 use Rattle.mc_syntax.specs.Plain.{plain_term}
 use Rattle.mc_syntax.specs.declared.term.Term.{Term}
 use Rattle.mc_model.specs.declared.program.Symbol.{Symbol}
 use Rattle.mc_model.specs.declared.program.Pred.{Pred}
+use Rattle.mc_model.specs.declared.program.Place.{Place}
 use Rattle.mc_modules.specs.declared.names.Named.{Named}
 use Rattle.mc_model.specs.Programs.{ClauseForm, Predicate}
 use Rattle.mc_model.specs.PlainPrograms.{plain_pred, plain_symbol}
@@ -15,18 +16,19 @@ use Rattle.mc_decl_forms.specs.Terms.{is_distinct}
 use Rattle.mc_modules.specs.Files.{File, plain_files}
 use Rattle.mc_modules.specs.Linked.{Defined, plain_names, plain_named, linked, each, flat, types_of, preds_of}
 use Rattle.mc_items.specs.declared.entry.Entry.{Entry}
-use Rattle.mc_items.specs.Files.{plain_entry}
-use Rattle.mc_ground.specs.Database.{Question, predicate_of, query_predicate}
+use Rattle.mc_items.specs.Files.{plain_entry, place}
+use Rattle.mc_ground.specs.Database.{Question, fact, predicate_of, query_predicate}
 use Rattle.mc_compile.specs.declared.given.Compiled.{Compiled}
 use Rattle.mc_compile.specs.declared.facts.enums.Enums.{Enums}
 use Rattle.mc_compile.specs.declared.facts.query.Asked.{Asked}
-use Rattle.mc_compile.specs.Facts.{LinkedFiles, Fact, facts, database, question, given_preds, given_types, signatures, constants, names_of, or_none}
-use Rattle.mc_compile.specs.Compiled.{over_facts, with_question, query_predicates, goal_number, goal_variables}
-use Rattle.mc_compile.specs.Passes.{everywhere, all_plain, all_import_given, is_plain, imports_given, is_sound, all_some, signatures_through, facts_through, put_facts, put_all, table_through, no_clauses, predicates_over, AreEnums, count_types, linked_of, IsFormed, plain_question}
+use Rattle.mc_compile.specs.Facts.{LinkedFiles, Fact, facts, database, question, given_preds, given_types, signatures, constants, names_of, or_none, places}
+use Rattle.mc_compile.specs.Compiled.{over_facts, with_question, query_predicates, goal_number, goal_variables, beside_type, beside_pred, no_function, beside_fact, beside_facts, beside_query}
+use Rattle.mc_compile.specs.Passes.{everywhere, all_plain, all_import_given, is_plain, imports_given, is_sound, all_some, signatures_through, facts_through, put_facts, put_all, table_through, places_through, no_clauses, predicates_over, AreEnums, count_types, linked_of, IsFormed, plain_question}
 use Rattle.mc_compile.specs.declared.facts.sources.Sources.{Sources}
-use Rattle.mc_compile.specs.Answered.{IsAnswered, IsBuilt, IsMade, query_preds, goal_behind}
-use Rattle.mc_compile.proofs.Forms.{refuted, plain_none, imports_none, sound_none, some_through, all_facts, table_all, signatures_all, all_there}
-use Rattle.mc_compile.proofs.Builds.{facts_put, relations_all, preds_counted, asked_as, relations_counted, question_below, facts_are, no_facts, nothing_over, types_counted, first_of, same_names, repeated_names}
+use Rattle.mc_compile.specs.Answered.{IsAnswered, IsBuilt, IsMade, query_preds, query_besides, goal_behind}
+use Rattle.mc_compile.proofs.Forms.{refuted, plain_none, imports_none, sound_none, some_through, all_facts, table_all, places_all, signatures_all, all_there}
+use Rattle.mc_compile.proofs.Builds.{each_put, as_many, relations_all, preds_counted, asked_as, relations_counted, question_below, facts_are, no_facts, nothing_over, types_counted, first_of, same_names, repeated_names}
+use Rattle.mc_compile.proofs.FactsFit.{question_asks}
 
 pub not_plain : (P : LinkedFiles) (goal : Option Term) → all_plain P.given ≡ false → IsAnswered P goal None
 not_plain P goal e = nothing_over P goal (no_facts P (refuted P (λ own i. is_plain i) (plain_none P) 0 P.given e))
@@ -91,28 +93,49 @@ numbered : (P : LinkedFiles) (fs : List Fact) (n : ℕ) (q : Option Question) �
 numbered P fs n None e = refl
 numbered P fs n (Some q) e = e ∙ sym (relations_counted P fs)
 
-pub answered : (P : LinkedFiles) (goal : Option Term) (enums : Enums) (uss : List (List ℕ)) (table : List (List ClauseForm)) (q : Option Question) (c : Compiled) →
+-- what stands beside the query's clause
+asked_besides : (P : LinkedFiles) (goal : Option Term) (uss : List (List ℕ)) (fs : List Fact) (n : ℕ) (q : Option Question) → map (λ us. Some us) uss ≡ signatures P → facts P ≡ Some fs → IsAskedBy P goal q → query_besides n uss q ≡ beside_query n q
+asked_besides P goal uss fs n None e f a = refl
+asked_besides P None uss fs n (Some q) e f a = cc
+asked_besides P (Some goal) uss fs n (Some q) e f a =
+    ap (λ us. ((length us, place n 1) ∷ []) ∷ []) (ap (λ ss. or_none (slice_index_or ss q.relation None)) e ∙ sym (asked_as P fs q (question_below P (plain_term goal) q a)))
+    ∙ ap (λ k. ((k, place n 1) ∷ []) ∷ []) (sym (question_asks P fs (plain_term goal) q f a).arguments)
+
+besides_all : (P : LinkedFiles) (uss : List (List ℕ)) (besides : List (List (ℕ × Place))) → length uss ≡ length (given_preds P) → besides ≡ places_through P 0 (no_clauses uss) P.given → besides ≡ beside_facts P
+besides_all P uss besides e is =
+    is ∙ places_all P 0 (no_clauses uss) P.given ∙ each_put beside_fact uss (places P) ∙ ap (map (map beside_fact)) (as_many 0 uss (given_preds P) (places P) e)
+
+pub answered : (P : LinkedFiles) (goal : Option Term) (enums : Enums) (uss : List (List ℕ)) (table : List (List ClauseForm)) (besides : List (List (ℕ × Place))) (q : Option Question) (c : Compiled) →
     all_plain P.given ≡ true → all_import_given P ≡ true → is_distinct (names_of (constants P)) ≡ true → Some uss ≡ all_some (signatures_through P 0 P.given) →
-    Some table ≡ table_through P 0 (no_clauses uss) P.given → AreEnums (given_types P) enums → IsAskedBy P goal q → IsBuilt enums (predicates_over (given_preds P) uss table) uss q c →
+    Some table ≡ table_through P 0 (no_clauses uss) P.given → besides ≡ places_through P 0 (no_clauses uss) P.given → AreEnums (given_types P) enums → IsAskedBy P goal q →
+    IsBuilt enums (predicates_over (given_preds P) uss table) uss q c → map beside_pred c.program.preds ≡ map no_function (besides ++ query_besides (length P.given) uss q) →
     IsAnswered P goal (Some c)
-answered P goal enums uss table q c p g d s t enumerated a built =
+answered P goal enums uss table besides q c p g d s t b enumerated a built beside =
     let put = something_put (no_clauses uss) table (facts_through P 0 P.given) (t ∙ table_all P 0 (no_clauses uss) P.given) in
     let fs = put.0 in
     let known = types_known P uss s in
     let counted = counted_known P uss s in
     let relations : predicates_over (given_preds P) uss table ≡ map predicate_of (database P fs).relations =
-    ap (predicates_over (given_preds P) uss) (sym put.2 ∙ facts_put uss fs) ∙ sym (relations_all (signatures P) uss fs (given_preds P) known counted) in
+    ap (predicates_over (given_preds P) uss) (sym put.2 ∙ each_put fact uss fs) ∙ sym (relations_all (signatures P) uss fs (given_preds P) known counted) in
     let length_known : length (predicates_over (given_preds P) uss table) ≡ length (given_preds P) =
-    ap length relations ∙ length-map (database P fs).relations predicate_of ∙ relations_counted P fs in (
+    ap length relations ∙ length-map (database P fs).relations predicate_of ∙ relations_counted P fs in
+    let facts_known : facts P ≡ Some fs = facts_whole P uss p g d s ∙ put.1 in (
       database P fs,
       q,
-      over_some P goal q (facts P) fs (facts_whole P uss p g d s ∙ put.1) a,
+      over_some P goal q (facts P) fs facts_known a,
       record {
         types = ap (map (λ (t : TypeDef). t.symbols)) built.types ∙ enumerated.groups;
         symbols = ap (map plain_symbol) built.symbols ∙ enumerated.constructors;
         preds = built.preds ∙ ap (λ z. z ++ query_preds uss q) relations ∙ ap (λ z. map predicate_of (database P fs).relations ++ z) (queried P goal uss fs q known a);
         goal = built.goal ∙ numbered P fs (length (predicates_over (given_preds P) uss table)) q length_known;
         vars = built.vars;
+      },
+      record {
+        types = ap (map beside_type) built.types ∙ enumerated.besides;
+        preds =
+            beside
+            ∙ ap (λ z. map no_function (z ++ query_besides (length P.given) uss q)) (besides_all P uss besides counted b)
+            ∙ ap (λ z. map no_function (beside_facts P ++ z)) (asked_besides P goal uss fs (length P.given) q known facts_known a);
       },
     )
 
@@ -161,6 +184,13 @@ pub asked_some : (P : LinkedFiles) (goal : Option Term) (t : Term) (q : Question
 asked_some P None t q e a = cc
 asked_some P (Some u) t q e a = let same : u ≡ t = cc in ap (λ z. question P (plain_term z)) same ∙ a
 
+pub as_many_given : (s : Sources) → length (linked_of s).given ≡ length s.given.now
+as_many_given s = length-map s.given.now (map plain_entry)
+
+pub there : {A : Type 0} (Q : A → Type 0) (o : Option A) (a : A) → o ≡ Some a → IfSome o Q → Q a
+there Q None a e h = cc
+there Q (Some b) a e h = let same : b ≡ a = cc in subst Q same h
+
 pub if_ok : {A E : Type 0} (r : Result A E) (Q R : A → Type 0) → ((a : A) → Q a → R a) → IfOk r Q → IfOk r R
 if_ok (Ok a) Q R f h = f a h
 if_ok (Err e) Q R f h = tt
@@ -171,12 +201,14 @@ built_with enums ps preds uss q goal vars c e f g made =
     record { types = made.types; symbols = made.symbols; preds = ap (map plain_pred) made.preds_are ∙ e; goal = made.goal_is ∙ f; vars = made.vars_are ∙ g }
 
 -- the same where the types of arguments are seen through a slice
-pub answered_by : (P : LinkedFiles) (goal : Option Term) (enums : Enums) (uss seen : List (List ℕ)) (table : List (List ClauseForm)) (q : Option Question) (c : Compiled) →
+pub answered_by : (P : LinkedFiles) (goal : Option Term) (enums : Enums) (uss seen : List (List ℕ)) (table : List (List ClauseForm)) (besides : List (List (ℕ × Place))) (q : Option Question) (c : Compiled) →
     seen ≡ uss → all_plain P.given ≡ true → all_import_given P ≡ true → is_distinct (names_of (constants P)) ≡ true → Some uss ≡ all_some (signatures_through P 0 P.given) →
-    Some table ≡ table_through P 0 (no_clauses uss) P.given → AreEnums (given_types P) enums → IsAskedBy P goal q → IsBuilt enums (predicates_over (given_preds P) seen table) seen q c →
+    Some table ≡ table_through P 0 (no_clauses uss) P.given → besides ≡ places_through P 0 (no_clauses uss) P.given → AreEnums (given_types P) enums → IsAskedBy P goal q →
+    IsBuilt enums (predicates_over (given_preds P) seen table) seen q c → map beside_pred c.program.preds ≡ map no_function (besides ++ query_besides (length P.given) seen q) →
     IsAnswered P goal (Some c)
-answered_by P goal enums uss seen table q c same p g d s t enumerated a built =
-    answered P goal enums uss table q c p g d s t enumerated a (subst (λ z. IsBuilt enums (predicates_over (given_preds P) z table) z q c) same built)
+answered_by P goal enums uss seen table besides q c same p g d s t b enumerated a built beside =
+    answered P goal enums uss table besides q c p g d s t b enumerated a (subst (λ z. IsBuilt enums (predicates_over (given_preds P) z table) z q c) same built)
+    (subst (λ z. map beside_pred c.program.preds ≡ map no_function (besides ++ query_besides (length P.given) z q)) same beside)
 
 append_nothing : {A : Type 0} (xs : List A) → xs ++ [] ≡ xs
 append_nothing [] = refl
@@ -192,6 +224,22 @@ pub built_some : (enums : Enums) (ps : List Predicate) (preds : List Pred) (uss 
     IsMade enums preds goal vars c → IsBuilt enums ps uss (option_map plain_question asked) c
 built_some enums ps preds uss asked a goal vars c e f g h made =
     subst (λ q. IsBuilt enums ps uss q c) (sym (ap (option_map plain_question) e)) (built_with enums ps preds uss (Some (plain_question a)) goal vars c h g f made)
+
+pub pushed_beside : (preds new : List Pred) (p : Pred) (css : List (List (ℕ × Place))) (cs : List (ℕ × Place)) → new ≡ preds ++ p ∷ [] → map beside_pred preds ≡ map no_function css → beside_pred p ≡ no_function cs →
+    map beside_pred new ≡ map no_function (css ++ cs ∷ [])
+pushed_beside preds new p css cs is e f =
+    ap (map beside_pred) is ∙ map-append beside_pred preds (p ∷ []) ∙ ap (λ z. z ++ beside_pred p ∷ []) e ∙ ap (λ z. map no_function css ++ z ∷ []) f ∙ sym (map-append no_function css (cs ∷ []))
+
+-- what stands beside the predicates of a program that is made of these, with a query and without
+pub beside_some : (enums : Enums) (preds : List Pred) (css : List (List (ℕ × Place))) (n : ℕ) (uss : List (List ℕ)) (asked : Option Asked) (a : Asked) (goal : ℕ) (vars : List (List ℕ)) (c : Compiled) → asked ≡ Some a →
+    map beside_pred preds ≡ map no_function (css ++ query_besides n uss (Some (plain_question a))) → IsMade enums preds goal vars c → map beside_pred c.program.preds ≡ map no_function (css ++ query_besides n uss (option_map plain_question asked))
+beside_some enums preds css n uss asked a goal vars c e f made =
+    ap (map beside_pred) made.preds_are ∙ f ∙ ap (λ o. map no_function (css ++ query_besides n uss (option_map plain_question o))) (sym e)
+
+pub beside_none : (enums : Enums) (preds : List Pred) (css : List (List (ℕ × Place))) (n : ℕ) (uss : List (List ℕ)) (asked : Option Asked) (goal : ℕ) (vars : List (List ℕ)) (c : Compiled) → asked ≡ None →
+    map beside_pred preds ≡ map no_function css → IsMade enums preds goal vars c → map beside_pred c.program.preds ≡ map no_function (css ++ query_besides n uss (option_map plain_question asked))
+beside_none enums preds css n uss asked goal vars c e f made =
+    ap (map beside_pred) made.preds_are ∙ f ∙ ap (map no_function) (sym (append_nothing css)) ∙ ap (λ o. map no_function (css ++ query_besides n uss (option_map plain_question o))) (sym e)
 
 pub pushed : (preds new : List Pred) (p : Pred) (ps : List Predicate) (q : Predicate) → new ≡ preds ++ p ∷ [] → map plain_pred preds ≡ ps → plain_pred p ≡ q → map plain_pred new ≡ ps ++ q ∷ []
 pushed preds new p ps q is e f = ap (map plain_pred) is ∙ map-append plain_pred preds (p ∷ []) ∙ ap (λ z. z ++ plain_pred p ∷ []) e ∙ ap (λ z. ps ++ z ∷ []) f

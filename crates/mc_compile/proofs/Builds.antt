@@ -13,86 +13,94 @@ use Rattle.mc_item_names.specs.Things.{things}
 use Rattle.mc_modules.specs.Files.{File, Section, Standing, section_after, standing, standing_from, is_empty}
 use Rattle.mc_modules.specs.Linked.{Defined, each, flat, types_by, types_in, types_of, of_kind, is_pred, sorted_in, preds_of, name_of}
 use Rattle.mc_ground.specs.Database.{Constant, Question, constructor_of, fact, predicate_of, no_relation, asked_types}
-use Rattle.mc_compile.specs.Facts.{LinkedFiles, Fact, signature_by, rows_of, relations_from, names_of, or_none, given_preds, signatures, database, constants, facts, facts_from, below, asked, question, variables}
+use Rattle.mc_compile.specs.Facts.{LinkedFiles, Fact, signature_by, those_of, by_predicate, relations_from, names_of, or_none, given_preds, signatures, database, constants, facts, facts_from, below, asked, question, variables}
 use Rattle.mc_compile.specs.Compiled.{over_facts}
-use Rattle.mc_compile.specs.Passes.{every, everywhere, is_plain, signatures_over, signatures_through, put_clause, put_facts, no_clauses, tables_from, predicates_over, types_by_item, count_types_in, count_types}
+use Rattle.mc_compile.specs.Passes.{every, everywhere, is_plain, signatures_over, signatures_through, put_behind, put_each, no_clauses, tables_from, predicates_over, types_by_item, count_types_in, count_types}
 
-one_more : (b : Bool) (row : List ℕ) (xs ys : List (List ℕ)) (last : List (List ℕ)) → xs ≡ ys ++ last → cond b (row ∷ xs) xs ≡ cond b (row ∷ ys) ys ++ last
-one_more true row xs ys last e = ap (λ z. row ∷ z) e
-one_more false row xs ys last e = e
+one_more : {A : Type 0} (b : Bool) (x : A) (xs ys last : List A) → xs ≡ ys ++ last → cond b (x ∷ xs) xs ≡ cond b (x ∷ ys) ys ++ last
+one_more true x xs ys last e = ap (λ z. x ∷ z) e
+one_more false x xs ys last e = e
 
-rows_more : (n : ℕ) (fs : List Fact) (g : Fact) → rows_of n (fs ++ g ∷ []) ≡ rows_of n fs ++ cond (nat_eq g.0 n) (g.1 ∷ []) []
-rows_more n [] g = refl
-rows_more n (f ∷ fs) g = one_more (nat_eq f.0 n) f.1 (rows_of n (fs ++ g ∷ [])) (rows_of n fs) (cond (nat_eq g.0 n) (g.1 ∷ []) []) (rows_more n fs g)
+those_more : {A : Type 0} (n : ℕ) (xs : List (ℕ × A)) (y : ℕ × A) → those_of n (xs ++ y ∷ []) ≡ those_of n xs ++ cond (nat_eq y.0 n) (y.1 ∷ []) []
+those_more n [] y = refl
+those_more n (x ∷ xs) y = one_more (nat_eq x.0 n) x.1 (those_of n (xs ++ y ∷ [])) (those_of n xs) (cond (nat_eq y.0 n) (y.1 ∷ []) []) (those_more n xs y)
 
 append_nil : {A : Type 0} (xs : List A) → xs ++ [] ≡ xs
 append_nil [] = refl
 append_nil (x ∷ xs) = ap (λ l. x ∷ l) (append_nil xs)
 
-rows_other : (n p : ℕ) (fs : List Fact) (row : List ℕ) → nat_eq p n ≡ false → rows_of n (fs ++ (p, row) ∷ []) ≡ rows_of n fs
-rows_other n p fs row e = rows_more n fs (p, row) ∙ ap (λ b. rows_of n fs ++ cond b (row ∷ []) []) e ∙ append_nil (rows_of n fs)
+those_other : {A : Type 0} (n p : ℕ) (xs : List (ℕ × A)) (y : A) → nat_eq p n ≡ false → those_of n (xs ++ (p, y) ∷ []) ≡ those_of n xs
+those_other n p xs y e = those_more n xs (p, y) ∙ ap (λ b. those_of n xs ++ cond b (y ∷ []) []) e ∙ append_nil (those_of n xs)
 
-rows_same : (n p : ℕ) (fs : List Fact) (row : List ℕ) → nat_eq p n ≡ true → rows_of n (fs ++ (p, row) ∷ []) ≡ rows_of n fs ++ row ∷ []
-rows_same n p fs row e = rows_more n fs (p, row) ∙ ap (λ b. rows_of n fs ++ cond b (row ∷ []) []) e
+those_same : {A : Type 0} (n p : ℕ) (xs : List (ℕ × A)) (y : A) → nat_eq p n ≡ true → those_of n (xs ++ (p, y) ∷ []) ≡ those_of n xs ++ y ∷ []
+those_same n p xs y e = those_more n xs (p, y) ∙ ap (λ b. those_of n xs ++ cond b (y ∷ []) []) e
 
 differ : (p n : ℕ) → p < n → nat_eq p n ≡ false
 differ p n e = grind (arith, e)
 
-table_below : (n p : ℕ) (uss : List (List ℕ)) (fs : List Fact) (row : List ℕ) → p < n → tables_from n uss (fs ++ (p, row) ∷ []) ≡ tables_from n uss fs
-table_below n p [] fs row e = refl
-table_below n p (us ∷ uss) fs row e =
-    ap (λ z. map fact z ∷ tables_from (n + 1) uss (fs ++ (p, row) ∷ [])) (rows_other n p fs row (differ p n e))
-    ∙ ap (λ z. map fact (rows_of n fs) ∷ z) (table_below (n + 1) p uss fs row (omega (arith, e)))
+module _ {A B : Type 0} (kept : A → B) where
+  table_below : (n p : ℕ) (uss : List (List ℕ)) (xs : List (ℕ × A)) (y : A) → p < n → tables_from kept n uss (xs ++ (p, y) ∷ []) ≡ tables_from kept n uss xs
+  table_below n p [] xs y e = refl
+  table_below n p (us ∷ uss) xs y e =
+      ap (λ z. map kept z ∷ tables_from kept (n + 1) uss (xs ++ (p, y) ∷ [])) (those_other n p xs y (differ p n e))
+      ∙ ap (λ z. map kept (those_of n xs) ∷ z) (table_below (n + 1) p uss xs y (omega (arith, e)))
 
--- p is the number n + k
-table_put : (n k p : ℕ) (uss : List (List ℕ)) (fs : List Fact) (row : List ℕ) → p ≡ n + k → put_clause k (fact row) (tables_from n uss fs) ≡ tables_from n uss (fs ++ (p, row) ∷ [])
-table_put n k p [] fs row e = past k
-  where
-    past : (j : ℕ) → put_clause j (fact row) [] ≡ []
-    past zero = refl
-    past (suc j) = refl
-table_put n zero p (us ∷ uss) fs row e =
-    let same : p ≡ n = omega (arith, e) in
-    let here : nat_eq p n ≡ true = grind (arith, same) in
-    ap (λ z. z ∷ tables_from (n + 1) uss fs) (sym (map-append fact (rows_of n fs) (row ∷ [])) ∙ ap (map fact) (sym (rows_same n p fs row here)))
-    ∙ ap (λ z. map fact (rows_of n (fs ++ (p, row) ∷ [])) ∷ z) (sym (table_below (n + 1) p uss fs row (omega (arith, e))))
-table_put n (suc k) p (us ∷ uss) fs row e =
-    let other : nat_eq p n ≡ false = grind (arith, e) in
-    ap (λ z. map fact (rows_of n fs) ∷ z) (table_put (n + 1) k p uss fs row (omega (arith, e)))
-    ∙ ap (λ z. map fact z ∷ tables_from (n + 1) uss (fs ++ (p, row) ∷ [])) (sym (rows_other n p fs row other))
+  past : (y : A) (k : ℕ) → put_behind k (kept y) [] ≡ []
+  past y zero = refl
+  past y (suc k) = refl
 
-tables_put : (uss : List (List ℕ)) (fs gs : List Fact) → put_facts gs (tables_from 0 uss fs) ≡ tables_from 0 uss (fs ++ gs)
-tables_put uss fs [] = ap (tables_from 0 uss) (sym (append_nil fs))
-tables_put uss fs (g ∷ gs) =
-    ap (put_facts gs) (table_put 0 g.0 g.0 uss fs g.1 (omega arith))
-    ∙ tables_put uss (fs ++ g ∷ []) gs
-    ∙ ap (tables_from 0 uss) (append_assoc fs (g ∷ []) gs)
+  -- p is the number n + k
+  table_put : (n k p : ℕ) (uss : List (List ℕ)) (xs : List (ℕ × A)) (y : A) → p ≡ n + k → put_behind k (kept y) (tables_from kept n uss xs) ≡ tables_from kept n uss (xs ++ (p, y) ∷ [])
+  table_put n k p [] xs y e = past y k
+  table_put n zero p (us ∷ uss) xs y e =
+      let same : p ≡ n = omega (arith, e) in
+      let here : nat_eq p n ≡ true = grind (arith, same) in
+      ap (λ z. z ∷ tables_from kept (n + 1) uss xs) (sym (map-append kept (those_of n xs) (y ∷ [])) ∙ ap (map kept) (sym (those_same n p xs y here)))
+      ∙ ap (λ z. map kept (those_of n (xs ++ (p, y) ∷ [])) ∷ z) (sym (table_below (n + 1) p uss xs y (omega (arith, e))))
+  table_put n (suc k) p (us ∷ uss) xs y e =
+      let other : nat_eq p n ≡ false = grind (arith, e) in
+      ap (λ z. map kept (those_of n xs) ∷ z) (table_put (n + 1) k p uss xs y (omega (arith, e)))
+      ∙ ap (λ z. map kept z ∷ tables_from kept (n + 1) uss (xs ++ (p, y) ∷ [])) (sym (those_other n p xs y other))
 
-tables_none : (n : ℕ) (uss : List (List ℕ)) → no_clauses uss ≡ tables_from n uss []
-tables_none n [] = refl
-tables_none n (us ∷ uss) = ap (λ z. [] ∷ z) (tables_none (n + 1) uss)
+  tables_put : (uss : List (List ℕ)) (xs ys : List (ℕ × A)) → put_each kept ys (tables_from kept 0 uss xs) ≡ tables_from kept 0 uss (xs ++ ys)
+  tables_put uss xs [] = ap (tables_from kept 0 uss) (sym (append_nil xs))
+  tables_put uss xs (y ∷ ys) =
+      ap (put_each kept ys) (table_put 0 y.0 y.0 uss xs y.1 (omega arith))
+      ∙ tables_put uss (xs ++ y ∷ []) ys
+      ∙ ap (tables_from kept 0 uss) (append_assoc xs (y ∷ []) ys)
 
-pub facts_put : (uss : List (List ℕ)) (fs : List Fact) → put_facts fs (no_clauses uss) ≡ tables_from 0 uss fs
-facts_put uss fs = ap (put_facts fs) (tables_none 0 uss) ∙ tables_put uss [] fs
+  tables_none : (n : ℕ) (uss : List (List ℕ)) → no_clauses uss ≡ tables_from kept n uss []
+  tables_none n [] = refl
+  tables_none n (us ∷ uss) = ap (λ z. [] ∷ z) (tables_none (n + 1) uss)
+
+  pub each_put : (uss : List (List ℕ)) (xs : List (ℕ × A)) → put_each kept xs (no_clauses uss) ≡ tables_from kept 0 uss xs
+  each_put uss xs = ap (put_each kept xs) (tables_none 0 uss) ∙ tables_put uss [] xs
+
+-- as many predicates have as many
+pub as_many : {A B C : Type 0} (p : ℕ) (bs : List B) (cs : List C) (xs : List (ℕ × A)) → length bs ≡ length cs → by_predicate p bs xs ≡ by_predicate p cs xs
+as_many p [] [] xs e = refl
+as_many p [] (c ∷ cs) xs e = absurd (omega (arith, e))
+as_many p (b ∷ bs) [] xs e = absurd (omega (arith, e))
+as_many p (b ∷ bs) (c ∷ cs) xs e = ap (λ z. those_of p xs ∷ z) (as_many (p + 1) bs cs xs (omega (arith, e)))
 
 index_there : (pre : List (Option (List ℕ))) (us : Option (List ℕ)) (post : List (Option (List ℕ))) → slice_index_or (pre ++ us ∷ post) (length pre) None ≡ us
 index_there [] us post = refl
 index_there (x ∷ pre) us post = index_there pre us post
 
 relations_at : (p : ℕ) (ss pre : List (Option (List ℕ))) (uss : List (List ℕ)) (fs : List Fact) (ds : List Defined) → p ≡ length pre → ss ≡ pre ++ map (λ us. Some us) uss → length uss ≡ length ds →
-    map predicate_of (relations_from p ss fs ds) ≡ predicates_over ds uss (tables_from p uss fs)
+    map predicate_of (relations_from p ss fs ds) ≡ predicates_over ds uss (tables_from fact p uss fs)
 relations_at p ss pre [] fs [] e f g = refl
 relations_at p ss pre (us ∷ uss) fs [] e f g = absurd (omega (arith, g))
 relations_at p ss pre [] fs (d ∷ ds) e f g = absurd (omega (arith, g))
 relations_at p ss pre (us ∷ uss) fs (d ∷ ds) e f g =
     let here : slice_index_or ss p None ≡ Some us = ap (λ z. slice_index_or z p None) f ∙ ap (λ n. slice_index_or (pre ++ Some us ∷ map (λ vs. Some vs) uss) n None) e ∙ index_there pre (Some us) (map (λ vs. Some vs) uss) in
     let longer : p + 1 ≡ length (pre ++ Some us ∷ []) = grind (arith, e, length-append pre (Some us ∷ [])) in
-    let others : map predicate_of (relations_from (p + 1) ss fs ds) ≡ predicates_over ds uss (tables_from (p + 1) uss fs) =
+    let others : map predicate_of (relations_from (p + 1) ss fs ds) ≡ predicates_over ds uss (tables_from fact (p + 1) uss fs) =
     relations_at (p + 1) ss (pre ++ Some us ∷ []) uss fs ds longer (f ∙ sym (append_assoc pre (Some us ∷ []) (map (λ vs. Some vs) uss))) (omega (arith, g)) in
     rw (here, others) refl
 
 pub relations_all : (ss : List (Option (List ℕ))) (uss : List (List ℕ)) (fs : List Fact) (ds : List Defined) → map (λ us. Some us) uss ≡ ss → length uss ≡ length ds →
-    map predicate_of (relations_from 0 ss fs ds) ≡ predicates_over ds uss (tables_from 0 uss fs)
+    map predicate_of (relations_from 0 ss fs ds) ≡ predicates_over ds uss (tables_from fact 0 uss fs)
 relations_all ss uss fs ds e g = relations_at 0 ss [] uss fs ds refl (sym e) g
 
 type_count : (m : List ℕ) (all : List Standing) (s : Standing) (i : It) → is_plain i ≡ true → length (types_by m all s i) ≡ types_by_item i

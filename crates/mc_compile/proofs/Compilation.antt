@@ -56,7 +56,7 @@ as_asked library texts query named l o answer =
 pub compiled_is : (library texts : List (List ℕ)) (query : Option (List ℕ)) (named : Named) (c : Compiled) → IsLegal library texts query named → IsAnswered (linked_files named.files (length texts) named.names) named.goal (Some c) → IsCompiled library texts query c
 compiled_is library texts query named c l answer =
     let a = as_asked library texts query named l (Some c) answer in
-    record { legal = l.legal; database = a.0; question = a.1; asked = a.2; program = a.3 }
+    record { legal = l.legal; database = a.0; question = a.1; asked = a.2; program = a.3; kept = a.4 }
 
 pub not_of_form : (library texts : List (List ℕ)) (query : Option (List ℕ)) (named : Named) (unbuilt : Bool) → IsLegal library texts query named → IsAnswered (linked_files named.files (length texts) named.names) named.goal None → IsFault library texts query unbuilt F.NotBuilt
 not_of_form library texts query named unbuilt l answer = (l.legal, inr (as_asked library texts query named l None answer))

@@ -15,7 +15,7 @@ use Rattle.mc_modules.specs.Linked.{Defined}
 use Rattle.mc_modules.specs.Candidates.{candidates}
 use Rattle.mc_ground.specs.Database.{Constant, no_constant, no_relation, Database, Question, constant_at}
 use Rattle.mc_ground.specs.Laws.{RowFits, RowsFit, Fits, Asks}
-use Rattle.mc_compile.specs.Facts.{LinkedFiles, Fact, facts, facts_from, facts_in, facts_by, both, as_list, nothing_where, database, constants, signatures, or_none, type_at, type_in, are_of, fact_of, fact_over, bare_fact, rows_of, relations_from, names_of, constant_numbers, own_predicate, is_rule_or_function, are_given, has_no_parameters, are_constants, is_nondet, signature, given_preds, below, asked, variables, predicates, sole_predicate, is_call, question}
+use Rattle.mc_compile.specs.Facts.{LinkedFiles, Fact, facts, facts_from, facts_in, facts_by, both, as_list, nothing_where, database, constants, signatures, or_none, type_at, type_in, are_of, fact_of, fact_over, bare_fact, those_of, relations_from, names_of, constant_numbers, own_predicate, is_rule_or_function, are_given, has_no_parameters, are_constants, is_nondet, signature, given_preds, below, asked, variables, predicates, sole_predicate, is_call, question}
 use Rattle.mc_compile.specs.FactsLaws.{FactsFit, QuestionAsks}
 
 and_first : (a b : Bool) → a && b ≡ true → a ≡ true
@@ -128,12 +128,12 @@ module _ (P : LinkedFiles) (every : List Fact) where
   all_good : (fs : List Fact) → facts P ≡ Some fs → AllGood fs
   all_good fs e = subst GoodWhere e (distinct_good (is_distinct (names_of (constants P))))
 
-  with_row : (p : ℕ) (f : Fact) (fs : List Fact) → Good f → RowsFit (database P every) (or_none (slice_index_or (signatures P) p None)) (rows_of p fs) → (b : Bool) → nat_eq f.0 p ≡ b
-      → RowsFit (database P every) (or_none (slice_index_or (signatures P) p None)) (cond b (f.1 ∷ rows_of p fs) (rows_of p fs))
+  with_row : (p : ℕ) (f : Fact) (fs : List Fact) → Good f → RowsFit (database P every) (or_none (slice_index_or (signatures P) p None)) (those_of p fs) → (b : Bool) → nat_eq f.0 p ≡ b
+      → RowsFit (database P every) (or_none (slice_index_or (signatures P) p None)) (cond b (f.1 ∷ those_of p fs) (those_of p fs))
   with_row p f fs good rest false e = rest
   with_row p f fs good rest true e = (subst (λ n. RowFits (database P every) (or_none (slice_index_or (signatures P) n None)) f.1) (eqb-true f.0 p e) good, rest)
 
-  rows_fit : (p : ℕ) (fs : List Fact) → AllGood fs → RowsFit (database P every) (or_none (slice_index_or (signatures P) p None)) (rows_of p fs)
+  rows_fit : (p : ℕ) (fs : List Fact) → AllGood fs → RowsFit (database P every) (or_none (slice_index_or (signatures P) p None)) (those_of p fs)
   rows_fit p [] a = tt
   rows_fit p (f ∷ fs) a = with_row p f fs a.0 (rows_fit p fs a.1) (nat_eq f.0 p) refl
 

@@ -2,10 +2,13 @@
 use Rattle.std.proofs.Common.{◌≡◌, ℕ, ◌+◌, Bool, true, false, cond, not, ◌&&◌, List, [], ◌∷◌, ◌++◌, map, Option, Some, None, refl, ap, sym, ◌∙◌}
 use Rattle.std.specs.Option.{is_some}
 use Rattle.mc_model.specs.Programs.{ClauseForm}
+use Rattle.mc_model.specs.declared.program.Place.{Place}
+use Rattle.mc_ground.specs.Database.{fact}
 use Rattle.mc_decl_forms.specs.Plain.{It, ModuleStart, ModuleEnd, Interface, Implementation, Imports, UseOnly, AbstractType, UnionType, SameType, SameInst, BoundInst, ModeDef, Pred, Func, Mode, Pragma, Clause}
 use Rattle.mc_modules.specs.Files.{File, Section, section_after, standing_from}
-use Rattle.mc_compile.specs.Facts.{LinkedFiles, Fact, facts_by, facts_in, facts_from, both, nothing_where, is_nondet, signature, signature_by, signatures_in, signatures_from}
-use Rattle.mc_compile.specs.Passes.{every, everywhere, is_plain, imports_given, is_sound, all_some, with_types, signatures_over, signatures_through, facts_of_clause, facts_over, facts_through, put_fact, put_facts, put_all, onward, table_over, table_through}
+use Rattle.mc_compile.specs.Facts.{LinkedFiles, Fact, facts_by, facts_in, facts_from, both, nothing_where, is_nondet, signature, signature_by, signatures_in, signatures_from, places_by, places_in, places_from}
+use Rattle.mc_compile.specs.Compiled.{beside_fact}
+use Rattle.mc_compile.specs.Passes.{every, everywhere, is_plain, imports_given, is_sound, all_some, with_types, signatures_over, signatures_through, facts_of_clause, facts_over, facts_through, put_behind, put_each, put_places, places_over, places_through, put_all, onward, table_over, table_through}
 
 both_none : (x : Option (List Fact)) → both x None ≡ None
 both_none None = refl
@@ -169,14 +172,25 @@ all_facts P k (f ∷ fs) p g t =
     ap (λ x. both x (facts_from P (k + 1) fs)) (file_facts P k true _ f (and_left _ _ p) (and_left _ _ g) (and_left _ _ t))
     ∙ ap (λ x. both (facts_over P k f) x) (all_facts P (k + 1) fs (and_right _ _ p) (and_right _ _ g) (and_right _ _ t))
 
-put_append : (fs gs : List Fact) (t : List (List ClauseForm)) → put_facts (fs ++ gs) t ≡ put_facts gs (put_facts fs t)
-put_append [] gs t = refl
-put_append (f ∷ fs) gs t = put_append fs gs (put_fact f t)
+put_append : {A B : Type 0} (kept : A → B) (xs ys : List (ℕ × A)) (t : List (List B)) → put_each kept (xs ++ ys) t ≡ put_each kept ys (put_each kept xs t)
+put_append kept [] ys t = refl
+put_append kept (x ∷ xs) ys t = put_append kept xs ys (put_behind x.0 (kept x.1) t)
+
+places_file : (P : LinkedFiles) (k : ℕ) (t : List (List (ℕ × Place))) (es : File) → places_over P k t es ≡ put_places (places_in P k es) t
+places_file P k t [] = refl
+places_file P k t (e ∷ es) = places_file P k (put_places (places_by P k e.0 e.1) t) es ∙ sym (put_append beside_fact (places_by P k e.0 e.1) (places_in P k es) t)
+
+pub places_all : (P : LinkedFiles) (k : ℕ) (t : List (List (ℕ × Place))) (fs : List File) → places_through P k t fs ≡ put_places (places_from P k fs) t
+places_all P k t [] = refl
+places_all P k t (f ∷ fs) =
+    ap (λ z. places_through P (k + 1) z fs) (places_file P k t f)
+    ∙ places_all P (k + 1) (put_places (places_in P k f) t) fs
+    ∙ sym (put_append beside_fact (places_in P k f) (places_from P (k + 1) fs) t)
 
 put_both : (x y : Option (List Fact)) (t : List (List ClauseForm)) → put_all t (both x y) ≡ onward (put_all t x) (λ next. put_all next y)
 put_both None y t = refl
 put_both (Some fs) None t = refl
-put_both (Some fs) (Some gs) t = ap Some (put_append fs gs t)
+put_both (Some fs) (Some gs) t = ap Some (put_append fact fs gs t)
 
 onward_same : {A B : Type 0} (x : Option A) (f g : A → Option B) → ((a : A) → f a ≡ g a) → onward x f ≡ onward x g
 onward_same None f g e = refl

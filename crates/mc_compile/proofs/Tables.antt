@@ -10,16 +10,25 @@ use Rattle.mc_modules.specs.Linked.{Defined}
 use Rattle.mc_modules.specs.Faults.{is_number}
 use Rattle.mc_ground.specs.Database.{Constant, constructor_of, from, variables_from}
 use Rattle.mc_compile.specs.Facts.{type_at, are_of}
-use Rattle.mc_compile.specs.Passes.{plain_table, no_clauses, put_clause, predicate_over, predicates_over, type_of, are_of_types}
+use Rattle.mc_compile.specs.Compiled.{beside_clause}
+use Rattle.mc_compile.specs.Passes.{plain_table, beside_table, no_clauses, put_behind, predicate_over, predicates_over, type_of, are_of_types}
 
-pub put_there : (table : List (List Clause)) (p : ℕ) (old new : List Clause) (c : Clause) → p < length table → old ≡ get_or table p old → new ≡ old ++ c ∷ [] →
-    plain_table (set table p new) ≡ put_clause p (plain_clause c) (plain_table table)
-put_there [] p old new c inside here is = absurd (omega (arith, inside))
-put_there (row ∷ table) zero old new c inside here is =
-    ap (λ z. map plain_clause z ∷ plain_table table) (is ∙ ap (λ z. z ++ c ∷ []) here) ∙ ap (λ z. z ∷ plain_table table) (map-append plain_clause row (c ∷ []))
-put_there (row ∷ table) (suc p) old new c inside here is = ap (λ z. map plain_clause row ∷ z) (put_there table p old new c (omega (arith, inside)) here is)
+put_there : {A B : Type 0} (of : A → B) (table : List (List A)) (p : ℕ) (old new : List A) (x : A) → p < length table → old ≡ get_or table p old → new ≡ old ++ x ∷ [] →
+    map (map of) (set table p new) ≡ put_behind p (of x) (map (map of) table)
+put_there of [] p old new x inside here is = absurd (omega (arith, inside))
+put_there of (row ∷ table) zero old new x inside here is =
+    ap (λ z. map of z ∷ map (map of) table) (is ∙ ap (λ z. z ++ x ∷ []) here) ∙ ap (λ z. z ∷ map (map of) table) (map-append of row (x ∷ []))
+put_there of (row ∷ table) (suc p) old new x inside here is = ap (λ z. map of row ∷ z) (put_there of table p old new x (omega (arith, inside)) here is)
 
-pub one_more_empty : {A : Type 0} (table : List (List ClauseForm)) (x : A) (xs : List A) → (table ++ [] ∷ []) ++ no_clauses xs ≡ table ++ no_clauses (x ∷ xs)
+pub put_plain : (table : List (List Clause)) (p : ℕ) (old new : List Clause) (c : Clause) → p < length table → old ≡ get_or table p old → new ≡ old ++ c ∷ [] →
+    plain_table (set table p new) ≡ put_behind p (plain_clause c) (plain_table table)
+put_plain table p old new c inside here is = put_there plain_clause table p old new c inside here is
+
+pub put_beside : (table : List (List Clause)) (p : ℕ) (old new : List Clause) (c : Clause) → p < length table → old ≡ get_or table p old → new ≡ old ++ c ∷ [] →
+    beside_table (set table p new) ≡ put_behind p (beside_clause c) (beside_table table)
+put_beside table p old new c inside here is = put_there beside_clause table p old new c inside here is
+
+pub one_more_empty : {A B : Type 0} (table : List (List B)) (x : A) (xs : List A) → (table ++ [] ∷ []) ++ no_clauses xs ≡ table ++ no_clauses (x ∷ xs)
 one_more_empty table x xs = append_assoc table ([] ∷ []) (no_clauses xs)
 
 of_there : (cs : List Constant) (k : ℕ) → type_of (slice_get (map constructor_of cs) k) ≡ type_at cs k

@@ -2,9 +2,11 @@
 use Rattle.std.specs.Prelude.{◌≡◌, ℕ, List, [], ◌∷◌, ◌++◌, map, length, take, slice_index_or, Option, Some, None}
 use Rattle.mc_syntax.specs.declared.term.Term.{Term}
 use Rattle.mc_model.specs.declared.program.Pred.{Pred}
+use Rattle.mc_model.specs.declared.program.Place.{Place}
 use Rattle.mc_model.specs.Programs.{Predicate}
 use Rattle.mc_model.specs.PlainPrograms.{plain_pred}
 use Rattle.mc_items.specs.declared.entry.Entry.{Entry}
+use Rattle.mc_items.specs.Files.{place}
 use Rattle.mc_modules.specs.declared.names.Names.{Names}
 use Rattle.mc_modules.specs.Files.{plain_files}
 use Rattle.mc_modules.specs.Linked.{plain_names}
@@ -12,7 +14,7 @@ use Rattle.mc_ground.specs.Database.{Database, Question, query_predicate}
 use Rattle.mc_compile.specs.declared.given.Compiled.{Compiled}
 use Rattle.mc_compile.specs.declared.facts.enums.Enums.{Enums}
 use Rattle.mc_compile.specs.Facts.{LinkedFiles, facts, or_none}
-use Rattle.mc_compile.specs.Compiled.{over_facts, IsProgram, goal_variables}
+use Rattle.mc_compile.specs.Compiled.{over_facts, IsProgram, goal_variables, Keeps}
 
 -- linked files, of which the first are given
 abbrev pub linked_files : List (List Entry) → (given : ℕ) → Names → LinkedFiles
@@ -20,12 +22,17 @@ linked_files files n names = record { given = plain_files (take n files); all = 
 
 abbrev pub IsAnswered : LinkedFiles → Option Term → Option Compiled → Type 0
 IsAnswered P goal None = over_facts P goal (facts P) ≡ None
-IsAnswered P goal (Some c) = (d : Database) × (q : Option Question) × (over_facts P goal (facts P) ≡ Some (d, q)) × IsProgram d q c
+IsAnswered P goal (Some c) = (d : Database) × (q : Option Question) × (over_facts P goal (facts P) ≡ Some (d, q)) × IsProgram d q c × Keeps P q c
 
 -- the query's predicate, and the number of the goal's behind so many others
 abbrev pub query_preds : List (List ℕ) → Option Question → List Predicate
 query_preds uss None = []
 query_preds uss (Some q) = query_predicate q.relation (or_none (slice_index_or (map (λ us. Some us) uss) q.relation None)) ∷ []
+
+-- what stands beside its clause: a variable for each argument, and its place
+abbrev pub query_besides : (number : ℕ) → List (List ℕ) → Option Question → List (List (ℕ × Place))
+query_besides n uss None = []
+query_besides n uss (Some q) = ((length (or_none (slice_index_or (map (λ us. Some us) uss) q.relation None)), place n 1) ∷ []) ∷ []
 
 abbrev pub goal_behind : ℕ → Option Question → ℕ
 goal_behind n None = 0

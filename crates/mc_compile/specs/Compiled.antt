@@ -2,10 +2,15 @@
 use Rattle.std.specs.Prelude.{◌≡◌, ◌≢◌, ◌⊎◌, ℕ, ◌+◌, Bool, true, false, List, [], ◌∷◌, ◌++◌, map, length, Option, Some, None}
 use Rattle.mc_syntax.specs.Plain.{plain_term}
 use Rattle.mc_syntax.specs.declared.term.Term.{Term}
+use Rattle.mc_model.specs.declared.program.Name.{Name}
+use Rattle.mc_model.specs.declared.program.Place.{Place}
 use Rattle.mc_model.specs.declared.program.TypeDef.{TypeDef}
+use Rattle.mc_model.specs.declared.program.Clause.{Clause}
+use Rattle.mc_model.specs.declared.program.Pred.{Pred}
 use Rattle.mc_model.specs.Programs.{Predicate}
 use Rattle.mc_model.specs.PlainPrograms.{plain_symbol, plain_pred}
-use Rattle.mc_modules.specs.Linked.{linked}
+use Rattle.mc_items.specs.Files.{place}
+use Rattle.mc_modules.specs.Linked.{Defined, linked}
 use Rattle.mc_ground.specs.Database.{Database, Question, constructor_of, predicate_of, query_predicate, asked_types}
 use Rattle.mc_compile.specs.declared.given.Query.{Query}
 use Rattle.mc_compile.specs.declared.given.Compiled.{Compiled}
@@ -13,7 +18,7 @@ use Rattle.mc_compile.specs.declared.given.CompileFault.{CompileFault}
 use Rattle.mc_compile.specs.declared.given.CompileFault.TheVariants as F
 use Rattle.mc_compile.specs.Sources.{items_from}
 use Rattle.mc_compile.specs.Rejected.{AreLegal, Breaks}
-use Rattle.mc_compile.specs.Facts.{LinkedFiles, facts, database, question}
+use Rattle.mc_compile.specs.Facts.{LinkedFiles, facts, database, question, given_types, given_preds, places, by_predicate}
 
 -- the files of legal sources, with their names
 abbrev pub files_of : {library texts : List (List ℕ)} {query : Option (List ℕ)} → AreLegal library texts query → LinkedFiles
@@ -60,18 +65,55 @@ pub record IsProgram (d : Database) (q : Option Question) (c : Compiled) : Type 
   pub goal : c.goal ≡ goal_number d q
   pub vars : c.vars ≡ goal_variables q
 
+-- a type's name, and how many parameters it has
+abbrev pub beside_type : TypeDef → Name × ℕ
+beside_type t = (t.name, t.params)
+
+-- how many variables a clause has, and its place
+abbrev pub beside_clause : Clause → ℕ × Place
+beside_clause c = (c.vars, c.place)
+
+-- whether a predicate is a function, and what stands beside its clauses
+abbrev pub beside_pred : Pred → Bool × List (ℕ × Place)
+beside_pred p = (p.is_func, map beside_clause p.clauses)
+
+-- a type of this name without parameters, and a predicate that is no function
+abbrev pub no_parameters : Defined → Name × ℕ
+no_parameters d = (d.name, 0)
+
+abbrev pub no_function : List (ℕ × Place) → Bool × List (ℕ × Place)
+no_function cs = (false, cs)
+
+-- a fact's clause has no variables, and stands where the fact does
+abbrev pub beside_fact : Place → ℕ × Place
+beside_fact here = (0, here)
+
+abbrev pub beside_facts : LinkedFiles → List (List (ℕ × Place))
+beside_facts P = map (map beside_fact) (by_predicate 0 (given_preds P) (places P))
+
+-- The query's clause has the variables that the question names, and stands on the first line of a file that is numbered behind the given ones.
+abbrev pub beside_query : (number : ℕ) → Option Question → List (List (ℕ × Place))
+beside_query n None = []
+beside_query n (Some q) = ((length q.variables, place n 1) ∷ []) ∷ []
+
+-- Each type has its given name and no parameters. No predicate is a function, and the clauses are the facts of the predicates, in order, and then the query.
+pub record Keeps (P : LinkedFiles) (q : Option Question) (c : Compiled) : Type 0 where
+  pub types : map beside_type c.program.types ≡ map no_parameters (given_types P)
+  pub preds : map beside_pred c.program.preds ≡ map no_function (beside_facts P ++ beside_query (length P.given) q)
+
 -- whether the first answer alone is wanted
 abbrev pub is_first : Option Query → Bool
 is_first None = false
 is_first (Some q) = q.first
 
--- The sources are legal, and compiled to a program over the database that they are.
+-- The sources are legal, and compiled to a program over the database that they are, which keeps names and places.
 pub record IsCompiled (library texts : List (List ℕ)) (query : Option (List ℕ)) (c : Compiled) : Type 0 where
   pub legal : AreLegal library texts query
   pub database : Database
   pub question : Option Question
   pub asked : asks legal ≡ Some (database, question)
   pub program : IsProgram database question c
+  pub kept : Keeps (files_of legal) question c
 
 -- Why sources aren't compiled: they break rules; or they are legal, and a run of `main`, the first answer alone, or a form that isn't compiled yet is asked for.
 abbrev pub IsFault : (library texts : List (List ℕ)) → (query : Option (List ℕ)) → (unbuilt : Bool) → CompileFault → Type 0

@@ -7,6 +7,7 @@ use Rattle.mc_model.specs.declared.det.Det.{Det}
 use Rattle.mc_model.specs.declared.det.Most.{Most}
 use Rattle.mc_model.specs.declared.det.Most.TheVariants.{Many}
 use Rattle.mc_model.specs.declared.program.Candidate.{Candidate}
+use Rattle.mc_model.specs.declared.program.Place.{Place}
 use Rattle.mc_model.specs.declared.program.Candidate.TheVariants as C
 use Rattle.mc_clause_forms.specs.declared.connective.Parts.{Parts}
 use Rattle.mc_clause_forms.specs.declared.connective.Parts.TheVariants.{Arguments}
@@ -221,6 +222,27 @@ abbrev pub facts_from : LinkedFiles → (own : ℕ) → List File → Option (Li
 facts_from P own [] = Some []
 facts_from P own (f ∷ fs) = both (facts_in P own (standing f)) (facts_from P (own + 1) fs)
 
+-- where a fact stands, beside the number of its predicate
+abbrev pub place_of : Option Fact → Place → List (ℕ × Place)
+place_of None here = []
+place_of (Some f) here = (f.0, here) ∷ []
+
+abbrev pub places_by : LinkedFiles → (own : ℕ) → It → Place → List (ℕ × Place)
+places_by P own (Clause t) here = place_of (bare_fact P own t) here
+places_by P own i here = []
+
+abbrev pub places_in : LinkedFiles → (own : ℕ) → File → List (ℕ × Place)
+places_in P own [] = []
+places_in P own (e ∷ es) = places_by P own e.0 e.1 ++ places_in P own es
+
+abbrev pub places_from : LinkedFiles → (own : ℕ) → List File → List (ℕ × Place)
+places_from P own [] = []
+places_from P own (f ∷ fs) = places_in P own f ++ places_from P (own + 1) fs
+
+-- The places of the facts of the given files, in order: each clause of the form is one fact, which stands where its item does.
+abbrev pub places : LinkedFiles → List (ℕ × Place)
+places P = places_from P 0 P.given
+
 abbrev pub names_of : List Constant → List (List ℕ)
 names_of cs = map (λ c. c.name) cs
 
@@ -228,10 +250,15 @@ names_of cs = map (λ c. c.name) cs
 abbrev pub facts : LinkedFiles → Option (List Fact)
 facts P = cond (is_distinct (names_of (constants P))) (facts_from P 0 P.given) None
 
--- the facts of a predicate
-abbrev pub rows_of : ℕ → List Fact → List (List ℕ)
-rows_of p [] = []
-rows_of p (f ∷ fs) = cond (nat_eq f.0 p) (f.1 ∷ rows_of p fs) (rows_of p fs)
+-- those of a predicate, of what stands beside the numbers of predicates
+abbrev pub those_of : {A : Type 0} → ℕ → List (ℕ × A) → List A
+those_of p [] = []
+those_of p (x ∷ xs) = cond (nat_eq x.0 p) (x.1 ∷ those_of p xs) (those_of p xs)
+
+-- those of each predicate, which are numbered from p on
+abbrev pub by_predicate : {A B : Type 0} → (p : ℕ) → (preds : List B) → List (ℕ × A) → List (List A)
+by_predicate p [] xs = []
+by_predicate p (d ∷ ds) xs = those_of p xs ∷ by_predicate (p + 1) ds xs
 
 abbrev pub or_none : Option (List ℕ) → List ℕ
 or_none None = []
@@ -240,7 +267,7 @@ or_none (Some us) = us
 abbrev pub relations_from : (p : ℕ) → List (Option (List ℕ)) → List Fact → List Defined → List Relation
 relations_from p ss fs [] = []
 relations_from p ss fs (d ∷ ds) =
-    record { module_name = d.name.module; name = d.name.name; types = or_none (slice_index_or ss p None); rows = rows_of p fs } ∷ relations_from (p + 1) ss fs ds
+    record { module_name = d.name.module; name = d.name.name; types = or_none (slice_index_or ss p None); rows = those_of p fs } ∷ relations_from (p + 1) ss fs ds
 
 abbrev pub how_many : It → ℕ
 how_many (UnionType h ts) = count ts

@@ -5,6 +5,7 @@ use Rattle.mc_model.specs.declared.program.TypeDef.{TypeDef}
 use Rattle.mc_model.specs.PlainPrograms.{plain_symbol, plain_clause}
 use Rattle.mc_model.specs.Programs.{ClauseForm, Constructor, Predicate}
 use Rattle.mc_model.specs.declared.program.Clause.{Clause as ClauseItem}
+use Rattle.mc_model.specs.declared.program.Place.{Place}
 use Rattle.mc_decl_forms.specs.Plain.{It, ModuleStart, ModuleEnd, Interface, Implementation, Imports, UseOnly, UnionType, Pred, Pragma, Clause}
 use Rattle.mc_modules.specs.Files.{File, plain_files}
 use Rattle.mc_modules.specs.Linked.{Defined, plain_names}
@@ -14,7 +15,8 @@ use Rattle.mc_modules.specs.Faults.{is_number}
 use Rattle.mc_compile.specs.declared.facts.known.Known.{Known}
 use Rattle.mc_compile.specs.declared.facts.query.Asked.{Asked}
 use Rattle.mc_compile.specs.declared.facts.sources.Sources.{Sources}
-use Rattle.mc_compile.specs.Facts.{LinkedFiles, Fact, are_given, has_no_parameters, are_constants, is_nondet, is_rule_or_function, signature_by, bare_fact, as_list, both, groups_from, constants_from, given_types, given_preds, constants, signatures, rows_of}
+use Rattle.mc_compile.specs.Compiled.{beside_type, no_parameters, beside_clause, beside_fact}
+use Rattle.mc_compile.specs.Facts.{LinkedFiles, Fact, are_given, has_no_parameters, are_constants, is_nondet, is_rule_or_function, signature_by, bare_fact, as_list, both, groups_from, constants_from, given_types, given_preds, constants, signatures, by_predicate, places_by}
 
 -- whether each item of a file, and of files that are numbered from one on, passes a test
 abbrev pub every : (It → Bool) → File → Bool
@@ -51,8 +53,9 @@ imports_given P i = true
 abbrev pub all_import_given : LinkedFiles → Bool
 all_import_given P = everywhere (λ own i. imports_given P i) 0 P.given
 
--- the numbers of each type's constants, and the constants, of types that are built
+-- the numbers of each type's constants, the constants, and the names, of types without parameters that are built
 pub record AreEnums (ds : List Defined) (enums : Enums) : Type 0 where
+  pub besides : map beside_type enums.types ≡ map no_parameters ds
   pub groups : map (λ (t : TypeDef). t.symbols) enums.types ≡ groups_from 0 ds
   pub constructors : map plain_symbol enums.symbols ≡ map constructor_of (constants_from 0 ds)
 
@@ -103,16 +106,17 @@ abbrev pub facts_through : LinkedFiles → (own : ℕ) → List File → Option 
 facts_through P own [] = Some []
 facts_through P own (f ∷ fs) = both (facts_over P own f) (facts_through P (own + 1) fs)
 
--- clauses by predicate, with a fact put behind those of its own, and with several
-abbrev pub put_clause : (pred : ℕ) → ClauseForm → List (List ClauseForm) → List (List ClauseForm)
-put_clause p c table = slice_set table p (slice_index_or table p [] ++ c ∷ [])
+-- what is kept by predicate, with one more put behind those of its own, and with several
+abbrev pub put_behind : {A : Type 0} → (pred : ℕ) → A → List (List A) → List (List A)
+put_behind p x table = slice_set table p (slice_index_or table p [] ++ x ∷ [])
 
-abbrev pub put_fact : Fact → List (List ClauseForm) → List (List ClauseForm)
-put_fact f table = put_clause f.0 (fact f.1) table
+abbrev pub put_each : {A B : Type 0} → (A → B) → List (ℕ × A) → List (List B) → List (List B)
+put_each kept [] table = table
+put_each kept (x ∷ xs) table = put_each kept xs (put_behind x.0 (kept x.1) table)
 
+-- clauses by predicate, with facts put behind those of their own
 abbrev pub put_facts : List Fact → List (List ClauseForm) → List (List ClauseForm)
-put_facts [] table = table
-put_facts (f ∷ fs) table = put_facts fs (put_fact f table)
+put_facts fs table = put_each fact fs table
 
 abbrev pub put_all : List (List ClauseForm) → Option (List Fact) → Option (List (List ClauseForm))
 put_all table fs = option_map (λ all. put_facts all table) fs
@@ -134,8 +138,23 @@ table_through P own table (f ∷ fs) = onward (table_over P own table f) (λ nex
 abbrev pub plain_table : List (List ClauseItem) → List (List ClauseForm)
 plain_table table = map (map plain_clause) table
 
--- no clauses yet, for each of some predicates
-abbrev pub no_clauses : {A : Type 0} → List A → List (List ClauseForm)
+-- the same of how many variables the clauses have, and where they stand
+abbrev pub put_places : List (ℕ × Place) → List (List (ℕ × Place)) → List (List (ℕ × Place))
+put_places xs table = put_each beside_fact xs table
+
+abbrev pub places_over : LinkedFiles → (own : ℕ) → List (List (ℕ × Place)) → File → List (List (ℕ × Place))
+places_over P own table [] = table
+places_over P own table (e ∷ es) = places_over P own (put_places (places_by P own e.0 e.1) table) es
+
+abbrev pub places_through : LinkedFiles → (own : ℕ) → List (List (ℕ × Place)) → List File → List (List (ℕ × Place))
+places_through P own table [] = table
+places_through P own table (f ∷ fs) = places_through P (own + 1) (places_over P own table f) fs
+
+abbrev pub beside_table : List (List ClauseItem) → List (List (ℕ × Place))
+beside_table table = map (map beside_clause) table
+
+-- nothing yet, for each of some predicates
+abbrev pub no_clauses : {A B : Type 0} → List A → List (List B)
 no_clauses [] = []
 no_clauses (x ∷ xs) = [] ∷ no_clauses xs
 
@@ -194,10 +213,9 @@ abbrev pub predicates_over : List Defined → List (List ℕ) → List (List Cla
 predicates_over (d ∷ ds) (us ∷ uss) (cs ∷ css) = predicate_over d us cs ∷ predicates_over ds uss css
 predicates_over _ _ _ = []
 
--- the clauses of predicates from one on, by the facts
-abbrev pub tables_from : (p : ℕ) → List (List ℕ) → List Fact → List (List ClauseForm)
-tables_from p [] fs = []
-tables_from p (us ∷ uss) fs = map fact (rows_of p fs) ∷ tables_from (p + 1) uss fs
+-- what is kept of predicates that are numbered from p on
+abbrev pub tables_from : {A B : Type 0} → (A → B) → (p : ℕ) → List (List ℕ) → List (ℕ × A) → List (List B)
+tables_from kept p uss xs = map (map kept) (by_predicate p uss xs)
 
 -- Linked files whose items are of the form as far as their own text and their imports tell.
 pub record IsFormed (s : Sources) : Type 0 where

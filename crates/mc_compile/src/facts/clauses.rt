@@ -1,4 +1,4 @@
-ghost use Rattle.std.specs.Prelude.{◌≡◌, ◌<◌, ◌++◌, ◌∷◌, [], cond, Some, None, map, length, IfOk, IfSome, OnOk};
+ghost use Rattle.std.specs.Prelude.{◌≡◌, ◌<◌, ◌++◌, ◌∷◌, [], cond, Some, None, map, length, IfOk, IfSome, OnOk, IsTrue};
 ghost use Rattle.std.specs.Option.{option_map};
 ghost use Rattle.mc_syntax.specs.Plain.{plain_term, tms};
 ghost use Rattle.mc_decl_forms.specs.Plain.{plain_item};
@@ -6,8 +6,9 @@ ghost use Rattle.mc_items.specs.Files.{plain_entry};
 ghost use Rattle.mc_model.specs.Programs.{made, no_expressions};
 ghost use Rattle.mc_model.specs.PlainPrograms.{plain_expression, plain_clause};
 ghost use Rattle.mc_ground.specs.Database.{fact};
-ghost use Rattle.mc_compile.specs.Facts.{bare_fact, fact_over};
-ghost use Rattle.mc_compile.specs.Passes.{linked_of, IsKnown, facts_of_clause, put_clause, put_all, table_over, table_through, plain_table, no_clauses};
+ghost use Rattle.mc_compile.specs.Facts.{bare_fact, fact_over, places_by};
+ghost use Rattle.mc_compile.specs.Compiled.{beside_clause, beside_fact};
+ghost use Rattle.mc_compile.specs.Passes.{linked_of, IsKnown, facts_of_clause, put_behind, put_all, table_over, table_through, plain_table, put_places, places_over, places_through, beside_table, no_clauses};
 
 use crate::facts::known::{Known, are_of, signature_at};
 use mc_base::{Memory, Row};
@@ -23,6 +24,7 @@ impl Known<'_> {
     pub fn clauses(&self, alloc: Global) -> Result<Option<Vec<Row<Clause>>>, Memory>
         requires { IsKnown self.now }
         ensures clauses { IfOk result (λ all. option_map (λ table. plain_table table.items) all ≡ table_through (linked_of self.now.sources) 0 (no_clauses self.now.signatures.now) (linked_of self.now.sources).given) }
+        ensures places { IfOk result (λ all. IfSome all (λ table. beside_table table.items ≡ places_through (linked_of self.now.sources) 0 (no_clauses self.now.signatures.now) (linked_of self.now.sources).given)) }
         ensures len { IfOk result (λ all. IfSome all (λ table. length table.items ≡ length self.now.signatures.now)) }
     {
         let mut table = no_clauses(alloc, self.signatures)?;
@@ -48,6 +50,7 @@ impl Known<'_> {
         requires known { IsKnown self.now }
         requires len { length table.old.items ≡ length self.now.signatures.now }
         ensures facts { IfOk result (λ good. table_over (linked_of self.now.sources) own (plain_table table.old.items) (map plain_entry file.now) ≡ cond good (Some (plain_table table.new.items)) None) }
+        ensures places { IfOk result (λ good. IsTrue good → beside_table table.new.items ≡ places_over (linked_of self.now.sources) own (beside_table table.old.items) (map plain_entry file.now)) }
         ensures len { length table.new.items ≡ length self.now.signatures.now }
     {
         for entry in file {
@@ -69,6 +72,7 @@ impl Known<'_> {
         requires known { IsKnown self.now }
         requires len { length table.old.items ≡ length self.now.signatures.now }
         ensures fact { IfOk result (λ good. put_all (plain_table table.old.items) (facts_of_clause (linked_of self.now.sources) own (plain_item entry.now.decl)) ≡ cond good (Some (plain_table table.new.items)) None) }
+        ensures places { IfOk result (λ good. IsTrue good → beside_table table.new.items ≡ put_places (places_by (linked_of self.now.sources) own (plain_item entry.now.decl) entry.now.at) (beside_table table.old.items)) }
         ensures len { length table.new.items ≡ length self.now.signatures.now }
     {
         match &entry.decl {
@@ -133,6 +137,7 @@ impl Known<'_> {
 #[tactic(auto, using(crate::proofs::Tables::one_more_empty, crate::proofs::Passes::no_more))]
 fn no_clauses(alloc: Global, signatures: &[Row<u32>]) -> Result<Vec<Row<Clause>>, Memory>
     ensures clauses { IfOk result (λ table. plain_table table.items ≡ no_clauses signatures.now) }
+    ensures places { IfOk result (λ table. beside_table table.items ≡ no_clauses signatures.now) }
     ensures len { IfOk result (λ table. length table.items ≡ length signatures.now) }
 {
     let mut table = Vec::new(alloc);
@@ -143,10 +148,11 @@ fn no_clauses(alloc: Global, signatures: &[Row<u32>]) -> Result<Vec<Row<Clause>>
 }
 
 // Puts a clause behind those of its predicate.
-#[tactic(auto, using(crate::proofs::Tables::put_there))]
+#[tactic(auto, using(crate::proofs::Tables::put_plain, crate::proofs::Tables::put_beside))]
 fn put(table: &mut Vec<Row<Clause>>, pred: u32, clause: Clause) -> Result<(), Memory>
     requires { pred < length table.old.items }
-    ensures clauses { OnOk result (plain_table table.new.items ≡ put_clause pred (plain_clause clause) (plain_table table.old.items)) }
+    ensures clauses { OnOk result (plain_table table.new.items ≡ put_behind pred (plain_clause clause) (plain_table table.old.items)) }
+    ensures places { OnOk result (beside_table table.new.items ≡ put_behind pred (beside_clause clause) (beside_table table.old.items)) }
     ensures len { length table.new.items ≡ length table.old.items }
 {
     let clauses = &mut table[pred as usize];
@@ -157,7 +163,8 @@ fn put(table: &mut Vec<Row<Clause>>, pred: u32, clause: Clause) -> Result<(), Me
 }
 
 fn clause(alloc: Global, row: &[u32], place: Place) -> Result<Clause, Memory>
-    ensures { IfOk result (λ clause. plain_clause clause ≡ fact row.now) }
+    ensures form { IfOk result (λ clause. plain_clause clause ≡ fact row.now) }
+    ensures beside { IfOk result (λ clause. beside_clause clause ≡ beside_fact place) }
 {
     Ok(Clause {
         vars: 0,

@@ -10,6 +10,7 @@ ghost use Rattle.mc_item_names.specs.Things.{symbol_name};
 ghost use Rattle.mc_modules.specs.Linked.{plain_named};
 ghost use Rattle.mc_ground.specs.Database.{constructor_of, from};
 ghost use Rattle.mc_compile.specs.Facts.{constants_in, constants_by, how_many};
+ghost use Rattle.mc_compile.specs.Compiled.{beside_type, no_parameters};
 ghost use Rattle.mc_compile.specs.Passes.{AreEnums};
 
 use mc_base::{Copied, Memory, Row, Text};
@@ -65,6 +66,7 @@ impl Enums {
         ensures symbols { OnOk result (map plain_symbol self.new.symbols ≡ map plain_symbol self.old.symbols ++ map constructor_of (constants_by named.now.name.«module» (length self.old.types) (plain_item named.now.decl))) }
         ensures number { OnOk result (length self.new.types ≡ length self.old.types + 1) }
         ensures len { OnOk result (length self.new.symbols ≡ length self.old.symbols + how_many (plain_item named.now.decl)) }
+        ensures beside { OnOk result (map beside_type self.new.types ≡ map beside_type self.old.types ++ no_parameters (plain_named named.now) ∷ []) }
     {
         let symbols = match &named.decl {
             Decl::UnionType(_, constructors) => {
@@ -72,7 +74,7 @@ impl Enums {
             }
             _ => Row::new(alloc),
         };
-        let name = constant(alloc, &named.name.module, named.name.name.bytes())?;
+        let name = copied(alloc, &named.name)?;
         if self.types.len() == u32::MAX {
             return Err(Memory);
         }
@@ -125,6 +127,16 @@ impl Enums {
         self.symbols.push(symbol)?;
         Ok(number)
     }
+}
+
+fn copied(alloc: Global, name: &Name) -> Result<Name, Memory>
+    ensures { IfOk result (λ copy. copy ≡ name.now) }
+{
+    Ok(Name {
+        module: name.module.copied(alloc)?,
+        name: name.name.copied(alloc)?,
+        arity: name.arity,
+    })
 }
 
 // A name without arguments.

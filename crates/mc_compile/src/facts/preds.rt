@@ -1,10 +1,11 @@
-ghost use Rattle.std.specs.Prelude.{◌≡◌, ◌∷◌, ◌++◌, [], Some, None, map, length, slice_index_or, IfOk, OnOk};
+ghost use Rattle.std.specs.Prelude.{◌≡◌, ◌∷◌, ◌++◌, [], false, Some, None, map, length, slice_index_or, IfOk, OnOk};
 ghost use Rattle.mc_model.specs.Programs.{Call, expressions, variable};
 ghost use Rattle.mc_model.specs.PlainPrograms.{plain_type, plain_expression, plain_clause, plain_pred};
 ghost use Rattle.mc_modules.specs.Linked.{plain_named};
 ghost use Rattle.mc_ground.specs.Database.{the_types, from, variables_from, query_predicate};
 ghost use Rattle.mc_compile.specs.Facts.{or_none};
-ghost use Rattle.mc_compile.specs.Passes.{plain_table, predicate_over, predicates_over};
+ghost use Rattle.mc_compile.specs.Compiled.{beside_clause, beside_pred, no_function};
+ghost use Rattle.mc_compile.specs.Passes.{plain_table, beside_table, predicate_over, predicates_over};
 
 use crate::facts::known::signature_at;
 use mc_base::{Copied, Memory, Row, Text};
@@ -24,7 +25,8 @@ pub fn preds(
 ) -> Result<Vec<Pred>, Memory>
     requires named { length named.now ≡ length table.items }
     requires signatures { length signatures.now ≡ length table.items }
-    ensures { IfOk result (λ preds. map plain_pred preds.items ≡ predicates_over (map plain_named named.now) signatures.now (plain_table table.items)) }
+    ensures preds { IfOk result (λ preds. map plain_pred preds.items ≡ predicates_over (map plain_named named.now) signatures.now (plain_table table.items)) }
+    ensures beside { IfOk result (λ preds. map beside_pred preds.items ≡ map no_function (beside_table table.items)) }
 {
     let mut preds = Vec::new(alloc);
     let mut k = 0usize;
@@ -41,19 +43,29 @@ fn pred(
     types: &Row<u32>,
     clauses: Row<Clause>,
 ) -> Result<Pred, Memory>
-    ensures { IfOk result (λ pred. plain_pred pred ≡ predicate_over (plain_named named.now) types.now (map plain_clause clauses)) }
+    ensures pred { IfOk result (λ pred. plain_pred pred ≡ predicate_over (plain_named named.now) types.now (map plain_clause clauses)) }
+    ensures beside { IfOk result (λ pred. beside_pred pred ≡ no_function (map beside_clause clauses)) }
 {
-    Ok(Pred {
-        name: Name {
-            module: named.name.module.copied(alloc)?,
-            name: named.name.name.copied(alloc)?,
-            arity: types.len(),
-        },
+    let name = Name {
+        module: named.name.module.copied(alloc)?,
+        name: named.name.name.copied(alloc)?,
+        arity: types.len(),
+    };
+    let types = union_types(alloc, types.as_slice())?;
+    Ok(by_clauses(name, types, clauses))
+}
+
+// A predicate that its clauses define, and no function.
+fn by_clauses(name: Name, types: Row<Ty>, clauses: Row<Clause>) -> Pred
+    ensures { result ≡ record { name = name; is_func = false; types = types; clauses = clauses; builtin = None } }
+{
+    Pred {
+        name,
         is_func: false,
-        types: union_types(alloc, types.as_slice())?,
+        types,
         clauses,
         builtin: None,
-    })
+    }
 }
 
 fn union_types(alloc: Global, numbers: &[u32]) -> Result<Row<Ty>, Memory>
@@ -76,7 +88,8 @@ pub fn query_pred(
     signatures: &[Row<u32>],
     place: Place,
 ) -> Result<Pred, Memory>
-    ensures { IfOk result (λ pred. plain_pred pred ≡ query_predicate relation (or_none (slice_index_or (map (λ us. Some us) signatures.now) relation None))) }
+    ensures pred { IfOk result (λ pred. plain_pred pred ≡ query_predicate relation (or_none (slice_index_or (map (λ us. Some us) signatures.now) relation None))) }
+    ensures beside { IfOk result (λ pred. beside_pred pred ≡ no_function ((length (or_none (slice_index_or (map (λ us. Some us) signatures.now) relation None)), place) ∷ [])) }
 {
     match signature_at(signatures, relation) {
         Some(types) => query_over(alloc, relation, types.as_slice(), place),
@@ -85,28 +98,25 @@ pub fn query_pred(
 }
 
 fn query_over(alloc: Global, relation: u32, types: &[u32], place: Place) -> Result<Pred, Memory>
-    ensures { IfOk result (λ pred. plain_pred pred ≡ query_predicate relation types.now) }
+    ensures pred { IfOk result (λ pred. plain_pred pred ≡ query_predicate relation types.now) }
+    ensures beside { IfOk result (λ pred. beside_pred pred ≡ no_function ((length types.now, place) ∷ [])) }
 {
     let types = union_types(alloc, types)?;
     let arity = types.len();
     let clause = query_clause(alloc, relation, arity, place)?;
     let mut clauses = Row::new(alloc);
     clauses.push(clause)?;
-    Ok(Pred {
-        name: Name {
-            module: Text::empty(alloc),
-            name: Text::empty(alloc),
-            arity,
-        },
-        is_func: false,
-        types,
-        clauses,
-        builtin: None,
-    })
+    let name = Name {
+        module: Text::empty(alloc),
+        name: Text::empty(alloc),
+        arity,
+    };
+    Ok(by_clauses(name, types, clauses))
 }
 
 fn query_clause(alloc: Global, relation: u32, arity: u32, place: Place) -> Result<Clause, Memory>
-    ensures { IfOk result (λ clause. plain_clause clause ≡ record { head = variables_from 0 arity; body = Call relation (expressions (variables_from 0 arity)) }) }
+    ensures form { IfOk result (λ clause. plain_clause clause ≡ record { head = variables_from 0 arity; body = Call relation (expressions (variables_from 0 arity)) }) }
+    ensures beside { IfOk result (λ clause. beside_clause clause ≡ (arity, place)) }
 {
     Ok(Clause {
         vars: arity,

@@ -1,14 +1,15 @@
-ghost use Rattle.std.specs.Prelude.{◌≡◌, ◌≤◌, ◌+◌, true, Some, map, take, length, IfOk, IfSome};
+ghost use Rattle.std.specs.Prelude.{◌≡◌, ◌≤◌, ◌+◌, ◌++◌, true, Some, map, take, length, IfOk, IfSome};
 ghost use Rattle.std.specs.Option.{option_map};
 ghost use Rattle.mc_decl_forms.specs.Terms.{is_distinct};
 ghost use Rattle.mc_model.specs.PlainPrograms.{plain_symbol};
-ghost use Rattle.mc_items.specs.Files.{plain_entry};
+ghost use Rattle.mc_items.specs.Files.{plain_entry, place};
 ghost use Rattle.mc_decl_forms.specs.Plain.{plain_item};
 ghost use Rattle.mc_modules.specs.Files.{plain_files};
 ghost use Rattle.mc_modules.specs.Linked.{linked, plain_names};
 ghost use Rattle.mc_compile.specs.Facts.{given_preds, given_types, names_of, constants};
-ghost use Rattle.mc_compile.specs.Passes.{linked_of, IsFormed, types_by_item, count_types_in, count_types, all_some, signatures_through, AreEnums, plain_table, plain_question, predicates_over};
-ghost use Rattle.mc_compile.specs.Answered.{linked_files, IsAnswered, IsBuilt, IsMade};
+ghost use Rattle.mc_compile.specs.Passes.{linked_of, IsFormed, types_by_item, count_types_in, count_types, all_some, signatures_through, AreEnums, plain_table, beside_table, plain_question, predicates_over};
+ghost use Rattle.mc_compile.specs.Compiled.{beside_pred, no_function};
+ghost use Rattle.mc_compile.specs.Answered.{linked_files, IsAnswered, IsBuilt, IsMade, query_besides};
 
 use crate::facts::enums::Enums;
 use crate::facts::known::Known;
@@ -145,7 +146,8 @@ impl Sources<'_> {
         requires formed { IsFormed self.now }
         requires signatures { length signatures.now ≡ length (given_preds (linked_of self.now)) }
         requires table { length table.items ≡ length signatures.now }
-        ensures { IfOk result (IsBuilt enums (predicates_over (given_preds (linked_of self.now)) signatures.now (plain_table table.items)) signatures.now (option_map plain_question asked)) }
+        ensures built { IfOk result (IsBuilt enums (predicates_over (given_preds (linked_of self.now)) signatures.now (plain_table table.items)) signatures.now (option_map plain_question asked)) }
+        ensures beside { IfOk result (λ c. map beside_pred c.program.preds ≡ map no_function (beside_table table.items ++ query_besides (length (linked_of self.now).given) signatures.now (option_map plain_question asked))) }
     {
         let named = first(self.names.preds.as_slice(), signatures.len());
         let mut preds = preds(alloc, named, signatures, table)?;
@@ -157,12 +159,26 @@ impl Sources<'_> {
                 },
             ) => {
                 let goal = preds.len();
-                let place = Place { file: 0, line: 1 };
+                let place = self.query_place()?;
                 preds.push(query_pred(alloc, relation, signatures, place)?)?;
                 compiled(enums, preds, goal, variables)
             }
             None => compiled(enums, preds, 0, Row::new(alloc)),
         }
+    }
+
+    // Where the query stands: on the first line of a file that is numbered behind the given ones.
+    #[tactic(auto, using(crate::proofs::Answering::as_many_given))]
+    fn query_place(&self) -> Result<Place, Memory>
+        ensures { IfOk result (λ here. here ≡ place (length (linked_of self.now).given) 1) }
+    {
+        if self.given.len() > u32::MAX as usize {
+            return Err(Memory);
+        }
+        Ok(Place {
+            file: self.given.len() as u32,
+            line: 1,
+        })
     }
 }
 
