@@ -10,7 +10,7 @@ use crate::library::LIBRARY;
 use crate::reader::Reader;
 use crate::reading::Read;
 use mc_base::{Memory, Row};
-use mc_items::{Entry, ItemsFault, row};
+use mc_items::{Entry, ItemsFault};
 use mc_model::program::Place;
 use mc_model::rule::Broken;
 use mc_modules::{Names, goal_rule, link};
@@ -61,7 +61,7 @@ fn with_library(alloc: Global, files: Row<Row<Entry>>) -> Result<Row<Row<Entry>>
     let mut library = library(alloc, files.len() + 1)?.into_vec();
     let mut files = files.into_vec();
     files.append(&mut library)?;
-    row(files)
+    Row::of(files)
 }
 
 // The rule of linking that the goal of a query breaks, where there is one.
@@ -94,7 +94,7 @@ fn behind(broken: Row<Broken>, further: Vec<Broken>) -> Result<Row<Broken>, Memo
     let mut all = broken.into_vec();
     let mut further = further;
     all.append(&mut further)?;
-    row(all)
+    Row::of(all)
 }
 
 impl Read {
@@ -116,7 +116,7 @@ impl Read {
         let in_goal = goal_rules(alloc, &files, number, &goal)?;
         match link(alloc, &files) {
             Ok(names) if in_goal.is_empty() => Ok(Named { files, names, goal }),
-            Ok(_names) => Err(CompileFault::Rejected(row(in_goal)?)),
+            Ok(_names) => Err(CompileFault::Rejected(Row::of(in_goal)?)),
             Err(ItemsFault::Broken(broken)) => {
                 Err(CompileFault::Rejected(behind(broken, in_goal)?))
             }

@@ -4,7 +4,7 @@ ghost use Rattle.mc_compile.specs.Reading.{IsOneMore, IsQueryRead, IsRejected, t
 
 use crate::given::{CompileFault, Query};
 use mc_base::{Memory, Row};
-use mc_items::{Entry, GREATEST_TEXT, ItemsFault, read_items, read_query, row, too_long};
+use mc_items::{Entry, GREATEST_TEXT, ItemsFault, read_items, read_query, too_long};
 use mc_model::rule::Broken;
 use mc_syntax::Term;
 use std::alloc::Global;
@@ -96,8 +96,8 @@ impl Reader {
     {
         let Reader { files, broken, .. } = self;
         if broken.is_empty() {
-            return Ok(row(files)?);
+            return Ok(Row::of(files)?);
         }
-        Err(CompileFault::Rejected(row(broken)?))
+        Err(CompileFault::Rejected(Row::of(broken)?))
     }
 }

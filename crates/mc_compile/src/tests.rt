@@ -1,6 +1,6 @@
 use crate::{CompileFault, Given, LIBRARY, Query, Read, named};
 use mc_base::{Memory, Row, Text};
-use mc_items::{ItemsFault, read_items, row};
+use mc_items::{ItemsFault, read_items};
 use mc_model::rule::{Broken, Rule};
 use std::alloc::Global;
 use std::test::Fail;
@@ -13,7 +13,7 @@ fn given(alloc: Global, texts: &[&[u8]]) -> Result<Row<Given>, Memory> {
         let bytes = Text::new(alloc, text)?;
         files.push(Given { name, bytes })?;
     }
-    row(files)
+    Row::of(files)
 }
 
 fn query_of(alloc: Global, text: &[u8]) -> Result<Query, Memory> {
@@ -133,7 +133,7 @@ fn blanks(alloc: Global, lengths: &[usize]) -> Result<Row<Given>, Memory> {
         let bytes = Text::new(alloc, blanks.as_slice())?;
         files.push(Given { name, bytes })?;
     }
-    row(files)
+    Row::of(files)
 }
 
 #[test]

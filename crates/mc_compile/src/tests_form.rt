@@ -1,7 +1,6 @@
 use crate::tests::fault_shown;
 use crate::{CompileFault, Compiled, Given, Query, compile};
 use mc_base::{Memory, Row, Text};
-use mc_items::row;
 use mc_model::program::Goal;
 use std::alloc::Global;
 use std::process::Abort;
@@ -67,7 +66,7 @@ fn files_of(alloc: Global, files: &str) -> Result<Row<Given>, Memory> {
     for file in files.split('`') {
         given.push(file_of(alloc, file)?)?;
     }
-    row(given)
+    Row::of(given)
 }
 
 // The words are `check`, `run`, `query GOAL` or `first GOAL`.

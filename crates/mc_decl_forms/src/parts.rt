@@ -89,7 +89,7 @@ pub fn into_alternatives(alloc: Global, term: Term) -> Result<Row<Term>, Memory>
     let line = term.line;
     match term.into_node() {
         Node::Disj(terms) => Ok(terms),
-        node => row_of_one(alloc, Term { node, line }),
+        node => Row::one(alloc, Term { node, line }),
     }
 }
 
@@ -100,14 +100,6 @@ pub fn into_conjuncts(alloc: Global, term: Term) -> Result<Row<Term>, Memory>
     let line = term.line;
     match term.into_node() {
         Node::Conj(terms) => Ok(terms),
-        node => row_of_one(alloc, Term { node, line }),
+        node => Row::one(alloc, Term { node, line }),
     }
-}
-
-fn row_of_one(alloc: Global, term: Term) -> Result<Row<Term>, Memory>
-    ensures { IfOk result (λ row. row ≡ term ∷ []) }
-{
-    let mut row = Row::new(alloc);
-    row.push(term)?;
-    Ok(row)
 }

@@ -292,9 +292,7 @@ fn operand(y: bool, number: u32) -> u32
 pub fn name_row(alloc: Global, name: &Text) -> Result<Row<Text>, Memory>
     ensures { IfOk result (λ row. row ≡ name.now ∷ []) }
 {
-    let mut parts = Vec::with_capacity(alloc, 1)?;
-    parts.push(name.copied(alloc)?)?;
-    Ok(Row::from_vec(parts))
+    Row::one(alloc, name.copied(alloc)?)
 }
 
 // The name of an operator.

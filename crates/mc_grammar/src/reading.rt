@@ -120,7 +120,7 @@ impl Reading {
     pub fn app(line: u32, name: Row<Text>, args: Readings) -> Result<Reading, Memory>
         ensures { IfOk result (λ r. reading r ≡ seen_app line name (readings args)) }
     {
-        let node = Node::App(name, row(args.terms)?);
+        let node = Node::App(name, Row::of(args.terms)?);
         Ok(Reading::kept(line, node, 1 + args.depth, args.too_large))
     }
 
@@ -128,7 +128,7 @@ impl Reading {
     pub fn items(line: u32, items: Readings) -> Result<Reading, Memory>
         ensures { IfOk result (λ r. reading r ≡ seen_items line (readings items)) }
     {
-        let node = Node::List(row(items.terms)?, None);
+        let node = Node::List(Row::of(items.terms)?, None);
         Ok(Reading::kept(line, node, 1 + items.depth, items.too_large))
     }
 
@@ -143,7 +143,7 @@ impl Reading {
         ensures { IfOk result (λ r. reading r ≡ seen_tailed line (readings items) (reading tail)) }
     {
         let tail_term = Box::new(alloc, tail.term)?;
-        let node = Node::List(row(items.terms)?, Some(tail_term));
+        let node = Node::List(Row::of(items.terms)?, Some(tail_term));
         let depth = 1 + items.depth.max(tail.depth);
         Ok(Reading::kept(line, node, depth, items.too_large.or(tail.too_large)))
     }
@@ -152,7 +152,7 @@ impl Reading {
     pub fn chain(kind: Chain, line: u32, parts: Readings) -> Result<Reading, Memory>
         ensures { IfOk result (λ r. reading r ≡ chain seen_making kind line (readings parts)) }
     {
-        let terms = row(parts.terms)?;
+        let terms = Row::of(parts.terms)?;
         let node = match kind {
             Chain::And => Node::Conj(terms),
             Chain::Or => Node::Disj(terms),
@@ -231,13 +231,4 @@ impl Readings {
             too_large: self.too_large.or(next.too_large),
         })
     }
-}
-
-fn row(terms: Vec<Term>) -> Result<Row<Term>, Memory>
-    ensures { IfOk result (λ r. r ≡ terms.items) }
-{
-    if terms.len() >= 1 << 32 {
-        return Err(Memory);
-    }
-    Ok(Row::from_vec(terms))
 }

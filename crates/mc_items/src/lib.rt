@@ -16,4 +16,4 @@ pub use entry::{Entry, ItemsFault};
 pub use law::{at_most_one_answer, at_most_one_goal, at_most_one_list};
 pub use mc_decl_forms::Decl;
 pub use query::read_query;
-pub use read::{GREATEST_TEXT, read_items, row, too_long};
+pub use read::{GREATEST_TEXT, read_items, too_long};

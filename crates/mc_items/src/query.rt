@@ -6,9 +6,9 @@ ghost use Rattle.mc_items.specs.Words as W;
 
 use crate::entry::ItemsFault;
 use crate::goal::query_rule;
-use crate::read::{GREATEST_TEXT, sole, too_long};
+use crate::read::{GREATEST_TEXT, too_long};
 use crate::said::fault_rule;
-use mc_base::{Memory, Text};
+use mc_base::{Memory, Row, Text};
 use mc_model::program::Place;
 use mc_model::rule::{Broken, Rule};
 use mc_syntax::Term;
@@ -20,7 +20,7 @@ use std::alloc::Global;
 fn no_goal(alloc: Global, at: Place, rule: Rule, what: Text) -> ItemsFault
     ensures { IsBrokenIn (record { rule = rule; at = at; what = what } ∷ []) result }
 {
-    match sole(alloc, Broken { rule, at, what }) {
+    match Row::one(alloc, Broken { rule, at, what }) {
         Ok(broken) => ItemsFault::Broken(broken),
         Err(Memory) => ItemsFault::Memory,
     }

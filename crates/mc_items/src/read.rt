@@ -22,16 +22,6 @@ struct Found {
     broken: Vec<Broken>,
 }
 
-/// A row of the elements of a `Vec`: 2^32 or more find no room.
-pub fn row<T: Drop>(items: Vec<T>) -> Result<Row<T>, Memory>
-    ensures { IfOk result (λ row. row ≡ items.items) }
-{
-    if items.len() > u32::MAX as usize {
-        return Err(Memory);
-    }
-    Ok(Row::from_vec(items))
-}
-
 impl Found {
     fn nothing(alloc: Global) -> Found
         ensures entries { result.entries.items ≡ [] }
@@ -62,19 +52,10 @@ impl Found {
     {
         let Found { entries, broken } = self;
         if broken.is_empty() {
-            return Ok(row(entries)?);
+            return Ok(Row::of(entries)?);
         }
-        Err(ItemsFault::Broken(row(broken)?))
+        Err(ItemsFault::Broken(Row::of(broken)?))
     }
-}
-
-// The one rule that a text breaks.
-pub fn sole(alloc: Global, broken: Broken) -> Result<Row<Broken>, Memory>
-    ensures { IfOk result (λ all. all ≡ broken ∷ []) }
-{
-    let mut all = Vec::new(alloc);
-    all.push(broken)?;
-    Ok(Row::from_vec(all))
 }
 
 /// The one rule that a text breaks which is too long.
@@ -84,7 +65,7 @@ pub fn too_long(alloc: Global, file: u32) -> Result<Row<Broken>, Memory>
     let rule = Rule::L1;
     let at = Place { file, line: 1 };
     let what = Text::new(alloc, b"sources are too long")?;
-    sole(alloc, Broken { rule, at, what })
+    Row::one(alloc, Broken { rule, at, what })
 }
 
 /// The items of a file, which has a number, each with its place, in the order of the file.

@@ -27,11 +27,7 @@ fn name_parts(alloc: Global, token: Lexeme) -> Result<Result<(Row<Text>, u32), L
     ensures { IfOk result (λ r. MatchResult r (λ q. (done : List Lexeme) → qualifier (Lexeme.Dot ∷ token ∷ done) ≡ Some (q.0, q.1, done)) (λ t. (t ≡ token) × ((done : List Lexeme) → qualifier (Lexeme.Dot ∷ token ∷ done) ≡ None))) }
 {
     match token {
-        Lexeme::Word(name, _, line) => {
-            let mut parts = Vec::with_capacity(alloc, 2)?;
-            parts.push(name)?;
-            Ok(Ok((Row::from_vec(parts), line)))
-        }
+        Lexeme::Word(name, _, line) => Ok(Ok((Row::one(alloc, name)?, line))),
         Lexeme::Path(parts, line) => Ok(Ok((parts, line))),
         token => Ok(Err(token)),
     }
