@@ -14,7 +14,7 @@ use Rattle.mc_link_rules.specs.Files.{File, Standing, standing, plain_files}
 use Rattle.mc_link_rules.specs.Visible.{is_library, file_at}
 use Rattle.mc_link_rules.specs.Faults.{again, double_fault, fault, broken_by, faults_behind, faults_of, faults_from}
 use Rattle.mc_link_rules.specs.Steps.{faults_with}
-use Rattle.mc_link_rules.proofs.Sights.{file_at-is}
+use Rattle.mc_link_rules.proofs.ModulesSeen.{file_at-is}
 use Rattle.mc_link_rules.proofs.Tables.{put_all-append, is_member_set}
 
 again-set : (before ts : List Th) → again (put_all [] before) ts ≡ again before ts

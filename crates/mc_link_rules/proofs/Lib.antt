@@ -1,9 +1,9 @@
 mod Blamed
 mod Counts
-mod Joined
 mod Kept
+mod ModulesSeen
 pub mod Numbers
-pub mod Sights
+mod Parts
 mod Sole
 mod Standings
 pub mod Tables

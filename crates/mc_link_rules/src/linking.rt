@@ -69,7 +69,7 @@ impl<'a> Linking<'a> {
     }
 
     /// Whether a module sees another.
-    #[tactic(auto, using(crate::proofs::Sights::contains_is))]
+    #[tactic(auto, using(crate::proofs::ModulesSeen::contains_is))]
     pub fn is_seen(&self, own: u32, number: u32) -> bool
         requires linking { IsLinking self.now }
         requires own { own < length self.now.files.now }

@@ -132,7 +132,7 @@ fn add(modules: &mut Row<u32>, number: Option<u32>) -> Result<(), Memory>
     }
 }
 
-#[tactic(auto, using(crate::proofs::Sights::contains_is))]
+#[tactic(auto, using(crate::proofs::ModulesSeen::contains_is))]
 fn add_new(modules: &mut Row<u32>, number: u32) -> Result<(), Memory>
     ensures { OnOk result (modules.new ≡ with_module (Some number) modules.old) }
 {

@@ -1,5 +1,5 @@
 use Rattle.std.proofs.Common.{◌∙◌, arith}
-use Rattle.mc_link_rules.proofs.Joined.{joined-others}
+use Rattle.mc_link_rules.proofs.Parts.{joined-others}
 use Rattle.mc_link_rules.proofs.module_names.joined.Goals as goal
 
 pub loop-part-init : goal.loop-part-init

@@ -1,6 +1,6 @@
 use Rattle.std.proofs.Common.{◌∙◌, ap, Some}
 use Rattle.mc_link_rules.specs.Visible.{with_module}
-use Rattle.mc_link_rules.proofs.Sights.{sight-is}
+use Rattle.mc_link_rules.proofs.ModulesSeen.{sight-is}
 use Rattle.mc_link_rules.proofs.sight.sight_of.Goals as goal
 
 pub returns : goal.returns

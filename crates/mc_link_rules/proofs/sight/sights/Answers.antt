@@ -1,6 +1,6 @@
 use Rattle.std.proofs.Common.{[], arith}
 use Rattle.mc_link_rules.specs.Files.{plain_files}
-use Rattle.mc_link_rules.proofs.Sights.{sights-more}
+use Rattle.mc_link_rules.proofs.ModulesSeen.{sights-more}
 use Rattle.mc_link_rules.proofs.sight.sights.Goals as goal
 
 pub loop-own-preserved : goal.loop-own-preserved

@@ -1,7 +1,7 @@
 use Rattle.std.proofs.Common.{ap}
 use Rattle.mc_link_rules.specs.Sights.{number_of}
 use Rattle.mc_link_rules.proofs.Numbers.{entries_of, vec_name}
-use Rattle.mc_link_rules.proofs.Sights.{all_named}
+use Rattle.mc_link_rules.proofs.ModulesSeen.{all_named}
 use Rattle.mc_link_rules.proofs.module_names.ModuleNames.of.Goals as goal
 
 pub returns : goal.returns

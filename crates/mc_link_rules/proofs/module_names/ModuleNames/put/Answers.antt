@@ -2,7 +2,7 @@ use Rattle.std.proofs.Common.{◌∙◌, ap, refl, cond, Some}
 use Rattle.std.specs.Str.{bytes_eq}
 use Rattle.mc_link_rules.specs.Sights.{number_of}
 use Rattle.mc_link_rules.proofs.Numbers.{entries_of, number_of-insert, vec_name}
-use Rattle.mc_link_rules.proofs.Sights.{same_functions}
+use Rattle.mc_link_rules.proofs.ModulesSeen.{same_functions}
 use Rattle.mc_link_rules.proofs.module_names.ModuleNames.put.Goals as goal
 
 pub returns : goal.returns

@@ -2,7 +2,7 @@ use Rattle.std.proofs.Common.{◌-◌, ◌<◌, ◌∙◌, ap, map, arith}
 use Rattle.mc_items.specs.Files.{plain_entry}
 use Rattle.mc_link_rules.specs.Files.{module_name}
 use Rattle.mc_link_rules.specs.Sights.{number_of, put_name}
-use Rattle.mc_link_rules.proofs.Sights.{named-none, named-more}
+use Rattle.mc_link_rules.proofs.ModulesSeen.{named-none, named-more}
 use Rattle.mc_link_rules.proofs.module_names.ModuleNames.put_from.Goals as goal
 
 pub loop-k-init : goal.loop-k-init
