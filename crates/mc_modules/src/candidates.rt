@@ -1,16 +1,15 @@
 ghost use Rattle.std.specs.Prelude.{◌≡◌, ◌++◌, [], true, Some, slice_get, slice_index_or, map, IfOk, OnOk};
 ghost use Rattle.mc_item_names.specs.Plain.{id, qualifiers, last_part, plain_id};
-ghost use Rattle.mc_modules.specs.Visible.{character};
+ghost use Rattle.mc_link_rules.specs.Visible.{character};
 ghost use Rattle.mc_modules.specs.Linked.{plain_named, plain_names};
 ghost use Rattle.mc_modules.specs.Candidates.{defined_by, fits, fitting, fitting_in, is_module, named_so, looked_in, as_character, candidates};
 
-use crate::character::sole_character;
 use crate::column::put_where;
-use crate::module_names::joined;
 use crate::names::{Named, Names};
 use mc_base::{Copied, Memory, Row, Text};
 use mc_item_names::{Indicator, Kind, Used};
 use mc_items::row;
+use mc_link_rules::{joined, sole_character};
 use mc_model::program::Candidate;
 use std::alloc::Global;
 

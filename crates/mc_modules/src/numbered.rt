@@ -1,7 +1,7 @@
 ghost use Rattle.std.specs.Prelude.{◌≡◌, ◌+◌, ◌++◌, List, [], map, length, IfOk, OnOk};
 ghost use Rattle.mc_items.specs.Files.{plain_entry};
 ghost use Rattle.mc_item_names.specs.Plain.{Th, plain_thing};
-ghost use Rattle.mc_modules.specs.Files.{plain_files};
+ghost use Rattle.mc_link_rules.specs.Files.{plain_files};
 ghost use Rattle.mc_modules.specs.Linked.{each, symbols_of, preds_of, plain_named, as_numbered, next_con, next_pred, numbered, declared_from};
 ghost use Rattle.mc_modules.specs.Passes.{things_pass};
 

@@ -1,7 +1,7 @@
 use Rattle.std.proofs.Common.{◌≡◌, ◌+◌, [], ◌∷◌, ◌++◌, drop, ap, sym, ◌∙◌, subst, arith}
 use Rattle.std.specs.Prelude.{IfOk}
 use Rattle.std.proofs.lemmas.List.{append-nil}
-use Rattle.mc_modules.specs.Files.{plain_files}
+use Rattle.mc_link_rules.specs.Files.{plain_files}
 use Rattle.mc_modules.specs.Linked.{scopes_from}
 use Rattle.mc_modules.proofs.Puts.{moved}
 use Rattle.mc_modules.proofs.Places.{one_more, over}

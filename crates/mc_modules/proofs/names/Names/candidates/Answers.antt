@@ -3,7 +3,7 @@ use Rattle.std.specs.Prelude.{IfOk, slice_get}
 use Rattle.mc_item_names.specs.declared.thing.Kind.TheVariants as K
 use Rattle.mc_item_names.specs.Plain.{id, qualifiers, last_part, plain_use}
 use Rattle.mc_item_names.specs.Occurrences.{used}
-use Rattle.mc_modules.specs.Visible.{character}
+use Rattle.mc_link_rules.specs.Visible.{character}
 use Rattle.mc_modules.specs.Linked.{plain_names}
 use Rattle.mc_modules.specs.Candidates.{fitting_in, looked_in, as_character, candidates}
 use Rattle.mc_modules.proofs.Uses.{qualifiers_are, id_is}
