@@ -8,7 +8,6 @@ use crate::column::put_where;
 use crate::names::{Named, Names};
 use mc_base::{Copied, Memory, Row, Text};
 use mc_item_names::{Indicator, Kind, Used};
-use mc_items::row;
 use mc_link_rules::{joined, sole_character};
 use mc_model::program::Candidate;
 use std::alloc::Global;
@@ -31,7 +30,7 @@ impl Names {
         let modules = self.looked_in(alloc, own, used.qualifiers)?;
         self.put_of_modules(own, modules.as_slice(), used.id, &mut all)?;
         put_character(used.qualifiers, used.id, &mut all)?;
-        row(all)
+        Row::of(all)
     }
 
     /// What a module itself, which has a number, has of a name without qualifiers over so many arguments, in the order of
@@ -47,7 +46,7 @@ impl Names {
     {
         let mut all = Vec::new(alloc);
         self.put_of_module(true, own, Indicator { name, arity }, &mut all)?;
-        row(all)
+        Row::of(all)
     }
 
     /// The modules in which a name with these qualifiers is looked up.
@@ -78,7 +77,7 @@ impl Names {
         for module in modules {
             put_where(self.is_named(*module, name), *module, &mut all)?;
         }
-        row(all)
+        Row::of(all)
     }
 
     /// Whether the module of this number has a name.

@@ -9,7 +9,7 @@ use crate::names::{NamedRows, Names};
 use crate::numbered::declared;
 use crate::scopes::scopes;
 use mc_base::{Memory, Row};
-use mc_items::{Entry, ItemsFault, row};
+use mc_items::{Entry, ItemsFault};
 use mc_link_rules::{ModuleNames, link_faults, sights};
 use std::alloc::Global;
 
@@ -49,5 +49,5 @@ pub fn link(alloc: Global, files: &Row<Row<Entry>>) -> Result<Names, ItemsFault>
     if broken.is_empty() {
         return Ok(names(alloc, files)?);
     }
-    Err(ItemsFault::Broken(row(broken)?))
+    Err(ItemsFault::Broken(Row::of(broken)?))
 }

@@ -138,9 +138,8 @@ fn constructor(
 ) -> Result<Named, Memory>
     ensures { IfOk result (λ n. plain_named n ∷ [] ≡ constructors home.now (stands (plain_item n.decl) at (plain_section section)) (plain_term head.now) (tms (plain_term term.now ∷ []))) }
 {
-    let mut alone = Vec::new(alloc);
-    alone.push(term.copied(alloc)?)?;
-    let union = Decl::UnionType(bare_head(alloc, head)?, Row::from_vec(alone));
+    let alone = Row::one(alloc, term.copied(alloc)?)?;
+    let union = Decl::UnionType(bare_head(alloc, head)?, alone);
     named(
         alloc,
         home,

@@ -8,7 +8,7 @@ use crate::columns::{Columns, name_of};
 use crate::named::small;
 use crate::names::Scope;
 use mc_base::{Memory, Row, Text};
-use mc_items::{Entry, row};
+use mc_items::Entry;
 use mc_link_rules::Sight;
 use std::alloc::Global;
 
@@ -82,5 +82,5 @@ pub fn scopes(
         all.push(scope_of(alloc, files, own, seen, columns)?)?;
         own += 1;
     }
-    row(all)
+    Row::of(all)
 }

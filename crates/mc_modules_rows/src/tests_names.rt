@@ -1,7 +1,6 @@
 use crate::tests::files;
 use mc_base::{Row, Text};
 use mc_decl_forms::Decl;
-use mc_items::row;
 use mc_modules::{Candidate, Named, Names, link};
 use std::alloc::Global;
 use std::process::Abort;
@@ -35,7 +34,7 @@ fn linked(alloc: Global, texts: &str) -> Result<Option<Names>, Fail> {
         Ok(files) => files,
         Err(_) => return Ok(None),
     };
-    Ok(link(alloc, &row(files)?).ok())
+    Ok(link(alloc, &Row::of(files)?).ok())
 }
 
 fn names_of(rt: &impl Abort, alloc: Global, texts: &str) -> Result<Names, Fail> {
@@ -73,7 +72,7 @@ fn parts(alloc: Global, name: &str) -> Result<Row<Text>, Fail> {
     for part in name.split('.') {
         parts.push(Text::new(alloc, part.as_bytes())?)?;
     }
-    Ok(row(parts)?)
+    Ok(Row::of(parts)?)
 }
 
 // What a name may mean in a module.
