@@ -6,7 +6,7 @@ use Rattle.std.specs.Set.{is_member}
 use Rattle.std.proofs.lemmas.Cmp.{nat_eq_equiv, on_equiv, and_equiv}
 use Rattle.mc_names.proofs.Laws.{or_false, or_assoc, is_member-push_unless}
 use Rattle.mc_item_names.specs.contracts.thing.KindEq.TheImpl.Laws as KindLaws
-use Rattle.mc_item_names.specs.Plain.{Id, Th, is_kind, is_id, is_thing}
+use Rattle.mc_item_names.specs.Plain.{Id, PlainThing, is_kind, is_id, is_thing}
 use Rattle.mc_item_names.specs.Sets.{put, put_all}
 use Rattle.mc_item_names.proofs.Views.{same_kind}
 
@@ -24,14 +24,14 @@ is_id_equiv : IsEquivalence is_id
 is_id_equiv = and_equiv (on_equiv (λ (x : Id). x.arity) nat_eq_equiv) (on_equiv (λ (x : Id). x.name) nat_list_eq_equiv)
 
 pub is_thing_equiv : IsEquivalence is_thing
-is_thing_equiv = and_equiv (on_equiv (λ (t : Th). t.kind) is_kind_equiv) (on_equiv (λ (t : Th). t.id) is_id_equiv)
+is_thing_equiv = and_equiv (on_equiv (λ (t : PlainThing). t.kind) is_kind_equiv) (on_equiv (λ (t : PlainThing). t.id) is_id_equiv)
 
 -- a thing is there after another is put in where it was there or is that one
-pub is_member-put : (ts : List Th) (t q : Th) → is_member is_thing (put ts t) q ≡ (is_member is_thing ts q || is_thing q t)
+pub is_member-put : (ts : List PlainThing) (t q : PlainThing) → is_member is_thing (put ts t) q ≡ (is_member is_thing ts q || is_thing q t)
 is_member-put ts t q = is_member-push_unless is_thing_equiv ts t q (is_member is_thing ts t) refl
 
 -- a thing is there after others are put in where it was there or is one of those
-pub is_member-put_all : (ts us : List Th) (q : Th) → is_member is_thing (put_all ts us) q ≡ (is_member is_thing ts q || is_member is_thing us q)
+pub is_member-put_all : (ts us : List PlainThing) (q : PlainThing) → is_member is_thing (put_all ts us) q ≡ (is_member is_thing ts q || is_member is_thing us q)
 is_member-put_all ts [] q = sym (or_false (is_member is_thing ts q))
 is_member-put_all ts (u ∷ us) q =
     is_member-put_all (put ts u) us q ∙ ap (λ b. b || is_member is_thing us q) (is_member-put ts u q) ∙ or_assoc (is_member is_thing ts q) (is_thing q u) (is_member is_thing us q)

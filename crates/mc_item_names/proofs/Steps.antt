@@ -8,11 +8,11 @@ use Rattle.mc_clause_forms.specs.declared.connective.Parts.TheVariants.{Goals}
 use Rattle.mc_decl_forms.specs.Plain.{Path}
 use Rattle.mc_item_names.specs.declared.thing.Kind.TheVariants as K
 use Rattle.mc_item_names.specs.declared.used.Used.{Used}
-use Rattle.mc_item_names.specs.Plain.{Us, plain_use}
+use Rattle.mc_item_names.specs.Plain.{PlainUse, plain_use}
 use Rattle.mc_item_names.specs.Occurrences.{used, cell_path, nil_path, terms_in, terms_over, cells_in, elements_in, between, call_by, all_goals, goal_by}
 use Rattle.mc_item_names.specs.Steps.{behind}
 
-pub append_none : (us : List Us) → us ++ [] ≡ us
+pub append_none : (us : List PlainUse) → us ++ [] ≡ us
 append_none [] = refl
 append_none (u ∷ us) = ap (λ us. u ∷ us) (append_none us)
 
@@ -20,7 +20,7 @@ pub one_pushed : (us : List Used) (u : Used) → map plain_use (us ++ u ∷ []) 
 one_pushed [] u = refl
 one_pushed (v ∷ us) u = ap (λ us. plain_use v ∷ us) (one_pushed us u)
 
-pub appended : (us vs ws : List Us) → (us ++ vs) ++ ws ≡ us ++ (vs ++ ws)
+pub appended : (us vs ws : List PlainUse) → (us ++ vs) ++ ws ≡ us ++ (vs ++ ws)
 appended = append_assoc
 
 -- what adds uses at the end
@@ -45,7 +45,7 @@ between_is w t no_term = append_none (terms_in t)
 between_is w t (more_terms u ts) = ap (λ us. terms_in t ++ (used K.Symbol w 2 ++ us)) (between_is w u ts)
 
 -- a term, and those that a name stands before, are terms that it stands between
-pub after_first : (old mid new : List Us) (w : Path) (ts : List Term) (t : Term) → 1 ≤ length ts → t ≡ get_or ts 0 t → mid ≡ old ++ terms_in (plain_term t)
+pub after_first : (old mid new : List PlainUse) (w : Path) (ts : List Term) (t : Term) → 1 ≤ length ts → t ≡ get_or ts 0 t → mid ≡ old ++ terms_in (plain_term t)
     → new ≡ mid ++ behind w (tms (map plain_term (take (length ts - 1) (drop 1 ts)))) → new ≡ old ++ between w (tms (map plain_term ts))
 after_first old mid new w [] t h e f g = absurd (omega arith)
 after_first old mid new w (x ∷ ts) t h e f g =

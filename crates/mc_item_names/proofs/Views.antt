@@ -9,7 +9,7 @@ use Rattle.mc_item_names.specs.contracts.thing.ThingPartialEq.TheImpl as ThingEq
 use Rattle.mc_item_names.specs.declared.thing.Kind.{Kind}
 use Rattle.mc_item_names.specs.declared.thing.Kind.TheVariants as K
 use Rattle.mc_item_names.specs.declared.thing.Thing.{Thing}
-use Rattle.mc_item_names.specs.Plain.{Th, is_kind, is_id, is_thing, plain_id, plain_thing}
+use Rattle.mc_item_names.specs.Plain.{PlainThing, is_kind, is_id, is_thing, plain_id, plain_thing}
 
 -- whether a test of two values is that of what they stand for
 abbrev pub IsSame : {K P : Type 0} → (K → P) → (K → K → Bool) → (P → P → Bool) → Type 0
@@ -35,10 +35,10 @@ views-put view eq is same x ks = rw (is_member-views view eq is same x ks) (choi
 pub one_more_thing : (ts : List Thing) (t : Thing) → map plain_thing (ts ++ t ∷ []) ≡ map plain_thing ts ++ plain_thing t ∷ []
 one_more_thing = views-append plain_thing
 
-pub appended_things : (ts us vs : List Th) → (ts ++ us) ++ vs ≡ ts ++ (us ++ vs)
+pub appended_things : (ts us vs : List PlainThing) → (ts ++ us) ++ vs ≡ ts ++ (us ++ vs)
 appended_things = append_assoc
 
-pub no_more_things : (ts : List Th) → ts ++ [] ≡ ts
+pub no_more_things : (ts : List PlainThing) → ts ++ [] ≡ ts
 no_more_things [] = refl
 no_more_things (t ∷ ts) = ap (λ us. t ∷ us) (no_more_things ts)
 

@@ -13,10 +13,10 @@ use Rattle.mc_decl_forms.specs.Plain.{Path, It, UnionType, SameType, SameInst, B
 use Rattle.mc_decl_forms.specs.Terms.{pair, is_the_word}
 use Rattle.mc_item_names.specs.declared.thing.Kind.{Kind}
 use Rattle.mc_item_names.specs.declared.thing.Kind.TheVariants as K
-use Rattle.mc_item_names.specs.Plain.{Us, id, qualifiers, last_part}
+use Rattle.mc_item_names.specs.Plain.{PlainUse, id, qualifiers, last_part}
 
 -- a use of a name over so many arguments
-abbrev pub used : Kind → Path → ℕ → List Us
+abbrev pub used : Kind → Path → ℕ → List PlainUse
 used k w n = record { kind = k; qualifiers = qualifiers w; id = id (last_part w) n } ∷ []
 
 -- An infix operator stands between its operands, and every other name before its arguments.
@@ -24,100 +24,100 @@ abbrev pub is_infix : Path → Bool
 is_infix (w ∷ []) = is_some (infix_row w)
 is_infix _ = false
 
-abbrev pub in_order : (between_parts : Bool) → List Us → (first others : List Us) → List Us
+abbrev pub in_order : (between_parts : Bool) → List PlainUse → (first others : List PlainUse) → List PlainUse
 in_order true name first others = first ++ (name ++ others)
 in_order false name first others = name ++ (first ++ others)
 
 abbrev mutual
   -- the types in a type
-  pub types_in : Tm → List Us
+  pub types_in : Tm → List PlainUse
   types_in (at (App w ts) l) = types_over w (nat_eq (count ts) 2 && is_infix w) (count ts) ts
   types_in _ = []
 
-  pub types_over : Path → Bool → ℕ → Tms → List Us
+  pub types_over : Path → Bool → ℕ → Tms → List PlainUse
   types_over w between_parts n no_term = used K.DefinedType w n
   types_over w between_parts n (more_terms t ts) = in_order between_parts (used K.DefinedType w n) (types_in t) (all_types ts)
 
-  pub all_types : Tms → List Us
+  pub all_types : Tms → List PlainUse
   all_types no_term = []
   all_types (more_terms t ts) = types_in t ++ all_types ts
 
 abbrev mutual
   -- the insts in an inst; the symbols that `bound` lists aren't looked up
-  pub insts_in : Tm → List Us
+  pub insts_in : Tm → List PlainUse
   insts_in (at (App w ts) l) = insts_over w (is_the_word (codes "bound") w && nat_eq (count ts) 1) (nat_eq (count ts) 2 && is_infix w) (count ts) ts
   insts_in _ = []
 
-  pub insts_over : Path → (is_bound between_parts : Bool) → ℕ → Tms → List Us
+  pub insts_over : Path → (is_bound between_parts : Bool) → ℕ → Tms → List PlainUse
   insts_over w is_bound between_parts n no_term = used K.Inst w n
   insts_over w is_bound between_parts n (more_terms t ts) = cond is_bound (symbols_in t) (in_order between_parts (used K.Inst w n) (insts_in t) (all_insts ts))
 
-  pub all_insts : Tms → List Us
+  pub all_insts : Tms → List PlainUse
   all_insts no_term = []
   all_insts (more_terms t ts) = insts_in t ++ all_insts ts
 
-  pub symbols_in : Tm → List Us
+  pub symbols_in : Tm → List PlainUse
   symbols_in (at (App w ts) l) = all_insts ts
   symbols_in (at (Disj ts) l) = all_symbols ts
   symbols_in (at (Tailed ts t) l) = all_insts ts ++ insts_in t
   symbols_in _ = []
 
-  pub all_symbols : Tms → List Us
+  pub all_symbols : Tms → List PlainUse
   all_symbols no_term = []
   all_symbols (more_terms t ts) = symbols_in t ++ all_symbols ts
 
 -- the modes and insts in a mode, `I >> J` or a name over insts
-abbrev pub modes_in : Tm → List Us
+abbrev pub modes_in : Tm → List PlainUse
 modes_in (at (App w ts) l) = cond (is_the_word (codes ">>") w && nat_eq (count ts) 2) [] (used K.Mode w (count ts)) ++ all_insts ts
 modes_in _ = []
 
-abbrev pub all_modes : Tms → List Us
+abbrev pub all_modes : Tms → List PlainUse
 all_modes no_term = []
 all_modes (more_terms t ts) = modes_in t ++ all_modes ts
 
 -- an argument or a result: a type, and a mode where it has one
-abbrev pub parameter_by : Tm → Option (Tm × Tm) → List Us
+abbrev pub parameter_by : Tm → Option (Tm × Tm) → List PlainUse
 parameter_by t None = types_in t
 parameter_by t (Some p) = types_in p.0 ++ modes_in p.1
 
-abbrev pub parameter_in : Tm → List Us
+abbrev pub parameter_in : Tm → List PlainUse
 parameter_in t = parameter_by t (pair (codes "::") t)
 
-abbrev pub all_parameters : Tms → List Us
+abbrev pub all_parameters : Tms → List PlainUse
 all_parameters no_term = []
 all_parameters (more_terms t ts) = parameter_in t ++ all_parameters ts
 
-abbrev pub parameters_of : Tm → List Us
+abbrev pub parameters_of : Tm → List PlainUse
 parameters_of (at (App w ts) l) = all_parameters ts
 parameters_of _ = []
 
-abbrev pub func_by : Option (Tm × Tm) → List Us
+abbrev pub func_by : Option (Tm × Tm) → List PlainUse
 func_by None = []
 func_by (Some p) = parameters_of p.0 ++ parameter_in p.1
 
-abbrev pub modes_of : Tm → List Us
+abbrev pub modes_of : Tm → List PlainUse
 modes_of (at (App w ts) l) = all_modes ts
 modes_of _ = []
 
-abbrev pub further_by : Tm → Option (Tm × Tm) → List Us
+abbrev pub further_by : Tm → Option (Tm × Tm) → List PlainUse
 further_by t None = modes_of t
 further_by t (Some p) = modes_of p.0 ++ modes_in p.1
 
 -- an argument of a constructor, with the name of a field or without
-abbrev pub field_by : Tm → Option (Tm × Tm) → List Us
+abbrev pub field_by : Tm → Option (Tm × Tm) → List PlainUse
 field_by t None = types_in t
 field_by t (Some p) = types_in p.1
 
-abbrev pub all_fields : Tms → List Us
+abbrev pub all_fields : Tms → List PlainUse
 all_fields no_term = []
 all_fields (more_terms t ts) = field_by t (pair (codes "::") t) ++ all_fields ts
 
-abbrev pub constructor_in : Tm → List Us
+abbrev pub constructor_in : Tm → List PlainUse
 constructor_in (at (App w ts) l) = all_fields ts
 constructor_in (at (Tailed ts t) l) = all_fields ts ++ field_by t (pair (codes "::") t)
 constructor_in _ = []
 
-abbrev pub all_constructors : Tms → List Us
+abbrev pub all_constructors : Tms → List PlainUse
 all_constructors no_term = []
 all_constructors (more_terms t ts) = constructor_in t ++ all_constructors ts
 
@@ -136,7 +136,7 @@ nil_path = codes "[]" ∷ []
 abbrev mutual
   -- The constructors, functions and characters in a term. A state variable is none; a list is `[|]` over each element and
   -- what follows, and `[]` at its end.
-  pub terms_in : Tm → List Us
+  pub terms_in : Tm → List PlainUse
   terms_in (at (App w ts) l) = cond (is_state w ts) [] (terms_over w (nat_eq (count ts) 2 && is_infix w) (argument_count true ts) ts)
   terms_in (at (Items ts) l) = elements_in ts
   terms_in (at (Tailed ts t) l) = cells_in ts ++ terms_in t
@@ -144,29 +144,29 @@ abbrev mutual
   terms_in (at (Disj ts) l) = between semicolon ts
   terms_in _ = []
 
-  pub terms_over : Path → Bool → ℕ → Tms → List Us
+  pub terms_over : Path → Bool → ℕ → Tms → List PlainUse
   terms_over w between_parts n no_term = used K.Symbol w n
   terms_over w between_parts n (more_terms t ts) = in_order between_parts (used K.Symbol w n) (terms_in t) (all_terms ts)
 
-  pub all_terms : Tms → List Us
+  pub all_terms : Tms → List PlainUse
   all_terms no_term = []
   all_terms (more_terms t ts) = terms_in t ++ all_terms ts
 
-  pub cells_in : Tms → List Us
+  pub cells_in : Tms → List PlainUse
   cells_in no_term = []
   cells_in (more_terms t ts) = used K.Symbol cell_path 2 ++ (terms_in t ++ cells_in ts)
 
-  pub elements_in : Tms → List Us
+  pub elements_in : Tms → List PlainUse
   elements_in no_term = used K.Symbol nil_path 0
   elements_in (more_terms t ts) = used K.Symbol cell_path 2 ++ (terms_in t ++ elements_in ts)
 
-  pub between : Path → Tms → List Us
+  pub between : Path → Tms → List PlainUse
   between w no_term = []
   between w (more_terms t no_term) = terms_in t
   between w (more_terms t (more_terms u us)) = terms_in t ++ (used K.Symbol w 2 ++ between w (more_terms u us))
 
 -- the arguments of a call with its name
-abbrev pub call_by : (between_parts : Bool) → List Us → Tms → List Us
+abbrev pub call_by : (between_parts : Bool) → List PlainUse → Tms → List PlainUse
 call_by between_parts name no_term = name
 call_by between_parts name (more_terms t ts) = in_order between_parts name (terms_in t) (all_terms ts)
 
@@ -177,13 +177,13 @@ is_truth w _ = false
 
 abbrev mutual
   -- the predicates in a goal, and what its terms use
-  pub goals_in : Tm → List Us
+  pub goals_in : Tm → List PlainUse
   goals_in (at (Conj ts) l) = all_goals ts
   goals_in (at (Disj ts) l) = all_goals ts
   goals_in (at (App w ts) l) = goal_by w (parts (connective w (count ts))) ts
   goals_in _ = []
 
-  pub goal_by : Path → Parts → Tms → List Us
+  pub goal_by : Path → Parts → Tms → List PlainUse
   goal_by w Sides ts = all_terms ts
   goal_by w Arguments ts = cond (is_truth w ts) [] (call_by (nat_eq (count ts) 2 && is_infix w) (used K.Pred w (argument_count true ts)) ts)
   goal_by w (Goals a b) no_term = []
@@ -191,28 +191,28 @@ abbrev mutual
   goal_by w Quantified no_term = []
   goal_by w Quantified (more_terms t ts) = all_goals ts
 
-  pub all_goals : Tms → List Us
+  pub all_goals : Tms → List PlainUse
   all_goals no_term = []
   all_goals (more_terms t ts) = goals_in t ++ all_goals ts
 
 -- the terms in a head; its own name is looked up as a declaration is
-abbrev pub arguments_of : Tm → List Us
+abbrev pub arguments_of : Tm → List PlainUse
 arguments_of (at (App w ts) l) = all_terms ts
 arguments_of _ = []
 
-abbrev pub head_by : Tm → Option (Tm × Tm) → List Us
+abbrev pub head_by : Tm → Option (Tm × Tm) → List PlainUse
 head_by t None = arguments_of t
 head_by t (Some p) = arguments_of p.0 ++ terms_in p.1
 
-abbrev pub head_in : Tm → List Us
+abbrev pub head_in : Tm → List PlainUse
 head_in t = head_by t (operands (codes "=") t)
 
-abbrev pub clause_by : Tm → Option (Tm × Tm) → List Us
+abbrev pub clause_by : Tm → Option (Tm × Tm) → List PlainUse
 clause_by t None = head_in t
 clause_by t (Some p) = head_in p.0 ++ goals_in p.1
 
 -- the names that an item uses
-abbrev pub uses : It → List Us
+abbrev pub uses : It → List PlainUse
 uses (UnionType h ts) = all_constructors ts
 uses (SameType h t) = types_in t
 uses (SameInst h t) = insts_in t

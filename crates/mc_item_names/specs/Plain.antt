@@ -22,11 +22,11 @@ abbrev pub is_id : Id → Id → Bool
 is_id x y = nat_eq x.arity y.arity && bytes_eq x.name y.name
 
 -- A thing that an item declares or defines: what it is, as a type or a predicate, and its name.
-pub record Th : Type 0 where
+pub record PlainThing : Type 0 where
   pub kind : Kind
   pub id : Id
 
-abbrev pub thing : Kind → Id → Th
+abbrev pub thing : Kind → Id → PlainThing
 thing k x = record { kind = k; id = x }
 
 -- whether two kinds are one
@@ -41,12 +41,12 @@ is_kind K.Symbol K.Symbol = true
 is_kind _ _ = false
 
 -- whether two things are one; things of different kinds never are, even by one name
-abbrev pub is_thing : Th → Th → Bool
+abbrev pub is_thing : PlainThing → PlainThing → Bool
 is_thing t u = is_kind t.kind u.kind && is_id t.id u.id
 
 -- A use of a name: what it is to mean, the parts before its last, and its last part with the number of its arguments. To
 -- mean a `DefinedType` is to mean a type of either kind; a `Symbol` is a constructor, a function or a character.
-pub record Us : Type 0 where
+pub record PlainUse : Type 0 where
   pub kind : Kind
   pub qualifiers : Path
   pub id : Id
@@ -66,8 +66,8 @@ last_part (w ∷ (v ∷ vs)) = last_part (v ∷ vs)
 abbrev pub plain_id : Indicator → Id
 plain_id x = record { name = x.name.now; arity = x.arity }
 
-abbrev pub plain_thing : Thing → Th
+abbrev pub plain_thing : Thing → PlainThing
 plain_thing t = record { kind = t.kind; id = plain_id t.id }
 
-abbrev pub plain_use : Used → Us
+abbrev pub plain_use : Used → PlainUse
 plain_use u = record { kind = u.kind; qualifiers = u.qualifiers.now; id = plain_id u.id }

@@ -4,11 +4,11 @@ use Rattle.std.specs.Set.{is_member}
 use Rattle.mc_syntax.specs.Plain.{Tms, no_term, more_terms}
 use Rattle.mc_decl_forms.specs.Plain.{Path}
 use Rattle.mc_item_names.specs.declared.thing.Kind.TheVariants as K
-use Rattle.mc_item_names.specs.Plain.{Id, Us, is_id}
+use Rattle.mc_item_names.specs.Plain.{Id, PlainUse, is_id}
 use Rattle.mc_item_names.specs.Occurrences.{used, terms_in}
 
 -- terms that a name stands before, each
-abbrev pub behind : Path → Tms → List Us
+abbrev pub behind : Path → Tms → List PlainUse
 behind w no_term = []
 behind w (more_terms t ts) = used K.Symbol w 2 ++ (terms_in t ++ behind w ts)
 

@@ -5,7 +5,7 @@ use Rattle.mc_syntax.specs.Names.{count}
 use Rattle.mc_decl_forms.specs.Plain.{It, AbstractType, UnionType, SameType, SameInst, BoundInst, ModeDef, Pred, Func}
 use Rattle.mc_decl_forms.specs.Terms.{pair}
 use Rattle.mc_item_names.specs.declared.thing.Kind.TheVariants as K
-use Rattle.mc_item_names.specs.Plain.{Id, id, Th, thing, last_part}
+use Rattle.mc_item_names.specs.Plain.{Id, id, PlainThing, thing, last_part}
 
 -- the name that a head has
 abbrev pub head_name : Tm → Id
@@ -31,12 +31,12 @@ abbrev pub func_name : Option (Tm × Tm) → Id
 func_name (Some p) = head_name p.0
 func_name None = id [] 0
 
-abbrev pub symbols : Tms → List Th
+abbrev pub symbols : Tms → List PlainThing
 symbols no_term = []
 symbols (more_terms t ts) = thing K.Symbol (symbol_name t) ∷ symbols ts
 
 -- what an item declares or defines, in order
-abbrev pub things : It → List Th
+abbrev pub things : It → List PlainThing
 things (AbstractType h) = thing K.AbstractType (head_name h) ∷ []
 things (UnionType h ts) = thing K.DefinedType (head_name h) ∷ symbols ts
 things (SameType h t) = thing K.DefinedType (head_name h) ∷ []

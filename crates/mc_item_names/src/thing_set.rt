@@ -17,9 +17,9 @@ pub struct ThingSet<'a> {
 
 impl<'a> Model for ThingSet<'a> {
     ghost use Rattle.std.specs.Prelude.{List, map};
-    ghost use Rattle.mc_item_names.specs.Plain.{Th, plain_thing};
+    ghost use Rattle.mc_item_names.specs.Plain.{PlainThing, plain_thing};
 
-    ghost Value = { List Th };
+    ghost Value = { List PlainThing };
 
     ghost view = { λ s. map plain_thing s.things.keys };
 }

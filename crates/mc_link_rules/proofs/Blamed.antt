@@ -3,7 +3,7 @@ use Rattle.std.proofs.Common.{◌≡◌, ℕ, ◌+◌, ◌-◌, ◌<◌, ◌≤�
 use Rattle.std.proofs.lemmas.List.{append-nil, length-map}
 use Rattle.std.specs.Bool.{◌==◌}
 use Rattle.std.proofs.Math.Dec.{eqb-suc-zero}
-use Rattle.mc_item_names.specs.Plain.{Th}
+use Rattle.mc_item_names.specs.Plain.{PlainThing}
 use Rattle.mc_item_names.specs.Sets.{put_all}
 use Rattle.mc_item_names.specs.Things.{things}
 use Rattle.mc_decl_forms.specs.Plain.{It}
@@ -17,17 +17,17 @@ use Rattle.mc_link_rules.specs.Steps.{faults_with}
 use Rattle.mc_link_rules.proofs.ModulesSeen.{file_at-is}
 use Rattle.mc_link_rules.proofs.Tables.{put_all-append, is_member_set}
 
-again-set : (before ts : List Th) → again (put_all [] before) ts ≡ again before ts
+again-set : (before ts : List PlainThing) → again (put_all [] before) ts ≡ again before ts
 again-set before [] = refl
 again-set before (t ∷ ts) = ap (λ b. cond b (Some t.id) None) (is_member_set before t)
 
-double_fault-set : (before : List Th) (i : It) → double_fault (put_all [] before) i ≡ double_fault before i
+double_fault-set : (before : List PlainThing) (i : It) → double_fault (put_all [] before) i ≡ double_fault before i
 double_fault-set before i = rw (again-set before (things i)) refl
 
-fault-set : (files : List File) (own : ℕ) (all : List Standing) (before : List Th) (s : Standing) → fault files own all (put_all [] before) s ≡ fault files own all before s
+fault-set : (files : List File) (own : ℕ) (all : List Standing) (before : List PlainThing) (s : Standing) → fault files own all (put_all [] before) s ≡ fault files own all before s
 fault-set files own all before s = rw (double_fault-set before s.item) refl
 
-pub faults_with-is : (files : List File) (own : ℕ) (all : List Standing) (before : List Th) (ss : List Standing) → faults_with files own all (put_all [] before) ss ≡ faults_behind files own all before ss
+pub faults_with-is : (files : List File) (own : ℕ) (all : List Standing) (before : List PlainThing) (ss : List Standing) → faults_with files own all (put_all [] before) ss ≡ faults_behind files own all before ss
 faults_with-is files own all before [] = refl
 faults_with-is files own all before (s ∷ ss) =
     ap (λ f. broken_by s.at f ++ faults_with files own all (put_all (put_all [] before) (things s.item)) ss) (fault-set files own all before s)

@@ -3,7 +3,7 @@ use Rattle.std.proofs.Common.{◌≡◌, ℕ, ◌+◌, ◌<◌, suc, zero, Bool,
 use Rattle.std.specs.Set.{is_member}
 use Rattle.std.proofs.Math.Dec.{eqb-suc-zero}
 use Rattle.mc_item_names.specs.declared.thing.Kind.{Kind}
-use Rattle.mc_item_names.specs.Plain.{Us}
+use Rattle.mc_item_names.specs.Plain.{PlainUse}
 use Rattle.mc_link_rules.specs.Files.{File, joined}
 use Rattle.mc_link_rules.specs.Visible.{module_of, seen, bare, among, searched, is_qualified, is_builtin, has_thing, how_many, meanings_as}
 
@@ -33,7 +33,7 @@ some_only false = refl
 pub some_symbol : (m n : ℕ) (b : Bool) → not (nat_eq (m + (n + cond b 1 0)) 0) ≡ (not (nat_eq m 0) || (not (nat_eq n 0) || b))
 some_symbol m n b = some_sum m (n + cond b 1 0) ∙ ap (λ x. not (nat_eq m 0) || x) (some_sum n (cond b 1 0) ∙ ap (λ x. not (nat_eq n 0) || x) (some_one b))
 
-module _ (files : List File) (own : ℕ) (k : Kind) (u : Us) where
+module _ (files : List File) (own : ℕ) (k : Kind) (u : PlainUse) where
   pub found_bare : u.qualifiers ≡ [] → not (nat_eq (meanings_as files own k u) 0) ≡ (is_builtin k u.id || not (nat_eq (how_many files own k u.id (bare files own)) 0))
   found_bare e =
       ap (λ qs. not (nat_eq (cond (not (is_qualified qs) && is_builtin k u.id) 1 0 + how_many files own k u.id (searched files own qs)) 0)) e

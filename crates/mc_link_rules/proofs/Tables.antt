@@ -3,7 +3,7 @@ use Rattle.std.proofs.Common.{◌≡◌, cond, List, [], ◌∷◌, ◌++◌, re
 use Rattle.std.specs.Set.{is_member}
 use Rattle.mc_item_names.specs.declared.thing.Kind.{Kind}
 use Rattle.mc_item_names.specs.declared.thing.Kind.TheVariants as K
-use Rattle.mc_item_names.specs.Plain.{Id, Th, thing, is_thing}
+use Rattle.mc_item_names.specs.Plain.{Id, PlainThing, thing, is_thing}
 use Rattle.mc_item_names.specs.Sets.{put, put_all}
 use Rattle.mc_item_names.specs.Things.{things}
 use Rattle.mc_item_names.specs.Clauses.{clause_of, mode_of}
@@ -12,7 +12,7 @@ use Rattle.mc_link_rules.specs.declared.table.Table.{Table}
 use Rattle.mc_link_rules.specs.Files.{Standing, is_shown, things_of, shown_of, clauses_of, modes_of, as_list, has}
 use Rattle.mc_link_rules.specs.Tables.{table, with_standing, with_standings}
 
-pub put_all-append : (ts xs ys : List Th) → put_all ts (xs ++ ys) ≡ put_all (put_all ts xs) ys
+pub put_all-append : (ts xs ys : List PlainThing) → put_all ts (xs ++ ys) ≡ put_all (put_all ts xs) ys
 put_all-append ts [] ys = refl
 put_all-append ts (x ∷ xs) ys = put_all-append (put ts x) xs ys
 
@@ -40,9 +40,9 @@ unfolding all_of
 table-is t ss a b d e = with_standings-is t ss ∙ (λ i. record { things = put_all (a i) (things_of ss); shown = put_all (b i) (shown_of ss); clauses = put_all (d i) (clauses_of ss); modes = put_all (e i) (modes_of ss) })
 
 -- what a set of things has is what the things have
-pub has-set : (k : Kind) (x : Id) (ts : List Th) → has k x (put_all [] ts) ≡ has k x ts
+pub has-set : (k : Kind) (x : Id) (ts : List PlainThing) → has k x (put_all [] ts) ≡ has k x ts
 has-set K.DefinedType x ts = let a = is_member-put_all [] ts (thing K.DefinedType x) in let b = is_member-put_all [] ts (thing K.AbstractType x) in rw (a, b) refl
 has-set k x ts = is_member-put_all [] ts (thing k x)
 
-pub is_member_set : (ts : List Th) (t : Th) → is_member is_thing (put_all [] ts) t ≡ is_member is_thing ts t
+pub is_member_set : (ts : List PlainThing) (t : PlainThing) → is_member is_thing (put_all [] ts) t ≡ is_member is_thing ts t
 is_member_set ts t = is_member-put_all [] ts t

@@ -11,7 +11,7 @@ use Rattle.mc_model.specs.declared.rule.Rule.TheVariants as R
 use Rattle.mc_decl_forms.specs.Plain.{Path, It, ModuleStart, ModuleEnd, Interface, Implementation, Imports, UseOnly, Clause}
 use Rattle.mc_item_names.specs.declared.thing.Kind.{Kind}
 use Rattle.mc_item_names.specs.declared.thing.Kind.TheVariants as K
-use Rattle.mc_item_names.specs.Plain.{Id, Th, thing, is_thing, Us}
+use Rattle.mc_item_names.specs.Plain.{Id, PlainThing, thing, is_thing, PlainUse}
 use Rattle.mc_item_names.specs.Things.{things}
 use Rattle.mc_item_names.specs.Occurrences.{uses, goals_in}
 use Rattle.mc_item_names.specs.Twice.{twice_in}
@@ -75,16 +75,16 @@ import_fault files (UseOnly ws) = missing files ws
 import_fault files i = None
 
 -- the first name that nothing visible has
-abbrev pub invisible : List File → (own : ℕ) → List Us → Option Fault
+abbrev pub invisible : List File → (own : ℕ) → List PlainUse → Option Fault
 invisible files own [] = None
 invisible files own (u ∷ us) = cond (nat_eq (meanings files own u) 0) (Some (R.N4, shown u.id ++ codes " is not visible")) (invisible files own us)
 
 -- a thing that the items before declare or define too
-abbrev pub again : (before : List Th) → List Th → Option Id
+abbrev pub again : (before : List PlainThing) → List PlainThing → Option Id
 again before [] = None
 again before (t ∷ ts) = cond (is_member is_thing before t) (Some t.id) None
 
-abbrev pub double_fault : (before : List Th) → It → Option Fault
+abbrev pub double_fault : (before : List PlainThing) → It → Option Fault
 double_fault before i = option_map (λ x. (R.N5, shown x ++ codes " is defined twice")) (option_or (again before (things i)) (twice_in i))
 
 -- whether a thing of a file lacks what is to stand there too: the definition of an abstract type, the clauses of a predicate or a function
@@ -95,12 +95,12 @@ is_undefined all K.Func x = not (is_member is_thing (clauses_of all) (thing K.Fu
 is_undefined all _ x = false
 
 -- the first thing that an item declares, where it lacks its definition
-abbrev pub undefined_fault : (all : List Standing) → List Th → Option Fault
+abbrev pub undefined_fault : (all : List Standing) → List PlainThing → Option Fault
 undefined_fault all [] = None
 undefined_fault all (t ∷ ts) = cond (is_undefined all t.kind t.id) (Some (R.N6, shown t.id ++ codes " has no definition")) None
 
 -- a clause or a mode of what isn't declared
-abbrev pub undeclared : (all : List Standing) → Option Th → Option Fault
+abbrev pub undeclared : (all : List Standing) → Option PlainThing → Option Fault
 undeclared all None = None
 undeclared all (Some t) = cond (is_member is_thing (things_of all) t) None (Some (R.N7, shown t.id ++ codes " is not declared"))
 
@@ -112,7 +112,7 @@ is_single K.Mode = true
 is_single _ = false
 
 -- the first unqualified name of a type, an inst or a mode that has two meanings
-abbrev pub ambiguous : List File → (own : ℕ) → List Us → Option Fault
+abbrev pub ambiguous : List File → (own : ℕ) → List PlainUse → Option Fault
 ambiguous files own [] = None
 ambiguous files own (u ∷ us) =
     cond (is_single u.kind && (not (is_qualified u.qualifiers) && nat_lt 1 (meanings files own u))) (Some (R.N8, shown u.id ++ codes " has two meanings")) (ambiguous files own us)
@@ -123,7 +123,7 @@ mode_fault all None = None
 mode_fault all (Some x) = cond (is_member is_thing (modes_of all) (thing K.Pred x)) None (Some (R.M5, shown x ++ codes " has no mode"))
 
 -- The first rule that an item of a file breaks, behind those that declare or define `before`, and among all of them.
-abbrev pub fault : List File → (own : ℕ) → (all : List Standing) → (before : List Th) → Standing → Option Fault
+abbrev pub fault : List File → (own : ℕ) → (all : List Standing) → (before : List PlainThing) → Standing → Option Fault
 fault files own all before s =
     option_or (structure_fault (module_name (file_at files own)) s)
     (option_or (twice_given files own s.item)
@@ -139,7 +139,7 @@ abbrev pub broken_by : Place → Option Fault → List Broken
 broken_by place None = []
 broken_by place (Some f) = record { rule = f.0; at = place; what = f.1 } ∷ []
 
-abbrev pub faults_behind : List File → (own : ℕ) → (all : List Standing) → (before : List Th) → List Standing → List Broken
+abbrev pub faults_behind : List File → (own : ℕ) → (all : List Standing) → (before : List PlainThing) → List Standing → List Broken
 faults_behind files own all before [] = []
 faults_behind files own all before (s ∷ ss) = broken_by s.at (fault files own all before s) ++ faults_behind files own all (before ++ things s.item) ss
 

@@ -5,7 +5,7 @@ use Rattle.mc_model.specs.declared.program.Place.{Place}
 use Rattle.mc_decl_forms.specs.Plain.{Path, It, ModuleStart, Interface, Implementation}
 use Rattle.mc_item_names.specs.declared.thing.Kind.{Kind}
 use Rattle.mc_item_names.specs.declared.thing.Kind.TheVariants as K
-use Rattle.mc_item_names.specs.Plain.{Id, Th, thing, is_thing}
+use Rattle.mc_item_names.specs.Plain.{Id, PlainThing, thing, is_thing}
 use Rattle.mc_item_names.specs.Things.{things}
 use Rattle.mc_item_names.specs.Clauses.{clause_of, mode_of}
 use Rattle.mc_items.specs.declared.entry.Entry.{Entry}
@@ -64,7 +64,7 @@ module_names [] = []
 module_names (f ∷ fs) = module_name f ∷ module_names fs
 
 -- what items declare and define, in order
-abbrev pub things_of : List Standing → List Th
+abbrev pub things_of : List Standing → List PlainThing
 things_of [] = []
 things_of (s ∷ ss) = things s.item ++ things_of ss
 
@@ -73,25 +73,25 @@ is_shown InInterface = true
 is_shown _ = false
 
 -- what the items of interfaces declare and define, in order
-abbrev pub shown_of : List Standing → List Th
+abbrev pub shown_of : List Standing → List PlainThing
 shown_of [] = []
 shown_of (s ∷ ss) = cond (is_shown s.section) (things s.item) [] ++ shown_of ss
 
-abbrev pub as_list : Option Th → List Th
+abbrev pub as_list : Option PlainThing → List PlainThing
 as_list None = []
 as_list (Some t) = t ∷ []
 
 -- what clauses are of, and what further modes are of, in order
-abbrev pub clauses_of : List Standing → List Th
+abbrev pub clauses_of : List Standing → List PlainThing
 clauses_of [] = []
 clauses_of (s ∷ ss) = as_list (clause_of s.item) ++ clauses_of ss
 
-abbrev pub modes_of : List Standing → List Th
+abbrev pub modes_of : List Standing → List PlainThing
 modes_of [] = []
 modes_of (s ∷ ss) = as_list (mode_of s.item) ++ modes_of ss
 
 -- Whether things have one that a name of a kind may mean. An abstract type is a type.
-abbrev pub has : Kind → Id → List Th → Bool
+abbrev pub has : Kind → Id → List PlainThing → Bool
 has K.DefinedType x ts = is_member is_thing ts (thing K.DefinedType x) || is_member is_thing ts (thing K.AbstractType x)
 has k x ts = is_member is_thing ts (thing k x)
 

@@ -1,7 +1,7 @@
 -- The rules of an item, in groups.
 use Rattle.std.specs.Prelude.{ℕ, List, [], ◌∷◌, ◌++◌, Option}
 use Rattle.std.specs.Option.{option_or}
-use Rattle.mc_item_names.specs.Plain.{Th}
+use Rattle.mc_item_names.specs.Plain.{PlainThing}
 use Rattle.mc_item_names.specs.Occurrences.{uses}
 use Rattle.mc_item_names.specs.Clauses.{clause_of, mode_of, without_mode}
 use Rattle.mc_item_names.specs.Sets.{put_all}
@@ -11,7 +11,7 @@ use Rattle.mc_link_rules.specs.Files.{File, Standing}
 use Rattle.mc_link_rules.specs.Faults.{Fault, double_fault, undefined_fault, undeclared, ambiguous, mode_fault, fault, broken_by}
 
 -- the rules of what an item declares, defines, and is of, and of the modes of predicates
-abbrev pub definition_fault : List File → (own : ℕ) → (all : List Standing) → (before : List Th) → Standing → Option Fault
+abbrev pub definition_fault : List File → (own : ℕ) → (all : List Standing) → (before : List PlainThing) → Standing → Option Fault
 definition_fault files own all before s =
     option_or (double_fault before s.item)
     (option_or (undefined_fault all (things s.item))
@@ -20,6 +20,6 @@ definition_fault files own all before s =
     (mode_fault all (without_mode s.item)))))
 
 -- the same where what stands before is a set
-abbrev pub faults_with : List File → (own : ℕ) → (all : List Standing) → (before : List Th) → List Standing → List Broken
+abbrev pub faults_with : List File → (own : ℕ) → (all : List Standing) → (before : List PlainThing) → List Standing → List Broken
 faults_with files own all before [] = []
 faults_with files own all before (s ∷ ss) = broken_by s.at (fault files own all before s) ++ faults_with files own all (put_all before (things s.item)) ss

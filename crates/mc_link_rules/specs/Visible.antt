@@ -6,7 +6,7 @@ use Rattle.std.specs.Set.{is_member}
 use Rattle.mc_decl_forms.specs.Plain.{Path, It, Imports, UseOnly}
 use Rattle.mc_item_names.specs.declared.thing.Kind.{Kind}
 use Rattle.mc_item_names.specs.declared.thing.Kind.TheVariants as K
-use Rattle.mc_item_names.specs.Plain.{Id, id, is_id, Us}
+use Rattle.mc_item_names.specs.Plain.{Id, id, is_id, PlainUse}
 use Rattle.mc_link_rules.specs.Files.{File, Standing, standing, joined, module_names, things_of, shown_of, has}
 
 -- the library's modules are the last nine files
@@ -105,7 +105,7 @@ searched files own [] = bare files own
 searched files own (w ∷ ws) = among (module_of files (joined (w ∷ ws))) (seen files own)
 
 -- how many meanings a name has that a module uses, as a thing of a kind
-abbrev pub meanings_as : List File → (own : ℕ) → Kind → Us → ℕ
+abbrev pub meanings_as : List File → (own : ℕ) → Kind → PlainUse → ℕ
 meanings_as files own k u = cond (not (is_qualified u.qualifiers) && is_builtin k u.id) 1 0 + how_many files own k u.id (searched files own u.qualifiers)
 
 abbrev pub sole : List ℕ → Option ℕ
@@ -122,9 +122,9 @@ character [] x = cond (nat_eq x.arity 0) (sole_character x.name) None
 character _ x = None
 
 -- How many meanings a name has: a term's name is a constructor, a function or a character.
-abbrev pub meanings_of : List File → (own : ℕ) → Kind → Us → ℕ
+abbrev pub meanings_of : List File → (own : ℕ) → Kind → PlainUse → ℕ
 meanings_of files own K.Symbol u = meanings_as files own K.Symbol u + (meanings_as files own K.Func u + cond (is_some (character u.qualifiers u.id)) 1 0)
 meanings_of files own k u = meanings_as files own k u
 
-abbrev pub meanings : List File → (own : ℕ) → Us → ℕ
+abbrev pub meanings : List File → (own : ℕ) → PlainUse → ℕ
 meanings files own u = meanings_of files own u.kind u

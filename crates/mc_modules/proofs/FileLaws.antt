@@ -4,7 +4,7 @@ use Rattle.std.specs.Set.{is_member}
 use Rattle.mc_syntax.specs.Plain.{Tm, Tms, no_term, more_terms}
 use Rattle.mc_decl_forms.specs.Plain.{It, AbstractType, UnionType, SameType}
 use Rattle.mc_item_names.specs.declared.thing.Kind.TheVariants as K
-use Rattle.mc_item_names.specs.Plain.{Id, Th, thing, is_thing}
+use Rattle.mc_item_names.specs.Plain.{Id, PlainThing, thing, is_thing}
 use Rattle.mc_item_names.specs.Things.{head_name, symbol_name, things}
 use Rattle.mc_item_names.specs.Sets.{put_all}
 use Rattle.mc_link_rules.proofs.Tables.{has-set, is_member_set}
@@ -20,7 +20,7 @@ shown_found : (b : Bool) (s : Section) (es : File) → shown_of (standing_from b
 shown_found b s [] = refl
 shown_found b s (e ∷ es) = ap (λ ts. cond (is_shown s) (things e.0) [] ++ ts) (shown_found false (section_after s e.0) es)
 
-of_kind_there : (m : List ℕ) (r : Standing) (w : Bool) (ts : List Th) → of_kind m r w ts ≡ of_kind m (stands r.item r.at r.section) w ts
+of_kind_there : (m : List ℕ) (r : Standing) (w : Bool) (ts : List PlainThing) → of_kind m r w ts ≡ of_kind m (stands r.item r.at r.section) w ts
 of_kind_there m r w [] = refl
 of_kind_there m r w (t ∷ ts) = refl
 
@@ -44,10 +44,10 @@ symbols_found m b s (e ∷ es) =
     ap (λ ds. ds ++ symbols_in m (standing_from false (section_after s e.0) es)) (symbols_there m (record { item = e.0; at = e.1; section = s; is_first = b; is_last = is_empty es }) e.0)
     ∙ ap (λ ds. symbols_by m (stands e.0 e.1 s) e.0 ++ ds) (symbols_found m false (section_after s e.0) es)
 
-type_of : (ts : List Th) (x : Id) → has_type (put_all [] ts) x ≡ has_type ts x
+type_of : (ts : List PlainThing) (x : Id) → has_type (put_all [] ts) x ≡ has_type ts x
 type_of ts x = has-set K.DefinedType x ts
 
-types_there : (m : List ℕ) (all : List Standing) (ts us : List Th) (r : Standing) (i : It) → things_of all ≡ ts → shown_of all ≡ us
+types_there : (m : List ℕ) (all : List Standing) (ts us : List PlainThing) (r : Standing) (i : It) → things_of all ≡ ts → shown_of all ≡ us
     → types_by m all r i ≡ types_with m (put_all [] ts) (put_all [] us) (stands r.item r.at r.section) i
 types_there m all ts us r (AbstractType h) e f =
     rw (e, f, is_member_set ts (thing K.DefinedType (head_name h)), type_of us (head_name h)) refl
@@ -55,7 +55,7 @@ types_there m all ts us r (UnionType h cs) e f = rw (f, type_of us (head_name h)
 types_there m all ts us r (SameType h t) e f = rw (f, type_of us (head_name h)) refl
 types_there m all ts us r i e f = refl
 
-types_found : (m : List ℕ) (all : List Standing) (ts us : List Th) (b : Bool) (s : Section) (es : File) → things_of all ≡ ts → shown_of all ≡ us
+types_found : (m : List ℕ) (all : List Standing) (ts us : List PlainThing) (b : Bool) (s : Section) (es : File) → things_of all ≡ ts → shown_of all ≡ us
     → types_in m all (standing_from b s es) ≡ types_pass m (put_all [] ts) (put_all [] us) s es
 types_found m all ts us b s [] e f = refl
 types_found m all ts us b s (x ∷ es) e f =

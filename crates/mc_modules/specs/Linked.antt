@@ -7,7 +7,7 @@ use Rattle.mc_model.specs.declared.program.Place.{Place}
 use Rattle.mc_decl_forms.specs.Plain.{It, AbstractType, UnionType, SameType, SameInst, BoundInst, ModeDef, Pred, Func, plain_item}
 use Rattle.mc_item_names.specs.declared.thing.Kind.{Kind}
 use Rattle.mc_item_names.specs.declared.thing.Kind.TheVariants as K
-use Rattle.mc_item_names.specs.Plain.{Id, Th, thing, is_thing}
+use Rattle.mc_item_names.specs.Plain.{Id, PlainThing, thing, is_thing}
 use Rattle.mc_item_names.specs.Things.{head_name, symbol_name, things}
 use Rattle.mc_model.specs.declared.program.Candidate.{Candidate}
 use Rattle.mc_model.specs.declared.program.Candidate.TheVariants as C
@@ -57,7 +57,7 @@ symbols_by m s (UnionType h ts) = constructors m s h ts
 symbols_by m s i = []
 
 -- those of an item's things that are of a kind, each with the whole item
-abbrev pub of_kind : (home : List ℕ) → Standing → (wanted : Bool) → List Th → List Defined
+abbrev pub of_kind : (home : List ℕ) → Standing → (wanted : Bool) → List PlainThing → List Defined
 of_kind m s wanted [] = []
 of_kind m s wanted (t ∷ ts) = cond wanted (defined m s (is_shown s.section) s.item t.id ∷ []) []
 
@@ -167,7 +167,7 @@ next_pred K.Pred p = p + 1
 next_pred _ p = p
 
 -- Constructors, functions and predicates in the order of their declarations, each by its number: constructors are numbered from `c` on, functions and predicates from `p` on.
-abbrev pub numbered : (c p : ℕ) → List Th → List Candidate
+abbrev pub numbered : (c p : ℕ) → List PlainThing → List Candidate
 numbered c p [] = []
 numbered c p (t ∷ ts) = as_numbered t.kind c p ++ numbered (next_con t.kind c) (next_pred t.kind p) ts
 

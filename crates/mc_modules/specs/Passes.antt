@@ -4,7 +4,7 @@ use Rattle.std.specs.Set.{is_member}
 use Rattle.mc_model.specs.declared.program.Place.{Place}
 use Rattle.mc_decl_forms.specs.Plain.{It, AbstractType, UnionType, SameType}
 use Rattle.mc_item_names.specs.declared.thing.Kind.TheVariants as K
-use Rattle.mc_item_names.specs.Plain.{Id, Th, thing, is_thing}
+use Rattle.mc_item_names.specs.Plain.{Id, PlainThing, thing, is_thing}
 use Rattle.mc_item_names.specs.Things.{head_name, things}
 use Rattle.mc_link_rules.specs.Files.{File, Section, section_after, is_shown, Standing, has}
 use Rattle.mc_modules.specs.declared.names.Scope.{Scope}
@@ -16,21 +16,21 @@ abbrev pub stands : It → Place → Section → Standing
 stands i place s = record { item = i; at = place; section = s; is_first = false; is_last = false }
 
 -- whether things have a type, and its definition
-abbrev pub has_type : List Th → Id → Bool
+abbrev pub has_type : List PlainThing → Id → Bool
 has_type ts x = has K.DefinedType x ts
 
-abbrev pub has_definition : List Th → Id → Bool
+abbrev pub has_definition : List PlainThing → Id → Bool
 has_definition ts x = is_member is_thing ts (thing K.DefinedType x)
 
 -- the types of an item of a file that has these things, and shows those
-abbrev pub types_with : (home : List ℕ) → (all shown : List Th) → Standing → It → List Defined
+abbrev pub types_with : (home : List ℕ) → (all shown : List PlainThing) → Standing → It → List Defined
 types_with m all shown s (AbstractType h) = cond (has_definition all (head_name h)) [] (defined m s (has_type shown (head_name h)) s.item (head_name h) ∷ [])
 types_with m all shown s (UnionType h ts) = defined m s (has_type shown (head_name h)) s.item (head_name h) ∷ []
 types_with m all shown s (SameType h t) = defined m s (has_type shown (head_name h)) s.item (head_name h) ∷ []
 types_with m all shown s i = []
 
 -- what the items from one on have, the first of which stands in a section
-abbrev pub types_pass : (home : List ℕ) → (all shown : List Th) → Section → File → List Defined
+abbrev pub types_pass : (home : List ℕ) → (all shown : List PlainThing) → Section → File → List Defined
 types_pass m all shown s [] = []
 types_pass m all shown s (e ∷ es) = types_with m all shown (stands e.0 e.1 s) e.0 ++ types_pass m all shown (section_after s e.0) es
 
@@ -42,11 +42,11 @@ abbrev pub sorted_pass : (is_sort : It → Bool) → (home : List ℕ) → Secti
 sorted_pass is_sort m s [] = []
 sorted_pass is_sort m s (e ∷ es) = of_kind m (stands e.0 e.1 s) (is_sort e.0) (things e.0) ++ sorted_pass is_sort m (section_after s e.0) es
 
-abbrev pub things_pass : File → List Th
+abbrev pub things_pass : File → List PlainThing
 things_pass [] = []
 things_pass (e ∷ es) = things e.0 ++ things_pass es
 
-abbrev pub shown_pass : Section → File → List Th
+abbrev pub shown_pass : Section → File → List PlainThing
 shown_pass s [] = []
 shown_pass s (e ∷ es) = cond (is_shown s) (things e.0) [] ++ shown_pass (section_after s e.0) es
 

@@ -1,6 +1,6 @@
 ghost use Rattle.std.specs.Prelude.{◌≡◌, ◌+◌, ◌++◌, List, [], map, length, IfOk, OnOk};
 ghost use Rattle.mc_items.specs.Files.{plain_entry};
-ghost use Rattle.mc_item_names.specs.Plain.{Th, plain_thing};
+ghost use Rattle.mc_item_names.specs.Plain.{PlainThing, plain_thing};
 ghost use Rattle.mc_link_rules.specs.Files.{plain_files};
 ghost use Rattle.mc_modules.specs.Linked.{each, symbols_of, preds_of, plain_named, as_numbered, next_con, next_pred, numbered, declared_from};
 ghost use Rattle.mc_modules.specs.Passes.{things_pass};
@@ -57,7 +57,7 @@ impl Numbered {
     }
 
     fn put_all(&mut self, things: &[Thing]) -> Result<(), Memory>
-        ensures { OnOk result ((ts : List Th) → self.new.all.items ++ numbered self.new.con self.new.pred ts ≡ self.old.all.items ++ numbered self.old.con self.old.pred (map plain_thing things.now ++ ts)) }
+        ensures { OnOk result ((ts : List PlainThing) → self.new.all.items ++ numbered self.new.con self.new.pred ts ≡ self.old.all.items ++ numbered self.old.con self.old.pred (map plain_thing things.now ++ ts)) }
     {
         for thing in things {
             self.put(thing.kind)?;

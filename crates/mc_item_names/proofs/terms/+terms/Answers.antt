@@ -1,7 +1,7 @@
 use Rattle.std.proofs.Common.{ap, ap₂, ◌∙◌, ◌++◌, map, List, append_assoc}
 use Rattle.std.proofs.lemmas.Result.{on_ok_weaker}
 use Rattle.mc_syntax.specs.Plain.{plain_term, tms}
-use Rattle.mc_item_names.specs.Plain.{Us, plain_use}
+use Rattle.mc_item_names.specs.Plain.{PlainUse, plain_use}
 use Rattle.mc_item_names.specs.Occurrences.{cell_path}
 use Rattle.mc_item_names.specs.Steps.{behind}
 use Rattle.mc_item_names.proofs.Steps.{one_pushed, elements_are, after_first}
@@ -13,7 +13,7 @@ add_list-returns t c =
     let ts = tms (map plain_term c.args.elements.now) in
     ap (map plain_use) ((c.in_ok-push.ensures {u = tt}).items)
     ∙ one_pushed c.add_behind.new.uses.items c.of_symbol.result
-    ∙ ap₂ (λ (us vs : List Us). us ++ vs) (c.in_ok-add_behind.ensures {u = tt}) c.of_symbol.ensures
+    ∙ ap₂ (λ (us vs : List PlainUse). us ++ vs) (c.in_ok-add_behind.ensures {u = tt}) c.of_symbol.ensures
     ∙ append_assoc old (behind cell_path ts) _
     ∙ ap (λ us. old ++ us) (elements_are ts)
 
