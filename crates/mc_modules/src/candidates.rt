@@ -10,7 +10,6 @@ use crate::module_names::joined;
 use crate::names::{Named, Names};
 use mc_base::{Copied, Memory, Row, Text};
 use mc_item_names::{Indicator, Kind, Used};
-use mc_items::row;
 use mc_model::program::Candidate;
 use std::alloc::Global;
 
@@ -32,7 +31,7 @@ impl Names {
         let modules = self.looked_in(alloc, own, used.qualifiers)?;
         self.put_of_modules(own, modules.as_slice(), used.id, &mut all)?;
         put_character(used.qualifiers, used.id, &mut all)?;
-        row(all)
+        Row::of(all)
     }
 
     /// What a module itself, which has a number, has of a name without qualifiers over so many arguments, in the order of
@@ -48,7 +47,7 @@ impl Names {
     {
         let mut all = Vec::new(alloc);
         self.put_of_module(true, own, Indicator { name, arity }, &mut all)?;
-        row(all)
+        Row::of(all)
     }
 
     /// The modules in which a name with these qualifiers is looked up.
@@ -79,7 +78,7 @@ impl Names {
         for module in modules {
             put_where(self.is_named(*module, name), *module, &mut all)?;
         }
-        row(all)
+        Row::of(all)
     }
 
     /// Whether the module of this number has a name.

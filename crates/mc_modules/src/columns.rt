@@ -8,7 +8,7 @@ use crate::module_names::{joined, module_name};
 use crate::names::Named;
 use crate::part::Part;
 use mc_base::{Memory, Row, Text};
-use mc_items::{Entry, row};
+use mc_items::Entry;
 use std::alloc::Global;
 
 /// The name of the module that a file is, or none.
@@ -100,7 +100,7 @@ impl Parts {
 fn put_part(all: &mut Vec<Row<Named>>, part: Vec<Named>) -> Result<(), Memory>
     ensures { OnOk result (map (map plain_named) all.new.items ≡ map (map plain_named) all.old.items ++ map plain_named part.items ∷ []) }
 {
-    all.push(row(part)?)?;
+    all.push(Row::of(part)?)?;
     Ok(())
 }
 

@@ -12,7 +12,7 @@ use crate::numbered::declared;
 use crate::scopes::scopes;
 use crate::sight::sights;
 use mc_base::{Memory, Row};
-use mc_items::{Entry, ItemsFault, row};
+use mc_items::{Entry, ItemsFault};
 use std::alloc::Global;
 
 // The names of a program, whatever rules it breaks.
@@ -51,5 +51,5 @@ pub fn link(alloc: Global, files: &Row<Row<Entry>>) -> Result<Names, ItemsFault>
     if broken.is_empty() {
         return Ok(names(alloc, files)?);
     }
-    Err(ItemsFault::Broken(row(broken)?))
+    Err(ItemsFault::Broken(Row::of(broken)?))
 }

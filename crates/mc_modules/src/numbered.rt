@@ -8,7 +8,7 @@ ghost use Rattle.mc_modules.specs.Passes.{things_pass};
 use crate::column::Column;
 use mc_base::{Memory, Row};
 use mc_item_names::{Kind, Thing, things};
-use mc_items::{Entry, row};
+use mc_items::Entry;
 use mc_model::program::Candidate;
 use std::alloc::Global;
 
@@ -76,7 +76,7 @@ fn numbered_in(alloc: Global, con: u32, pred: u32, file: &[Entry]) -> Result<Row
         let things = things(alloc, &entry.decl)?;
         found.put_all(things.as_slice())?;
     }
-    row(found.all)
+    Row::of(found.all)
 }
 
 /// What each module has that a name in a term or a goal may mean.
@@ -95,5 +95,5 @@ pub fn declared(
         let file = files[own].as_slice();
         all.push(numbered_in(alloc, symbols.start(own), preds.start(own), file)?)?;
     }
-    row(all)
+    Row::of(all)
 }

@@ -9,7 +9,7 @@ use crate::named::small;
 use crate::names::Scope;
 use crate::sight::Sight;
 use mc_base::{Memory, Row, Text};
-use mc_items::{Entry, row};
+use mc_items::Entry;
 use std::alloc::Global;
 
 // What a module of this name sees.
@@ -82,5 +82,5 @@ pub fn scopes(
         all.push(scope_of(alloc, files, own, seen, columns)?)?;
         own += 1;
     }
-    row(all)
+    Row::of(all)
 }

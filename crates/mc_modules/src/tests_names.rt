@@ -2,7 +2,6 @@ use crate::tests::files;
 use crate::{Candidate, Named, Names, link};
 use mc_base::{Row, Text};
 use mc_decl_forms::Decl;
-use mc_items::row;
 use std::alloc::Global;
 use std::process::Abort;
 use std::test::Fail;
@@ -35,7 +34,7 @@ fn linked(alloc: Global, texts: &str) -> Result<Option<Names>, Fail> {
         Ok(files) => files,
         Err(_) => return Ok(None),
     };
-    Ok(link(alloc, &row(files)?).ok())
+    Ok(link(alloc, &Row::of(files)?).ok())
 }
 
 fn nth<'a, T>(rt: &impl Abort, row: &'a Row<T>, k: usize) -> &'a T {
@@ -66,7 +65,7 @@ fn parts(alloc: Global, name: &str) -> Result<Row<Text>, Fail> {
     for part in name.split('.') {
         parts.push(Text::new(alloc, part.as_bytes())?)?;
     }
-    Ok(row(parts)?)
+    Ok(Row::of(parts)?)
 }
 
 // What a name may mean in a module.

@@ -33,4 +33,4 @@ returns c =
     let r = c.loop-seen.seen-iterator.rest in
     let none : scopes_from fs n gs ≡ [] = over fs n gs r.items c.loop-seen.invariant.rest (sym (r.ok.0) ∙ (c.in-None.ensures {u = tt}).steps.0) in
     let all : c.loop-seen.all.items ≡ scopes_from fs 0 fs = sym (append-nil c.loop-seen.all.items) ∙ ap (λ z. c.loop-seen.all.items ++ z) (sym none) ∙ c.loop-seen.invariant.done in
-    subst (λ xs. IfOk c.row.result (λ row. row ≡ xs)) all c.row.ensures
+    subst (λ xs. IfOk c.of.result (λ row. row ≡ xs)) all c.of.ensures.elements

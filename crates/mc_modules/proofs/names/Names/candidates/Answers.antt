@@ -25,4 +25,4 @@ returns c =
     (c.in_ok-put_character.ensures {u = tt}) ∙ ap (λ zs. zs ++ as_character (character u.qualifiers u.id)) found
     ∙ ap (λ q. candidates l own q u.id) (qualifiers_are K.Symbol u w n e)
     ∙ ap (λ x. candidates l own (qualifiers w) x) (id_is K.Symbol u w n e) in
-    subst (λ xs. IfOk c.row.result (λ row. row ≡ xs)) whole c.row.ensures
+    subst (λ xs. IfOk c.of.result (λ row. row ≡ xs)) whole c.of.ensures.elements
