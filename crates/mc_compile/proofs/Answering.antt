@@ -22,6 +22,7 @@ use Rattle.mc_compile.specs.declared.given.Compiled.{Compiled}
 use Rattle.mc_compile.specs.declared.facts.enums.Enums.{Enums}
 use Rattle.mc_compile.specs.declared.facts.query.Asked.{Asked}
 use Rattle.mc_compile.specs.Facts.{LinkedFiles, Fact, facts, database, question, given_preds, given_types, signatures, constants, names_of, or_none, places}
+use Rattle.mc_compile.specs.Rejected.{line_of}
 use Rattle.mc_compile.specs.Compiled.{over_facts, with_question, query_predicates, goal_number, goal_variables, beside_type, beside_pred, no_function, beside_fact, beside_facts, beside_query}
 use Rattle.mc_compile.specs.Passes.{everywhere, all_plain, all_import_given, is_plain, imports_given, is_sound, all_some, signatures_through, facts_through, put_facts, put_all, table_through, places_through, no_clauses, predicates_over, AreEnums, count_types, linked_of, IsFormed, plain_question}
 use Rattle.mc_compile.specs.declared.facts.sources.Sources.{Sources}
@@ -72,47 +73,53 @@ over_none P goal (Some fs) e = ap (with_question (database P fs)) e
 pub no_question : (P : LinkedFiles) (goal : Term) → question P (plain_term goal) ≡ None → IsAnswered P (Some goal) None
 no_question P goal e = over_none P goal (facts P) e
 
--- the question of a goal, where there is one
-abbrev pub IsAskedBy : LinkedFiles → Option Term → Option Question → Type 0
-IsAskedBy P None q = q ≡ None
+-- the question of a goal, where there is one, with the goal's line
+abbrev pub IsAskedBy : LinkedFiles → Option Term → Option Asked → Type 0
+IsAskedBy P None asked = asked ≡ None
 IsAskedBy P (Some goal) None = ⊥
-IsAskedBy P (Some goal) (Some q) = question P (plain_term goal) ≡ Some q
+IsAskedBy P (Some goal) (Some a) = (question P (plain_term goal) ≡ Some (plain_question a)) × (a.line ≡ line_of (plain_term goal))
 
-over_some : (P : LinkedFiles) (goal : Option Term) (q : Option Question) (o : Option (List Fact)) (fs : List Fact) → o ≡ Some fs → IsAskedBy P goal q → over_facts P goal o ≡ Some (database P fs, q)
-over_some P None q o fs e a = rw (e, a) refl
-over_some P (Some goal) None o fs e a = absurd a
-over_some P (Some goal) (Some q) o fs e a = ap (over_facts P (Some goal)) e ∙ ap (with_question (database P fs)) a
+over_some : (P : LinkedFiles) (goal : Option Term) (asked : Option Asked) (o : Option (List Fact)) (fs : List Fact) → o ≡ Some fs → IsAskedBy P goal asked → over_facts P goal o ≡ Some (database P fs, option_map plain_question asked)
+over_some P None asked o fs e by = rw (e, by) refl
+over_some P (Some goal) None o fs e by = absurd by
+over_some P (Some goal) (Some a) o fs e by = ap (over_facts P (Some goal)) e ∙ ap (with_question (database P fs)) by.0
 
-queried : (P : LinkedFiles) (goal : Option Term) (uss : List (List ℕ)) (fs : List Fact) (q : Option Question) → map (λ us. Some us) uss ≡ signatures P → IsAskedBy P goal q → query_preds uss q ≡ query_predicates (database P fs) q
-queried P goal uss fs None e a = refl
-queried P None uss fs (Some q) e a = cc
-queried P (Some goal) uss fs (Some q) e a =
-    ap (λ us. query_predicate q.relation us ∷ []) (ap (λ ss. or_none (slice_index_or ss q.relation None)) e ∙ sym (asked_as P fs q (question_below P (plain_term goal) q a)))
+queried : (P : LinkedFiles) (goal : Option Term) (uss : List (List ℕ)) (fs : List Fact) (asked : Option Asked) → map (λ us. Some us) uss ≡ signatures P → IsAskedBy P goal asked →
+    query_preds uss (option_map plain_question asked) ≡ query_predicates (database P fs) (option_map plain_question asked)
+queried P goal uss fs None e by = refl
+queried P None uss fs (Some a) e by = cc
+queried P (Some goal) uss fs (Some a) e by =
+    ap (λ us. query_predicate a.relation us ∷ []) (ap (λ ss. or_none (slice_index_or ss a.relation None)) e ∙ sym (asked_as P fs (plain_question a) (question_below P (plain_term goal) (plain_question a) by.0)))
 
 numbered : (P : LinkedFiles) (fs : List Fact) (n : ℕ) (q : Option Question) → n ≡ length (given_preds P) → goal_behind n q ≡ goal_number (database P fs) q
 numbered P fs n None e = refl
 numbered P fs n (Some q) e = e ∙ sym (relations_counted P fs)
 
 -- what stands beside the query's clause
-asked_besides : (P : LinkedFiles) (goal : Option Term) (uss : List (List ℕ)) (fs : List Fact) (n : ℕ) (q : Option Question) → map (λ us. Some us) uss ≡ signatures P → facts P ≡ Some fs → IsAskedBy P goal q → query_besides n uss q ≡ beside_query n q
-asked_besides P goal uss fs n None e f a = refl
-asked_besides P None uss fs n (Some q) e f a = cc
-asked_besides P (Some goal) uss fs n (Some q) e f a =
-    ap (λ us. ((length us, place n 1) ∷ []) ∷ []) (ap (λ ss. or_none (slice_index_or ss q.relation None)) e ∙ sym (asked_as P fs q (question_below P (plain_term goal) q a)))
-    ∙ ap (λ k. ((k, place n 1) ∷ []) ∷ []) (sym (question_asks P fs (plain_term goal) q f a).arguments)
+asked_besides : (P : LinkedFiles) (goal : Option Term) (uss : List (List ℕ)) (fs : List Fact) (n : ℕ) (asked : Option Asked) → map (λ us. Some us) uss ≡ signatures P → facts P ≡ Some fs → IsAskedBy P goal asked →
+    query_besides n uss asked ≡ beside_query n goal (option_map plain_question asked)
+asked_besides P None uss fs n None e f by = refl
+asked_besides P (Some goal) uss fs n None e f by = absurd by
+asked_besides P None uss fs n (Some a) e f by = cc
+asked_besides P (Some goal) uss fs n (Some a) e f by =
+    let q = plain_question a in
+    ap (λ us. ((length us, place n a.line) ∷ []) ∷ []) (ap (λ ss. or_none (slice_index_or ss q.relation None)) e ∙ sym (asked_as P fs q (question_below P (plain_term goal) q by.0)))
+    ∙ ap (λ k. ((k, place n a.line) ∷ []) ∷ []) (sym (question_asks P fs (plain_term goal) q f by.0).arguments)
+    ∙ ap (λ line. ((length q.variables, place n line) ∷ []) ∷ []) by.1
 
 besides_all : (P : LinkedFiles) (uss : List (List ℕ)) (besides : List (List (ℕ × Place))) → length uss ≡ length (given_preds P) → besides ≡ places_through P 0 (no_clauses uss) P.given → besides ≡ beside_facts P
 besides_all P uss besides e is =
     is ∙ places_all P 0 (no_clauses uss) P.given ∙ each_put beside_fact uss (places P) ∙ ap (map (map beside_fact)) (as_many 0 uss (given_preds P) (places P) e)
 
-pub answered : (P : LinkedFiles) (goal : Option Term) (enums : Enums) (uss : List (List ℕ)) (table : List (List ClauseForm)) (besides : List (List (ℕ × Place))) (q : Option Question) (c : Compiled) →
+pub answered : (P : LinkedFiles) (goal : Option Term) (enums : Enums) (uss : List (List ℕ)) (table : List (List ClauseForm)) (besides : List (List (ℕ × Place))) (asked : Option Asked) (c : Compiled) →
     all_plain P.given ≡ true → all_import_given P ≡ true → is_distinct (names_of (constants P)) ≡ true → Some uss ≡ all_some (signatures_through P 0 P.given) →
-    Some table ≡ table_through P 0 (no_clauses uss) P.given → besides ≡ places_through P 0 (no_clauses uss) P.given → AreEnums (given_types P) enums → IsAskedBy P goal q →
-    IsBuilt enums (predicates_over (given_preds P) uss table) uss q c → map beside_pred c.program.preds ≡ map no_function (besides ++ query_besides (length P.given) uss q) →
+    Some table ≡ table_through P 0 (no_clauses uss) P.given → besides ≡ places_through P 0 (no_clauses uss) P.given → AreEnums (given_types P) enums → IsAskedBy P goal asked →
+    IsBuilt enums (predicates_over (given_preds P) uss table) uss (option_map plain_question asked) c → map beside_pred c.program.preds ≡ map no_function (besides ++ query_besides (length P.given) uss asked) →
     IsAnswered P goal (Some c)
-answered P goal enums uss table besides q c p g d s t b enumerated a built beside =
+answered P goal enums uss table besides asked c p g d s t b enumerated by built beside =
     let put = something_put (no_clauses uss) table (facts_through P 0 P.given) (t ∙ table_all P 0 (no_clauses uss) P.given) in
     let fs = put.0 in
+    let q = option_map plain_question asked in
     let known = types_known P uss s in
     let counted = counted_known P uss s in
     let relations : predicates_over (given_preds P) uss table ≡ map predicate_of (database P fs).relations =
@@ -122,11 +129,11 @@ answered P goal enums uss table besides q c p g d s t b enumerated a built besid
     let facts_known : facts P ≡ Some fs = facts_whole P uss p g d s ∙ put.1 in (
       database P fs,
       q,
-      over_some P goal q (facts P) fs facts_known a,
+      over_some P goal asked (facts P) fs facts_known by,
       record {
         types = ap (map (λ (t : TypeDef). t.symbols)) built.types ∙ enumerated.groups;
         symbols = ap (map plain_symbol) built.symbols ∙ enumerated.constructors;
-        preds = built.preds ∙ ap (λ z. z ++ query_preds uss q) relations ∙ ap (λ z. map predicate_of (database P fs).relations ++ z) (queried P goal uss fs q known a);
+        preds = built.preds ∙ ap (λ z. z ++ query_preds uss q) relations ∙ ap (λ z. map predicate_of (database P fs).relations ++ z) (queried P goal uss fs asked known by);
         goal = built.goal ∙ numbered P fs (length (predicates_over (given_preds P) uss table)) q length_known;
         vars = built.vars;
       },
@@ -134,8 +141,8 @@ answered P goal enums uss table besides q c p g d s t b enumerated a built besid
         types = ap (map beside_type) built.types ∙ enumerated.besides;
         preds =
             beside
-            ∙ ap (λ z. map no_function (z ++ query_besides (length P.given) uss q)) (besides_all P uss besides counted b)
-            ∙ ap (λ z. map no_function (beside_facts P ++ z)) (asked_besides P goal uss fs (length P.given) q known facts_known a);
+            ∙ ap (λ z. map no_function (z ++ query_besides (length P.given) uss asked)) (besides_all P uss besides counted b)
+            ∙ ap (λ z. map no_function (beside_facts P ++ z)) (asked_besides P goal uss fs (length P.given) asked known facts_known by);
       },
     )
 
@@ -180,9 +187,9 @@ pub asked_none : (P : LinkedFiles) (goal : Option Term) → goal ≡ None → Is
 asked_none P None e = refl
 asked_none P (Some t) e = cc
 
-pub asked_some : (P : LinkedFiles) (goal : Option Term) (t : Term) (q : Question) → goal ≡ Some t → question P (plain_term t) ≡ Some q → IsAskedBy P goal (Some q)
-asked_some P None t q e a = cc
-asked_some P (Some u) t q e a = let same : u ≡ t = cc in ap (λ z. question P (plain_term z)) same ∙ a
+pub asked_some : (P : LinkedFiles) (goal : Option Term) (t : Term) (a : Asked) → goal ≡ Some t → question P (plain_term t) ≡ Some (plain_question a) → a.line ≡ line_of (plain_term t) → IsAskedBy P goal (Some a)
+asked_some P None t a e q l = cc
+asked_some P (Some u) t a e q l = let same : u ≡ t = cc in (ap (λ z. question P (plain_term z)) same ∙ q, l ∙ ap (λ z. line_of (plain_term z)) (sym same))
 
 pub as_many_given : (s : Sources) → length (linked_of s).given ≡ length s.given.now
 as_many_given s = length-map s.given.now (map plain_entry)
@@ -201,14 +208,14 @@ built_with enums ps preds uss q goal vars c e f g made =
     record { types = made.types; symbols = made.symbols; preds = ap (map plain_pred) made.preds_are ∙ e; goal = made.goal_is ∙ f; vars = made.vars_are ∙ g }
 
 -- the same where the types of arguments are seen through a slice
-pub answered_by : (P : LinkedFiles) (goal : Option Term) (enums : Enums) (uss seen : List (List ℕ)) (table : List (List ClauseForm)) (besides : List (List (ℕ × Place))) (q : Option Question) (c : Compiled) →
+pub answered_by : (P : LinkedFiles) (goal : Option Term) (enums : Enums) (uss seen : List (List ℕ)) (table : List (List ClauseForm)) (besides : List (List (ℕ × Place))) (asked : Option Asked) (c : Compiled) →
     seen ≡ uss → all_plain P.given ≡ true → all_import_given P ≡ true → is_distinct (names_of (constants P)) ≡ true → Some uss ≡ all_some (signatures_through P 0 P.given) →
-    Some table ≡ table_through P 0 (no_clauses uss) P.given → besides ≡ places_through P 0 (no_clauses uss) P.given → AreEnums (given_types P) enums → IsAskedBy P goal q →
-    IsBuilt enums (predicates_over (given_preds P) seen table) seen q c → map beside_pred c.program.preds ≡ map no_function (besides ++ query_besides (length P.given) seen q) →
+    Some table ≡ table_through P 0 (no_clauses uss) P.given → besides ≡ places_through P 0 (no_clauses uss) P.given → AreEnums (given_types P) enums → IsAskedBy P goal asked →
+    IsBuilt enums (predicates_over (given_preds P) seen table) seen (option_map plain_question asked) c → map beside_pred c.program.preds ≡ map no_function (besides ++ query_besides (length P.given) seen asked) →
     IsAnswered P goal (Some c)
-answered_by P goal enums uss seen table besides q c same p g d s t b enumerated a built beside =
-    answered P goal enums uss table besides q c p g d s t b enumerated a (subst (λ z. IsBuilt enums (predicates_over (given_preds P) z table) z q c) same built)
-    (subst (λ z. map beside_pred c.program.preds ≡ map no_function (besides ++ query_besides (length P.given) z q)) same beside)
+answered_by P goal enums uss seen table besides asked c same p g d s t b enumerated by built beside =
+    answered P goal enums uss table besides asked c p g d s t b enumerated by (subst (λ z. IsBuilt enums (predicates_over (given_preds P) z table) z (option_map plain_question asked) c) same built)
+    (subst (λ z. map beside_pred c.program.preds ≡ map no_function (besides ++ query_besides (length P.given) z asked)) same beside)
 
 append_nothing : {A : Type 0} (xs : List A) → xs ++ [] ≡ xs
 append_nothing [] = refl
@@ -232,14 +239,14 @@ pushed_beside preds new p css cs is e f =
 
 -- what stands beside the predicates of a program that is made of these, with a query and without
 pub beside_some : (enums : Enums) (preds : List Pred) (css : List (List (ℕ × Place))) (n : ℕ) (uss : List (List ℕ)) (asked : Option Asked) (a : Asked) (goal : ℕ) (vars : List (List ℕ)) (c : Compiled) → asked ≡ Some a →
-    map beside_pred preds ≡ map no_function (css ++ query_besides n uss (Some (plain_question a))) → IsMade enums preds goal vars c → map beside_pred c.program.preds ≡ map no_function (css ++ query_besides n uss (option_map plain_question asked))
+    map beside_pred preds ≡ map no_function (css ++ query_besides n uss (Some a)) → IsMade enums preds goal vars c → map beside_pred c.program.preds ≡ map no_function (css ++ query_besides n uss asked)
 beside_some enums preds css n uss asked a goal vars c e f made =
-    ap (map beside_pred) made.preds_are ∙ f ∙ ap (λ o. map no_function (css ++ query_besides n uss (option_map plain_question o))) (sym e)
+    ap (map beside_pred) made.preds_are ∙ f ∙ ap (λ o. map no_function (css ++ query_besides n uss o)) (sym e)
 
 pub beside_none : (enums : Enums) (preds : List Pred) (css : List (List (ℕ × Place))) (n : ℕ) (uss : List (List ℕ)) (asked : Option Asked) (goal : ℕ) (vars : List (List ℕ)) (c : Compiled) → asked ≡ None →
-    map beside_pred preds ≡ map no_function css → IsMade enums preds goal vars c → map beside_pred c.program.preds ≡ map no_function (css ++ query_besides n uss (option_map plain_question asked))
+    map beside_pred preds ≡ map no_function css → IsMade enums preds goal vars c → map beside_pred c.program.preds ≡ map no_function (css ++ query_besides n uss asked)
 beside_none enums preds css n uss asked goal vars c e f made =
-    ap (map beside_pred) made.preds_are ∙ f ∙ ap (map no_function) (sym (append_nothing css)) ∙ ap (λ o. map no_function (css ++ query_besides n uss (option_map plain_question o))) (sym e)
+    ap (map beside_pred) made.preds_are ∙ f ∙ ap (map no_function) (sym (append_nothing css)) ∙ ap (λ o. map no_function (css ++ query_besides n uss o)) (sym e)
 
 pub pushed : (preds new : List Pred) (p : Pred) (ps : List Predicate) (q : Predicate) → new ≡ preds ++ p ∷ [] → map plain_pred preds ≡ ps → plain_pred p ≡ q → map plain_pred new ≡ ps ++ q ∷ []
 pushed preds new p ps q is e f = ap (map plain_pred) is ∙ map-append plain_pred preds (p ∷ []) ∙ ap (λ z. z ++ plain_pred p ∷ []) e ∙ ap (λ z. ps ++ z ∷ []) f

@@ -13,6 +13,7 @@ use Rattle.mc_modules.specs.Linked.{plain_names}
 use Rattle.mc_ground.specs.Database.{Database, Question, query_predicate}
 use Rattle.mc_compile.specs.declared.given.Compiled.{Compiled}
 use Rattle.mc_compile.specs.declared.facts.enums.Enums.{Enums}
+use Rattle.mc_compile.specs.declared.facts.query.Asked.{Asked}
 use Rattle.mc_compile.specs.Facts.{LinkedFiles, facts, or_none}
 use Rattle.mc_compile.specs.Compiled.{over_facts, IsProgram, goal_variables, Keeps}
 
@@ -22,7 +23,7 @@ linked_files files n names = record { given = plain_files (take n files); all = 
 
 abbrev pub IsAnswered : LinkedFiles → Option Term → Option Compiled → Type 0
 IsAnswered P goal None = over_facts P goal (facts P) ≡ None
-IsAnswered P goal (Some c) = (d : Database) × (q : Option Question) × (over_facts P goal (facts P) ≡ Some (d, q)) × IsProgram d q c × Keeps P q c
+IsAnswered P goal (Some c) = (d : Database) × (q : Option Question) × (over_facts P goal (facts P) ≡ Some (d, q)) × IsProgram d q c × Keeps P goal q c
 
 -- the query's predicate, and the number of the goal's behind so many others
 abbrev pub query_preds : List (List ℕ) → Option Question → List Predicate
@@ -30,9 +31,9 @@ query_preds uss None = []
 query_preds uss (Some q) = query_predicate q.relation (or_none (slice_index_or (map (λ us. Some us) uss) q.relation None)) ∷ []
 
 -- what stands beside its clause: a variable for each argument, and its place
-abbrev pub query_besides : (number : ℕ) → List (List ℕ) → Option Question → List (List (ℕ × Place))
+abbrev pub query_besides : (number : ℕ) → List (List ℕ) → Option Asked → List (List (ℕ × Place))
 query_besides n uss None = []
-query_besides n uss (Some q) = ((length (or_none (slice_index_or (map (λ us. Some us) uss) q.relation None)), place n 1) ∷ []) ∷ []
+query_besides n uss (Some a) = ((length (or_none (slice_index_or (map (λ us. Some us) uss) a.relation None)), place n a.line) ∷ []) ∷ []
 
 abbrev pub goal_behind : ℕ → Option Question → ℕ
 goal_behind n None = 0

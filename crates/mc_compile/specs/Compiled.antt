@@ -17,7 +17,7 @@ use Rattle.mc_compile.specs.declared.given.Compiled.{Compiled}
 use Rattle.mc_compile.specs.declared.given.CompileFault.{CompileFault}
 use Rattle.mc_compile.specs.declared.given.CompileFault.TheVariants as F
 use Rattle.mc_compile.specs.Sources.{items_from}
-use Rattle.mc_compile.specs.Rejected.{AreLegal, Breaks}
+use Rattle.mc_compile.specs.Rejected.{AreLegal, Breaks, line_of}
 use Rattle.mc_compile.specs.Facts.{LinkedFiles, facts, database, question, given_types, given_preds, places, by_predicate}
 
 -- the files of legal sources, with their names
@@ -91,15 +91,15 @@ beside_fact here = (0, here)
 abbrev pub beside_facts : LinkedFiles → List (List (ℕ × Place))
 beside_facts P = map (map beside_fact) (by_predicate 0 (given_preds P) (places P))
 
--- The query's clause has the variables that the question names, and stands on the first line of a file that is numbered behind the given ones.
-abbrev pub beside_query : (number : ℕ) → Option Question → List (List (ℕ × Place))
-beside_query n None = []
-beside_query n (Some q) = ((length q.variables, place n 1) ∷ []) ∷ []
+-- The query's clause has the variables that the question names. It stands where the rules do that the goal breaks: on the goal's line, in a file that is numbered behind the given ones.
+abbrev pub beside_query : (number : ℕ) → Option Term → Option Question → List (List (ℕ × Place))
+beside_query n (Some goal) (Some q) = ((length q.variables, place n (line_of (plain_term goal))) ∷ []) ∷ []
+beside_query n _ _ = []
 
 -- Each type has its given name and no parameters. No predicate is a function, and the clauses are the facts of the predicates, in order, and then the query.
-pub record Keeps (P : LinkedFiles) (q : Option Question) (c : Compiled) : Type 0 where
+pub record Keeps (P : LinkedFiles) (goal : Option Term) (q : Option Question) (c : Compiled) : Type 0 where
   pub types : map beside_type c.program.types ≡ map no_parameters (given_types P)
-  pub preds : map beside_pred c.program.preds ≡ map no_function (beside_facts P ++ beside_query (length P.given) q)
+  pub preds : map beside_pred c.program.preds ≡ map no_function (beside_facts P ++ beside_query (length P.given) goal q)
 
 -- whether the first answer alone is wanted
 abbrev pub is_first : Option Query → Bool
@@ -113,7 +113,7 @@ pub record IsCompiled (library texts : List (List ℕ)) (query : Option (List �
   pub question : Option Question
   pub asked : asks legal ≡ Some (database, question)
   pub program : IsProgram database question c
-  pub kept : Keeps (files_of legal) question c
+  pub kept : Keeps (files_of legal) legal.sources.goal question c
 
 -- Why sources aren't compiled: they break rules; or they are legal, and a run of `main`, the first answer alone, or a form that isn't compiled yet is asked for.
 abbrev pub IsFault : (library texts : List (List ℕ)) → (query : Option (List ℕ)) → (unbuilt : Bool) → CompileFault → Type 0

@@ -1,7 +1,7 @@
 -- The form of modules of facts, which is compiled so far, and the program that they are: enumeration types, predicates whose arguments are all `out`, facts of constants, and a query that is one call over variables. (Mercury Language Reference Manual: Syntax, facts; Types, enumerations; Modes.)
 use Rattle.std.specs.Prelude.{ℕ, ◌+◌, Bool, true, false, cond, not, nat_eq, nat_lt, nat_le, ◌&&◌, ◌||◌, List, [], ◌∷◌, ◌++◌, map, length, Option, Some, None, codes, slice_get, slice_index_or}
 use Rattle.std.specs.Option.{is_some}
-use Rattle.mc_syntax.specs.Plain.{Tm, Tms, at, no_term, more_terms, Var, App}
+use Rattle.mc_syntax.specs.Plain.{Tm, Tms, at, no_term, more_terms, Var, App, Items}
 use Rattle.mc_syntax.specs.Names.{count}
 use Rattle.mc_model.specs.declared.det.Det.{Det}
 use Rattle.mc_model.specs.declared.det.Most.{Most}
@@ -17,7 +17,7 @@ use Rattle.mc_decl_forms.specs.Plain.{Path, It, ModuleStart, ModuleEnd, Interfac
 use Rattle.mc_decl_forms.specs.Terms.{pair, is_the_word, has_none, is_distinct}
 use Rattle.mc_item_names.specs.Plain.{Id, id, qualifiers, last_part}
 use Rattle.mc_item_names.specs.Things.{symbol_name}
-use Rattle.mc_item_names.specs.Occurrences.{is_truth}
+use Rattle.mc_item_names.specs.Occurrences.{is_truth, nil_path}
 use Rattle.mc_link_rules.specs.Files.{File, Standing, standing, joined}
 use Rattle.mc_link_rules.specs.Faults.{is_number}
 use Rattle.mc_link_rules.specs.Visible.{module_of, sole}
@@ -47,9 +47,10 @@ abbrev pub are_given : LinkedFiles → List Path → Bool
 are_given P [] = true
 are_given P (w ∷ ws) = is_below (module_of P.all (joined w)) (length P.given) && are_given P ws
 
--- a constant of a type: a name of two or more bytes
+-- a constant of a type: a name of two or more bytes, or the empty list, whose name `[]` is one of two
 abbrev pub is_constant : Tm → Bool
 is_constant (at (App (w ∷ []) ts) l) = has_none ts && nat_le 2 (length w)
+is_constant (at (Items ts) l) = has_none ts
 is_constant _ = false
 
 abbrev pub are_constants : Tms → Bool
@@ -100,14 +101,25 @@ abbrev pub is_nondet : Option Det → Bool
 is_nondet None = false
 is_nondet (Some d) = d.can_fail && (is_many d.most && not d.committed)
 
+-- the constructors among candidates: a constant of an enumeration type is no character
+abbrev pub constructors : List Candidate → List Candidate
+constructors [] = []
+constructors (C.Con k ∷ cs) = C.Con k ∷ constructors cs
+constructors (c ∷ cs) = constructors cs
+
 -- the constructor that is the one candidate
 abbrev pub sole_constructor : List Candidate → Option ℕ
 sole_constructor (C.Con k ∷ []) = Some k
 sole_constructor _ = None
 
--- the number of a constant
+-- the number of the constant that a name means
+abbrev pub constant_named : LinkedFiles → (own : ℕ) → Path → Option ℕ
+constant_named P own w = sole_constructor (constructors (candidates P.names own (qualifiers w) (id (last_part w) 0)))
+
+-- the number of a constant, which the empty list is by its name
 abbrev pub constant_number : LinkedFiles → (own : ℕ) → Tm → Option ℕ
-constant_number P own (at (App w ts) l) = cond (has_none ts) (sole_constructor (candidates P.names own (qualifiers w) (id (last_part w) 0))) None
+constant_number P own (at (App w ts) l) = cond (has_none ts) (constant_named P own w) None
+constant_number P own (at (Items ts) l) = cond (has_none ts) (constant_named P own nil_path) None
 constant_number P own _ = None
 
 abbrev pub constant_numbers : LinkedFiles → (own : ℕ) → Tms → Option (List ℕ)

@@ -26,8 +26,8 @@ pub struct Named {
     pub goal: Option<Term>,
 }
 
-// Reads texts that are modules of a library, and numbered from one on. None of them breaks a rule, which a test shows
-// and no clause can: one that did would be answered as want of memory.
+// Reads texts that are modules of a library, and numbered from one on. None of them breaks a rule of reading, which a test
+// shows and no clause can: one that did would be answered as want of memory.
 fn modules(alloc: Global, first: u32, texts: &[&str]) -> Result<Row<Row<Entry>>, Memory>
     requires number { first + length texts.now < 2 ^ 32 }
     requires few { length texts.now < 2 ^ 8 }

@@ -1,7 +1,7 @@
 use crate::tests::fault_shown;
 use crate::{CompileFault, Compiled, Given, Query, compile};
 use mc_base::{Memory, Row, Text};
-use mc_model::program::Goal;
+use mc_model::program::{Goal, Place};
 use std::alloc::Global;
 use std::process::Abort;
 use std::test::Fail;
@@ -17,7 +17,7 @@ struct Case<'a> {
 
 // A backquote stands between two files. Each is the name of its module and its items, which stand in the interface as
 // long as no item says otherwise. `#` begins a declaration, and `$` stands for the least program of facts. Each item
-// stands on line 3.
+// stands on line 3. In a goal `^` stands for a line end.
 fn case_of(row: &str) -> Option<Case<'_>> {
     let (name, rest) = row.split_once(" ~ ")?;
     let (files, rest) = rest.split_once(" ~ ")?;
@@ -69,12 +69,23 @@ fn files_of(alloc: Global, files: &str) -> Result<Row<Given>, Memory> {
     Row::of(given)
 }
 
+fn goal_text(alloc: Global, goal: &str) -> Result<Text, Memory> {
+    let mut text = Vec::new(alloc);
+    for byte in goal.as_bytes() {
+        match *byte {
+            b'^' => text.push(b'\n')?,
+            other => text.push(other)?,
+        }
+    }
+    Text::new(alloc, text.as_slice())
+}
+
 // The words are `check`, `run`, `query GOAL` or `first GOAL`.
 fn compiled(alloc: Global, case: &Case<'_>) -> Result<Compiled, CompileFault> {
     let files = files_of(alloc, case.files)?;
     match case.words.split_once(' ') {
         Some((word, goal)) => {
-            let text = Text::new(alloc, goal.as_bytes())?;
+            let text = goal_text(alloc, goal)?;
             let first = word == "first";
             compile(alloc, &files, Some(&Query { text, first }), false)
         }
@@ -95,8 +106,8 @@ fn fact_count(compiled: &Compiled) -> u32 {
     count
 }
 
-// The number of the predicate that a query asks.
-fn asked(compiled: &Compiled) -> Option<u32> {
+// The number of the predicate that a query asks, and where the query's clause stands.
+fn asked(compiled: &Compiled) -> Option<(u32, Place)> {
     let query = compiled
         .program
         .preds
@@ -104,19 +115,19 @@ fn asked(compiled: &Compiled) -> Option<u32> {
         .get(compiled.goal as usize)?;
     let clause = query.clauses.as_slice().first()?;
     match &clause.body {
-        Goal::Call(pred, _) => Some(*pred),
+        Goal::Call(pred, _) => Some((*pred, clause.place)),
         _ => None,
     }
 }
 
-// The facts of a program, the predicate that is asked, and the query's variables.
+// The facts of a program, where the query's clause stands, the predicate that is asked, and the query's variables.
 fn program_shown(alloc: Global, compiled: &Compiled) -> Result<Vec<u8>, Fail> {
     let mut out = Vec::new(alloc);
     let count = fact_count(compiled);
     out.extend_from_slice(format!(in alloc; "facts {count}")?.as_bytes())?;
-    if let Some(number) = asked(compiled) {
+    if let Some((number, Place { file, line })) = asked(compiled) {
         if let Some(pred) = compiled.program.preds.as_slice().get(number as usize) {
-            out.extend_from_slice(b", ")?;
+            out.extend_from_slice(format!(in alloc; ", {file}:{line} ")?.as_bytes())?;
             out.extend_from_slice(pred.name.module.bytes())?;
             out.extend_from_slice(b".")?;
             out.extend_from_slice(pred.name.name.bytes())?;
@@ -162,7 +173,14 @@ last constant of one byte ~ a $ #type u ---> cc ; d. ~ check ~ not built\n\
 constant of no byte ~ a $ #type u ---> ''. ~ check ~ not built\n\
 constant of one letter and two bytes ~ a $ #type u ---> 'é'. ~ check ~ facts 1\n\
 constant in quotes ~ a $ #type u ---> 'C, c'. ~ check ~ facts 1\n\
-empty list as a constant ~ a $ #type u ---> []. ~ check ~ not built\n\
+empty list as a constant ~ a $ #type u ---> []. ~ check ~ facts 1\n\
+empty list in quotes as a constant ~ a $ #type u ---> '[]'. ~ check ~ facts 1\n\
+empty list beside a constant ~ a $ #type u ---> cons ; []. ~ check ~ facts 1\n\
+empty list twice in a type ~ a $ #type u ---> [] ; '[]'. ~ check ~ 0:3 N5\n\
+empty list in two types ~ a $ #type u ---> []. #type v ---> '[]'. ~ check ~ not built\n\
+empty list with an argument ~ a $ #type u ---> '[]'(t). ~ check ~ not built\n\
+list over a list as a constant ~ a $ #type u ---> [t | t]. ~ check ~ not built\n\
+one character of two bytes in types of two modules ~ a $ #type u ---> 'é'.`b #type u ---> 'é'. ~ check ~ not built\n\
 constant of symbols ~ a $ #type u ---> (++). ~ check ~ facts 1\n\
 one name twice in a type ~ a $ #type u ---> cc ; cc. ~ check ~ 0:3 N5\n\
 one name in two types of a module ~ a $ #type u ---> aa. ~ check ~ not built\n\
@@ -219,7 +237,20 @@ variable without a name ~ a $ p(_). ~ check ~ not built\n\
 integer ~ a $ p(1). ~ check ~ not built\n\
 string ~ a $ p(\"aa\"). ~ check ~ not built\n\
 character ~ a $ p(x). ~ check ~ not built\n\
-constant that may be a character ~ a $ #type u ---> 'é'. #pred q(u::out) is nondet. q('é'). ~ check ~ not built\n\
+constant that may be a character ~ a $ #type u ---> 'é'. #pred q(u::out) is nondet. q('é'). ~ check ~ facts 2\n\
+qualified constant of one character ~ a $ #type u ---> 'é'. #pred q(u::out) is nondet. q(a.'é'). ~ check ~ facts 2\n\
+imported constant of one character ~ a #import_module b. #pred q(u::out) is nondet. #implementation. q('é').`b #type u ---> 'é'. ~ check ~ facts 1\n\
+constant of one character and of another type ~ a $ #type u ---> 'é'. p('é'). ~ check ~ not built\n\
+character of two bytes ~ a $ p('é'). ~ check ~ not built\n\
+empty list ~ a $ #type u ---> [] ; cons. #pred q(u::out) is nondet. q([]). q(cons). ~ check ~ facts 3\n\
+empty list in quotes ~ a $ #type u ---> []. #pred q(u::out) is nondet. q('[]'). ~ check ~ facts 2\n\
+empty list that is declared in quotes ~ a $ #type u ---> '[]'. #pred q(u::out) is nondet. q([]). ~ check ~ facts 2\n\
+qualified empty list ~ a $ #type u ---> []. #pred q(u::out) is nondet. q(a.'[]'). ~ check ~ facts 2\n\
+imported empty list ~ a #import_module b. #pred q(u::out) is nondet. #implementation. q([]).`b #type u ---> []. ~ check ~ facts 1\n\
+empty list of another type ~ a $ #type u ---> []. p([]). ~ check ~ not built\n\
+empty list of no type ~ a $ p([]). ~ check ~ 0:3 N4\n\
+empty list over an argument ~ a $ #type u ---> []. #pred q(u::out) is nondet. q('[]'(aa)). ~ check ~ 0:3 N4\n\
+list of a constant ~ a $ #type u ---> []. #pred q(u::out) is nondet. q([aa]). ~ check ~ 0:3 N4\n\
 constant in quotes in a fact ~ a $ p('bb'). ~ check ~ facts 2\n\
 constant in brackets ~ a $ p((bb)). ~ check ~ facts 2\n\
 qualified constant ~ a $ p(a.bb). ~ check ~ facts 2\n\
@@ -269,17 +300,22 @@ module with full stops ~ a.b $`c #import_module a.b. #pred q(a.b.t::out) is nond
 module that is given twice ~ a $`a $ ~ check ~ 1:1 N2\n";
 
 const GOALS: &str = "\
-variable ~ a $ ~ query p(X) ~ facts 1, a.p X\n\
-full stop ~ a $ ~ query p(Who). ~ facts 1, a.p Who\n\
-qualified call ~ a $ ~ query a.p(X) ~ facts 1, a.p X\n\
-two variables ~ a $ #pred q(t::out, t::out) is nondet. q(aa, bb). ~ query q(Y, X) ~ facts 2, a.q Y X\n\
+variable ~ a $ ~ query p(X) ~ facts 1, 1:1 a.p X\n\
+full stop ~ a $ ~ query p(Who). ~ facts 1, 1:1 a.p Who\n\
+second line ~ a $ ~ query ^p(X) ~ facts 1, 1:2 a.p X\n\
+third line behind a comment ~ a $ ~ query % which ones^^p(X) ~ facts 1, 1:3 a.p X\n\
+second line behind two files ~ a $`b ~ query ^p(X) ~ facts 1, 2:2 a.p X\n\
+variable on another line ~ a $ ~ query p(^X^) ~ facts 1, 1:1 a.p X\n\
+no predicate on the second line ~ a $ ~ query ^q(X) ~ 1:2 N4\n\
+qualified call ~ a $ ~ query a.p(X) ~ facts 1, 1:1 a.p X\n\
+two variables ~ a $ #pred q(t::out, t::out) is nondet. q(aa, bb). ~ query q(Y, X) ~ facts 2, 1:1 a.q Y X\n\
 one variable twice ~ a $ #pred q(t::out, t::out) is nondet. q(aa, bb). ~ query q(X, X) ~ not built\n\
 variable without a name ~ a $ ~ query p(_) ~ not built\n\
 variable that begins with an underscore ~ a $ ~ query p(_X) ~ not built\n\
-underscore behind a letter ~ a $ ~ query p(X_) ~ facts 1, a.p X_\n\
+underscore behind a letter ~ a $ ~ query p(X_) ~ facts 1, 1:1 a.p X_\n\
 constant ~ a $ ~ query p(aa) ~ not built\n\
 constant and a variable ~ a $ #pred q(t::out, t::out) is nondet. q(aa, bb). ~ query q(X, aa) ~ not built\n\
-predicate of that arity ~ a $ #pred p(t::out, t::out) is nondet. p(aa, bb). ~ query p(X, Y) ~ facts 2, a.p X Y\n\
+predicate of that arity ~ a $ #pred p(t::out, t::out) is nondet. p(aa, bb). ~ query p(X, Y) ~ facts 2, 1:1 a.p X Y\n\
 conjunction ~ a $ ~ query p(X), p(Y) ~ not built\n\
 disjunction ~ a $ ~ query p(X) ; p(X) ~ not built\n\
 negation ~ a $ ~ query not p(X) ~ not built\n\
@@ -292,15 +328,15 @@ no predicate ~ a $ ~ query q(X) ~ 1:1 N4\n\
 no goal ~ a $ ~ query p( ~ 1:1 S5\n\
 library's predicate ~ a #import_module list. $ ~ query member(X, Y) ~ not built\n\
 library's predicate that isn't imported ~ a $ ~ query list.member(X, Y) ~ 1:1 N4\n\
-imported predicate ~ a #import_module b.`b $ ~ query p(X) ~ facts 1, b.p X\n\
-qualified imported predicate ~ a #import_module b.`b $ ~ query b.p(X) ~ facts 1, b.p X\n\
+imported predicate ~ a #import_module b.`b $ ~ query p(X) ~ facts 1, 2:1 b.p X\n\
+qualified imported predicate ~ a #import_module b.`b $ ~ query b.p(X) ~ facts 1, 2:1 b.p X\n\
 bare used predicate ~ a #use_module b.`b $ ~ query p(X) ~ 2:1 N4\n\
-qualified used predicate ~ a #use_module b.`b $ ~ query b.p(X) ~ facts 1, b.p X\n\
+qualified used predicate ~ a #use_module b.`b $ ~ query b.p(X) ~ facts 1, 2:1 b.p X\n\
 predicate that isn't imported ~ a`b $ ~ query b.p(X) ~ 2:1 N4\n\
 predicate of another's implementation ~ a #import_module b.`b #implementation. #type t ---> aa. #pred p(t::out) is nondet. p(aa). ~ query p(X) ~ 2:1 N4\n\
-predicate of the first file's implementation ~ a #implementation. #type t ---> aa. #pred p(t::out) is nondet. p(aa). ~ query p(X) ~ facts 1, a.p X\n\
+predicate of the first file's implementation ~ a #implementation. #type t ---> aa. #pred p(t::out) is nondet. p(aa). ~ query p(X) ~ facts 1, 1:1 a.p X\n\
 predicate of two modules ~ a #import_module b. $`b #type u ---> cc. #pred p(u::out) is nondet. #implementation. p(cc). ~ query p(X) ~ not built\n\
-qualified predicate of two modules ~ a #import_module b. $`b #type u ---> cc. #pred p(u::out) is nondet. #implementation. p(cc). ~ query b.p(X) ~ facts 2, b.p X\n\
+qualified predicate of two modules ~ a #import_module b. $`b #type u ---> cc. #pred p(u::out) is nondet. #implementation. p(cc). ~ query b.p(X) ~ facts 2, 2:1 b.p X\n\
 query over a program that isn't of the form ~ a $ #type u == t. ~ query p(X) ~ not built\n";
 
 const WANTED: &str = "\
@@ -313,7 +349,7 @@ fault behind what isn't of the form ~ a $ #type u == t.`b p(cc). ~ check ~ 1:3 N
 
 #[test]
 fn types_are_enumerations(rt: HostRuntime) -> Result<(), Fail> {
-    assert_eq!(rt; rows_hold(&rt, rt.alloc(), TYPES)?, 25);
+    assert_eq!(rt; rows_hold(&rt, rt.alloc(), TYPES)?, 32);
     Ok(())
 }
 
@@ -325,7 +361,7 @@ fn predicates_are_nondet_with_outputs(rt: HostRuntime) -> Result<(), Fail> {
 
 #[test]
 fn clauses_are_facts_of_constants(rt: HostRuntime) -> Result<(), Fail> {
-    assert_eq!(rt; rows_hold(&rt, rt.alloc(), CLAUSES)?, 27);
+    assert_eq!(rt; rows_hold(&rt, rt.alloc(), CLAUSES)?, 40);
     Ok(())
 }
 
@@ -337,7 +373,7 @@ fn modules_import_given_ones(rt: HostRuntime) -> Result<(), Fail> {
 
 #[test]
 fn goals_are_calls_over_different_variables(rt: HostRuntime) -> Result<(), Fail> {
-    assert_eq!(rt; rows_hold(&rt, rt.alloc(), GOALS)?, 33);
+    assert_eq!(rt; rows_hold(&rt, rt.alloc(), GOALS)?, 38);
     Ok(())
 }
 

@@ -1,10 +1,11 @@
 ghost use Rattle.std.specs.Prelude.{◌≡◌, map, IfOk};
 ghost use Rattle.mc_syntax.specs.Plain.{plain_term, tms};
-ghost use Rattle.mc_compile.specs.Facts.{sole_constructor, constant_number, constant_numbers};
+ghost use Rattle.mc_item_names.specs.Occurrences.{nil_path};
+ghost use Rattle.mc_compile.specs.Facts.{constructors, sole_constructor, constant_named, constant_number, constant_numbers};
 ghost use Rattle.mc_compile.specs.Passes.{linked_of, behind};
 
 use crate::facts::sources::Sources;
-use mc_base::{Memory, Row};
+use mc_base::{Memory, Row, Text};
 use mc_decl_forms::has_none;
 use mc_model::program::Candidate;
 use mc_syntax::{Node, Term};
@@ -37,12 +38,48 @@ impl Sources<'_> {
     {
         match &term.node {
             Node::App(name, arguments) if has_none(arguments) => {
-                let candidates = self.names.candidates(alloc, own, name, 0)?;
-                Ok(sole_constructor(candidates.as_slice()))
+                self.constant_named(alloc, own, name)
+            }
+            Node::List(elements, None) if has_none(elements) => {
+                self.constant_named(alloc, own, &nil_path(alloc)?)
             }
             _ => Ok(None),
         }
     }
+
+    // The number of the constant that a name means.
+    fn constant_named(
+        &self,
+        alloc: Global,
+        own: u32,
+        name: &Row<Text>,
+    ) -> Result<Option<u32>, Memory>
+        ensures { IfOk result (λ number. number ≡ constant_named (linked_of self.now) own name.now) }
+    {
+        let candidates = self.names.candidates(alloc, own, name, 0)?;
+        let found = constructors(alloc, candidates.as_slice())?;
+        Ok(sole_constructor(found.as_slice()))
+    }
+}
+
+// The name of the empty list.
+fn nil_path(alloc: Global) -> Result<Row<Text>, Memory>
+    ensures { IfOk result (λ name. name ≡ nil_path) }
+{
+    Row::one(alloc, Text::new(alloc, b"[]")?)
+}
+
+// The constructors among candidates: a constant of an enumeration type is no character.
+fn constructors(alloc: Global, candidates: &[Candidate]) -> Result<Vec<Candidate>, Memory>
+    ensures { IfOk result (λ found. found.items ≡ constructors candidates.now) }
+{
+    let mut found = Vec::new(alloc);
+    for candidate in candidates {
+        if let Candidate::Con(_) = candidate {
+            found.push(*candidate)?;
+        }
+    }
+    Ok(found)
 }
 
 fn sole_constructor(candidates: &[Candidate]) -> Option<u32>

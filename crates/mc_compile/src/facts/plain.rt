@@ -77,7 +77,7 @@ fn are_constants(terms: &[Term]) -> bool
     true
 }
 
-/// A name of one byte may be a character too.
+// Whether a term is a name of two or more bytes, as `[]` is too.
 fn is_constant(term: &Term) -> bool
     ensures { result ≡ is_constant (plain_term term.now) }
 {
@@ -86,6 +86,7 @@ fn is_constant(term: &Term) -> bool
             [word] => has_none(arguments) && word.len() >= 2,
             _ => false,
         },
+        Node::List(elements, None) => has_none(elements),
         _ => false,
     }
 }

@@ -147,7 +147,7 @@ impl Sources<'_> {
         requires signatures { length signatures.now ≡ length (given_preds (linked_of self.now)) }
         requires table { length table.items ≡ length signatures.now }
         ensures built { IfOk result (IsBuilt enums (predicates_over (given_preds (linked_of self.now)) signatures.now (plain_table table.items)) signatures.now (option_map plain_question asked)) }
-        ensures beside { IfOk result (λ c. map beside_pred c.program.preds ≡ map no_function (beside_table table.items ++ query_besides (length (linked_of self.now).given) signatures.now (option_map plain_question asked))) }
+        ensures beside { IfOk result (λ c. map beside_pred c.program.preds ≡ map no_function (beside_table table.items ++ query_besides (length (linked_of self.now).given) signatures.now asked)) }
     {
         let named = first(self.names.preds.as_slice(), signatures.len());
         let mut preds = preds(alloc, named, signatures, table)?;
@@ -156,10 +156,11 @@ impl Sources<'_> {
                 Asked {
                     relation,
                     variables,
+                    line,
                 },
             ) => {
                 let goal = preds.len();
-                let place = self.query_place()?;
+                let place = self.query_place(line)?;
                 preds.push(query_pred(alloc, relation, signatures, place)?)?;
                 compiled(enums, preds, goal, variables)
             }
@@ -167,17 +168,17 @@ impl Sources<'_> {
         }
     }
 
-    // Where the query stands: on the first line of a file that is numbered behind the given ones.
+    // Where the query stands: on its goal's line, in a file that is numbered behind the given ones.
     #[tactic(auto, using(crate::proofs::Answering::as_many_given))]
-    fn query_place(&self) -> Result<Place, Memory>
-        ensures { IfOk result (λ here. here ≡ place (length (linked_of self.now).given) 1) }
+    fn query_place(&self, line: u32) -> Result<Place, Memory>
+        ensures { IfOk result (λ here. here ≡ place (length (linked_of self.now).given) line) }
     {
         if self.given.len() > u32::MAX as usize {
             return Err(Memory);
         }
         Ok(Place {
             file: self.given.len() as u32,
-            line: 1,
+            line,
         })
     }
 }

@@ -1,7 +1,8 @@
-ghost use Rattle.std.specs.Prelude.{◌≡◌, None, map, length, slice_index_or, IfOk};
+ghost use Rattle.std.specs.Prelude.{◌≡◌, None, map, length, slice_index_or, IfOk, IfSome};
 ghost use Rattle.std.specs.Option.{option_map};
 ghost use Rattle.mc_syntax.specs.Plain.{plain_term, tms};
 ghost use Rattle.mc_decl_forms.specs.Terms.{is_distinct};
+ghost use Rattle.mc_compile.specs.Rejected.{line_of};
 ghost use Rattle.mc_compile.specs.Facts.{is_hidden, variable, variables, is_call, asked, predicates, question, or_none, signatures};
 ghost use Rattle.mc_compile.specs.Passes.{linked_of, IsKnown, plain_question, named_behind};
 
@@ -16,11 +17,13 @@ use mc_names::NameSet;
 use mc_syntax::{Node, Term, arity};
 use std::alloc::Global;
 
-/// A query: the number of the predicate that it asks, and the names of its variables, one for each argument.
+/// A query: the number of the predicate that it asks, the names of its variables, one for each argument, and the line that
+/// its goal stands on.
 #[derive(Drop)]
 pub struct Asked {
     pub relation: u32,
     pub variables: Row<Text>,
+    pub line: u32,
 }
 
 impl Known<'_> {
@@ -28,6 +31,7 @@ impl Known<'_> {
     pub fn question(&self, alloc: Global, goal: &Term) -> Result<Option<Asked>, Memory>
         requires { IsKnown self.now }
         ensures question { IfOk result (λ found. option_map plain_question found ≡ question (linked_of self.now.sources) (plain_term goal.now)) }
+        ensures on_line { IfOk result (λ found. IfSome found (λ query. query.line ≡ line_of (plain_term goal.now))) }
     {
         match &goal.node {
             Node::App(name, arguments) if is_call(name, arguments) => {
@@ -39,7 +43,7 @@ impl Known<'_> {
                 let found = predicates(alloc, found.as_slice())?;
                 let pred = below(self.signatures.len(), sole_predicate(found.as_slice()));
                 let variables = variables(alloc, arguments.as_slice())?;
-                self.asked(alloc, pred, variables)
+                self.asked(alloc, pred, variables, goal.line)
             }
             _ => Ok(None),
         }
@@ -50,9 +54,11 @@ impl Known<'_> {
         alloc: Global,
         pred: Option<u32>,
         variables: Option<Row<Text>>,
+        line: u32,
     ) -> Result<Option<Asked>, Memory>
         requires { IsKnown self.now }
-        ensures { IfOk result (λ found. option_map plain_question found ≡ asked (linked_of self.now.sources) pred variables) }
+        ensures question { IfOk result (λ found. option_map plain_question found ≡ asked (linked_of self.now.sources) pred variables) }
+        ensures on_line { IfOk result (λ found. IfSome found (λ query. query.line ≡ line)) }
     {
         match (pred, variables) {
             (Some(relation), Some(variables)) => {
@@ -62,6 +68,7 @@ impl Known<'_> {
                     Ok(Some(Asked {
                         relation,
                         variables,
+                        line,
                     }))
                 } else {
                     Ok(None)

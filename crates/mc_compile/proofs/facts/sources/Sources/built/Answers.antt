@@ -44,10 +44,10 @@ returns-in_ok-push-in-Some-clause-beside c =
     let asked = c.in-Some.field-0 in
     let own : map beside_pred c.in_ok-preds.preds.items ≡ map no_function css = (c.in_ok-preds.ensures {u = tt}).beside in
     let count = length (or_none (slice_index_or (map (λ us. Some us) uss) asked.relation None)) in
-    let query : beside_pred c.in_ok-query_pred-in-Some.field-0 ≡ no_function ((count, place n 1) ∷ []) =
+    let query : beside_pred c.in_ok-query_pred-in-Some.field-0 ≡ no_function ((count, place n asked.line) ∷ []) =
     (c.in_ok-query_pred-in-Some.ensures {u = tt}).beside ∙ ap (λ here. no_function ((count, here) ∷ [])) (c.in_ok-place-in-Some.ensures {u = tt}) in
-    let all = pushed_beside c.in_ok-preds.preds.items c.push.new.self.items c.in_ok-query_pred-in-Some.field-0 css ((count, place n 1) ∷ []) (grind arith) own query in
-    if_ok c.compiled.result (IsMade c.args.enums c.push.new.self.items c.len-goal.result asked.variables) (λ d. map beside_pred d.program.preds ≡ map no_function (css ++ query_besides n uss (option_map plain_question c.args.asked)))
+    let all = pushed_beside c.in_ok-preds.preds.items c.push.new.self.items c.in_ok-query_pred-in-Some.field-0 css ((count, place n asked.line) ∷ []) (grind arith) own query in
+    if_ok c.compiled.result (IsMade c.args.enums c.push.new.self.items c.len-goal.result asked.variables) (λ d. map beside_pred d.program.preds ≡ map no_function (css ++ query_besides n uss c.args.asked))
     (λ d made. beside_some c.args.enums c.push.new.self.items css n uss c.args.asked asked c.len-goal.result asked.variables d c.in-Some.is all made) c.compiled.ensures
 
 pub returns-in-None-clause-beside : goal.returns-in-None-clause-beside
@@ -56,5 +56,5 @@ returns-in-None-clause-beside c =
     let uss = c.args.signatures.now in
     let css = beside_table c.args.table.items in
     let n = length P.given in
-    if_ok c.compiled-in-None.result (IsMade c.args.enums c.in_ok-preds.preds.items 0 c.new.result) (λ d. map beside_pred d.program.preds ≡ map no_function (css ++ query_besides n uss (option_map plain_question c.args.asked)))
+    if_ok c.compiled-in-None.result (IsMade c.args.enums c.in_ok-preds.preds.items 0 c.new.result) (λ d. map beside_pred d.program.preds ≡ map no_function (css ++ query_besides n uss c.args.asked))
     (λ d made. beside_none c.args.enums c.in_ok-preds.preds.items css n uss c.args.asked 0 c.new.result d c.in-None.is (c.in_ok-preds.ensures {u = tt}).beside made) c.compiled-in-None.ensures

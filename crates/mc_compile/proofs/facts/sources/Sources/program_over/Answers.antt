@@ -2,6 +2,7 @@ use Rattle.std.proofs.Common.{◌≡◌, Some, None, map, length, sym, ◌∙◌
 use Rattle.mc_model.specs.PlainPrograms.{plain_symbol}
 use Rattle.std.specs.Option.{option_map}
 use Rattle.mc_syntax.specs.Plain.{plain_term}
+use Rattle.mc_compile.specs.Rejected.{line_of}
 use Rattle.mc_compile.specs.Facts.{question}
 use Rattle.mc_compile.specs.Passes.{linked_of, plain_table, beside_table, plain_question, table_through, places_through, no_clauses}
 use Rattle.mc_compile.proofs.Answering.{types_known, counted_known, no_fact, answered_by, asked_none, asked_some, there}
@@ -54,12 +55,14 @@ returns-in-Some-2 c =
     sym (ap (option_map (λ t. plain_table t.items)) c.in-Some.is) ∙ (c.in_ok-table.ensures {u = tt}).clauses ∙ ap (λ z. table_through P 0 (no_clauses z) P.given) c.as_slice-2.ensures.value in
     let asks : question P (plain_term c.in-Some-goal.goal) ≡ Some (plain_question c.in-Some-2.asked) =
     sym (c.in_ok-asked-in-Some-goal.ensures {u = tt}).question ∙ ap (option_map plain_question) c.in-Some-2.is in
+    let line : c.in-Some-2.asked.line ≡ line_of (plain_term c.in-Some-goal.goal) =
+    there (λ a. a.line ≡ line_of (plain_term c.in-Some-goal.goal)) c.in_ok-asked-in-Some-goal.field-0 c.in-Some-2.asked c.in-Some-2.is (c.in_ok-asked-in-Some-goal.ensures {u = tt}).on_line in
     let placed : beside_table c.in-Some.table.items ≡ places_through P 0 (no_clauses uss) P.given =
     there (λ t. beside_table t.items ≡ places_through P 0 (no_clauses c.as_slice-2.result.now) P.given) c.in_ok-table.field-0 c.in-Some.table c.in-Some.is (c.in_ok-table.ensures {u = tt}).places
     ∙ ap (λ z. places_through P 0 (no_clauses z) P.given) c.as_slice-2.ensures.value in
-    answered_by P c.args.goal.now c.args.enums uss c.as_slice-in-Some-2.result.now (plain_table c.in-Some.table.items) (beside_table c.in-Some.table.items) (Some (plain_question c.in-Some-2.asked)) c.in_ok-built-in-Some-2.field-0
+    answered_by P c.args.goal.now c.args.enums uss c.as_slice-in-Some-2.result.now (plain_table c.in-Some.table.items) (beside_table c.in-Some.table.items) (Some c.in-Some-2.asked) c.in_ok-built-in-Some-2.field-0
     c.as_slice-in-Some-2.ensures.value c.requires.formed.plain c.requires.formed.imports c.requires.distinct c.requires.signatures filled placed c.requires.enums
-    (asked_some P c.args.goal.now c.in-Some-goal.goal (plain_question c.in-Some-2.asked) c.in-Some-goal.is asks)
+    (asked_some P c.args.goal.now c.in-Some-goal.goal c.in-Some-2.asked c.in-Some-goal.is asks line)
     (c.in_ok-built-in-Some-2.ensures {u = tt}).built (c.in_ok-built-in-Some-2.ensures {u = tt}).beside
 
 pub returns : goal.returns
