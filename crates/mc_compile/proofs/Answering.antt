@@ -13,7 +13,7 @@ use Rattle.mc_model.specs.Programs.{ClauseForm, Predicate}
 use Rattle.mc_model.specs.PlainPrograms.{plain_pred, plain_symbol}
 use Rattle.mc_model.specs.declared.program.TypeDef.{TypeDef}
 use Rattle.mc_decl_forms.specs.Terms.{is_distinct}
-use Rattle.mc_modules.specs.Files.{File, plain_files}
+use Rattle.mc_link_rules.specs.Files.{File, plain_files}
 use Rattle.mc_modules.specs.Linked.{Defined, plain_names, plain_named, linked, each, flat, types_of, preds_of}
 use Rattle.mc_items.specs.declared.entry.Entry.{Entry}
 use Rattle.mc_items.specs.Files.{plain_entry, place}

@@ -10,7 +10,7 @@ use Rattle.mc_model.specs.declared.program.Symbol.{Symbol}
 use Rattle.mc_model.specs.PlainPrograms.{plain_symbol}
 use Rattle.mc_decl_forms.specs.Plain.{It, ModuleStart, ModuleEnd, Interface, Implementation, Imports, UseOnly, AbstractType, UnionType, SameType, SameInst, BoundInst, ModeDef, Pred, Func, Mode, Pragma, Clause}
 use Rattle.mc_item_names.specs.Things.{things}
-use Rattle.mc_modules.specs.Files.{File, Section, Standing, section_after, standing, standing_from, is_empty}
+use Rattle.mc_link_rules.specs.Files.{File, Section, Standing, section_after, standing, standing_from, is_empty}
 use Rattle.mc_modules.specs.Linked.{Defined, each, flat, types_by, types_in, types_of, of_kind, is_pred, sorted_in, preds_of, name_of}
 use Rattle.mc_ground.specs.Database.{Constant, Question, constructor_of, fact, predicate_of, no_relation, asked_types}
 use Rattle.mc_compile.specs.Facts.{LinkedFiles, Fact, signature_by, those_of, by_predicate, relations_from, names_of, or_none, given_preds, signatures, database, constants, facts, facts_from, below, asked, question, variables}

@@ -9,8 +9,8 @@ use Rattle.mc_syntax.specs.Names.{count}
 use Rattle.mc_decl_forms.specs.Plain.{Path, It, ModuleStart, ModuleEnd, Interface, Implementation, Imports, UseOnly, AbstractType, UnionType, SameType, SameInst, BoundInst, ModeDef, Pred, Func, Mode, Pragma, Clause}
 use Rattle.mc_decl_forms.specs.Terms.{is_distinct}
 use Rattle.mc_item_names.specs.Plain.{id, qualifiers, last_part}
-use Rattle.mc_modules.specs.Files.{File, Standing, standing}
-use Rattle.mc_modules.specs.Faults.{is_number}
+use Rattle.mc_link_rules.specs.Files.{File, Standing, standing}
+use Rattle.mc_link_rules.specs.Faults.{is_number}
 use Rattle.mc_modules.specs.Linked.{Defined}
 use Rattle.mc_modules.specs.Candidates.{candidates}
 use Rattle.mc_ground.specs.Database.{Constant, no_constant, no_relation, Database, Question, constant_at}

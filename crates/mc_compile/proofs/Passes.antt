@@ -14,7 +14,7 @@ use Rattle.mc_model.specs.Programs.{Constructor}
 use Rattle.mc_items.specs.Files.{plain_entry}
 use Rattle.mc_items.specs.declared.entry.Entry.{Entry}
 use Rattle.mc_decl_forms.specs.Plain.{plain_item}
-use Rattle.mc_modules.specs.Files.{plain_files}
+use Rattle.mc_link_rules.specs.Files.{plain_files}
 use Rattle.mc_modules.specs.Linked.{Defined}
 use Rattle.mc_ground.specs.Database.{constructor_of, from}
 use Rattle.mc_compile.specs.Facts.{LinkedFiles, signature_by, constants_in, constants_by, constants_from, groups_from, how_many, with_number, with_name}

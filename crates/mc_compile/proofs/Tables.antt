@@ -7,7 +7,7 @@ use Rattle.mc_model.specs.PlainPrograms.{plain_clause, plain_expression}
 use Rattle.mc_model.specs.declared.expr.Expr.{Expr}
 use Rattle.mc_model.specs.declared.program.Clause.{Clause}
 use Rattle.mc_modules.specs.Linked.{Defined}
-use Rattle.mc_modules.specs.Faults.{is_number}
+use Rattle.mc_link_rules.specs.Faults.{is_number}
 use Rattle.mc_ground.specs.Database.{Constant, constructor_of, from, variables_from}
 use Rattle.mc_compile.specs.Facts.{type_at, are_of}
 use Rattle.mc_compile.specs.Compiled.{beside_clause}

@@ -8,7 +8,7 @@ use Rattle.mc_model.specs.PlainPrograms.{plain_pred}
 use Rattle.mc_items.specs.declared.entry.Entry.{Entry}
 use Rattle.mc_items.specs.Files.{place}
 use Rattle.mc_modules.specs.declared.names.Names.{Names}
-use Rattle.mc_modules.specs.Files.{plain_files}
+use Rattle.mc_link_rules.specs.Files.{plain_files}
 use Rattle.mc_modules.specs.Linked.{plain_names}
 use Rattle.mc_ground.specs.Database.{Database, Question, query_predicate}
 use Rattle.mc_compile.specs.declared.given.Compiled.{Compiled}

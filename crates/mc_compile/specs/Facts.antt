@@ -18,9 +18,9 @@ use Rattle.mc_decl_forms.specs.Terms.{pair, is_the_word, has_none, is_distinct}
 use Rattle.mc_item_names.specs.Plain.{Id, id, qualifiers, last_part}
 use Rattle.mc_item_names.specs.Things.{symbol_name}
 use Rattle.mc_item_names.specs.Occurrences.{is_truth}
-use Rattle.mc_modules.specs.Files.{File, Standing, standing, joined}
-use Rattle.mc_modules.specs.Faults.{is_number}
-use Rattle.mc_modules.specs.Visible.{module_of, sole}
+use Rattle.mc_link_rules.specs.Files.{File, Standing, standing, joined}
+use Rattle.mc_link_rules.specs.Faults.{is_number}
+use Rattle.mc_link_rules.specs.Visible.{module_of, sole}
 use Rattle.mc_modules.specs.Linked.{Defined, Linked, each, flat, types_of, preds_of}
 use Rattle.mc_modules.specs.Candidates.{candidates, fitting, type_candidates}
 use Rattle.mc_ground.specs.Database.{Constant, Relation, Database, Question, from}

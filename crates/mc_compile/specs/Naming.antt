@@ -2,7 +2,7 @@
 use Rattle.std.specs.Prelude.{◌≡◌, ◌≢◌, ℕ, ◌+◌, List, [], ◌++◌, length, Option}
 use Rattle.mc_syntax.specs.declared.term.Term.{Term}
 use Rattle.mc_items.specs.declared.entry.Entry.{Entry}
-use Rattle.mc_modules.specs.Files.{File, plain_files}
+use Rattle.mc_link_rules.specs.Files.{File, plain_files}
 use Rattle.mc_modules.specs.Linked.{linked, plain_names}
 use Rattle.mc_compile.specs.declared.given.CompileFault.{CompileFault}
 use Rattle.mc_compile.specs.declared.given.CompileFault.TheVariants as C

@@ -7,11 +7,11 @@ use Rattle.mc_model.specs.Programs.{ClauseForm, Constructor, Predicate}
 use Rattle.mc_model.specs.declared.program.Clause.{Clause as ClauseItem}
 use Rattle.mc_model.specs.declared.program.Place.{Place}
 use Rattle.mc_decl_forms.specs.Plain.{It, ModuleStart, ModuleEnd, Interface, Implementation, Imports, UseOnly, UnionType, Pred, Pragma, Clause}
-use Rattle.mc_modules.specs.Files.{File, plain_files}
+use Rattle.mc_link_rules.specs.Files.{File, plain_files}
 use Rattle.mc_modules.specs.Linked.{Defined, plain_names}
 use Rattle.mc_ground.specs.Database.{constructor_of, fact, the_types, Question}
 use Rattle.mc_compile.specs.declared.facts.enums.Enums.{Enums}
-use Rattle.mc_modules.specs.Faults.{is_number}
+use Rattle.mc_link_rules.specs.Faults.{is_number}
 use Rattle.mc_compile.specs.declared.facts.known.Known.{Known}
 use Rattle.mc_compile.specs.declared.facts.query.Asked.{Asked}
 use Rattle.mc_compile.specs.declared.facts.sources.Sources.{Sources}

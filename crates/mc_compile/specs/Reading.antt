@@ -3,7 +3,7 @@ use Rattle.std.specs.Prelude.{◌≡◌, ◌≢◌, ℕ, ◌+◌, List, [], ◌�
 use Rattle.mc_syntax.specs.declared.term.Term.{Term}
 use Rattle.mc_model.specs.declared.rule.Broken.{Broken}
 use Rattle.mc_items.specs.declared.entry.Entry.{Entry}
-use Rattle.mc_modules.specs.Files.{plain_files}
+use Rattle.mc_link_rules.specs.Files.{plain_files}
 use Rattle.mc_compile.specs.declared.given.CompileFault.{CompileFault}
 use Rattle.mc_compile.specs.declared.given.CompileFault.TheVariants as C
 use Rattle.mc_compile.specs.declared.given.Given.{Given}

@@ -3,8 +3,8 @@ use Rattle.std.specs.Prelude.{◌≡◌, ◌≢◌, ℕ, ◌+◌, List, [], ◌+
 use Rattle.mc_syntax.specs.Plain.{Tm, at, plain_term}
 use Rattle.mc_syntax.specs.declared.term.Term.{Term}
 use Rattle.mc_model.specs.declared.rule.Broken.{Broken}
-use Rattle.mc_modules.specs.Files.{File}
-use Rattle.mc_modules.specs.Faults.{link_faults, broken_by, goal_fault}
+use Rattle.mc_link_rules.specs.Files.{File}
+use Rattle.mc_link_rules.specs.Faults.{link_faults, broken_by, goal_fault}
 use Rattle.mc_compile.specs.Sources.{Reading, FilesRead, QueryReads, rules_from, items_from}
 
 -- What sources read as: files, which are numbered from 0 on, and a query, whose number follows theirs.

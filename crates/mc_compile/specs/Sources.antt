@@ -6,7 +6,7 @@ use Rattle.mc_items.specs.Verdicts.{Verdict}
 use Rattle.mc_items.specs.Files.{Items, kept_in, broken_in, too_long_in, greatest_text}
 use Rattle.mc_items.specs.Queries.{IsGoal, IsQueryRefusal}
 use Rattle.mc_items.specs.declared.entry.ItemsFault.TheVariants as I
-use Rattle.mc_modules.specs.Files.{File}
+use Rattle.mc_link_rules.specs.Files.{File}
 
 -- the greatest length of the files together, in bytes: 16 MiB
 abbrev pub greatest_sources : ℕ

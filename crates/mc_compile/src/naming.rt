@@ -1,5 +1,5 @@
 ghost use Rattle.std.specs.Prelude.{◌≡◌, ℕ, ◌+◌, ◌<◌, ◌^◌, [], ◌++◌, map, length, IfOk, IfErr};
-ghost use Rattle.mc_modules.specs.Files.{plain_files};
+ghost use Rattle.mc_link_rules.specs.Files.{plain_files};
 ghost use Rattle.mc_compile.specs.Library.{library_texts};
 ghost use Rattle.mc_compile.specs.Reading.{IsLibraryRead};
 ghost use Rattle.mc_compile.specs.Rejected.{goal_rules_in};

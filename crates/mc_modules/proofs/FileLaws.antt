@@ -7,8 +7,8 @@ use Rattle.mc_item_names.specs.declared.thing.Kind.TheVariants as K
 use Rattle.mc_item_names.specs.Plain.{Id, Th, thing, is_thing}
 use Rattle.mc_item_names.specs.Things.{head_name, symbol_name, things}
 use Rattle.mc_item_names.specs.Sets.{put_all}
-use Rattle.mc_item_names.proofs.Laws.{is_member-put_all}
-use Rattle.mc_modules.specs.Files.{File, Section, NoSection, section_after, is_shown, is_empty, Standing, standing_from, standing, things_of, shown_of}
+use Rattle.mc_link_rules.proofs.Tables.{has-set, is_member_set}
+use Rattle.mc_link_rules.specs.Files.{File, Section, NoSection, section_after, is_shown, is_empty, Standing, standing_from, standing, things_of, shown_of}
 use Rattle.mc_modules.specs.Linked.{defined, types_by, constructors, symbols_by, of_kind, types_in, symbols_in, sorted_in, is_pred, is_inst, is_mode, name_of, types_of, symbols_of, preds_of, insts_of, modes_defined, bare_head}
 use Rattle.mc_modules.specs.Passes.{stands, has_type, types_with, types_pass, symbols_pass, sorted_pass, things_pass, shown_pass}
 
@@ -44,16 +44,13 @@ symbols_found m b s (e ∷ es) =
     ap (λ ds. ds ++ symbols_in m (standing_from false (section_after s e.0) es)) (symbols_there m (record { item = e.0; at = e.1; section = s; is_first = b; is_last = is_empty es }) e.0)
     ∙ ap (λ ds. symbols_by m (stands e.0 e.1 s) e.0 ++ ds) (symbols_found m false (section_after s e.0) es)
 
-member_of : (ts : List Th) (q : Th) → is_member is_thing (put_all [] ts) q ≡ is_member is_thing ts q
-member_of ts q = is_member-put_all [] ts q
-
 type_of : (ts : List Th) (x : Id) → has_type (put_all [] ts) x ≡ has_type ts x
-type_of ts x = rw (member_of ts (thing K.DefinedType x), member_of ts (thing K.AbstractType x)) refl
+type_of ts x = has-set K.DefinedType x ts
 
 types_there : (m : List ℕ) (all : List Standing) (ts us : List Th) (r : Standing) (i : It) → things_of all ≡ ts → shown_of all ≡ us
     → types_by m all r i ≡ types_with m (put_all [] ts) (put_all [] us) (stands r.item r.at r.section) i
 types_there m all ts us r (AbstractType h) e f =
-    rw (e, f, member_of ts (thing K.DefinedType (head_name h)), type_of us (head_name h)) refl
+    rw (e, f, is_member_set ts (thing K.DefinedType (head_name h)), type_of us (head_name h)) refl
 types_there m all ts us r (UnionType h cs) e f = rw (f, type_of us (head_name h)) refl
 types_there m all ts us r (SameType h t) e f = rw (f, type_of us (head_name h)) refl
 types_there m all ts us r i e f = refl

@@ -4,12 +4,12 @@ use Rattle.std.proofs.lemmas.List.{length-map, get_or-map}
 use Rattle.mc_items.specs.declared.entry.Entry.{Entry}
 use Rattle.mc_items.specs.Files.{plain_entry}
 use Rattle.mc_modules.specs.declared.names.Named.{Named}
-use Rattle.mc_modules.specs.declared.sight.Sight.{Sight}
-use Rattle.mc_modules.specs.Files.{File, plain_files, NoSection}
-use Rattle.mc_modules.specs.Visible.{file_at}
+use Rattle.mc_link_rules.specs.declared.sight.Sight.{Sight}
+use Rattle.mc_link_rules.specs.Files.{File, plain_files, NoSection}
+use Rattle.mc_link_rules.specs.Visible.{file_at}
 use Rattle.mc_modules.specs.Linked.{Defined, each, plain_named, numbered, before, symbols_of, preds_of, declared_from, scope, scopes_from}
 use Rattle.mc_modules.specs.Passes.{things_pass}
-use Rattle.mc_modules.specs.Sights.{sight, sights_from}
+use Rattle.mc_link_rules.specs.Sights.{sight, sights_from}
 use Rattle.mc_modules.proofs.FileLaws.{things_found}
 use Rattle.mc_modules.proofs.Puts.{drop_item}
 

@@ -1,15 +1,12 @@
 -- Things that are put in one list after another.
 use Rattle.std.proofs.Common.{◌≡◌, ℕ, ◌+◌, ◌<◌, List, [], ◌∷◌, ◌++◌, length, get_or, drop, refl, ap, sym, ◌∙◌, drop-cons, add-one, append_assoc}
 use Rattle.mc_item_names.specs.Plain.{Th}
-use Rattle.mc_item_names.specs.Sets.{put, put_all}
+use Rattle.mc_item_names.specs.Sets.{put_all}
+use Rattle.mc_link_rules.proofs.Tables.{put_all-append}
 
 -- what is left of a list at a place is the element there and what is left behind it
 pub drop_item : {A : Type 0} (xs : List A) (i : ℕ) (x : A) → i < length xs → x ≡ get_or xs i x → drop i xs ≡ x ∷ drop (i + 1) xs
 drop_item xs i x h e = drop-cons xs i x h ∙ rw (add-one, ← e) refl
-
-pub put_all-append : (ts us vs : List Th) → put_all ts (us ++ vs) ≡ put_all (put_all ts us) vs
-put_all-append ts [] vs = refl
-put_all-append ts (u ∷ us) vs = put_all-append (put ts u) us vs
 
 -- one list more
 pub put_more : (ts now us vs all : List Th) → now ≡ put_all ts us → put_all ts (us ++ vs) ≡ all → put_all now vs ≡ all

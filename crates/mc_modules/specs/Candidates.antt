@@ -6,8 +6,8 @@ use Rattle.mc_item_names.specs.Plain.{Id, is_id, id}
 use Rattle.mc_model.specs.declared.program.Candidate.{Candidate}
 use Rattle.mc_model.specs.declared.program.Candidate.TheVariants as C
 use Rattle.mc_modules.specs.declared.names.Scope.{Scope}
-use Rattle.mc_modules.specs.Files.{joined}
-use Rattle.mc_modules.specs.Visible.{character}
+use Rattle.mc_link_rules.specs.Files.{joined}
+use Rattle.mc_link_rules.specs.Visible.{character}
 use Rattle.mc_modules.specs.Linked.{Defined, Linked}
 use Rattle.mc_modules.specs.Index.{numbers_where}
 

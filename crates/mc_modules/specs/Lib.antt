@@ -1,13 +1,6 @@
-pub mod Files
-pub mod Visible
-pub mod Faults
 pub mod Linked
 pub mod Candidates
 pub mod Chosen
-pub mod Rows
-pub mod Sights
 pub mod Passes
 pub mod Index
 pub mod Refused
-pub mod Tables
-pub mod Steps

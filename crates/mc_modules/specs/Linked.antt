@@ -14,8 +14,8 @@ use Rattle.mc_model.specs.declared.program.Candidate.TheVariants as C
 use Rattle.mc_modules.specs.declared.names.Named.{Named}
 use Rattle.mc_modules.specs.declared.names.Scope.{Scope}
 use Rattle.mc_modules.specs.declared.names.Names.{Names}
-use Rattle.mc_modules.specs.Files.{File, Standing, standing, module_name, things_of, shown_of, is_shown, has}
-use Rattle.mc_modules.specs.Visible.{bare, seen, file_at}
+use Rattle.mc_link_rules.specs.Files.{File, Standing, standing, module_name, things_of, shown_of, is_shown, has}
+use Rattle.mc_link_rules.specs.Visible.{bare, seen, file_at}
 
 -- what is declared or defined: its name, its item, where that stands, and whether other modules see it
 pub record Defined : Type 0 where

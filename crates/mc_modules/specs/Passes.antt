@@ -6,17 +6,10 @@ use Rattle.mc_decl_forms.specs.Plain.{It, AbstractType, UnionType, SameType}
 use Rattle.mc_item_names.specs.declared.thing.Kind.TheVariants as K
 use Rattle.mc_item_names.specs.Plain.{Id, Th, thing, is_thing}
 use Rattle.mc_item_names.specs.Things.{head_name, things}
-use Rattle.mc_modules.specs.declared.section.Section.{Section as Kept}
-use Rattle.mc_modules.specs.declared.section.Section.TheVariants as S
-use Rattle.mc_modules.specs.Files.{File, Section, NoSection, InInterface, InImplementation, section_after, is_shown, Standing, has}
+use Rattle.mc_link_rules.specs.Files.{File, Section, section_after, is_shown, Standing, has}
 use Rattle.mc_modules.specs.declared.names.Scope.{Scope}
-use Rattle.mc_modules.specs.declared.sight.Sight.{Sight}
+use Rattle.mc_link_rules.specs.declared.sight.Sight.{Sight}
 use Rattle.mc_modules.specs.Linked.{Defined, defined, symbols_by, of_kind, visible}
-
-abbrev pub plain_section : Kept → Section
-plain_section S.Nowhere = NoSection
-plain_section S.Interface = InInterface
-plain_section S.Implementation = InImplementation
 
 -- an item as it stands somewhere in a file
 abbrev pub stands : It → Place → Section → Standing

@@ -1,16 +1,14 @@
 ghost use Rattle.std.specs.Prelude.{◌≡◌, ◌++◌, [], true, Some, slice_get, slice_index_or, map, IfOk, OnOk};
 ghost use Rattle.mc_item_names.specs.Plain.{id, qualifiers, last_part, plain_id};
-ghost use Rattle.mc_modules.specs.Visible.{character};
+ghost use Rattle.mc_link_rules.specs.Visible.{character};
 ghost use Rattle.mc_modules.specs.Linked.{plain_named, plain_names};
 ghost use Rattle.mc_modules.specs.Candidates.{defined_by, fits, fitting, fitting_in, is_module, named_so, looked_in, as_character, candidates};
 
-use crate::character::sole_character;
 use crate::column::put_where;
-use crate::module_names::joined;
 use crate::names::{Named, Names};
 use mc_base::{Copied, Memory, Row, Text};
 use mc_item_names::{Indicator, Kind, Used};
-use mc_items::row;
+use mc_link_rules::{joined, sole_character};
 use mc_model::program::Candidate;
 use std::alloc::Global;
 
@@ -32,7 +30,7 @@ impl Names {
         let modules = self.looked_in(alloc, own, used.qualifiers)?;
         self.put_of_modules(own, modules.as_slice(), used.id, &mut all)?;
         put_character(used.qualifiers, used.id, &mut all)?;
-        row(all)
+        Row::of(all)
     }
 
     /// What a module itself, which has a number, has of a name without qualifiers over so many arguments, in the order of
@@ -48,7 +46,7 @@ impl Names {
     {
         let mut all = Vec::new(alloc);
         self.put_of_module(true, own, Indicator { name, arity }, &mut all)?;
-        row(all)
+        Row::of(all)
     }
 
     /// The modules in which a name with these qualifiers is looked up.
@@ -79,7 +77,7 @@ impl Names {
         for module in modules {
             put_where(self.is_named(*module, name), *module, &mut all)?;
         }
-        row(all)
+        Row::of(all)
     }
 
     /// Whether the module of this number has a name.

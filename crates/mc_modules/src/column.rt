@@ -4,7 +4,6 @@ ghost use Rattle.mc_modules.specs.Passes.{starts_from, kept};
 
 use crate::names::Named;
 use mc_base::{Memory, Row};
-use mc_items::row;
 use std::alloc::Global;
 
 /// What each file has of one sort, and how many the files before it have.
@@ -40,7 +39,7 @@ impl Column {
         for module in seen.as_slice() {
             self.put_visible(own, *module, &mut all)?;
         }
-        row(all)
+        Row::of(all)
     }
 
     #[tactic(auto, using(crate::proofs::Starts::has_past, crate::proofs::Starts::has_there))]
@@ -64,7 +63,7 @@ impl Column {
         for names in has {
             append(&mut all, names)?;
         }
-        row(all)
+        Row::of(all)
     }
 }
 

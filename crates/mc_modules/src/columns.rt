@@ -1,14 +1,14 @@
 ghost use Rattle.std.specs.Prelude.{◌≡◌, ◌++◌, ◌∷◌, [], map, IfOk, OnOk};
 ghost use Rattle.mc_items.specs.Files.{plain_entry};
-ghost use Rattle.mc_modules.specs.Files.{plain_files};
+ghost use Rattle.mc_link_rules.specs.Files.{plain_files};
 ghost use Rattle.mc_modules.specs.Linked.{name_of, each, types_of, symbols_of, preds_of, insts_of, modes_defined, plain_named};
 
 use crate::column::Column;
-use crate::module_names::{joined, module_name};
 use crate::names::Named;
 use crate::part::Part;
 use mc_base::{Memory, Row, Text};
-use mc_items::{Entry, row};
+use mc_items::Entry;
+use mc_link_rules::{joined, module_name};
 use std::alloc::Global;
 
 /// The name of the module that a file is, or none.
@@ -100,7 +100,7 @@ impl Parts {
 fn put_part(all: &mut Vec<Row<Named>>, part: Vec<Named>) -> Result<(), Memory>
     ensures { OnOk result (map (map plain_named) all.new.items ≡ map (map plain_named) all.old.items ++ map plain_named part.items ∷ []) }
 {
-    all.push(row(part)?)?;
+    all.push(Row::of(part)?)?;
     Ok(())
 }
 

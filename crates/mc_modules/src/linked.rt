@@ -1,18 +1,16 @@
 ghost use Rattle.std.specs.Prelude.{◌≡◌, [], IfOk, IfErr};
-ghost use Rattle.mc_modules.specs.Files.{plain_files};
-ghost use Rattle.mc_modules.specs.Faults.{link_faults};
+ghost use Rattle.mc_link_rules.specs.Files.{plain_files};
+ghost use Rattle.mc_link_rules.specs.Faults.{link_faults};
 ghost use Rattle.mc_modules.specs.Linked.{linked, plain_names};
 ghost use Rattle.mc_modules.specs.Refused.{IsRefusedLink};
 
 use crate::columns::Columns;
-use crate::faults::link_faults;
-use crate::module_names::ModuleNames;
 use crate::names::{NamedRows, Names};
 use crate::numbered::declared;
 use crate::scopes::scopes;
-use crate::sight::sights;
 use mc_base::{Memory, Row};
-use mc_items::{Entry, ItemsFault, row};
+use mc_items::{Entry, ItemsFault};
+use mc_link_rules::{ModuleNames, link_faults, sights};
 use std::alloc::Global;
 
 // The names of a program, whatever rules it breaks.
@@ -51,5 +49,5 @@ pub fn link(alloc: Global, files: &Row<Row<Entry>>) -> Result<Names, ItemsFault>
     if broken.is_empty() {
         return Ok(names(alloc, files)?);
     }
-    Err(ItemsFault::Broken(row(broken)?))
+    Err(ItemsFault::Broken(Row::of(broken)?))
 }

@@ -2,16 +2,17 @@ ghost use Rattle.std.specs.Prelude.{◌≡◌, ◌∷◌, ◌++◌, [], map, IfO
 ghost use Rattle.mc_syntax.specs.Plain.{plain_term, tms};
 ghost use Rattle.mc_decl_forms.specs.Plain.{plain_item};
 ghost use Rattle.mc_item_names.specs.Plain.{plain_id, plain_thing};
-ghost use Rattle.mc_modules.specs.Files.{NoSection};
+ghost use Rattle.mc_link_rules.specs.Files.{NoSection};
 ghost use Rattle.mc_modules.specs.Linked.{defined, bare_head, constructors, symbols_by, of_kind, plain_named};
-ghost use Rattle.mc_modules.specs.Passes.{plain_section, stands};
+ghost use Rattle.mc_link_rules.specs.Tables.{plain_section};
+ghost use Rattle.mc_modules.specs.Passes.{stands};
 
 use crate::names::Named;
-use crate::section::Section;
 use mc_base::{Copied, Memory, Row, Text};
 use mc_decl_forms::Decl;
 use mc_item_names::{Indicator, Thing, symbol_name};
 use mc_items::Entry;
+use mc_link_rules::Section;
 use mc_model::program::{Name, Place};
 use mc_syntax::{Node, Term};
 use std::alloc::Global;
@@ -137,9 +138,8 @@ fn constructor(
 ) -> Result<Named, Memory>
     ensures { IfOk result (λ n. plain_named n ∷ [] ≡ constructors home.now (stands (plain_item n.decl) at (plain_section section)) (plain_term head.now) (tms (plain_term term.now ∷ []))) }
 {
-    let mut alone = Vec::new(alloc);
-    alone.push(term.copied(alloc)?)?;
-    let union = Decl::UnionType(bare_head(alloc, head)?, Row::from_vec(alone));
+    let alone = Row::one(alloc, term.copied(alloc)?)?;
+    let union = Decl::UnionType(bare_head(alloc, head)?, alone);
     named(
         alloc,
         home,

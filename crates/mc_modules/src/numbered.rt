@@ -1,14 +1,14 @@
 ghost use Rattle.std.specs.Prelude.{◌≡◌, ◌+◌, ◌++◌, List, [], map, length, IfOk, OnOk};
 ghost use Rattle.mc_items.specs.Files.{plain_entry};
 ghost use Rattle.mc_item_names.specs.Plain.{Th, plain_thing};
-ghost use Rattle.mc_modules.specs.Files.{plain_files};
+ghost use Rattle.mc_link_rules.specs.Files.{plain_files};
 ghost use Rattle.mc_modules.specs.Linked.{each, symbols_of, preds_of, plain_named, as_numbered, next_con, next_pred, numbered, declared_from};
 ghost use Rattle.mc_modules.specs.Passes.{things_pass};
 
 use crate::column::Column;
 use mc_base::{Memory, Row};
 use mc_item_names::{Kind, Thing, things};
-use mc_items::{Entry, row};
+use mc_items::Entry;
 use mc_model::program::Candidate;
 use std::alloc::Global;
 
@@ -76,7 +76,7 @@ fn numbered_in(alloc: Global, con: u32, pred: u32, file: &[Entry]) -> Result<Row
         let things = things(alloc, &entry.decl)?;
         found.put_all(things.as_slice())?;
     }
-    row(found.all)
+    Row::of(found.all)
 }
 
 /// What each module has that a name in a term or a goal may mean.
@@ -95,5 +95,5 @@ pub fn declared(
         let file = files[own].as_slice();
         all.push(numbered_in(alloc, symbols.start(own), preds.start(own), file)?)?;
     }
-    row(all)
+    Row::of(all)
 }

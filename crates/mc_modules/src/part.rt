@@ -4,17 +4,18 @@ ghost use Rattle.mc_items.specs.Files.{plain_entry};
 ghost use Rattle.mc_item_names.specs.Plain.{plain_id, plain_thing};
 ghost use Rattle.mc_item_names.specs.Sets.{put_all};
 ghost use Rattle.mc_item_names.specs.Things.{things};
-ghost use Rattle.mc_modules.specs.Files.{NoSection, is_shown};
+ghost use Rattle.mc_link_rules.specs.Files.{NoSection, is_shown};
 ghost use Rattle.mc_modules.specs.Linked.{symbols_by, of_kind, is_pred, is_inst, is_mode, plain_named};
-ghost use Rattle.mc_modules.specs.Passes.{plain_section, stands, has_type, has_definition, types_with, types_pass, symbols_pass, sorted_pass, things_pass, shown_pass};
+ghost use Rattle.mc_link_rules.specs.Tables.{plain_section};
+ghost use Rattle.mc_modules.specs.Passes.{stands, has_type, has_definition, types_with, types_pass, symbols_pass, sorted_pass, things_pass, shown_pass};
 
 use crate::named::{put_sorted, put_symbols, put_whole};
 use crate::names::Named;
-use crate::section::Section;
 use mc_base::{Memory, Text};
 use mc_decl_forms::Decl;
 use mc_item_names::{Indicator, Kind, Thing, ThingSet, head_name, things};
 use mc_items::Entry;
+use mc_link_rules::{Section, put_all};
 use std::alloc::Global;
 
 /// What the items of a file declare and define, and what those of its interfaces do.
@@ -34,21 +35,12 @@ impl<'a> Declared<'a> {
         let mut section = Section::Nowhere;
         for entry in file {
             let things = things(alloc, &entry.decl)?;
-            put_things(&mut all, things.as_slice())?;
+            put_all(&mut all, things.as_slice())?;
             put_shown(&mut shown, section, things.as_slice())?;
             section = section.after(&entry.decl);
         }
         Ok(Declared { all, shown })
     }
-}
-
-fn put_things<'a>(set: &mut ThingSet<'a>, things: &[Thing<'a>]) -> Result<(), Memory>
-    ensures { OnOk result (set.new ≡ put_all set.old (map plain_thing things.now)) }
-{
-    for thing in things {
-        set.insert(*thing)?;
-    }
-    Ok(())
 }
 
 // Puts in what an item of an interface declares.
@@ -60,7 +52,7 @@ fn put_shown<'a>(
     ensures { OnOk result (set.new ≡ put_all set.old (cond (is_shown (plain_section section)) (map plain_thing things.now) [])) }
 {
     if section.is_shown() {
-        put_things(set, things)
+        put_all(set, things)
     } else {
         Ok(())
     }

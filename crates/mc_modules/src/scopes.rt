@@ -1,15 +1,15 @@
 ghost use Rattle.std.specs.Prelude.{◌≡◌, ◌<◌, map, length, IfOk};
-ghost use Rattle.mc_modules.specs.Files.{plain_files};
+ghost use Rattle.mc_link_rules.specs.Files.{plain_files};
 ghost use Rattle.mc_modules.specs.Linked.{each, types_of, symbols_of, preds_of, insts_of, modes_defined, plain_named, scope, scopes_from};
 ghost use Rattle.mc_modules.specs.Passes.{scope_over};
-ghost use Rattle.mc_modules.specs.Sights.{sight, sights_from};
+ghost use Rattle.mc_link_rules.specs.Sights.{sight, sights_from};
 
 use crate::columns::{Columns, name_of};
 use crate::named::small;
 use crate::names::Scope;
-use crate::sight::Sight;
 use mc_base::{Memory, Row, Text};
-use mc_items::{Entry, row};
+use mc_items::Entry;
+use mc_link_rules::Sight;
 use std::alloc::Global;
 
 // What a module of this name sees.
@@ -82,5 +82,5 @@ pub fn scopes(
         all.push(scope_of(alloc, files, own, seen, columns)?)?;
         own += 1;
     }
-    row(all)
+    Row::of(all)
 }

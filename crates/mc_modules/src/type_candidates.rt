@@ -9,7 +9,6 @@ use crate::column::put_where;
 use crate::names::{Named, Names};
 use mc_base::{Memory, Row, Text};
 use mc_item_names::{Indicator, Kind, Used};
-use mc_items::row;
 use std::alloc::Global;
 
 impl Names {
@@ -30,7 +29,7 @@ impl Names {
         let modules = self.looked_in(alloc, own, used.qualifiers)?;
         let types = self.types_of(alloc, used.id)?;
         let seen = self.seen_in(alloc, own, modules.as_slice(), types.as_slice())?;
-        row(seen)
+        Row::of(seen)
     }
 
     // The types of a name over so many arguments, whatever module they stand in: in legal sources one for each module at

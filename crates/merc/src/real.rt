@@ -1,8 +1,8 @@
 //! The program's edge: files, a source and a sink of the system. They tell no meaning, so that nothing is claimed
 //! of which bytes come in or go out; what they promise of their counts is proved.
-ghost use Rattle.std.specs.Prelude.{◌≡◌, None, ◌≤◌, ◌<◌, ◌^◌, length, vec_len, IfOk};
+ghost use Rattle.std.specs.Prelude.{◌≡◌, None, ◌≤◌, ◌<◌, ◌^◌, length, take, vec_len, IfOk};
 ghost use Rattle.std.specs.Bool.{OnTrue};
-ghost use Rattle.std.specs.Io.KnownBytes.{Appends};
+ghost use Rattle.std.specs.Io.KnownBytes.{Appends, Consumes, IsAtEnd};
 ghost use Rattle.mc_outside.specs.Counts.{Rose};
 
 use mc_outside::{Failed, FileAnswer, Files, PutFault, READ_LIMIT, Sink, Source};
@@ -43,6 +43,7 @@ pub struct RealFiles<R> {
 }
 
 impl<R> RealFiles<R> {
+    /// The files of this system, before any call.
     pub fn new(system: R) -> RealFiles<R> {
         RealFiles {
             system,
@@ -75,6 +76,16 @@ fn read_front<R: rt::Files>(system: &R, alloc: Global, name: &str) -> Result<Vec
     ensures { IfOk result (λ bytes. vec_len bytes ≤ READ_LIMIT) }
 {
     let mut file = fs::open(system, name).map_err(|error| answer_of(&error))?;
+    read_to_limit(&mut file, alloc)
+}
+
+/// The next `READ_LIMIT` bytes of a reader, or all where they are fewer. No error is passed over: a reader that fails
+/// before its end gives none.
+fn read_to_limit<R: Read>(reader: &mut R, alloc: Global) -> Result<Vec<u8>, FileAnswer>
+    ensures limit { IfOk result (λ bytes. vec_len bytes ≤ READ_LIMIT) }
+    ensures bytes { IfOk result (λ bytes. Consumes (R.remaining reader.old) (R.remaining reader.new) bytes.items) }
+    ensures whole { IfOk result (λ bytes. vec_len bytes < READ_LIMIT → IsAtEnd (R.remaining reader.new)) }
+{
     let mut bytes = Vec::new(alloc);
     let mut piece = [0; 8192];
     for _ in 0..READ_LIMIT + RETRIES {
@@ -82,7 +93,7 @@ fn read_front<R: rt::Files>(system: &R, alloc: Global, name: &str) -> Result<Vec
         if room == 0 {
             return Ok(bytes);
         }
-        match file.read(&mut piece[..room]) {
+        match reader.read(&mut piece[..room]) {
             Ok(0) => return Ok(bytes),
             Ok(count) => {
                 if bytes.extend_from_slice(&piece[..count]).is_err() {
@@ -116,6 +127,7 @@ pub struct RealSource<R> {
 }
 
 impl<R> RealSource<R> {
+    /// A source over this reader, before any call.
     pub fn new(reader: R) -> RealSource<R> {
         RealSource {
             reader,
@@ -138,9 +150,11 @@ impl<R: Read> Source for RealSource<R> {
     }
 }
 
-/// Reads once, and again where a signal interrupted it.
+/// Reads once, and again where a signal interrupted it: the next bytes of the reader, none only at its end.
 fn read_some<R: Read>(reader: &mut R, buf: &mut [u8]) -> Result<usize, Failed>
-    ensures { IfOk result (λ count. count ≤ length buf.new) }
+    ensures room { IfOk result (λ count. count ≤ length buf.new) }
+    ensures bytes { IfOk result (λ count. Consumes (R.remaining reader.old) (R.remaining reader.new) (take count buf.new)) }
+    ensures end { IfOk result (λ count. count ≡ 0 → 0 < length buf.new → IsAtEnd (R.remaining reader.new)) }
 {
     for _ in 0..RETRIES {
         match reader.read(buf) {
@@ -163,6 +177,7 @@ pub struct RealSink<W> {
 }
 
 impl<W> RealSink<W> {
+    /// A sink over this writer, before any call.
     pub fn new(writer: W) -> RealSink<W> {
         RealSink {
             writer,
@@ -252,6 +267,23 @@ mod tests {
         }
     }
 
+    /// Gives two bytes, and fails at the next call.
+    #[derive(Drop)]
+    struct Breaking {
+        given: usize,
+    }
+
+    impl Read for Breaking {
+        fn read(&mut self, buf: &mut [u8]) -> io::Result<usize> {
+            if self.given >= 2 || buf.is_empty() {
+                return Err(io::Error::from(ErrorKind::Other));
+            }
+            self.given += 1;
+            buf[0] = b'a';
+            Ok(1)
+        }
+    }
+
     impl Write for Refusing {
         fn write(&mut self, buf: &[u8]) -> io::Result<usize> {
             Ok(buf.len())
@@ -281,6 +313,23 @@ mod tests {
         assert_eq!(rt; files.absents.number, 1);
         assert_eq!(rt; files.faults.number, 2);
         assert_eq!(rt; files.read(alloc, "/dev/zero")?.len(), 4_194_305);
+        Ok(())
+    }
+
+    #[test]
+    fn a_file_that_breaks_off_is_not_read(rt: HostRuntime) -> Result<(), Fail> {
+        let alloc = rt.alloc();
+        let mut reader = Breaking { given: 0 };
+        assert_eq!(rt;
+            read_to_limit(&mut reader, alloc).err(),
+            Some(FileAnswer::Failed)
+        );
+        assert_eq!(rt; reader.given, 2);
+        let mut reader = b"abc".as_slice();
+        assert_eq!(rt;
+            read_to_limit(&mut reader, alloc)?.as_slice(),
+            b"abc".as_slice()
+        );
         Ok(())
     }
 

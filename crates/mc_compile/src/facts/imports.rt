@@ -1,9 +1,9 @@
 ghost use Rattle.std.specs.Prelude.{◌≡◌, map, length, IfOk};
 ghost use Rattle.mc_decl_forms.specs.Plain.{plain_item};
 ghost use Rattle.mc_items.specs.Files.{plain_entry};
-ghost use Rattle.mc_modules.specs.Files.{plain_files, joined};
-ghost use Rattle.mc_modules.specs.Visible.{module_of};
-ghost use Rattle.mc_modules.specs.Sights.{number_of};
+ghost use Rattle.mc_link_rules.specs.Files.{plain_files, joined};
+ghost use Rattle.mc_link_rules.specs.Visible.{module_of};
+ghost use Rattle.mc_link_rules.specs.Sights.{number_of};
 ghost use Rattle.mc_compile.specs.Facts.{are_given, is_below};
 ghost use Rattle.mc_compile.specs.Passes.{linked_of, every, imports_given, all_import_given};
 

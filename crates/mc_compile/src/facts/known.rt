@@ -1,7 +1,7 @@
 ghost use Rattle.std.specs.Prelude.{◌≡◌, Some, None, map, slice_get, slice_index_or};
 ghost use Rattle.std.specs.Option.{option_map};
 ghost use Rattle.mc_model.specs.PlainPrograms.{plain_symbol};
-ghost use Rattle.mc_modules.specs.Faults.{is_number};
+ghost use Rattle.mc_link_rules.specs.Faults.{is_number};
 ghost use Rattle.mc_compile.specs.Passes.{type_of, are_of_types};
 
 use crate::facts::sources::Sources;

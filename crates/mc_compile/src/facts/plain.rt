@@ -2,7 +2,7 @@ ghost use Rattle.std.specs.Prelude.{◌≡◌, map};
 ghost use Rattle.mc_syntax.specs.Plain.{plain_term, tms};
 ghost use Rattle.mc_decl_forms.specs.Plain.{plain_item};
 ghost use Rattle.mc_items.specs.Files.{plain_entry};
-ghost use Rattle.mc_modules.specs.Files.{plain_files};
+ghost use Rattle.mc_link_rules.specs.Files.{plain_files};
 ghost use Rattle.mc_compile.specs.Facts.{has_no_parameters, is_constant, are_constants, is_nondet, is_rule_or_function};
 ghost use Rattle.mc_compile.specs.Passes.{every, is_plain, all_plain};
 

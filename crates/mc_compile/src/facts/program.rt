@@ -4,7 +4,7 @@ ghost use Rattle.mc_decl_forms.specs.Terms.{is_distinct};
 ghost use Rattle.mc_model.specs.PlainPrograms.{plain_symbol};
 ghost use Rattle.mc_items.specs.Files.{plain_entry, place};
 ghost use Rattle.mc_decl_forms.specs.Plain.{plain_item};
-ghost use Rattle.mc_modules.specs.Files.{plain_files};
+ghost use Rattle.mc_link_rules.specs.Files.{plain_files};
 ghost use Rattle.mc_modules.specs.Linked.{linked, plain_names};
 ghost use Rattle.mc_compile.specs.Facts.{given_preds, given_types, names_of, constants};
 ghost use Rattle.mc_compile.specs.Passes.{linked_of, IsFormed, types_by_item, count_types_in, count_types, all_some, signatures_through, AreEnums, plain_table, beside_table, plain_question, predicates_over};

@@ -1,7 +1,7 @@
 ghost use Rattle.std.specs.Prelude.{◌≡◌, map, codes, IfOk};
 ghost use Rattle.mc_syntax.specs.Plain.{plain_term, tms};
 ghost use Rattle.mc_decl_forms.specs.Terms.{pair};
-ghost use Rattle.mc_modules.specs.Visible.{sole};
+ghost use Rattle.mc_link_rules.specs.Visible.{sole};
 ghost use Rattle.mc_compile.specs.Facts.{below, type_number, is_out, argument_type, argument_types, signature};
 ghost use Rattle.mc_compile.specs.Passes.{linked_of, IsCounted};
 

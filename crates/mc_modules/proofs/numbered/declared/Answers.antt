@@ -1,6 +1,6 @@
 use Rattle.std.proofs.Common.{◌+◌, ◌∷◌, drop, map, ap, sym, ◌∙◌, arith}
 use Rattle.mc_items.specs.Files.{plain_entry}
-use Rattle.mc_modules.specs.Files.{plain_files}
+use Rattle.mc_link_rules.specs.Files.{plain_files}
 use Rattle.mc_modules.specs.Linked.{symbols_of, preds_of, before, numbered, declared_from}
 use Rattle.mc_modules.specs.Passes.{things_pass}
 use Rattle.mc_modules.proofs.Puts.{moved}

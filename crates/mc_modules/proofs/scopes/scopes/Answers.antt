@@ -1,7 +1,7 @@
 use Rattle.std.proofs.Common.{◌≡◌, ◌+◌, [], ◌∷◌, ◌++◌, drop, ap, sym, ◌∙◌, subst, arith}
 use Rattle.std.specs.Prelude.{IfOk}
 use Rattle.std.proofs.lemmas.List.{append-nil}
-use Rattle.mc_modules.specs.Files.{plain_files}
+use Rattle.mc_link_rules.specs.Files.{plain_files}
 use Rattle.mc_modules.specs.Linked.{scopes_from}
 use Rattle.mc_modules.proofs.Puts.{moved}
 use Rattle.mc_modules.proofs.Places.{one_more, over}
@@ -33,4 +33,4 @@ returns c =
     let r = c.loop-seen.seen-iterator.rest in
     let none : scopes_from fs n gs ≡ [] = over fs n gs r.items c.loop-seen.invariant.rest (sym (r.ok.0) ∙ (c.in-None.ensures {u = tt}).steps.0) in
     let all : c.loop-seen.all.items ≡ scopes_from fs 0 fs = sym (append-nil c.loop-seen.all.items) ∙ ap (λ z. c.loop-seen.all.items ++ z) (sym none) ∙ c.loop-seen.invariant.done in
-    subst (λ xs. IfOk c.row.result (λ row. row ≡ xs)) all c.row.ensures
+    subst (λ xs. IfOk c.of.result (λ row. row ≡ xs)) all c.of.ensures.elements

@@ -1,7 +1,7 @@
 use Rattle.std.proofs.Common.{◌≡◌, ◌≤◌, ◌++◌, drop, length}
-use Rattle.mc_modules.specs.Files.{plain_files}
+use Rattle.mc_link_rules.specs.Files.{plain_files}
 use Rattle.mc_modules.specs.Linked.{scopes_from}
-use Rattle.mc_modules.specs.Sights.{sights_from}
+use Rattle.mc_link_rules.specs.Sights.{sights_from}
 use Rattle.mc_modules.proofs.scopes.scopes.Given as goal
 
 abbrev pub invariant-loop-seen : goal.invariant-loop-seen

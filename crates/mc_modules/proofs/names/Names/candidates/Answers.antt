@@ -3,7 +3,7 @@ use Rattle.std.specs.Prelude.{IfOk, slice_get}
 use Rattle.mc_item_names.specs.declared.thing.Kind.TheVariants as K
 use Rattle.mc_item_names.specs.Plain.{id, qualifiers, last_part, plain_use}
 use Rattle.mc_item_names.specs.Occurrences.{used}
-use Rattle.mc_modules.specs.Visible.{character}
+use Rattle.mc_link_rules.specs.Visible.{character}
 use Rattle.mc_modules.specs.Linked.{plain_names}
 use Rattle.mc_modules.specs.Candidates.{fitting_in, looked_in, as_character, candidates}
 use Rattle.mc_modules.proofs.Uses.{qualifiers_are, id_is}
@@ -25,4 +25,4 @@ returns c =
     (c.in_ok-put_character.ensures {u = tt}) ∙ ap (λ zs. zs ++ as_character (character u.qualifiers u.id)) found
     ∙ ap (λ q. candidates l own q u.id) (qualifiers_are K.Symbol u w n e)
     ∙ ap (λ x. candidates l own (qualifiers w) x) (id_is K.Symbol u w n e) in
-    subst (λ xs. IfOk c.row.result (λ row. row ≡ xs)) whole c.row.ensures
+    subst (λ xs. IfOk c.of.result (λ row. row ≡ xs)) whole c.of.ensures.elements

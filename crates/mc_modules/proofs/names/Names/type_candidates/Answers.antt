@@ -27,4 +27,4 @@ returns c =
     ∙ seen_of_id l own u.id js
     ∙ ap (λ q. type_candidates l own q u.id) (qualifiers_are K.DefinedType u w n e)
     ∙ ap (λ x. type_candidates l own (qualifiers w) x) (id_is K.DefinedType u w n e) in
-    subst (λ xs. IfOk c.row.result (λ row. row ≡ xs)) whole c.row.ensures
+    subst (λ xs. IfOk c.of.result (λ row. row ≡ xs)) whole c.of.ensures.elements

@@ -4,8 +4,9 @@ use Rattle.mc_items.specs.Files.{plain_entry}
 use Rattle.mc_item_names.specs.Plain.{plain_thing}
 use Rattle.mc_item_names.specs.Sets.{put_all}
 use Rattle.mc_item_names.specs.Things.{things}
-use Rattle.mc_modules.specs.Files.{is_shown, section_after}
-use Rattle.mc_modules.specs.Passes.{plain_section, things_pass, shown_pass}
+use Rattle.mc_link_rules.specs.Files.{is_shown, section_after}
+use Rattle.mc_link_rules.specs.Tables.{plain_section}
+use Rattle.mc_modules.specs.Passes.{things_pass, shown_pass}
 use Rattle.mc_modules.proofs.Puts.{drop_item, put_more}
 use Rattle.mc_modules.proofs.part.Declared.of.Goals as goal
 
@@ -21,8 +22,8 @@ loop-entry-preserved c =
     let found_again = ap (map plain_thing) c.as_slice-in-loop-entry.ensures.value ∙ (c.in_ok-things.ensures {u = tt}) in
     record {
       all =
-          put_more c.loop-entry.all c.put_things.new.set (things (plain_item e.decl)) (things_pass rest) _
-          ((c.in_ok-put_things.ensures {u = tt}) ∙ ap (put_all c.loop-entry.all) found)
+          put_more c.loop-entry.all c.put_all.new.set (things (plain_item e.decl)) (things_pass rest) _
+          ((c.in_ok-put_all.ensures {u = tt}) ∙ ap (put_all c.loop-entry.all) found)
           (sym (ap (λ xs. put_all c.loop-entry.all (things_pass (map plain_entry xs))) left) ∙ c.loop-entry.invariant.all);
       shown =
           ap (λ t. put_all c.put_shown.new.set (shown_pass t rest)) c.after-section.ensures

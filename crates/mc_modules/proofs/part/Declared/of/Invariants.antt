@@ -1,8 +1,9 @@
 use Rattle.std.proofs.Common.{◌≡◌, [], drop, map}
 use Rattle.mc_items.specs.Files.{plain_entry}
 use Rattle.mc_item_names.specs.Sets.{put_all}
-use Rattle.mc_modules.specs.Files.{NoSection}
-use Rattle.mc_modules.specs.Passes.{plain_section, things_pass, shown_pass}
+use Rattle.mc_link_rules.specs.Files.{NoSection}
+use Rattle.mc_link_rules.specs.Tables.{plain_section}
+use Rattle.mc_modules.specs.Passes.{things_pass, shown_pass}
 use Rattle.mc_modules.proofs.part.Declared.of.Given as goal
 
 abbrev pub invariant-loop-entry : goal.invariant-loop-entry
