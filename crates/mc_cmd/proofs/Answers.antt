@@ -9,13 +9,14 @@ use Rattle.mc_model.specs.Programs.{made, no_expressions, Constructor, ClauseFor
 use Rattle.mc_model.specs.PlainPrograms.{no_pred, plain_symbol}
 use Rattle.mc_model.specs.Printed.{constant_text}
 use Rattle.mc_model.specs.Printed.{names_of as program_names}
+use Rattle.mc_model.specs.Items.{Ends}
 use Rattle.mc_words.specs.Words.{Bounds}
-use Rattle.mc_ground.specs.Database.{Database, Question, Constant, Relation, no_constant, no_relation, constructor_of, fact, predicate_of, query_predicate, asked_types, relation_at}
-use Rattle.mc_ground.specs.Laws.{RowFits, RowsFit, Fits, Asks, rows_of}
+use Rattle.mc_ground.specs.Database.{Database, Question, Constant, Relation, no_constant, no_relation, constructor_of, fact, predicate_of, query_predicate, asked_types, relation_at, query_run}
+use Rattle.mc_ground.specs.Laws.{RowFits, RowsFit, Fits, Asks, rows_of, QueriesEnd}
 use Rattle.mc_ground.specs.Lines.{names_of, name_of, text_of, fact_lines, AnswersAreLines}
 use Rattle.mc_compile.specs.declared.given.Compiled.{Compiled}
 use Rattle.mc_compile.specs.Compiled.{IsProgram}
-use Rattle.mc_cmd.specs.Outcome.{run_bytes}
+use Rattle.mc_cmd.specs.Outcome.{run_of, run_bytes}
 use Rattle.mc_cmd.specs.Lines.{called_by, clauses_of, facts_asked, facts_of, head_text, fact_texts, lines_of, AreWide}
 
 symbol_names : (ss : List Symbol) → map (λ (k : Constructor). k.name.bytes) (map plain_symbol ss) ≡ map (λ (s : Symbol). s.name.name) ss
@@ -75,6 +76,15 @@ pub run_agrees : AnswersAreLines → (d : Database) (q : Question) (c : Compiled
 run_agrees law d q c b p f a n h = by_bounds b.budget b.depth n h ∙ sym (lines_agree d q c p a)
   where
     by_bounds : (n h : ℕ) → 1 ≤ n → 1 ≤ h → run_bytes d q (record { budget = n; depth = h }) ≡ fact_lines q.variables (map (map (text_of d)) (rows_of d q))
+    by_bounds zero h x y = absurd (omega (arith, x))
+    by_bounds (suc n) zero x y = absurd (omega (arith, y))
+    by_bounds (suc n) (suc h) x y = law d q f a n h
+
+-- and the run ends
+pub run_ends : QueriesEnd → (d : Database) (q : Question) (b : Bounds) → Fits d d.relations → Asks d q → 1 ≤ b.budget → 1 ≤ b.depth → Ends (run_of d q b)
+run_ends law d q b f a n h = by_bounds b.budget b.depth n h
+  where
+    by_bounds : (n h : ℕ) → 1 ≤ n → 1 ≤ h → Ends (query_run d q n h)
     by_bounds zero h x y = absurd (omega (arith, x))
     by_bounds (suc n) zero x y = absurd (omega (arith, y))
     by_bounds (suc n) (suc h) x y = law d q f a n h

@@ -9,7 +9,7 @@ use Rattle.std.specs.declared.vec.Vec.{Vec}
 use Rattle.std.specs.declared.alloc.Global.{Global}
 use Rattle.mc_outside.specs.Meaning.{Held, Reads, ReadsEntry, first_part}
 use Rattle.mc_cmd.specs.Outcome.{These, Missing, texts_in, text_or_missing, with_text}
-use Rattle.mc_cmd.specs.Call.{HoldTexts, Lacks}
+use Rattle.mc_cmd.specs.Call.{CannotRead, HoldTexts, Lacks}
 use Rattle.mc_cmd.specs.Decisions.{IsHeld, IsNotHeld, StopsAt, Stops}
 use Rattle.mc_cmd.specs.declared.decision.Decision.{Decision}
 use Rattle.mc_cmd.specs.declared.decision.Decision.TheVariants as D
@@ -57,12 +57,17 @@ lacks_behind (Some held) fs ts f gs a n = missing_behind held fs ts f gs a n
 stops_behind : (store : Option Held) (fs ts : List (List ℕ)) (f : List ℕ) (gs : List (List ℕ)) (d : Decision) → AreHeld store fs ts → StopsAt store f d → Stops store (fs ++ f ∷ gs) d
 stops_behind store fs ts f gs D.Usage a s = absurd s
 stops_behind store fs ts f gs (D.Absent line) a s = (f, (lacks_behind store fs ts f gs a s.0, s.1))
-stops_behind store fs ts f gs (D.Unreadable line) a s = (f, (among fs f gs, s))
+stops_behind store fs ts f gs (D.Unreadable line) a s = (f, (record { before = fs; after = gs; parts = refl; texts = ts; holds = hold_texts store fs ts a }, s))
 stops_behind store fs ts f gs (D.Rejected files broken) a s = absurd s
 stops_behind store fs ts f gs D.NotBuilt a s = absurd s
 stops_behind store fs ts f gs D.Checked a s = absurd s
 stops_behind store fs ts f gs (D.Answers c) a s = absurd s
 stops_behind store fs ts f gs D.Memory a s = tt
+
+-- no file stands before the first
+pub first_unread : (store : Option Held) (files : List (List ℕ)) → 1 ≤ length files → (file : List ℕ) × CannotRead store files file
+first_unread store [] h = absurd (omega (arith, h))
+first_unread store (f ∷ fs) h = (f, record { before = []; after = fs; parts = refl; texts = []; holds = hold_texts store [] [] tt })
 
 -- a list is its front, the element at an index, and the rest
 parted : {X : Type 0} (xs : List X) (i : ℕ) (o : X) → i < length xs → xs ≡ take i xs ++ get_or xs i o ∷ drop (i + 1) xs

@@ -1,5 +1,5 @@
 -- What legal sources ask.
-use Rattle.std.proofs.Common.{◌≡◌, ◌≢◌, ◌⊎◌, inl, inr, ℕ, Bool, true, false, ◌||◌, List, [], ◌∷◌, ◌++◌, length, Option, Some, None, refl, sym, ap, ◌∙◌, subst}
+use Rattle.std.proofs.Common.{◌≡◌, ◌⊎◌, inl, inr, ℕ, Bool, true, false, ◌||◌, List, [], ◌∷◌, ◌++◌, length, Option, Some, None, refl, sym, ap, ◌∙◌, subst}
 use Rattle.std.specs.Prelude.{is_some}
 use Rattle.mc_syntax.specs.Plain.{Tm, plain_term}
 use Rattle.mc_syntax.specs.declared.term.Term.{Term}
@@ -20,7 +20,7 @@ use Rattle.mc_compile.specs.Rejected.{AreLegal}
 use Rattle.mc_compile.specs.Compiled.{files_of, with_question, over_facts, asks, is_first, IsProgram, IsCompiled, IsFault}
 use Rattle.mc_compile.specs.Reading.{text_of}
 use Rattle.mc_compile.specs.FactsLaws.{FactsFit, QuestionAsks}
-use Rattle.mc_cmd.specs.Outcome.{files_of as files_meant, query_of, is_run, is_unbuilt}
+use Rattle.mc_cmd.specs.Outcome.{files_of as files_meant, query_of, is_run, is_unbuilt, bounds_of, RunEnds}
 use Rattle.mc_cmd.specs.Call.{HoldTexts, WasDone}
 use Rattle.mc_cmd.specs.Decisions.{AreChecked, AreCompiled}
 
@@ -43,18 +43,15 @@ refused_breaks : (k : ℕ) (text : List ℕ) (bs : List Broken) → IsQueryRefus
 refused_breaks k text bs (inl r) e = let x = sym r.is ∙ e in cc
 refused_breaks k text bs (inr r) e = let x = sym r.is ∙ e in cc
 
-some_none : (a : Database × Option Question) → ◌≡◌ {A = Option (Database × Option Question)} (Some a) None → ⊥
-some_none a e = cc
-
-some_asked : {library texts : List (List ℕ)} {query : Option (List ℕ)} (l : AreLegal library texts query) (a : Database × Option Question) → asks l ≡ Some a → asks l ≢ None
-some_asked l a e n = some_none a (sym e ∙ n)
-
 -- legal sources that are checked, and those that are answered
 pub checked_done : (words : List (List ℕ)) (store : Option Held) (m : Meaning) → meaning words ≡ Some m → (texts : List (List ℕ)) → HoldTexts store (files_meant m) texts → AreChecked m texts → WasDone words store
-checked_done words store m e texts h a = record { command = m; means = e; built = a.built; texts = texts; holds = h; legal = a.legal; asked = some_asked a.legal (a.database, None) a.asked }
+checked_done words store m e texts h a =
+    record { command = m; means = e; built = a.built; texts = texts; holds = h; legal = a.legal; database = a.database; question = None; asked = a.asked; ends = tt }
 
-pub compiled_done : (words : List (List ℕ)) (store : Option Held) (m : Meaning) → meaning words ≡ Some m → (texts : List (List ℕ)) → HoldTexts store (files_meant m) texts → (c : Compiled) → AreCompiled m texts c → WasDone words store
-compiled_done words store m e texts h c a = record { command = m; means = e; built = a.built; texts = texts; holds = h; legal = a.legal; asked = some_asked a.legal (a.database, Some a.question) a.asked }
+pub compiled_done : (words : List (List ℕ)) (store : Option Held) (m : Meaning) → meaning words ≡ Some m → (texts : List (List ℕ)) → HoldTexts store (files_meant m) texts → (c : Compiled) (a : AreCompiled m texts c) →
+    RunEnds (Some a.question) a.database (bounds_of m) → WasDone words store
+compiled_done words store m e texts h c a ends =
+    record { command = m; means = e; built = a.built; texts = texts; holds = h; legal = a.legal; database = a.database; question = Some a.question; asked = a.asked; ends = ends }
 
 -- without a query nothing is asked
 pub nothing_asked : (library texts : List (List ℕ)) (l : AreLegal library texts None) (d : Database) (q : Option Question) → asks l ≡ Some (d, q) → q ≡ None
@@ -80,18 +77,34 @@ question_asked library texts (Some text) l d q s e =
     at n (Some goal) rules reads r None e = cc
     at n (Some goal) rules reads r (Some fs) e = with (question (files_of l) (plain_term goal)) (database (files_of l) fs) e
 
--- the facts of what is asked fit, and the question asks of them
-pub asked_fits : FactsFit → QuestionAsks → (library texts : List (List ℕ)) (query : Option (List ℕ)) (l : AreLegal library texts query) (d : Database) (q : Question) → asks l ≡ Some (d, Some q) → Fits d d.relations × Asks d q
-asked_fits fit ask library texts query l d q e = at l.sources.goal (facts (files_of l)) refl e
+-- the facts of what is asked fit
+pub asked_fit : FactsFit → (library texts : List (List ℕ)) (query : Option (List ℕ)) (l : AreLegal library texts query) (d : Database) (q : Option Question) → asks l ≡ Some (d, q) → Fits d d.relations
+asked_fit fit library texts query l d q e = at l.sources.goal (facts (files_of l)) refl e
   where
-    with : (fs : List Fact) (t : Tm) → facts (files_of l) ≡ Some fs → (o : Option Question) → question (files_of l) t ≡ o → with_question (database (files_of l) fs) o ≡ Some (d, Some q) → Fits d d.relations × Asks d q
+    over : (fs : List Fact) → facts (files_of l) ≡ Some fs → (o : Option Question) → ◌≡◌ {A = Option (Database × Option Question)} (Some (database (files_of l) fs, o)) (Some (d, q)) → Fits d d.relations
+    over fs f o x = subst (λ (b : Database). Fits b b.relations) (same_database (database (files_of l) fs) d o q x) (fit (files_of l) fs f)
+
+    with : (fs : List Fact) → facts (files_of l) ≡ Some fs → (o : Option Question) → with_question (database (files_of l) fs) o ≡ Some (d, q) → Fits d d.relations
+    with fs f None x = cc
+    with fs f (Some k) x = over fs f (Some k) x
+
+    at : (goal : Option Term) (fs : Option (List Fact)) → facts (files_of l) ≡ fs → over_facts (files_of l) goal fs ≡ Some (d, q) → Fits d d.relations
+    at goal None f x = cc
+    at None (Some fs) f x = over fs f None x
+    at (Some goal) (Some fs) f x = with fs f (question (files_of l) (plain_term goal)) x
+
+-- and the question asks of them
+pub asked_asks : QuestionAsks → (library texts : List (List ℕ)) (query : Option (List ℕ)) (l : AreLegal library texts query) (d : Database) (q : Question) → asks l ≡ Some (d, Some q) → Asks d q
+asked_asks ask library texts query l d q e = at l.sources.goal (facts (files_of l)) refl e
+  where
+    with : (fs : List Fact) (t : Tm) → facts (files_of l) ≡ Some fs → (o : Option Question) → question (files_of l) t ≡ o → with_question (database (files_of l) fs) o ≡ Some (d, Some q) → Asks d q
     with fs t f None g x = cc
     with fs t f (Some k) g x =
         let same : database (files_of l) fs ≡ d = same_database (database (files_of l) fs) d (Some k) (Some q) x in
         let asked : Some k ≡ Some q = same_question (database (files_of l) fs) d (Some k) (Some q) x in
-        (subst (λ (b : Database). Fits b b.relations) same (fit (files_of l) fs f), subst (λ (b : Database). Asks b q) same (ask (files_of l) fs t q f (g ∙ asked)))
+        subst (λ (b : Database). Asks b q) same (ask (files_of l) fs t q f (g ∙ asked))
 
-    at : (goal : Option Term) (fs : Option (List Fact)) → facts (files_of l) ≡ fs → over_facts (files_of l) goal fs ≡ Some (d, Some q) → Fits d d.relations × Asks d q
+    at : (goal : Option Term) (fs : Option (List Fact)) → facts (files_of l) ≡ fs → over_facts (files_of l) goal fs ≡ Some (d, Some q) → Asks d q
     at goal None f x = cc
     at None (Some fs) f x = let none = same_question (database (files_of l) fs) d None (Some q) x in cc
     at (Some goal) (Some fs) f x = with fs (plain_term goal) f (question (files_of l) (plain_term goal)) refl x

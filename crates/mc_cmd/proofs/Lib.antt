@@ -3,4 +3,5 @@ pub mod Answers
 pub mod InTurn
 pub mod Commands
 pub mod Legal
+pub mod OneAnswer
 pub mod Calls

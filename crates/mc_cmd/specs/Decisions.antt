@@ -1,5 +1,5 @@
 -- What is decided of words and files, and what is written of a decision. (This project's profile.)
-use Rattle.std.specs.Prelude.{◌≡◌, ◌≢◌, ◌⊎◌, ℕ, ◌≤◌, true, false, List, [], map, Contains, Option, Some, None, Result, Ok, Err}
+use Rattle.std.specs.Prelude.{◌≡◌, ◌≢◌, ◌⊎◌, ℕ, ◌≤◌, true, false, List, [], map, Option, Some, None, Result, Ok, Err}
 use Rattle.std.specs.FinMap as finmap
 use Rattle.mc_outside.specs.Counts.{Rose}
 use Rattle.mc_outside.specs.Meaning.{Held, first_part, PutsFront}
@@ -19,7 +19,7 @@ use Rattle.mc_cmd.specs.declared.status.Status.TheVariants as S
 use Rattle.mc_cmd.specs.declared.decision.Decision.{Decision}
 use Rattle.mc_cmd.specs.declared.decision.Decision.TheVariants as D
 use Rattle.mc_cmd.specs.Outcome.{Outcome, said, usage_line, not_built_line, absent_line, unreadable_line, broken_lines, files_of, query_of, is_unbuilt}
-use Rattle.mc_cmd.specs.Call.{HoldTexts, Lacks, Wrote}
+use Rattle.mc_cmd.specs.Call.{CannotRead, HoldTexts, Lacks, Wrote}
 use Rattle.mc_cmd.specs.Lines.{lines_of}
 
 abbrev pub given_names : List Given → List (List ℕ)
@@ -75,7 +75,7 @@ IsStopped file _ _ = ⊥
 -- why the reading of files ends a call
 abbrev pub Stops : Option Held → (files : List (List ℕ)) → Decision → Type 0
 Stops store files (D.Absent line) = (file : List ℕ) × (Lacks store files file × (line.items ≡ absent_line file))
-Stops store files (D.Unreadable line) = (file : List ℕ) × (Contains files file × (line.items ≡ unreadable_line file))
+Stops store files (D.Unreadable line) = (file : List ℕ) × (CannotRead store files file × (line.items ≡ unreadable_line file))
 Stops store files D.Memory = Unit {0}
 Stops store files _ = ⊥
 
@@ -142,6 +142,11 @@ abbrev pub CountPuts : {T : Type 0} → Result T PutFault → (out0 out1 err0 er
 CountPuts (Err put.Failed) out0 out1 err0 err1 = ((out0 ≡ out1) × Rose err0 err1) ⊎ (Rose out0 out1 × (err0 ≡ err1))
 CountPuts _ out0 out1 err0 err1 = (out0 ≡ out1) × (err0 ≡ err1)
 
+-- at want of memory nothing was to be put
+abbrev pub Quiet : Decision → Result (Unit {0}) PutFault → Type 0
+Quiet D.Memory r = r ≡ Ok tt
+Quiet _ r = Unit {0}
+
 -- A sink before and after a call: what was written, and the count of faults.
 pub record Sinks : Type 0 where
   pub before : Option (List ℕ)
@@ -158,5 +163,6 @@ pub record Happened (words : List (List ℕ)) (store : Option Held) (faults0 fau
   pub written : Result (Unit {0}) PutFault
   pub output : Writes out.before out.after written (told_of decision).out
   pub errors : Writes err.before err.after written (told_of decision).err
+  pub quiet : Quiet decision written
   pub puts : CountPuts written out.faults_before out.faults_after err.faults_before err.faults_after
   pub status : s ≡ ended written (told_of decision).status

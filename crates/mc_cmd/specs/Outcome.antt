@@ -1,13 +1,15 @@
 -- What a call of the command answers: the bytes on its output and on its error output, and the status. (This project's profile.)
-use Rattle.std.specs.Prelude.{◌≡◌, ◌≢◌, ◌⊎◌, ℕ, Bool, true, false, List, [], ◌∷◌, ◌++◌, map, codes, decimal, Option, Some, None, slice_index_or}
+use Rattle.std.specs.Prelude.{◌≡◌, ◌≢◌, ◌⊎◌, ℕ, Bool, true, false, List, [], ◌∷◌, ◌++◌, codes, Option, Some, None, slice_index_or}
 use Rattle.std.specs.FinMap as finmap
 use Rattle.mc_outside.specs.Meaning.{Held, first_part}
 use Rattle.mc_words.specs.Words.{Meaning, Check, Run, Query, Bounds, meaning, query_text}
 use Rattle.mc_model.specs.declared.rule.Broken.{Broken}
-use Rattle.mc_model.specs.Stream.{run_query}
-use Rattle.mc_model.specs.Printed.{printed, rule_name}
+use Rattle.mc_model.specs.Values.{Val}
+use Rattle.mc_model.specs.Items.{Items, Ends}
+use Rattle.mc_model.specs.Printed.{printed, broken_text}
 use Rattle.mc_model.specs.Output.{query_bytes}
-use Rattle.mc_ground.specs.Database.{Database, Question, query_procedure, system_of}
+use Rattle.mc_ground.specs.Database.{Database, Question, query_run}
+use Rattle.mc_ground.specs.Lines.{names_of}
 use Rattle.mc_compile.specs.Library.{library_texts}
 use Rattle.mc_compile.specs.Rejected.{AreLegal, Breaks}
 use Rattle.mc_compile.specs.Compiled.{asks}
@@ -35,9 +37,9 @@ absent_line file = codes "merc: no file " ++ (file ++ codes "\n")
 abbrev pub unreadable_line : List ℕ → List ℕ
 unreadable_line file = codes "merc: cannot read " ++ (file ++ codes "\n")
 
--- `FILE:LINE: RULE TEXT`; what isn't in a file is in the query
+-- the line of a broken rule; what isn't in a file is in the query
 abbrev pub broken_line : (files : List (List ℕ)) → Broken → List ℕ
-broken_line files b = slice_index_or files b.at.file (codes "query") ++ (58 ∷ decimal b.at.line ++ (codes ": " ++ (rule_name b.rule ++ (32 ∷ b.what ++ codes "\n"))))
+broken_line files b = broken_text (slice_index_or files b.at.file (codes "query")) b.at.line b.rule b.what
 
 abbrev pub broken_lines : (files : List (List ℕ)) → List Broken → List ℕ
 broken_lines files [] = []
@@ -72,14 +74,22 @@ bounds_of (Check files) = record { budget = 0; depth = 0 }
 bounds_of (Run bounds files) = bounds
 bounds_of (Query first bounds goal files) = bounds
 
--- the bytes that a query's run puts on the output
+-- the run of a query, cut at its bounds
+abbrev pub run_of : Database → Question → Bounds → Items (List (Option Val))
+run_of d q b = query_run d q b.budget b.depth
+
+-- the bytes that it puts on the output
 abbrev pub run_bytes : Database → Question → Bounds → List ℕ
-run_bytes d q b =
-    query_bytes (printed (map (λ c. c.name) d.constants)) q.variables (run_query (system_of d q).world.outcome (system_of d q).procs b.budget b.depth (query_procedure d q))
+run_bytes d q b = query_bytes (printed (names_of d)) q.variables (run_of d q b)
 
 abbrev pub answered : Option Question → Database → Bounds → List ℕ
 answered None d b = []
 answered (Some q) d b = run_bytes d q b
+
+-- the run comes to its end within the bounds
+abbrev pub RunEnds : Option Question → Database → Bounds → Type 0
+RunEnds None d b = Unit {0}
+RunEnds (Some q) d b = Ends (run_of d q b)
 
 -- What is answered of a command whose files hold these texts.
 pub data Answers (m : Meaning) (texts : List (List ℕ)) : Outcome → Type 0 where
@@ -87,8 +97,8 @@ pub data Answers (m : Meaning) (texts : List (List ℕ)) : Outcome → Type 0 wh
   rejected : {broken : List Broken} → Breaks library_texts texts (query_of m) broken → broken ≢ [] → Answers m texts (said (broken_lines (files_of m) broken) S.Rejected)
   -- they break none, and something is asked for that isn't built yet
   not_built : (l : AreLegal library_texts texts (query_of m)) → (is_unbuilt m ≡ true) ⊎ (asks l ≡ None) → Answers m texts (said not_built_line S.NotBuilt)
-  -- they break none, and the query, where there is one, is answered
-  done : (l : AreLegal library_texts texts (query_of m)) {d : Database} {q : Option Question} → is_unbuilt m ≡ false → asks l ≡ Some (d, q) →
+  -- they break none, and the run of the query, where there is one, ends
+  done : (l : AreLegal library_texts texts (query_of m)) {d : Database} {q : Option Question} → is_unbuilt m ≡ false → asks l ≡ Some (d, q) → RunEnds q d (bounds_of m) →
       Answers m texts (record { out = answered q d (bounds_of m); err = []; status = S.Done })
 
 -- the texts that files hold, as much of each as is read, or the first file that isn't there

@@ -3,11 +3,13 @@
 
 mod decide;
 mod decision;
+mod law;
 mod status;
 #[cfg(test)]
 mod tests;
 mod top;
 mod write;
 
+pub use law::at_most_one_answer;
 pub use status::{Status, status_code};
 pub use top::merc;

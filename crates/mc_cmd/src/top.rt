@@ -2,22 +2,23 @@ ghost use Rattle.std.specs.Prelude.{◌≡◌, ◌≢◌, ◌⊎◌, ◌<◌, �
 ghost use Rattle.mc_outside.specs.Counts.{Rose};
 ghost use Rattle.mc_outside.specs.Meaning.{Held, PutsFront};
 ghost use Rattle.mc_model.specs.declared.rule.Broken.{Broken};
-ghost use Rattle.mc_model.specs.Good.{GoodProcedures, GoodQuery};
+ghost use Rattle.mc_model.specs.Good.{GoodProcedures};
 ghost use Rattle.mc_words.specs.Words.{Meaning, meaning};
-ghost use Rattle.mc_ground.specs.Database.{Database, Question, query_procedure, system_of};
+ghost use Rattle.mc_ground.specs.Database.{Database, Question, system_of};
 ghost use Rattle.mc_compile.specs.Library.{library_texts};
 ghost use Rattle.mc_compile.specs.Rejected.{AreLegal, Breaks};
 ghost use Rattle.mc_compile.specs.Compiled.{asks};
-ghost use Rattle.mc_cmd.specs.Outcome.{Outcome, Defined, files_of, query_of, is_unbuilt};
-ghost use Rattle.mc_cmd.specs.Call.{Told, NoneRose, Wrote, Lacks, HoldTexts, SaysUnreadable, CanCome, WasDone};
+ghost use Rattle.mc_cmd.specs.Outcome.{Outcome, Defined, unreadable_line, files_of, query_of, is_unbuilt};
+ghost use Rattle.mc_cmd.specs.Call.{Told, NoneRose, Wrote, Lacks, HoldTexts, CannotRead, SaysUnreadable, PutsDefined, QueryIsGood, CanCome, WasDone};
 ghost use Rattle.mc_cmd.specs.Decisions.{Happened, ended};
 
 use crate::decide::decide;
 use crate::decision::Decision;
+use crate::law::at_most_one_answer;
 use crate::status::Status;
 use crate::write::{put_answers, put_rules};
-use mc_compile::{at_most_one_breach, compiled_once, facts_fit, not_both, question_asks};
-use mc_ground::{answers_are_lines, facts_are_good};
+use mc_compile::{facts_fit, question_asks};
+use mc_ground::{answers_are_lines, facts_are_good, queries_are_good, queries_end};
 use mc_outside::{Files, PutFault, Sink, Source};
 use std::alloc::Global;
 
@@ -44,13 +45,19 @@ pub fn merc<F: Files, I: Source, O: Sink, E: Sink>(
     ensures prefix { (held : Held) (before_out before_err : List ℕ) → Told (F.held files.old) held (O.written out.old) before_out (E.written err.old) before_err →
         (Rose (F.faults files.old) (F.faults files.new) → ⊥) → (o : Outcome) → Defined (map string_bytes words.now.items) held o →
         PutsFront (O.written out.old) (O.written out.new) o.out × PutsFront (E.written err.old) (E.written err.new) o.err }
+    // There is such an answer, and each sink was given a front part of it, also where a sink failed; at want of memory it
+    // may be that nothing was put.
+    ensures defined { (held : Held) (before_out before_err : List ℕ) → Told (F.held files.old) held (O.written out.old) before_out (E.written err.old) before_err →
+        (Rose (F.faults files.old) (F.faults files.new) → ⊥) →
+        PutsDefined (map string_bytes words.now.items) held (O.written out.old) (O.written out.new) (E.written err.old) (E.written err.new) ⊎
+        ((result ≡ Status.Memory) × (Wrote (O.written out.old) (O.written out.new) [] × Wrote (E.written err.old) (E.written err.new) [])) }
     // Where a file could not be read, nothing was put on `out`, and on `err` a front part of its line.
     ensures unreadable { (m : Meaning) → meaning (map string_bytes words.now.items) ≡ Some m → F.faults files.old < F.faults files.new →
-        Wrote (O.written out.old) (O.written out.new) [] × SaysUnreadable (E.written err.old) (E.written err.new) (files_of m) }
-    // Every run of the program that legal sources are is good, and so is the query's run: each printed answer is true in
-    // the completion, and each assignment that is not printed is false.
-    ensures truth { (m : Meaning) (texts : List (List ℕ)) (l : AreLegal library_texts texts (query_of m)) (d : Database) (q : Question) → asks l ≡ Some (d, Some q) →
-        GoodProcedures (system_of d q) × ((n h : ℕ) → GoodQuery (system_of d q) n h (query_procedure d q)) }
+        Wrote (O.written out.old) (O.written out.new) [] × SaysUnreadable (F.held files.old) (E.written err.old) (E.written err.new) (files_of m) }
+    // Every run of the program that legal sources are is good, and so is the query's run, where there is a query: each
+    // printed answer is true in the completion, and each assignment that is not printed is false.
+    ensures truth { (m : Meaning) (texts : List (List ℕ)) (l : AreLegal library_texts texts (query_of m)) (d : Database) (q : Option Question) → asks l ≡ Some (d, q) →
+        GoodProcedures (system_of d q) × QueryIsGood d q }
     // The causes of the answers.
     ensures done { result ≡ Status.Done → WasDone (map string_bytes words.now.items) (F.held files.old) }
     ensures usage { result ≡ Status.Usage → meaning (map string_bytes words.now.items) ≡ None }
@@ -60,6 +67,9 @@ pub fn merc<F: Files, I: Source, O: Sink, E: Sink>(
     ensures absent { result ≡ Status.Absent → Rose (F.absents files.old) (F.absents files.new) }
     ensures absent_told { result ≡ Status.Absent → (m : Meaning) × ((meaning (map string_bytes words.now.items) ≡ Some m) × ((file : List ℕ) × Lacks (F.held files.old) (files_of m) file)) }
     ensures read { result ≡ Status.ReadFault → Rose (F.faults files.old) (F.faults files.new) }
+    ensures read_told { result ≡ Status.ReadFault → (m : Meaning) × ((meaning (map string_bytes words.now.items) ≡ Some m) ×
+        ((file : List ℕ) × (CannotRead (F.held files.old) (files_of m) file ×
+        (Wrote (O.written out.old) (O.written out.new) [] × Wrote (E.written err.old) (E.written err.new) (unreadable_line file))))) }
     ensures read_seen { F.faults files.old < F.faults files.new → (result ≡ Status.ReadFault) ⊎ ((result ≡ Status.WriteFault) ⊎ (result ≡ Status.Memory)) }
     ensures write { result ≡ Status.WriteFault → Rose (O.faults out.old) (O.faults out.new) ⊎ Rose (E.faults err.old) (E.faults err.new) }
     ensures write_seen { (O.faults out.old < O.faults out.new) ⊎ (E.faults err.old < E.faults err.new) → result ≡ Status.WriteFault }
@@ -72,11 +82,11 @@ pub fn merc<F: Files, I: Source, O: Sink, E: Sink>(
 {
     answers_are_lines();
     facts_are_good();
+    queries_are_good();
+    queries_end();
     facts_fit();
     question_asks();
-    compiled_once();
-    not_both();
-    at_most_one_breach();
+    at_most_one_answer();
     let _ = input;
     carry_out(alloc, words, files, out, err)
 }

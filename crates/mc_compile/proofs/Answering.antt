@@ -17,13 +17,13 @@ use Rattle.mc_link_rules.specs.Files.{File, plain_files}
 use Rattle.mc_modules.specs.Linked.{Defined, plain_names, plain_named, linked, each, flat, types_of, preds_of}
 use Rattle.mc_items.specs.declared.entry.Entry.{Entry}
 use Rattle.mc_items.specs.Files.{plain_entry, place}
-use Rattle.mc_ground.specs.Database.{Question, fact, predicate_of, query_predicate}
+use Rattle.mc_ground.specs.Database.{Question, fact, predicate_of, query_predicate, query_predicates}
 use Rattle.mc_compile.specs.declared.given.Compiled.{Compiled}
 use Rattle.mc_compile.specs.declared.facts.enums.Enums.{Enums}
 use Rattle.mc_compile.specs.declared.facts.query.Asked.{Asked}
 use Rattle.mc_compile.specs.Facts.{LinkedFiles, Fact, facts, database, question, given_preds, given_types, signatures, constants, names_of, or_none, places}
 use Rattle.mc_compile.specs.Rejected.{line_of}
-use Rattle.mc_compile.specs.Compiled.{over_facts, with_question, query_predicates, goal_number, goal_variables, beside_type, beside_pred, no_function, beside_fact, beside_facts, beside_query}
+use Rattle.mc_compile.specs.Compiled.{over_facts, with_question, goal_number, goal_variables, beside_type, beside_pred, no_function, beside_fact, beside_facts, beside_query}
 use Rattle.mc_compile.specs.Passes.{everywhere, all_plain, all_import_given, is_plain, imports_given, is_sound, all_some, signatures_through, facts_through, put_facts, put_all, table_through, places_through, no_clauses, predicates_over, AreEnums, count_types, linked_of, IsFormed, plain_question}
 use Rattle.mc_compile.specs.declared.facts.sources.Sources.{Sources}
 use Rattle.mc_compile.specs.Answered.{IsAnswered, IsBuilt, IsMade, query_preds, query_besides, goal_behind}

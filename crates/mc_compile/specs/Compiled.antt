@@ -7,11 +7,10 @@ use Rattle.mc_model.specs.declared.program.Place.{Place}
 use Rattle.mc_model.specs.declared.program.TypeDef.{TypeDef}
 use Rattle.mc_model.specs.declared.program.Clause.{Clause}
 use Rattle.mc_model.specs.declared.program.Pred.{Pred}
-use Rattle.mc_model.specs.Programs.{Predicate}
 use Rattle.mc_model.specs.PlainPrograms.{plain_symbol, plain_pred}
 use Rattle.mc_items.specs.Files.{place}
 use Rattle.mc_modules.specs.Linked.{Defined, linked}
-use Rattle.mc_ground.specs.Database.{Database, Question, constructor_of, predicate_of, query_predicate, asked_types}
+use Rattle.mc_ground.specs.Database.{Database, Question, constructor_of, predicate_of, query_predicates}
 use Rattle.mc_compile.specs.declared.given.Query.{Query}
 use Rattle.mc_compile.specs.declared.given.Compiled.{Compiled}
 use Rattle.mc_compile.specs.declared.given.CompileFault.{CompileFault}
@@ -44,10 +43,6 @@ over_facts P goal (Some fs) = asked_of P goal (database P fs)
 -- The program that files are, and the query that a goal is; None where an item or the goal isn't of the form that is compiled so far.
 abbrev pub asks : {library texts : List (List ℕ)} {query : Option (List ℕ)} → AreLegal library texts query → Option (Database × Option Question)
 asks l = over_facts (files_of l) l.sources.goal (facts (files_of l))
-
-abbrev pub query_predicates : Database → Option Question → List Predicate
-query_predicates d None = []
-query_predicates d (Some q) = query_predicate q.relation (asked_types d q) ∷ []
 
 abbrev pub goal_number : Database → Option Question → ℕ
 goal_number d None = 0

@@ -9,16 +9,16 @@ use Rattle.mc_model.specs.Types.{type_at, instance_of, AllOfTypes}
 use Rattle.mc_model.specs.Insts.{AllWithin}
 use Rattle.mc_model.specs.Items.{Halt, Items, Made_call, Stopped, Called, budget, too_deep, cut, Each, EachCall}
 use Rattle.mc_model.specs.Scheduled.{Node}
-use Rattle.mc_model.specs.Stream.{calls, body_items, run_call, run_query}
+use Rattle.mc_model.specs.Stream.{calls, body_items, run_call}
 use Rattle.mc_model.specs.Truth.{Facts, stage, builtin_or, GivenBy, DeniedBy, SomeClause, NoClause}
 use Rattle.mc_model.specs.Good.{TypeChoice, Shape, Given, BoundAs, Keeps, Extends, Hit, types_of, GivenCall, GoodRun}
-use Rattle.mc_ground.specs.Database.{no_relation, no_constant, Database, Question, constant_at, relation_at, asked_types, constant_of, constructor_of, from, fact, the_types, predicate_of, query_predicate, source_of, all_out, procedure_at, query_procedure, no_outcomes, builtin_insts, system_of}
-use Rattle.mc_ground.specs.Laws.{RowFits, RowsFit, Fits, Asks, answers_of, answer_of, rows_of, FactsAreGood}
+use Rattle.mc_ground.specs.Database.{no_relation, no_constant, Database, Question, constant_at, relation_at, asked_types, constant_of, constructor_of, from, fact, the_types, predicate_of, query_predicate, query_predicates, source_of, all_out, procedure_at, query_procedure, no_outcomes, builtin_insts, system_of, query_run}
+use Rattle.mc_ground.specs.Laws.{RowFits, RowsFit, Fits, Asks, answers_of, answer_of, rows_of, FactsAreGood, QueriesAreGood}
 use Rattle.mc_ground.proofs.Bodies.{firsts, lasts, cut_answers}
 use Rattle.mc_ground.proofs.Runs.{unbound, length_nones, open_arguments, length_open, facts_answered, query_answered, query_too_deep, rows_fit, answered}
 use Rattle.mc_ground.proofs.Truths.{facts_true, facts_false, query_clause, query_clauses_true, query_clause_false}
 
-module _ (d : Database) (q : Question) (θ : TypeChoice) where
+module _ (d : Database) (q : Option Question) (θ : TypeChoice) where
   -- the symbol of a constant that is there
   the_symbol : (s : ℕ) → s < length d.constants → (source_of d q).symbols s ≡ constructor_of (constant_at d s)
   the_symbol s h = get_or-map constructor_of d.constants s no_constant no_symbol h
@@ -26,12 +26,8 @@ module _ (d : Database) (q : Question) (θ : TypeChoice) where
   -- the predicate of a relation that is there
   the_predicate : (k : ℕ) → k < length d.relations → (source_of d q).preds k ≡ predicate_of (relation_at d k)
   the_predicate k h =
-      get_or_append_left (map predicate_of d.relations) (query_predicate q.relation (asked_types d q) ∷ []) no_pred k (subst (λ n. k < n) (sym (length-map d.relations predicate_of)) h)
+      get_or_append_left (map predicate_of d.relations) (query_predicates d q) no_pred k (subst (λ n. k < n) (sym (length-map d.relations predicate_of)) h)
       ∙ get_or-map predicate_of d.relations k no_relation no_pred h
-
-  -- the query's
-  the_query : (source_of d q).preds (length d.relations) ≡ query_predicate q.relation (asked_types d q)
-  the_query = get_or_push (map predicate_of d.relations) (query_predicate q.relation (asked_types d q)) no_pred (length d.relations) (length-map d.relations predicate_of)
 
   -- outputs alone: any arguments are given, the constants have the shape of an answer, and there is no input to keep
   given_all : (us : List ℕ) (vs : List (Option Val)) → length vs ≡ length us → Given (system_of d q) θ (firsts us) (the_types us) vs
@@ -142,21 +138,26 @@ module _ (d : Database) (q : Question) (θ : TypeChoice) where
       (answered_good (stage (system_of d q).world (suc m)) k r.types (procedure_at d k).body vs c r.rows (ap (λ (π : Predicate). π.types) (the_predicate k less)) f l (less, (θ, given)) (yes_at k m less)
       (λ ws x n. none_at k m less ws (facts_false (stage (system_of d q).world m) r.rows ws n)))
 
+module _ (d : Database) (q : Question) (θ : TypeChoice) where
+  -- the query's predicate stands behind the others
+  the_query : (source_of d (Some q)).preds (length d.relations) ≡ query_predicate q.relation (asked_types d q)
+  the_query = get_or_push (map predicate_of d.relations) (query_predicate q.relation (asked_types d q)) no_pred (length d.relations) (length-map d.relations predicate_of)
+
   -- at a stage the query's predicate says what the call says at the one before
-  query_yes : (m : ℕ) → Asks d q → RowsFit d (asked_types d q) (rows_of d q) → Each (λ os. (ws : List Val) → Extends os ws → (stage (system_of d q).world (suc (suc m))).yes (length d.relations) ws) (answers_of (map answer_of (rows_of d q)))
+  query_yes : (m : ℕ) → Asks d q → RowsFit d (asked_types d q) (rows_of d q) → Each (λ os. (ws : List Val) → Extends os ws → (stage (system_of d (Some q)).world (suc (suc m))).yes (length d.relations) ws) (answers_of (map answer_of (rows_of d q)))
   query_yes m asks f =
-      let W = (system_of d q).world in
+      let W = (system_of d (Some q)).world in
       let p = q.relation in
       let rows = rows_of d q in
       subst (λ (π : Predicate). Each (λ os. (ws : List Val) → Extends os ws → builtin_or (GivenBy no_outcomes) π.builtin (SomeClause (stage W (suc m)) π.clauses) ws) (answers_of (map answer_of rows)))
-      (sym the_query) (query_clauses_true (stage W (suc m)) d p (asked_types d q) rows f (yes_at p m asks.declared))
+      (sym the_query) (query_clauses_true (stage W (suc m)) d p (asked_types d q) rows f (yes_at d (Some q) θ p m asks.declared))
 
-  query_no : (m : ℕ) (ws : List Val) → Asks d q → length ws ≡ length (asked_types d q) → Each (λ os. Hit false ws os → ⊥) (answers_of (map answer_of (rows_of d q))) → (stage (system_of d q).world (suc (suc m))).no (length d.relations) ws
+  query_no : (m : ℕ) (ws : List Val) → Asks d q → length ws ≡ length (asked_types d q) → Each (λ os. Hit false ws os → ⊥) (answers_of (map answer_of (rows_of d q))) → (stage (system_of d (Some q)).world (suc (suc m))).no (length d.relations) ws
   query_no m ws asks l n =
-      let W = (system_of d q).world in
+      let W = (system_of d (Some q)).world in
       let p = q.relation in
       subst (λ (π : Predicate). builtin_or (DeniedBy no_outcomes) π.builtin (NoClause (stage W (suc m)) π.clauses) ws) (sym the_query)
-      (subst (λ v. NoClause (stage W (suc m)) (query_clause p v ∷ []) ws) l (query_clause_false (stage W (suc m)) (stage W m) p (rows_of d q) ws (λ us none. none_at p m asks.declared us none) n))
+      (subst (λ v. NoClause (stage W (suc m)) (query_clause p v ∷ []) ws) l (query_clause_false (stage W (suc m)) (stage W m) p (rows_of d q) ws (λ us none. none_at d (Some q) θ p m asks.declared us none) n))
 
   extended_length : (os : List ℕ) (ws : List Val) → Extends (map unbound os) ws → length ws ≡ length (map unbound os)
   extended_length [] [] e = refl
@@ -165,26 +166,29 @@ module _ (d : Database) (q : Question) (θ : TypeChoice) where
   extended_length (o ∷ os) (w ∷ ws) e = omega (arith, extended_length os ws e)
 
   pub query_good : (n h : ℕ) → Fits d d.relations → Asks d q →
-      GoodRun (system_of d q) θ (stage (system_of d q).world (suc n)) false (query_procedure d q) (open_arguments d q) (run_query no_outcomes (procedure_at d) n h (query_procedure d q))
+      GoodRun (system_of d (Some q)) θ (stage (system_of d (Some q)).world (suc n)) false (query_procedure d q) (open_arguments d q) (query_run d q n h)
   query_good n zero fits asks =
-      subst (λ (xs : Items (List (Option Val))). GoodRun (system_of d q) θ (stage (system_of d q).world (suc n)) false (query_procedure d q) (open_arguments d q) (cut n xs))
+      subst (λ (xs : Items (List (Option Val))). GoodRun (system_of d (Some q)) θ (stage (system_of d (Some q)).world (suc n)) false (query_procedure d q) (open_arguments d q) (cut n xs))
       (sym (query_too_deep d q (calls no_outcomes (procedure_at d) (suc n))))
-      (stopped_good (stage (system_of d q).world (suc n)) (length d.relations) (asked_types d q) (query_procedure d q).body (open_arguments d q) too_deep)
+      (stopped_good d (Some q) θ (stage (system_of d (Some q)).world (suc n)) (length d.relations) (asked_types d q) (query_procedure d q).body (open_arguments d q) too_deep)
   query_good zero (suc h) fits asks =
-      subst (λ (xs : Items (List (Option Val))). GoodRun (system_of d q) θ (stage (system_of d q).world 1) false (query_procedure d q) (open_arguments d q) (cut zero xs))
+      subst (λ (xs : Items (List (Option Val))). GoodRun (system_of d (Some q)) θ (stage (system_of d (Some q)).world 1) false (query_procedure d q) (open_arguments d q) (cut zero xs))
       (sym (query_answered d q zero h asks (rows_fit d d.relations q.relation fits)))
-      (stopped_good (stage (system_of d q).world 1) (length d.relations) (asked_types d q) (query_procedure d q).body (open_arguments d q) budget)
+      (stopped_good d (Some q) θ (stage (system_of d (Some q)).world 1) (length d.relations) (asked_types d q) (query_procedure d q).body (open_arguments d q) budget)
   query_good (suc m) (suc h) fits asks =
       let us = asked_types d q in
       let rows = rows_of d q in
       let f = rows_fit d d.relations q.relation fits in
-      let C = stage (system_of d q).world (suc (suc m)) in
+      let C = stage (system_of d (Some q)).world (suc (suc m)) in
       let c : Made_call = record { proc = q.relation; args = map unbound q.variables } in
-      let given : GivenCall (system_of d q) c = (asks.declared, (θ, given_to q.relation (map unbound q.variables) asks.declared (length_nones q.variables ∙ asks.arguments))) in
-      subst (λ (xs : Items (List (Option Val))). GoodRun (system_of d q) θ C false (query_procedure d q) (open_arguments d q) xs)
+      let given : GivenCall (system_of d (Some q)) c = (asks.declared, (θ, given_to d (Some q) θ q.relation (map unbound q.variables) asks.declared (length_nones q.variables ∙ asks.arguments))) in
+      subst (λ (xs : Items (List (Option Val))). GoodRun (system_of d (Some q)) θ C false (query_procedure d q) (open_arguments d q) xs)
       (sym (answered d q fits asks m h))
-      (answered_good C (length d.relations) us (query_procedure d q).body (open_arguments d q) c rows (ap (λ (π : Predicate). π.types) the_query) f (length_open d q) given (query_yes m asks f)
+      (answered_good d (Some q) θ C (length d.relations) us (query_procedure d q).body (open_arguments d q) c rows (ap (λ (π : Predicate). π.types) the_query) f (length_open d q) given (query_yes m asks f)
       (λ ws x n. query_no m ws asks (extended_length (from 0 (length us)) ws x ∙ length_open d q) n))
 
-pub good : FactsAreGood
-good d q fits asks = ((λ θ n h k vs less given. procedure_good d q θ n h k vs fits less given), (λ n h θ. query_good d q θ n h fits asks))
+pub procedures_good : FactsAreGood
+procedures_good d q fits θ n h k vs less given = procedure_good d q θ n h k vs fits less given
+
+pub queries_good : QueriesAreGood
+queries_good d q fits asks n h θ = query_good d q θ n h fits asks

@@ -1,10 +1,10 @@
 -- The runs of ground facts.
-use Rattle.std.proofs.Common.{◌≡◌, ℕ, zero, suc, List, [], ◌∷◌, map, length, get_or, Option, None, Bool, cond, refl, ap, ◌∙◌, arith}
+use Rattle.std.proofs.Common.{◌≡◌, ℕ, zero, suc, List, [], ◌∷◌, map, length, get_or, Option, None, Bool, cond, refl, sym, ap, ◌∙◌, subst, arith}
 use Rattle.mc_model.specs.Values.{Val}
-use Rattle.mc_model.specs.Items.{Made_call, Items, End, Stuck, Stopped, Answer, Called, too_deep, append, bind, cut, of_option}
+use Rattle.mc_model.specs.Items.{Made_call, Items, End, Stuck, Stopped, Answer, Called, too_deep, append, bind, cut, of_option, Ends}
 use Rattle.mc_model.specs.Stream.{Bindings, Calls, unify, stream, enter, leave, body_items, calls}
 use Rattle.mc_ground.specs.Database.{Relation, no_relation, Database, Question, relation_at, asked_types, from, body_of, procedure_at, query_procedure, no_outcomes}
-use Rattle.mc_ground.specs.Laws.{RowsFit, answers_of, answer_of, rows_of, Fits, Asks, FactsAreAnswered}
+use Rattle.mc_ground.specs.Laws.{RowsFit, answers_of, answer_of, rows_of, Fits, Asks, FactsAreAnswered, QueriesEnd}
 use Rattle.mc_ground.proofs.Bodies.{firsts, lasts, Unbound, puts, bind_answers, cut_answers, body_answers, entered, all_ready, left_each, unify_row}
 
 -- the body of a predicate's procedure answers its facts
@@ -95,3 +95,11 @@ answered d q fits asks n h =
     let c : Made_call = record { proc = q.relation; args = map unbound q.variables } in
     ap (λ (xs : Items (List (Option Val))). cut (suc n) xs) (query_answered d q (suc n) h asks (rows_fit d d.relations q.relation fits))
     ∙ ap (Called c) (cut_answers n (map answer_of (rows_of d q)))
+
+-- answers end
+answers_end : {A : Type 0} (xs : List A) → Ends (answers_of xs)
+answers_end [] = tt
+answers_end (x ∷ xs) = answers_end xs
+
+pub ended : QueriesEnd
+ended d q fits asks n h = subst (λ (xs : Items (List (Option Val))). Ends xs) (sym (answered d q fits asks n h)) (answers_end (map answer_of (rows_of d q)))

@@ -1,6 +1,6 @@
 -- A program of ground facts over enumeration types, in the terms of the language: its clauses, its procedures and a
 -- query over it. (Mercury Language Reference Manual: Syntax, facts; Types, enumerations; Modes, `out`.)
-use Rattle.std.specs.Prelude.{ℕ, zero, suc, List, [], ◌∷◌, ◌++◌, map, length, get_or, None, true, false}
+use Rattle.std.specs.Prelude.{ℕ, zero, suc, List, [], ◌∷◌, ◌++◌, map, length, get_or, Option, Some, None, true, false}
 use Rattle.mc_model.specs.Values.{Val, con, no_vals}
 use Rattle.mc_model.specs.Programs.{TypeTerm, union_type, no_types, Expression, variable, made, no_expressions, expressions, Call, And, no_formulas, Constructor, ClauseForm, Predicate, Source}
 use Rattle.mc_model.specs.PlainPrograms.{no_symbol, no_pred}
@@ -8,6 +8,8 @@ use Rattle.mc_model.specs.Scheduled as S
 use Rattle.mc_model.specs.Scheduled.{Node, node, Procedure}
 use Rattle.mc_model.specs.Insts.{InstNode, free, ground, unique, dead}
 use Rattle.mc_model.specs.Outcomes.{Outcome, fails}
+use Rattle.mc_model.specs.Items.{Items}
+use Rattle.mc_model.specs.Stream.{run_query}
 use Rattle.mc_model.specs.Good.{System}
 use Rattle.mc_model.specs.declared.builtin.Builtin.{Builtin}
 use Rattle.mc_model.specs.declared.det.Det.{Det}
@@ -96,13 +98,18 @@ query_predicate p us =
 abbrev pub asked_types : Database → Question → List ℕ
 asked_types d q = (relation_at d q.relation).types
 
--- the predicates by number: those of the modules, and then the query
-abbrev pub source_of : Database → Question → Source
+-- the query's predicate, where there is a query
+abbrev pub query_predicates : Database → Option Question → List Predicate
+query_predicates d None = []
+query_predicates d (Some q) = query_predicate q.relation (asked_types d q) ∷ []
+
+-- the predicates by number: those of the modules, and then the query's
+abbrev pub source_of : Database → Option Question → Source
 source_of d q =
     record {
       symbols = λ k. get_or (map constructor_of d.constants) k no_symbol;
       symbols_of = λ u. get_or d.types u [];
-      preds = λ k. get_or (map predicate_of d.relations ++ query_predicate q.relation (asked_types d q) ∷ []) k no_pred;
+      preds = λ k. get_or (map predicate_of d.relations ++ query_predicates d q) k no_pred;
     }
 
 -- `is nondet`
@@ -157,7 +164,8 @@ builtin_insts (suc (suc (suc k))) = dead
 abbrev pub no_outcomes : Builtin → List Val → Outcome
 no_outcomes op vs = fails
 
-abbrev pub system_of : Database → Question → System
+-- the modules, with a query's predicate or without one, and their procedures
+abbrev pub system_of : Database → Option Question → System
 system_of d q =
     record {
       world = record { source = source_of d q; outcome = no_outcomes };
@@ -165,3 +173,7 @@ system_of d q =
       procs = procedure_at d;
       insts = builtin_insts;
     }
+
+-- the run of a query with a budget, at a height
+abbrev pub query_run : Database → Question → (n h : ℕ) → Items (List (Option Val))
+query_run d q n h = run_query (system_of d (Some q)).world.outcome (system_of d (Some q)).procs n h (query_procedure d q)

@@ -1,10 +1,9 @@
 -- What is proved of every program of ground facts.
 use Rattle.std.specs.Prelude.{◌≡◌, ℕ, suc, ◌<◌, List, [], ◌∷◌, map, length, Option, Some, None}
 use Rattle.mc_model.specs.Values.{Val}
-use Rattle.mc_model.specs.Items.{Items, End, Answer, Called}
-use Rattle.mc_model.specs.Stream.{run_query}
+use Rattle.mc_model.specs.Items.{Items, End, Answer, Called, Ends}
 use Rattle.mc_model.specs.Good.{GoodProcedures, GoodQuery}
-use Rattle.mc_ground.specs.Database.{Relation, Database, Question, constant_at, relation_at, asked_types, constant_of, query_procedure, system_of}
+use Rattle.mc_ground.specs.Database.{Relation, Database, Question, constant_at, relation_at, asked_types, constant_of, query_procedure, system_of, query_run}
 
 -- a fact has a constant of each argument's type
 abbrev pub RowFits : Database → (types row : List ℕ) → Type 0
@@ -39,13 +38,20 @@ answer_of row = map (λ s. Some (constant_of s)) row
 abbrev pub rows_of : Database → Question → List (List ℕ)
 rows_of d q = (relation_at d q.relation).rows
 
--- every run of a program of ground facts, and every run of a query over it, is good
+-- every run of a program of ground facts is good, with a query beside it or without one
 abbrev pub FactsAreGood : Type 0
-FactsAreGood = (d : Database) (q : Question) → Fits d d.relations → Asks d q → GoodProcedures (system_of d q) × ((n h : ℕ) → GoodQuery (system_of d q) n h (query_procedure d q))
+FactsAreGood = (d : Database) (q : Option Question) → Fits d d.relations → GoodProcedures (system_of d q)
+
+-- every run of a query over ground facts is good
+abbrev pub QueriesAreGood : Type 0
+QueriesAreGood = (d : Database) (q : Question) → Fits d d.relations → Asks d q → (n h : ℕ) → GoodQuery (system_of d (Some q)) n h (query_procedure d q)
 
 -- with a budget and a height a query makes its one call, and answers each fact of its predicate in order
 abbrev pub FactsAreAnswered : Type 0
 FactsAreAnswered =
     (d : Database) (q : Question) → Fits d d.relations → Asks d q → (n h : ℕ) →
-    run_query (system_of d q).world.outcome (system_of d q).procs (suc n) (suc h) (query_procedure d q) ≡
-    Called (record { proc = q.relation; args = map (λ v. None) q.variables }) (answers_of (map answer_of (rows_of d q)))
+    query_run d q (suc n) (suc h) ≡ Called (record { proc = q.relation; args = map (λ v. None) q.variables }) (answers_of (map answer_of (rows_of d q)))
+
+-- so such a run ends
+abbrev pub QueriesEnd : Type 0
+QueriesEnd = (d : Database) (q : Question) → Fits d d.relations → Asks d q → (n h : ℕ) → Ends (query_run d q (suc n) (suc h))

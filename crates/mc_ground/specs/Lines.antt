@@ -2,9 +2,8 @@
 use Rattle.std.specs.Prelude.{◌≡◌, ℕ, suc, List, [], ◌∷◌, map, true, codes, All}
 use Rattle.std.specs.List.{flat_map}
 use Rattle.mc_model.specs.Printed.{is_bare, constant_text, printed, answer_text}
-use Rattle.mc_model.specs.Stream.{run_query}
 use Rattle.mc_model.specs.Output.{query_bytes}
-use Rattle.mc_ground.specs.Database.{Database, Question, constant_at, query_procedure, system_of}
+use Rattle.mc_ground.specs.Database.{Database, Question, constant_at, query_run}
 use Rattle.mc_ground.specs.Laws.{Fits, Asks, rows_of}
 
 -- the names of the constants, by number
@@ -20,7 +19,7 @@ text_of d s = constant_text (name_of d s)
 
 -- the bytes that a query's run puts out, with a budget and a height of at least one
 abbrev pub asked_bytes : Database → Question → (n h : ℕ) → List ℕ
-asked_bytes d q n h = query_bytes (printed (names_of d)) q.variables (run_query (system_of d q).world.outcome (system_of d q).procs (suc n) (suc h) (query_procedure d q))
+asked_bytes d q n h = query_bytes (printed (names_of d)) q.variables (query_run d q (suc n) (suc h))
 
 -- the line of each fact, by the texts of its constants; the query is false where there is none
 abbrev pub fact_lines : (variables : List (List ℕ)) → List (List (List ℕ)) → List ℕ
