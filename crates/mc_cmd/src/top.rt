@@ -1,4 +1,4 @@
-ghost use Rattle.std.specs.Prelude.{◌≡◌, ◌≢◌, ◌⊎◌, ◌<◌, ℕ, List, [], map, string_bytes, true, Some, None, ◌++◌};
+ghost use Rattle.std.specs.Prelude.{◌≡◌, ◌≢◌, ◌⊎◌, ◌<◌, ℕ, List, [], map, string_bytes, true, Option, Some, None, ◌++◌};
 ghost use Rattle.mc_outside.specs.Counts.{Rose};
 ghost use Rattle.mc_outside.specs.Meaning.{Held, PutsFront};
 ghost use Rattle.mc_model.specs.declared.rule.Broken.{Broken};
