@@ -22,7 +22,7 @@ text() {
     unclosed_quotes) repeated "'\\" "$2" ;;
     float) repeated 7 "$(($2 - 2))" && printf '.5' ;;
     unclosed_escape) printf '"\\' && repeated 7 "$(($2 - 2))" ;;
-    source) { yes "$(<bench/source.m)" || true; } | head -c "$2" ;;
+    source) { yes "$(<crates/bench_items/stdin)" || true; } | head -c "$2" ;;
     comments) { yes '% a line of a comment, as long as lines of comments in source often are, or a little less' || true; } | head -c "$2" ;;
     blanks) repeated '                                ' "$2" ;;
     esac
