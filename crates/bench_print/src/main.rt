@@ -4,8 +4,9 @@
 ghost use Rattle.std.specs.Prelude.{◌≡◌, IfOk, length};
 
 use mc_base::{Memory, Row, Text};
-use mc_model::program::{Name, Program, Symbol};
 use mc_print::{answer_line, value_text};
+use mc_program::program::{Program, Symbol};
+use mc_source::name::Name;
 use mc_values::Heap;
 use std::alloc::{AllocError, Global};
 use std::env;

@@ -1,7 +1,7 @@
 //! Reads a module of ordinary clauses of a given size in KiB, keeps its terms, and says how many they are.
 #![tactic(auto)]
 
-use mc_syntax::Term;
+use mc_term_data::Term;
 use mc_terms::{Position, ReadKind, read_next};
 use mc_tokens::Walk;
 use std::alloc::{AllocError, Global};

@@ -4,16 +4,16 @@ use Rattle.std.specs.Prelude.{All}
 use Rattle.std.proofs.lemmas.List.{get_or_append_left, length-map, get_or-map}
 use Rattle.std.proofs.Math.Seq.{get_or-append_seam}
 use Rattle.std.proofs.Math.ListN.{get_or-map as get_or_mapped}
-use Rattle.mc_model.specs.declared.program.Symbol.{Symbol}
-use Rattle.mc_model.specs.Programs.{made, no_expressions, Constructor, ClauseForm, Predicate}
-use Rattle.mc_model.specs.PlainPrograms.{no_pred, plain_symbol}
-use Rattle.mc_model.specs.Printed.{constant_text}
-use Rattle.mc_model.specs.Printed.{names_of as program_names}
-use Rattle.mc_model.specs.Items.{Ends}
-use Rattle.mc_words.specs.Words.{Bounds}
-use Rattle.mc_ground.specs.Database.{Database, Question, Constant, Relation, no_constant, no_relation, constructor_of, fact, predicate_of, query_predicate, asked_types, relation_at, query_run}
-use Rattle.mc_ground.specs.Laws.{RowFits, RowsFit, Fits, Asks, rows_of, QueriesEnd}
-use Rattle.mc_ground.specs.Lines.{names_of, name_of, text_of, fact_lines, AnswersAreLines}
+use Rattle.mc_program.specs.declared.program.Symbol.{Symbol}
+use Rattle.mc_program.specs.Programs.{made, no_expressions, Constructor, ClauseForm, Predicate}
+use Rattle.mc_program.specs.PlainPrograms.{no_pred, plain_symbol}
+use Rattle.mc_program.specs.Printed.{constant_text}
+use Rattle.mc_program.specs.Printed.{names_of as program_names}
+use Rattle.mc_model.specs.EventList.{Ends}
+use Rattle.mc_command_line.specs.Words.{Bounds}
+use Rattle.mc_ground_form.specs.Database.{Database, Question, Constant, Relation, no_constant, no_relation, constructor_of, fact, predicate_of, query_predicate, asked_types, relation_at, query_run}
+use Rattle.mc_ground_form.specs.Laws.{RowFits, RowsFit, Fits, Asks, rows_of, QueriesEnd}
+use Rattle.mc_ground_form.specs.Lines.{names_of, name_of, text_of, fact_lines, AnswersAreLines}
 use Rattle.mc_compile.specs.declared.given.Compiled.{Compiled}
 use Rattle.mc_compile.specs.Compiled.{IsProgram}
 use Rattle.mc_cmd.specs.Outcome.{run_of, run_bytes}

@@ -4,12 +4,12 @@ use Rattle.mc_outside.specs.Counts.{Rose, PutFaults}
 use Rattle.mc_outside.specs.Meaning.{Held, Puts, PutsFront}
 use Rattle.mc_outside.specs.declared.traits.PutFault.{PutFault}
 use Rattle.mc_outside.specs.declared.traits.PutFault.TheVariants as put
-use Rattle.mc_model.specs.declared.rule.Broken.{Broken}
+use Rattle.mc_source.specs.declared.rule.Broken.{Broken}
 use Rattle.mc_model.specs.Good.{GoodProcedures}
-use Rattle.mc_words.specs.Words.{Meaning, Check, Run, Query, meaning}
-use Rattle.mc_ground.specs.Database.{Database, Question, system_of}
-use Rattle.mc_ground.specs.Laws.{FactsAreGood, QueriesAreGood, QueriesEnd}
-use Rattle.mc_ground.specs.Lines.{AnswersAreLines}
+use Rattle.mc_command_line.specs.Words.{Meaning, Check, Run, Query, meaning}
+use Rattle.mc_ground_form.specs.Database.{Database, Question, system_of}
+use Rattle.mc_ground_form.specs.Laws.{FactsAreGood, QueriesAreGood, QueriesEnd}
+use Rattle.mc_ground_form.specs.Lines.{AnswersAreLines}
 use Rattle.mc_compile.specs.Library.{library_texts}
 use Rattle.mc_compile.specs.Rejected.{AreLegal, Breaks}
 use Rattle.mc_compile.specs.Compiled.{asks}

@@ -5,8 +5,8 @@ use Rattle.std.specs.Str.{bytes_eq}
 use Rattle.std.specs.Borrow.{Bor}
 use Rattle.std.proofs.lemmas.Bool.{leb-true}
 use Rattle.std.proofs.lemmas.List.{length-map}
-use Rattle.mc_words.specs.Words.{Meaning, Check, Run, Query, Bounds, Spoken, are_files, bound, bounds, both, check, meaning, number, query, query_with, run, run_with, spoken_with, up_to}
-use Rattle.mc_words.specs.Plain.{plain_text, plain_texts}
+use Rattle.mc_command_line.specs.Words.{Meaning, Check, Run, Query, Bounds, Spoken, are_files, bound, bounds, both, check, meaning, number, query, query_with, run, run_with, spoken_with, up_to}
+use Rattle.mc_command_line.specs.Plain.{plain_text, plain_texts}
 use Rattle.mc_cmd.specs.Outcome.{files_of}
 
 pub record AreProper (b : Bounds) : Type 0 where

@@ -1,15 +1,15 @@
 -- What legal sources ask.
 use Rattle.std.proofs.Common.{◌≡◌, ◌⊎◌, inl, inr, ℕ, Bool, true, false, ◌||◌, List, [], ◌∷◌, ◌++◌, length, Option, Some, None, refl, sym, ap, ◌∙◌, subst}
 use Rattle.std.specs.Prelude.{is_some}
-use Rattle.mc_syntax.specs.Plain.{Tm, plain_term}
-use Rattle.mc_syntax.specs.declared.term.Term.{Term}
-use Rattle.mc_model.specs.declared.rule.Broken.{Broken}
+use Rattle.mc_term_data.specs.Plain.{PlainTerm, plain_term}
+use Rattle.mc_term_data.specs.declared.term.Term.{Term}
+use Rattle.mc_source.specs.declared.rule.Broken.{Broken}
 use Rattle.mc_outside.specs.Meaning.{Held}
-use Rattle.mc_words.specs.Words.{Meaning, meaning}
+use Rattle.mc_command_line.specs.Words.{Meaning, meaning}
 use Rattle.mc_items.specs.Queries.{IsQueryRefusal}
 use Rattle.mc_items.specs.declared.entry.ItemsFault.TheVariants as I
-use Rattle.mc_ground.specs.Database.{Database, Question}
-use Rattle.mc_ground.specs.Laws.{Fits, Asks}
+use Rattle.mc_ground_form.specs.Database.{Database, Question}
+use Rattle.mc_ground_form.specs.Laws.{Fits, Asks}
 use Rattle.mc_compile.specs.declared.given.Compiled.{Compiled}
 use Rattle.mc_compile.specs.declared.given.Query.{Query}
 use Rattle.mc_compile.specs.declared.given.CompileFault.TheVariants as F
@@ -97,7 +97,7 @@ asked_fit fit library texts query l d q e = at l.sources.goal (facts (files_of l
 pub asked_asks : QuestionAsks → (library texts : List (List ℕ)) (query : Option (List ℕ)) (l : AreLegal library texts query) (d : Database) (q : Question) → asks l ≡ Some (d, Some q) → Asks d q
 asked_asks ask library texts query l d q e = at l.sources.goal (facts (files_of l)) refl e
   where
-    with : (fs : List Fact) (t : Tm) → facts (files_of l) ≡ Some fs → (o : Option Question) → question (files_of l) t ≡ o → with_question (database (files_of l) fs) o ≡ Some (d, Some q) → Asks d q
+    with : (fs : List Fact) (t : PlainTerm) → facts (files_of l) ≡ Some fs → (o : Option Question) → question (files_of l) t ≡ o → with_question (database (files_of l) fs) o ≡ Some (d, Some q) → Asks d q
     with fs t f None g x = cc
     with fs t f (Some k) g x =
         let same : database (files_of l) fs ≡ d = same_database (database (files_of l) fs) d (Some k) (Some q) x in

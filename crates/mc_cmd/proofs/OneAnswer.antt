@@ -1,9 +1,9 @@
 -- Of words and of what files hold there is one defined answer at most.
 use Rattle.std.proofs.Common.{◌≡◌, ◌≢◌, ◌⊎◌, inl, inr, ℕ, true, false, List, [], Option, Some, None, refl, sym, ap, ◌∙◌}
 use Rattle.mc_outside.specs.Meaning.{Held}
-use Rattle.mc_model.specs.declared.rule.Broken.{Broken}
-use Rattle.mc_words.specs.Words.{Meaning, meaning}
-use Rattle.mc_ground.specs.Database.{Database, Question}
+use Rattle.mc_source.specs.declared.rule.Broken.{Broken}
+use Rattle.mc_command_line.specs.Words.{Meaning, meaning}
+use Rattle.mc_ground_form.specs.Database.{Database, Question}
 use Rattle.mc_compile.specs.Library.{library_texts}
 use Rattle.mc_compile.specs.Rejected.{AreLegal, Breaks}
 use Rattle.mc_compile.specs.Compiled.{asks}

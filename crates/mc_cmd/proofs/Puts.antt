@@ -11,13 +11,13 @@ use Rattle.mc_outside.specs.Meaning.{Puts, PutsFront}
 use Rattle.mc_outside.specs.declared.traits.PutFault.{PutFault}
 use Rattle.mc_outside.specs.declared.traits.PutFault.TheVariants as put
 use Rattle.std.proofs.lemmas.List.Folds.{flat_map-map}
-use Rattle.mc_model.specs.declared.rule.Broken.{Broken}
-use Rattle.mc_model.specs.declared.program.Clause.{Clause}
-use Rattle.mc_model.specs.Programs.{ClauseForm}
-use Rattle.mc_model.specs.declared.expr.Expr.{Expr}
-use Rattle.mc_model.specs.PlainPrograms.{plain_clause, plain_expression}
-use Rattle.mc_model.specs.Printed.{names_of, answer_text}
-use Rattle.mc_ground.specs.Lines.{fact_lines}
+use Rattle.mc_source.specs.declared.rule.Broken.{Broken}
+use Rattle.mc_program.specs.declared.program.Clause.{Clause}
+use Rattle.mc_program.specs.Programs.{ClauseForm}
+use Rattle.mc_program.specs.declared.expr.Expr.{Expr}
+use Rattle.mc_program.specs.PlainPrograms.{plain_clause, plain_expression}
+use Rattle.mc_program.specs.Printed.{names_of, answer_text}
+use Rattle.mc_ground_form.specs.Lines.{fact_lines}
 use Rattle.mc_compile.specs.declared.given.Compiled.{Compiled}
 use Rattle.mc_cmd.specs.Lines.{facts_of, fact_texts, fact_line, head_text, lines_of, AreWide}
 use Rattle.mc_cmd.specs.Outcome.{broken_line, broken_lines}

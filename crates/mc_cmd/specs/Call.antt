@@ -3,8 +3,8 @@ use Rattle.std.specs.Prelude.{◌≡◌, ℕ, false, List, ◌∷◌, ◌++◌, 
 use Rattle.mc_outside.specs.Counts.{Rose}
 use Rattle.mc_outside.specs.Meaning.{Held, PutsFront}
 use Rattle.mc_model.specs.Good.{GoodQuery}
-use Rattle.mc_words.specs.Words.{Meaning, meaning}
-use Rattle.mc_ground.specs.Database.{Database, Question, query_procedure, system_of}
+use Rattle.mc_command_line.specs.Words.{Meaning, meaning}
+use Rattle.mc_ground_form.specs.Database.{Database, Question, query_procedure, system_of}
 use Rattle.mc_compile.specs.Library.{library_texts}
 use Rattle.mc_compile.specs.Rejected.{AreLegal}
 use Rattle.mc_compile.specs.Compiled.{asks}

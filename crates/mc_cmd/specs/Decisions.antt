@@ -7,8 +7,8 @@ use Rattle.mc_outside.specs.declared.traits.PutFault.{PutFault}
 use Rattle.mc_outside.specs.declared.traits.PutFault.TheVariants as put
 use Rattle.mc_outside.specs.declared.traits.FileAnswer.{FileAnswer}
 use Rattle.mc_outside.specs.declared.traits.FileAnswer.TheVariants as A
-use Rattle.mc_words.specs.Words.{Meaning, meaning}
-use Rattle.mc_ground.specs.Database.{Database, Question}
+use Rattle.mc_command_line.specs.Words.{Meaning, meaning}
+use Rattle.mc_ground_form.specs.Database.{Database, Question}
 use Rattle.mc_compile.specs.Library.{library_texts}
 use Rattle.mc_compile.specs.Rejected.{AreLegal, Breaks}
 use Rattle.mc_compile.specs.Compiled.{asks, IsProgram}

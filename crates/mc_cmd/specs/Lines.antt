@@ -1,9 +1,9 @@
 -- The lines of a query's answers, as they are read off a program over facts: the query is one clause that calls a predicate, and each clause of that predicate is an answer. (This project's profile.)
 use Rattle.std.specs.Prelude.{◌≡◌, ℕ, List, [], ◌∷◌, map, length, get_or, All, Option, Some, None}
-use Rattle.mc_model.specs.Programs.{Expression, made, Formula, Call, ClauseForm, Predicate}
-use Rattle.mc_model.specs.PlainPrograms.{no_pred, plain_pred}
-use Rattle.mc_model.specs.Printed.{names_of, name_at, constant_text, answer_text}
-use Rattle.mc_ground.specs.Lines.{fact_lines}
+use Rattle.mc_program.specs.Programs.{Expression, made, Formula, Call, ClauseForm, Predicate}
+use Rattle.mc_program.specs.PlainPrograms.{no_pred, plain_pred}
+use Rattle.mc_program.specs.Printed.{names_of, name_at, constant_text, answer_text}
+use Rattle.mc_ground_form.specs.Lines.{fact_lines}
 use Rattle.mc_compile.specs.declared.given.Compiled.{Compiled}
 
 -- the clauses of the predicate with a number

@@ -2,14 +2,14 @@
 use Rattle.std.specs.Prelude.{◌≡◌, ◌≢◌, ◌⊎◌, ℕ, Bool, true, false, List, [], ◌∷◌, ◌++◌, codes, Option, Some, None, slice_index_or}
 use Rattle.std.specs.FinMap as finmap
 use Rattle.mc_outside.specs.Meaning.{Held, first_part}
-use Rattle.mc_words.specs.Words.{Meaning, Check, Run, Query, Bounds, meaning, query_text}
-use Rattle.mc_model.specs.declared.rule.Broken.{Broken}
-use Rattle.mc_model.specs.Values.{Val}
-use Rattle.mc_model.specs.Items.{Items, Ends}
-use Rattle.mc_model.specs.Printed.{printed, broken_text}
+use Rattle.mc_command_line.specs.Words.{Meaning, Check, Run, Query, Bounds, meaning, query_text}
+use Rattle.mc_source.specs.declared.rule.Broken.{Broken}
+use Rattle.mc_program.specs.Values.{Val}
+use Rattle.mc_model.specs.EventList.{Items, Ends}
+use Rattle.mc_program.specs.Printed.{printed, broken_text}
 use Rattle.mc_model.specs.Output.{query_bytes}
-use Rattle.mc_ground.specs.Database.{Database, Question, query_run}
-use Rattle.mc_ground.specs.Lines.{names_of}
+use Rattle.mc_ground_form.specs.Database.{Database, Question, query_run}
+use Rattle.mc_ground_form.specs.Lines.{names_of}
 use Rattle.mc_compile.specs.Library.{library_texts}
 use Rattle.mc_compile.specs.Rejected.{AreLegal, Breaks}
 use Rattle.mc_compile.specs.Compiled.{asks}

@@ -1,5 +1,5 @@
 ghost use Rattle.std.specs.Prelude.{◌≡◌, ◌≤◌, ◌||◌, length, map, option_map, string_bytes, IfOk, IfErr};
-ghost use Rattle.mc_words.specs.Plain.{plain_command, plain_text, plain_texts};
+ghost use Rattle.mc_command_line.specs.Plain.{plain_command, plain_text, plain_texts};
 ghost use Rattle.mc_compile.specs.Reading.{texts_of, text_of};
 ghost use Rattle.mc_compile.specs.Compiled.{is_first};
 ghost use Rattle.mc_cmd.specs.Outcome.{absent_line, unreadable_line, files_of, query_of, is_run, is_unbuilt};
@@ -8,9 +8,9 @@ ghost use Rattle.mc_cmd.specs.Decisions.{CountsAbsents, CountsFaults, IsDecided,
 
 use crate::decision::Decision;
 use mc_base::{Memory, Row, Text};
+use mc_command_line::{Command, query_text, read_words};
 use mc_compile::{CompileFault, Given, Query, compile};
 use mc_outside::{FileAnswer, Files};
-use mc_words::{Command, query_text, read_words};
 use std::alloc::{AllocError, Global};
 
 fn absent_line(alloc: Global, file: &str) -> Result<Vec<u8>, AllocError>

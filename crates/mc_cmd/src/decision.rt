@@ -1,6 +1,6 @@
 use mc_base::{Memory, Row};
 use mc_compile::{Compiled, Given};
-use mc_model::rule::Broken;
+use mc_source::rule::Broken;
 
 /// What is to be answered, before anything is written.
 #[derive(Drop)]

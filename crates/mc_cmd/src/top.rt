@@ -1,10 +1,10 @@
 ghost use Rattle.std.specs.Prelude.{◌≡◌, ◌≢◌, ◌⊎◌, ◌<◌, ℕ, List, [], map, string_bytes, true, Option, Some, None, ◌++◌};
 ghost use Rattle.mc_outside.specs.Counts.{Rose};
 ghost use Rattle.mc_outside.specs.Meaning.{Held, PutsFront};
-ghost use Rattle.mc_model.specs.declared.rule.Broken.{Broken};
+ghost use Rattle.mc_source.specs.declared.rule.Broken.{Broken};
 ghost use Rattle.mc_model.specs.Good.{GoodProcedures};
-ghost use Rattle.mc_words.specs.Words.{Meaning, meaning};
-ghost use Rattle.mc_ground.specs.Database.{Database, Question, system_of};
+ghost use Rattle.mc_command_line.specs.Words.{Meaning, meaning};
+ghost use Rattle.mc_ground_form.specs.Database.{Database, Question, system_of};
 ghost use Rattle.mc_compile.specs.Library.{library_texts};
 ghost use Rattle.mc_compile.specs.Rejected.{AreLegal, Breaks};
 ghost use Rattle.mc_compile.specs.Compiled.{asks};
@@ -18,7 +18,7 @@ use crate::law::at_most_one_answer;
 use crate::status::Status;
 use crate::write::{put_answers, put_rules};
 use mc_compile::{facts_fit, question_asks};
-use mc_ground::{answers_are_lines, facts_are_good, queries_are_good, queries_end};
+use mc_ground_form::{answers_are_lines, facts_are_good, queries_are_good, queries_end};
 use mc_outside::{Files, PutFault, Sink, Source};
 use std::alloc::Global;
 

@@ -1,19 +1,19 @@
 ghost use Rattle.std.specs.Prelude.{◌≡◌, length, map, IfOk, All};
 ghost use Rattle.std.specs.List.{flat_map};
 ghost use Rattle.mc_outside.specs.Counts.{PutFaults};
-ghost use Rattle.mc_model.specs.PlainPrograms.{plain_clause, plain_expression, plain_goal, plain_pred};
-ghost use Rattle.mc_model.specs.Printed.{name_at, names_of};
+ghost use Rattle.mc_program.specs.PlainPrograms.{plain_clause, plain_expression, plain_goal, plain_pred};
+ghost use Rattle.mc_program.specs.Printed.{name_at, names_of};
 ghost use Rattle.mc_cmd.specs.Outcome.{broken_line, broken_lines};
 ghost use Rattle.mc_cmd.specs.Lines.{AreWide, called_by, called_in, clauses_at, fact_line, fact_texts, facts_of, head_text, lines_of};
 ghost use Rattle.mc_cmd.specs.Decisions.{Writes, given_names};
 
 use mc_base::{Memory, Row, Text};
 use mc_compile::{Compiled, Given};
-use mc_model::expr::Expr;
-use mc_model::program::{Clause, Goal, Pred, Program};
-use mc_model::rule::Broken;
 use mc_outside::{PutFault, Sink};
 use mc_print::{answer_line, broken_line, write_constant};
+use mc_program::expr::Expr;
+use mc_program::program::{Clause, Goal, Pred, Program};
+use mc_source::rule::Broken;
 use std::alloc::Global;
 
 /// The line of a broken rule. What isn't in one of the files is in the query.

@@ -3,21 +3,21 @@ use Rattle.std.proofs.Common.{◌≡◌, ℕ, Bool, true, false, List, [], ◌�
 use Rattle.std.specs.Option.{is_some, option_map}
 use Rattle.std.specs.Prelude.{slice_index_or, IfOk, IfSome}
 use Rattle.std.proofs.lemmas.List.{map-append, length-map, take-append-drop, take-map}
-use Rattle.mc_syntax.specs.Plain.{plain_term}
-use Rattle.mc_syntax.specs.declared.term.Term.{Term}
-use Rattle.mc_model.specs.declared.program.Symbol.{Symbol}
-use Rattle.mc_model.specs.declared.program.Pred.{Pred}
-use Rattle.mc_model.specs.declared.program.Place.{Place}
+use Rattle.mc_term_data.specs.Plain.{plain_term}
+use Rattle.mc_term_data.specs.declared.term.Term.{Term}
+use Rattle.mc_program.specs.declared.program.Symbol.{Symbol}
+use Rattle.mc_program.specs.declared.program.Pred.{Pred}
+use Rattle.mc_source.specs.declared.place.Place.{Place}
 use Rattle.mc_modules.specs.declared.names.Named.{Named}
-use Rattle.mc_model.specs.Programs.{ClauseForm, Predicate}
-use Rattle.mc_model.specs.PlainPrograms.{plain_pred, plain_symbol}
-use Rattle.mc_model.specs.declared.program.TypeDef.{TypeDef}
-use Rattle.mc_decl_forms.specs.Terms.{is_distinct}
-use Rattle.mc_link_rules.specs.Files.{File, plain_files}
+use Rattle.mc_program.specs.Programs.{ClauseForm, Predicate}
+use Rattle.mc_program.specs.PlainPrograms.{plain_pred, plain_symbol}
+use Rattle.mc_program.specs.declared.program.TypeDef.{TypeDef}
+use Rattle.mc_decl_syntax.specs.Terms.{is_distinct}
+use Rattle.mc_linking.specs.Files.{File, plain_files}
 use Rattle.mc_modules.specs.Linked.{Defined, plain_names, plain_named, linked, each, flat, types_of, preds_of}
 use Rattle.mc_items.specs.declared.entry.Entry.{Entry}
 use Rattle.mc_items.specs.Files.{plain_entry, place}
-use Rattle.mc_ground.specs.Database.{Question, fact, predicate_of, query_predicate, query_predicates}
+use Rattle.mc_ground_form.specs.Database.{Question, fact, predicate_of, query_predicate, query_predicates}
 use Rattle.mc_compile.specs.declared.given.Compiled.{Compiled}
 use Rattle.mc_compile.specs.declared.facts.enums.Enums.{Enums}
 use Rattle.mc_compile.specs.declared.facts.query.Asked.{Asked}

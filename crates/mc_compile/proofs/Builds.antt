@@ -2,17 +2,17 @@
 use Rattle.std.proofs.Common.{◌≡◌, ℕ, ◌+◌, ◌<◌, zero, suc, Bool, true, false, cond, ◌&&◌, List, [], ◌∷◌, ◌++◌, map, length, get_or, take, Option, Some, None, nat_eq, nat_lt, refl, ap, sym, ◌∙◌, append_assoc, length-append, arith}
 use Rattle.std.proofs.lemmas.List.{map-append}
 use Rattle.std.specs.Prelude.{slice_index_or}
-use Rattle.mc_syntax.specs.Plain.{Tm, at, Var, Int, Str, App, Items, Tailed, Conj, Disj}
-use Rattle.mc_syntax.specs.declared.term.Term.{Term}
-use Rattle.mc_decl_forms.specs.Terms.{is_distinct}
-use Rattle.mc_model.specs.Programs.{Constructor}
-use Rattle.mc_model.specs.declared.program.Symbol.{Symbol}
-use Rattle.mc_model.specs.PlainPrograms.{plain_symbol}
-use Rattle.mc_decl_forms.specs.Plain.{It, ModuleStart, ModuleEnd, Interface, Implementation, Imports, UseOnly, AbstractType, UnionType, SameType, SameInst, BoundInst, ModeDef, Pred, Func, Mode, Pragma, Clause}
-use Rattle.mc_item_names.specs.Things.{things}
-use Rattle.mc_link_rules.specs.Files.{File, Section, Standing, section_after, standing, standing_from, is_empty}
+use Rattle.mc_term_data.specs.Plain.{PlainTerm, at, Var, Int, Str, App, Items, Tailed, Conj, Disj}
+use Rattle.mc_term_data.specs.declared.term.Term.{Term}
+use Rattle.mc_decl_syntax.specs.Terms.{is_distinct}
+use Rattle.mc_program.specs.Programs.{Constructor}
+use Rattle.mc_program.specs.declared.program.Symbol.{Symbol}
+use Rattle.mc_program.specs.PlainPrograms.{plain_symbol}
+use Rattle.mc_decl_syntax.specs.Plain.{PlainDecl, ModuleStart, ModuleEnd, Interface, Implementation, Imports, UseOnly, AbstractType, UnionType, SameType, SameInst, BoundInst, ModeDef, Pred, Func, Mode, Pragma, Clause}
+use Rattle.mc_defs_uses.specs.Definitions.{definitions}
+use Rattle.mc_linking.specs.Files.{File, Section, PlainItemInFile, section_after, items_in_file, items_in_file_from, is_empty}
 use Rattle.mc_modules.specs.Linked.{Defined, each, flat, types_by, types_in, types_of, of_kind, is_pred, sorted_in, preds_of, name_of}
-use Rattle.mc_ground.specs.Database.{Constant, Question, constructor_of, fact, predicate_of, no_relation, asked_types}
+use Rattle.mc_ground_form.specs.Database.{Constant, Question, constructor_of, fact, predicate_of, no_relation, asked_types}
 use Rattle.mc_compile.specs.Facts.{LinkedFiles, Fact, signature_by, those_of, by_predicate, relations_from, names_of, or_none, given_preds, signatures, database, constants, facts, facts_from, below, asked, question, variables}
 use Rattle.mc_compile.specs.Compiled.{over_facts}
 use Rattle.mc_compile.specs.Passes.{every, everywhere, is_plain, signatures_over, signatures_through, put_behind, put_each, no_clauses, tables_from, predicates_over, types_by_item, count_types_in, count_types}
@@ -103,7 +103,7 @@ pub relations_all : (ss : List (Option (List ℕ))) (uss : List (List ℕ)) (fs 
     map predicate_of (relations_from 0 ss fs ds) ≡ predicates_over ds uss (tables_from fact 0 uss fs)
 relations_all ss uss fs ds e g = relations_at 0 ss [] uss fs ds refl (sym e) g
 
-type_count : (m : List ℕ) (all : List Standing) (s : Standing) (i : It) → is_plain i ≡ true → length (types_by m all s i) ≡ types_by_item i
+type_count : (m : List ℕ) (all : List PlainItemInFile) (s : PlainItemInFile) (i : PlainDecl) → is_plain i ≡ true → length (types_by m all s i) ≡ types_by_item i
 type_count m all s (UnionType h ts) e = refl
 type_count m all s (ModuleStart w) e = refl
 type_count m all s (ModuleEnd w) e = refl
@@ -130,22 +130,22 @@ and_right : (a b : Bool) → (a && b) ≡ true → b ≡ true
 and_right true b e = e
 and_right false b e = cc
 
-types_counted_in : (m : List ℕ) (all : List Standing) (b : Bool) (s : Section) (es : File) → every is_plain es ≡ true → length (types_in m all (standing_from b s es)) ≡ count_types_in es
+types_counted_in : (m : List ℕ) (all : List PlainItemInFile) (b : Bool) (s : Section) (es : File) → every is_plain es ≡ true → length (types_in m all (items_in_file_from b s es)) ≡ count_types_in es
 types_counted_in m all b s [] p = refl
 types_counted_in m all b s (e ∷ es) p =
-    let st : Standing = record { item = e.0; at = e.1; section = s; is_first = b; is_last = is_empty es } in
-    length-append (types_by m all st e.0) (types_in m all (standing_from false (section_after s e.0) es))
-    ∙ ap (λ n. n + length (types_in m all (standing_from false (section_after s e.0) es))) (type_count m all st e.0 (and_left _ _ p))
+    let st : PlainItemInFile = record { item = e.0; at = e.1; section = s; is_first = b; is_last = is_empty es } in
+    length-append (types_by m all st e.0) (types_in m all (items_in_file_from false (section_after s e.0) es))
+    ∙ ap (λ n. n + length (types_in m all (items_in_file_from false (section_after s e.0) es))) (type_count m all st e.0 (and_left _ _ p))
     ∙ ap (λ n. types_by_item e.0 + n) (types_counted_in m all false (section_after s e.0) es (and_right _ _ p))
 
 pub types_counted : (k : ℕ) (fs : List File) → everywhere (λ own i. is_plain i) k fs ≡ true → length (flat (each types_of fs)) ≡ count_types fs
 types_counted k [] p = refl
 types_counted k (f ∷ fs) p =
     length-append (types_of f) (flat (each types_of fs))
-    ∙ ap (λ n. n + length (flat (each types_of fs))) (types_counted_in (name_of f) (standing f) true _ f (and_left _ _ p))
+    ∙ ap (λ n. n + length (flat (each types_of fs))) (types_counted_in (name_of f) (items_in_file f) true _ f (and_left _ _ p))
     ∙ ap (λ n. count_types_in f + n) (types_counted (k + 1) fs (and_right _ _ p))
 
-pred_count : (P : LinkedFiles) (k : ℕ) (m : List ℕ) (s : Standing) (i : It) → length (of_kind m s (is_pred i) (things i)) ≡ length (signature_by P k i)
+pred_count : (P : LinkedFiles) (k : ℕ) (m : List ℕ) (s : PlainItemInFile) (i : PlainDecl) → length (of_kind m s (is_pred i) (definitions i)) ≡ length (signature_by P k i)
 pred_count P k m s (UnionType h ts) = refl
 pred_count P k m s (ModuleStart w) = refl
 pred_count P k m s (ModuleEnd w) = refl
@@ -164,12 +164,12 @@ pred_count P k m s (Mode t d) = refl
 pred_count P k m s Pragma = refl
 pred_count P k m s (Clause t) = refl
 
-preds_counted_in : (P : LinkedFiles) (k : ℕ) (m : List ℕ) (b : Bool) (s : Section) (es : File) → length (sorted_in is_pred m (standing_from b s es)) ≡ length (signatures_over P k es)
+preds_counted_in : (P : LinkedFiles) (k : ℕ) (m : List ℕ) (b : Bool) (s : Section) (es : File) → length (sorted_in is_pred m (items_in_file_from b s es)) ≡ length (signatures_over P k es)
 preds_counted_in P k m b s [] = refl
 preds_counted_in P k m b s (e ∷ es) =
-    let st : Standing = record { item = e.0; at = e.1; section = s; is_first = b; is_last = is_empty es } in
-    length-append (of_kind m st (is_pred e.0) (things e.0)) (sorted_in is_pred m (standing_from false (section_after s e.0) es))
-    ∙ ap (λ n. n + length (sorted_in is_pred m (standing_from false (section_after s e.0) es))) (pred_count P k m st e.0)
+    let st : PlainItemInFile = record { item = e.0; at = e.1; section = s; is_first = b; is_last = is_empty es } in
+    length-append (of_kind m st (is_pred e.0) (definitions e.0)) (sorted_in is_pred m (items_in_file_from false (section_after s e.0) es))
+    ∙ ap (λ n. n + length (sorted_in is_pred m (items_in_file_from false (section_after s e.0) es))) (pred_count P k m st e.0)
     ∙ ap (λ n. length (signature_by P k e.0) + n) (preds_counted_in P k m false (section_after s e.0) es)
     ∙ sym (length-append (signature_by P k e.0) (signatures_over P k es))
 
@@ -240,7 +240,7 @@ only_call : (b : Bool) (o : Option Question) (q : Question) → cond b o None �
 only_call true o q e = e
 only_call false o q e = cc
 
-pub question_below : (P : LinkedFiles) (t : Tm) (q : Question) → question P t ≡ Some q → q.relation < length (given_preds P)
+pub question_below : (P : LinkedFiles) (t : PlainTerm) (q : Question) → question P t ≡ Some q → q.relation < length (given_preds P)
 question_below P (at (App w ts) l) q e = asked_below P (length (given_preds P)) _ (variables ts) q (only_call _ _ q e)
 question_below P (at (Var w) l) q e = cc
 question_below P (at (Int n) l) q e = cc

@@ -3,7 +3,7 @@ use Rattle.std.proofs.Common.{◌≡◌, inl, inr, ℕ, ◌+◌, ◌≤◌, Bool
 use Rattle.std.proofs.lemmas.List.{length-map, take-map}
 use Rattle.std.proofs.Math.Seq.{take-append_seam}
 use Rattle.mc_items.specs.Files.{plain_entry}
-use Rattle.mc_link_rules.specs.Files.{File, plain_files}
+use Rattle.mc_linking.specs.Files.{File, plain_files}
 use Rattle.mc_modules.specs.Linked.{Linked}
 use Rattle.mc_compile.specs.declared.given.Compiled.{Compiled}
 use Rattle.mc_compile.specs.declared.given.CompileFault.{CompileFault}

@@ -4,17 +4,17 @@ use Rattle.std.proofs.lemmas.Option.{get_or_from_slice_get, slice_get_within, no
 use Rattle.std.proofs.lemmas.Bool.{eqb-true, ltb-true}
 use Rattle.std.specs.Prelude.{nat_eq, nat_lt, slice_get, slice_index_or, get_or}
 use Rattle.std.specs.Option.{is_some}
-use Rattle.mc_syntax.specs.Plain.{Tm, Tms, at, Var, Int, Str, App, Items, Tailed, Conj, Disj}
-use Rattle.mc_syntax.specs.Names.{count}
-use Rattle.mc_decl_forms.specs.Plain.{Path, It, ModuleStart, ModuleEnd, Interface, Implementation, Imports, UseOnly, AbstractType, UnionType, SameType, SameInst, BoundInst, ModeDef, Pred, Func, Mode, Pragma, Clause}
-use Rattle.mc_decl_forms.specs.Terms.{is_distinct}
-use Rattle.mc_item_names.specs.Plain.{id, qualifiers, last_part}
-use Rattle.mc_link_rules.specs.Files.{File, Standing, standing}
-use Rattle.mc_link_rules.specs.Faults.{is_number}
+use Rattle.mc_term_data.specs.Plain.{PlainTerm, PlainTerms, at, Var, Int, Str, App, Items, Tailed, Conj, Disj}
+use Rattle.mc_term_data.specs.Names.{count}
+use Rattle.mc_decl_syntax.specs.Plain.{Path, PlainDecl, ModuleStart, ModuleEnd, Interface, Implementation, Imports, UseOnly, AbstractType, UnionType, SameType, SameInst, BoundInst, ModeDef, Pred, Func, Mode, Pragma, Clause}
+use Rattle.mc_decl_syntax.specs.Terms.{is_distinct}
+use Rattle.mc_defs_uses.specs.Plain.{id, qualifiers, last_part}
+use Rattle.mc_linking.specs.Files.{File, PlainItemInFile, items_in_file}
+use Rattle.mc_linking.specs.Faults.{is_number}
 use Rattle.mc_modules.specs.Linked.{Defined}
 use Rattle.mc_modules.specs.Candidates.{candidates}
-use Rattle.mc_ground.specs.Database.{Constant, no_constant, no_relation, Database, Question, constant_at}
-use Rattle.mc_ground.specs.Laws.{RowFits, RowsFit, Fits, Asks}
+use Rattle.mc_ground_form.specs.Database.{Constant, no_constant, no_relation, Database, Question, constant_at}
+use Rattle.mc_ground_form.specs.Laws.{RowFits, RowsFit, Fits, Asks}
 use Rattle.mc_compile.specs.Facts.{LinkedFiles, Fact, facts, facts_from, facts_in, facts_by, both, as_list, nothing_where, database, constants, signatures, or_none, type_at, type_in, are_of, fact_of, fact_over, bare_fact, those_of, relations_from, names_of, constant_numbers, own_predicate, is_rule_or_function, are_given, has_no_parameters, are_constants, is_nondet, signature, given_preds, below, asked, variables, predicates, sole_predicate, is_call, question}
 use Rattle.mc_compile.specs.FactsLaws.{FactsFit, QuestionAsks}
 
@@ -65,11 +65,11 @@ module _ (P : LinkedFiles) (every : List Fact) where
       where_of false q = tt
       where_of true q = (subst (λ (s : Option (List ℕ)). RowFits (database P every) (or_none s) row) (sym e) (row_fits (database P every) us row q), tt)
 
-  over_good : (own : ℕ) (p : Option ℕ) (ts : Tms) → GoodWhere (as_list (fact_over P own p ts))
+  over_good : (own : ℕ) (p : Option ℕ) (ts : PlainTerms) → GoodWhere (as_list (fact_over P own p ts))
   over_good own None ts = tt
   over_good own (Some p) ts = fact_good p (slice_index_or (signatures P) p None) (constant_numbers P own ts) refl
 
-  bare_good : (own : ℕ) (t : Tm) → GoodWhere (as_list (bare_fact P own t))
+  bare_good : (own : ℕ) (t : PlainTerm) → GoodWhere (as_list (bare_fact P own t))
   bare_good own (at (App (w ∷ []) ts) l) = over_good own (own_predicate P.names own (id w (count ts))) ts
   bare_good own (at (App [] ts) l) = tt
   bare_good own (at (App (w ∷ (v ∷ vs)) ts) l) = tt
@@ -90,11 +90,11 @@ module _ (P : LinkedFiles) (every : List Fact) where
   nothing_good true = tt
   nothing_good false = tt
 
-  clause_good : (own : ℕ) (t : Tm) (b : Bool) → GoodWhere (cond b None (as_list (bare_fact P own t)))
+  clause_good : (own : ℕ) (t : PlainTerm) (b : Bool) → GoodWhere (cond b None (as_list (bare_fact P own t)))
   clause_good own t true = tt
   clause_good own t false = bare_good own t
 
-  item_good : (own : ℕ) (i : It) → GoodWhere (facts_by P own i)
+  item_good : (own : ℕ) (i : PlainDecl) → GoodWhere (facts_by P own i)
   item_good own (ModuleStart w) = tt
   item_good own (ModuleEnd w) = tt
   item_good own Interface = tt
@@ -113,13 +113,13 @@ module _ (P : LinkedFiles) (every : List Fact) where
   item_good own Pragma = tt
   item_good own (Clause t) = clause_good own t (is_rule_or_function t)
 
-  items_good : (own : ℕ) (ss : List Standing) → GoodWhere (facts_in P own ss)
+  items_good : (own : ℕ) (ss : List PlainItemInFile) → GoodWhere (facts_in P own ss)
   items_good own [] = tt
   items_good own (s ∷ ss) = both_good (facts_by P own s.item) (facts_in P own ss) (item_good own s.item) (items_good own ss)
 
   files_good : (own : ℕ) (fs : List File) → GoodWhere (facts_from P own fs)
   files_good own [] = tt
-  files_good own (f ∷ fs) = both_good (facts_in P own (standing f)) (facts_from P (own + 1) fs) (items_good own (standing f)) (files_good (own + 1) fs)
+  files_good own (f ∷ fs) = both_good (facts_in P own (items_in_file f)) (facts_from P (own + 1) fs) (items_good own (items_in_file f)) (files_good (own + 1) fs)
 
   distinct_good : (b : Bool) → GoodWhere (cond b (facts_from P 0 P.given) None)
   distinct_good true = files_good 0 P.given
@@ -189,12 +189,12 @@ module _ (P : LinkedFiles) (fs : List Fact) where
       of (Some k) None f r = absurd (none-some q r)
       of (Some k) (Some ys) f r = by k ys (is_distinct ys && nat_eq (length ys) (length (or_none (slice_index_or (signatures P) k None)))) f refl r
 
-  call_asks : (w : Path) (ts : Tms) (b : Bool) (q : Question)
+  call_asks : (w : Path) (ts : PlainTerms) (b : Bool) (q : Question)
       → cond b (asked P (below (length (given_preds P)) (sole_predicate (predicates (candidates P.names 0 (qualifiers w) (id (last_part w) (count ts)))))) (variables ts)) None ≡ Some q → Asks (database P fs) q
   call_asks w ts false q e = absurd (none-some q e)
   call_asks w ts true q e = asked_asks (sole_predicate (predicates (candidates P.names 0 (qualifiers w) (id (last_part w) (count ts))))) (variables ts) q e
 
-  goal_asks : (t : Tm) (q : Question) → question P t ≡ Some q → Asks (database P fs) q
+  goal_asks : (t : PlainTerm) (q : Question) → question P t ≡ Some q → Asks (database P fs) q
   goal_asks (at (App w ts) l) q e = call_asks w ts (is_call w ts) q e
   goal_asks (at (Var x) l) q e = absurd (none-some q e)
   goal_asks (at (Int n) l) q e = absurd (none-some q e)

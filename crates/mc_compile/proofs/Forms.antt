@@ -1,11 +1,11 @@
 -- That the passes decide the form of facts, and what they build.
 use Rattle.std.proofs.Common.{◌≡◌, ℕ, ◌+◌, Bool, true, false, cond, not, ◌&&◌, List, [], ◌∷◌, ◌++◌, map, Option, Some, None, refl, ap, sym, ◌∙◌}
 use Rattle.std.specs.Option.{is_some}
-use Rattle.mc_model.specs.Programs.{ClauseForm}
-use Rattle.mc_model.specs.declared.program.Place.{Place}
-use Rattle.mc_ground.specs.Database.{fact}
-use Rattle.mc_decl_forms.specs.Plain.{It, ModuleStart, ModuleEnd, Interface, Implementation, Imports, UseOnly, AbstractType, UnionType, SameType, SameInst, BoundInst, ModeDef, Pred, Func, Mode, Pragma, Clause}
-use Rattle.mc_link_rules.specs.Files.{File, Section, section_after, standing_from}
+use Rattle.mc_program.specs.Programs.{ClauseForm}
+use Rattle.mc_source.specs.declared.place.Place.{Place}
+use Rattle.mc_ground_form.specs.Database.{fact}
+use Rattle.mc_decl_syntax.specs.Plain.{PlainDecl, ModuleStart, ModuleEnd, Interface, Implementation, Imports, UseOnly, AbstractType, UnionType, SameType, SameInst, BoundInst, ModeDef, Pred, Func, Mode, Pragma, Clause}
+use Rattle.mc_linking.specs.Files.{File, Section, section_after, items_in_file_from}
 use Rattle.mc_compile.specs.Facts.{LinkedFiles, Fact, facts_by, facts_in, facts_from, both, nothing_where, is_nondet, signature, signature_by, signatures_in, signatures_from, places_by, places_in, places_from}
 use Rattle.mc_compile.specs.Compiled.{beside_fact}
 use Rattle.mc_compile.specs.Passes.{every, everywhere, is_plain, imports_given, is_sound, all_some, with_types, signatures_over, signatures_through, facts_of_clause, facts_over, facts_through, put_behind, put_each, put_places, places_over, places_through, put_all, onward, table_over, table_through}
@@ -19,12 +19,12 @@ refuted_at : (a b : Bool) (x y : Option (List Fact)) → (a ≡ false → x ≡ 
 refuted_at false b x y f g e = ap (λ z. both z y) (f refl)
 refuted_at true b x y f g e = ap (λ z. both x z) (g e) ∙ both_none x
 
-refuted_in : (P : LinkedFiles) (T : ℕ → It → Bool) → ((k : ℕ) (i : It) → T k i ≡ false → facts_by P k i ≡ None) →
-    (k : ℕ) (b : Bool) (s : Section) (es : File) → every (T k) es ≡ false → facts_in P k (standing_from b s es) ≡ None
+refuted_in : (P : LinkedFiles) (T : ℕ → PlainDecl → Bool) → ((k : ℕ) (i : PlainDecl) → T k i ≡ false → facts_by P k i ≡ None) →
+    (k : ℕ) (b : Bool) (s : Section) (es : File) → every (T k) es ≡ false → facts_in P k (items_in_file_from b s es) ≡ None
 refuted_in P T none k b s [] e = cc
 refuted_in P T none k b s (x ∷ es) e = refuted_at (T k x.0) (every (T k) es) (facts_by P k x.0) _ (none k x.0) (refuted_in P T none k false (section_after s x.0) es) e
 
-pub refuted : (P : LinkedFiles) (T : ℕ → It → Bool) → ((k : ℕ) (i : It) → T k i ≡ false → facts_by P k i ≡ None) →
+pub refuted : (P : LinkedFiles) (T : ℕ → PlainDecl → Bool) → ((k : ℕ) (i : PlainDecl) → T k i ≡ false → facts_by P k i ≡ None) →
     (k : ℕ) (fs : List File) → everywhere T k fs ≡ false → facts_from P k fs ≡ None
 refuted P T none k [] e = cc
 refuted P T none k (f ∷ fs) e = refuted_at (every (T k) f) (everywhere T (k + 1) fs) _ (facts_from P (k + 1) fs) (refuted_in P T none k true _ f) (refuted P T none (k + 1) fs) e
@@ -43,7 +43,7 @@ not_true false e = refl
 and_first : (a b : Bool) → a ≡ false → (a && b) ≡ false
 and_first a b e = rw e refl
 
-pub plain_none : (P : LinkedFiles) (k : ℕ) (i : It) → is_plain i ≡ false → facts_by P k i ≡ None
+pub plain_none : (P : LinkedFiles) (k : ℕ) (i : PlainDecl) → is_plain i ≡ false → facts_by P k i ≡ None
 plain_none P k (ModuleStart w) e = cc
 plain_none P k (ModuleEnd w) e = cc
 plain_none P k Interface e = cc
@@ -62,7 +62,7 @@ plain_none P k (Mode t d) e = refl
 plain_none P k Pragma e = cc
 plain_none P k (Clause t) e = rw (not_false _ e) refl
 
-pub imports_none : (P : LinkedFiles) (k : ℕ) (i : It) → imports_given P i ≡ false → facts_by P k i ≡ None
+pub imports_none : (P : LinkedFiles) (k : ℕ) (i : PlainDecl) → imports_given P i ≡ false → facts_by P k i ≡ None
 imports_none P k (Imports ws) e = where_false _ e
 imports_none P k (UseOnly ws) e = where_false _ e
 imports_none P k (ModuleStart w) e = cc
@@ -89,7 +89,7 @@ sound_pred : (b : Bool) (o : Option (List ℕ)) → is_some (cond b o None) ≡ 
 sound_pred true o = refl
 sound_pred false o = refl
 
-pub sound_none : (P : LinkedFiles) (k : ℕ) (i : It) → is_sound P k i ≡ false → facts_by P k i ≡ None
+pub sound_none : (P : LinkedFiles) (k : ℕ) (i : PlainDecl) → is_sound P k i ≡ false → facts_by P k i ≡ None
 sound_none P k (Pred t d) e = where_false _ (sym (sound_pred (is_nondet d) (signature P k t)) ∙ sym (some_alone (cond (is_nondet d) (signature P k t) None)) ∙ e)
 sound_none P k (Func t d) e = refl
 sound_none P k (Imports ws) e = cc
@@ -141,7 +141,7 @@ where_true b e = rw e refl
 both_true : (a b : Bool) → a ≡ true → b ≡ true → (a && b) ≡ true
 both_true a b e f = rw (e, f) refl
 
-item_facts : (P : LinkedFiles) (k : ℕ) (i : It) → is_plain i ≡ true → imports_given P i ≡ true → is_sound P k i ≡ true → facts_by P k i ≡ facts_of_clause P k i
+item_facts : (P : LinkedFiles) (k : ℕ) (i : PlainDecl) → is_plain i ≡ true → imports_given P i ≡ true → is_sound P k i ≡ true → facts_by P k i ≡ facts_of_clause P k i
 item_facts P k (ModuleStart w) p g s = refl
 item_facts P k (ModuleEnd w) p g s = refl
 item_facts P k Interface p g s = refl
@@ -160,10 +160,10 @@ item_facts P k (Mode t d) p g s = cc
 item_facts P k Pragma p g s = refl
 item_facts P k (Clause t) p g s = rw (not_true _ p) refl
 
-file_facts : (P : LinkedFiles) (k : ℕ) (b : Bool) (s : Section) (es : File) → every is_plain es ≡ true → every (imports_given P) es ≡ true → every (is_sound P k) es ≡ true → facts_in P k (standing_from b s es) ≡ facts_over P k es
+file_facts : (P : LinkedFiles) (k : ℕ) (b : Bool) (s : Section) (es : File) → every is_plain es ≡ true → every (imports_given P) es ≡ true → every (is_sound P k) es ≡ true → facts_in P k (items_in_file_from b s es) ≡ facts_over P k es
 file_facts P k b s [] p g t = refl
 file_facts P k b s (e ∷ es) p g t =
-    ap (λ x. both x (facts_in P k (standing_from false (section_after s e.0) es))) (item_facts P k e.0 (and_left _ _ p) (and_left _ _ g) (and_left _ _ t))
+    ap (λ x. both x (facts_in P k (items_in_file_from false (section_after s e.0) es))) (item_facts P k e.0 (and_left _ _ p) (and_left _ _ g) (and_left _ _ t))
     ∙ ap (λ x. both (facts_of_clause P k e.0) x) (file_facts P k false (section_after s e.0) es (and_right _ _ p) (and_right _ _ g) (and_right _ _ t))
 
 pub all_facts : (P : LinkedFiles) (k : ℕ) (fs : List File) → everywhere (λ own i. is_plain i) k fs ≡ true → everywhere (λ own i. imports_given P i) k fs ≡ true → everywhere (is_sound P) k fs ≡ true → facts_from P k fs ≡ facts_through P k fs
@@ -212,7 +212,7 @@ table_all P k t (f ∷ fs) =
     ∙ onward_same (put_all t (facts_over P k f)) (λ next. table_through P (k + 1) next fs) (λ next. put_all next (facts_through P (k + 1) fs)) (λ next. table_all P (k + 1) next fs)
     ∙ sym (put_both (facts_over P k f) (facts_through P (k + 1) fs) t)
 
-signatures_file : (P : LinkedFiles) (k : ℕ) (b : Bool) (s : Section) (es : File) → signatures_in P k (standing_from b s es) ≡ signatures_over P k es
+signatures_file : (P : LinkedFiles) (k : ℕ) (b : Bool) (s : Section) (es : File) → signatures_in P k (items_in_file_from b s es) ≡ signatures_over P k es
 signatures_file P k b s [] = refl
 signatures_file P k b s (e ∷ es) = ap (λ z. signature_by P k e.0 ++ z) (signatures_file P k false (section_after s e.0) es)
 

@@ -1,7 +1,7 @@
 -- What is known of files that are linked.
 use Rattle.std.proofs.Common.{◌≡◌, ℕ, ◌+◌, List, ◌++◌, length, Option, Result, Ok, Err, sym, ap, ap₂, ◌∙◌, subst}
 use Rattle.std.specs.Prelude.{IfOk, IfErr}
-use Rattle.mc_link_rules.specs.Files.{plain_files}
+use Rattle.mc_linking.specs.Files.{plain_files}
 use Rattle.mc_modules.specs.Linked.{linked}
 use Rattle.mc_compile.specs.declared.given.CompileFault.{CompileFault}
 use Rattle.mc_compile.specs.declared.given.CompileFault.TheVariants as C

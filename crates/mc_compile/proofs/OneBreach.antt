@@ -1,12 +1,12 @@
 -- Sources break one list of rules at most.
 use Rattle.std.proofs.Common.{◌≡◌, inl, inr, ℕ, ◌+◌, ◌++◌, List, [], ◌∷◌, length, Option, Some, None, refl, sym, ap, ap₂, ◌∙◌, arith}
-use Rattle.mc_syntax.specs.declared.term.Term.{Term}
-use Rattle.mc_model.specs.declared.rule.Broken.{Broken}
+use Rattle.mc_term_data.specs.declared.term.Term.{Term}
+use Rattle.mc_source.specs.declared.rule.Broken.{Broken}
 use Rattle.mc_items.specs.Laws.{AtMostOneList, AtMostOneGoal, NotGoalAndBroken, AtMostOneQueryRefusal}
-use Rattle.mc_link_rules.specs.Files.{File}
+use Rattle.mc_linking.specs.Files.{File}
 use Rattle.mc_modules.specs.Linked.{linked}
-use Rattle.mc_ground.specs.Database.{Database}
-use Rattle.mc_link_rules.specs.Faults.{broken_by, goal_fault, link_faults}
+use Rattle.mc_ground_form.specs.Database.{Database}
+use Rattle.mc_linking.specs.Faults.{broken_by, goal_fault, link_faults}
 use Rattle.mc_compile.specs.Sources.{Reading, FileReads, FilesRead, QueryReads, counted, rules_from, items_from}
 use Rattle.mc_compile.specs.Rejected.{AreRead, AreLegal, IsLibrary, Breaks, in_reading, in_linking, reading_rules, linking_rules, linking_rules_of, goal_rules_in, line_of}
 use Rattle.mc_compile.specs.Laws.{AtMostOneBreaks}

@@ -5,18 +5,18 @@ use Rattle.std.proofs.lemmas.List.{map-append}
 use Rattle.std.specs.Option.{option_map}
 use Rattle.std.specs.Set.{is_member}
 use Rattle.std.specs.Str.{bytes_eq}
-use Rattle.mc_names.specs.Names.{put}
-use Rattle.mc_decl_forms.specs.Terms.{is_distinct}
-use Rattle.mc_decl_forms.proofs.Distinct.{fresh, clash}
-use Rattle.mc_syntax.specs.Plain.{Tm, Tms, more_terms}
-use Rattle.mc_item_names.specs.Things.{symbol_name}
-use Rattle.mc_model.specs.Programs.{Constructor}
+use Rattle.mc_base.specs.NameSets.{put}
+use Rattle.mc_decl_syntax.specs.Terms.{is_distinct}
+use Rattle.mc_decl_syntax.proofs.Distinct.{fresh, clash}
+use Rattle.mc_term_data.specs.Plain.{PlainTerm, PlainTerms, more_terms}
+use Rattle.mc_defs_uses.specs.Definitions.{symbol_name}
+use Rattle.mc_program.specs.Programs.{Constructor}
 use Rattle.mc_items.specs.Files.{plain_entry}
 use Rattle.mc_items.specs.declared.entry.Entry.{Entry}
-use Rattle.mc_decl_forms.specs.Plain.{plain_item}
-use Rattle.mc_link_rules.specs.Files.{plain_files}
+use Rattle.mc_decl_syntax.specs.Plain.{plain_item}
+use Rattle.mc_linking.specs.Files.{plain_files}
 use Rattle.mc_modules.specs.Linked.{Defined}
-use Rattle.mc_ground.specs.Database.{constructor_of, from}
+use Rattle.mc_ground_form.specs.Database.{constructor_of, from}
 use Rattle.mc_compile.specs.Facts.{LinkedFiles, signature_by, constants_in, constants_by, constants_from, groups_from, how_many, with_number, with_name}
 use Rattle.mc_compile.specs.Passes.{signatures_through, signatures_over, behind, named_behind, all_some, all_behind, with_types}
 
@@ -26,7 +26,7 @@ next_number xs n m k e =
     let g : 1 + k ≡ suc k = omega arith in
     rw (f, g) (append_assoc xs (n ∷ []) (from (suc n) k))
 
-pub next_constructor : (cs : List Constructor) (m : List ℕ) (u : ℕ) (t : Tm) (ts : Tms) →
+pub next_constructor : (cs : List Constructor) (m : List ℕ) (u : ℕ) (t : PlainTerm) (ts : PlainTerms) →
     (cs ++ constructor_of (record { module_name = m; name = (symbol_name t).name; of_type = u }) ∷ []) ++ map constructor_of (constants_in m u ts) ≡ cs ++ map constructor_of (constants_in m u (more_terms t ts))
 next_constructor cs m u t ts = append_assoc cs (constructor_of (record { module_name = m; name = (symbol_name t).name; of_type = u }) ∷ []) (map constructor_of (constants_in m u ts))
 

@@ -2,13 +2,13 @@
 use Rattle.std.proofs.Common.{◌≡◌, inl, inr, ℕ, suc, ◌+◌, ◌*◌, ◌≤◌, map, take, get_or, ◌<◌, List, [], ◌∷◌, ◌++◌, length, Option, Some, None, Result, Ok, Err, refl, sym, ap, ap₂, ◌∙◌, subst, arith, append_assoc}
 use Rattle.std.proofs.lemmas.List.{append-nil, map-append, take_all}
 use Rattle.std.specs.Prelude.{IfErr, IsErrAnd}
-use Rattle.mc_syntax.specs.declared.term.Term.{Term}
-use Rattle.mc_model.specs.declared.rule.Broken.{Broken}
+use Rattle.mc_term_data.specs.declared.term.Term.{Term}
+use Rattle.mc_source.specs.declared.rule.Broken.{Broken}
 use Rattle.mc_items.specs.declared.entry.Entry.{Entry}
-use Rattle.mc_items.specs.Verdicts.{Verdict, kept, breaks}
+use Rattle.mc_items.specs.Verdicts.{PlainVerdict, kept, breaks}
 use Rattle.mc_items.specs.declared.entry.ItemsFault.TheVariants as I
 use Rattle.mc_items.specs.Files.{plain_entry, broken_in, too_long_in, IsWhole, IsRefusal}
-use Rattle.mc_link_rules.specs.Files.{plain_files}
+use Rattle.mc_linking.specs.Files.{plain_files}
 use Rattle.mc_compile.specs.declared.given.CompileFault.{CompileFault}
 use Rattle.mc_compile.specs.declared.given.CompileFault.TheVariants as C
 use Rattle.mc_compile.specs.declared.reader.Reader.{Reader}
@@ -154,7 +154,7 @@ pub all_done : {A : Type 0} (text_of : A → List ℕ) (xs : List A) (i : ℕ) (
 all_done text_of xs i first reader past d = subst (λ ys. AreDone first (map text_of ys) reader) (take_all i xs past) d
 
 -- a file without faults has none under another number
-sound_renumbered : (j k : ℕ) (vs : List (Verdict × ℕ)) → broken_in j vs ≡ [] → broken_in k vs ≡ []
+sound_renumbered : (j k : ℕ) (vs : List (PlainVerdict × ℕ)) → broken_in j vs ≡ [] → broken_in k vs ≡ []
 sound_renumbered j k [] e = refl
 sound_renumbered j k ((kept i, line) ∷ vs) e = sound_renumbered j k vs e
 sound_renumbered j k ((breaks r w, line) ∷ vs) e = cc

@@ -2,13 +2,13 @@
 use Rattle.std.proofs.Common.{◌≡◌, ◌≢◌, ℕ, ◌+◌, ◌<◌, zero, suc, Bool, true, false, ◌&&◌, List, [], ◌∷◌, ◌++◌, map, length, get_or, set, refl, ap, sym, ◌∙◌, append_assoc, arith}
 use Rattle.std.specs.Prelude.{slice_get}
 use Rattle.std.proofs.lemmas.List.{map-append}
-use Rattle.mc_model.specs.Programs.{Constructor, ClauseForm, Predicate, variable}
-use Rattle.mc_model.specs.PlainPrograms.{plain_clause, plain_expression}
-use Rattle.mc_model.specs.declared.expr.Expr.{Expr}
-use Rattle.mc_model.specs.declared.program.Clause.{Clause}
+use Rattle.mc_program.specs.Programs.{Constructor, ClauseForm, Predicate, variable}
+use Rattle.mc_program.specs.PlainPrograms.{plain_clause, plain_expression}
+use Rattle.mc_program.specs.declared.expr.Expr.{Expr}
+use Rattle.mc_program.specs.declared.program.Clause.{Clause}
 use Rattle.mc_modules.specs.Linked.{Defined}
-use Rattle.mc_link_rules.specs.Faults.{is_number}
-use Rattle.mc_ground.specs.Database.{Constant, constructor_of, from, variables_from}
+use Rattle.mc_linking.specs.Faults.{is_number}
+use Rattle.mc_ground_form.specs.Database.{Constant, constructor_of, from, variables_from}
 use Rattle.mc_compile.specs.Facts.{type_at, are_of}
 use Rattle.mc_compile.specs.Compiled.{beside_clause}
 use Rattle.mc_compile.specs.Passes.{plain_table, beside_table, no_clauses, put_behind, predicate_over, predicates_over, type_of, are_of_types}

@@ -1,21 +1,21 @@
 -- What is answered of linked files and a goal: the program that they are, or that they aren't of the form.
 use Rattle.std.specs.Prelude.{◌≡◌, ℕ, List, [], ◌∷◌, ◌++◌, map, length, take, slice_index_or, Option, Some, None}
-use Rattle.mc_syntax.specs.declared.term.Term.{Term}
-use Rattle.mc_model.specs.declared.program.Pred.{Pred}
-use Rattle.mc_model.specs.declared.program.Place.{Place}
-use Rattle.mc_model.specs.Programs.{Predicate}
-use Rattle.mc_model.specs.PlainPrograms.{plain_pred}
+use Rattle.mc_term_data.specs.declared.term.Term.{Term}
+use Rattle.mc_program.specs.declared.program.Pred.{Pred}
+use Rattle.mc_source.specs.declared.place.Place.{Place}
+use Rattle.mc_program.specs.Programs.{Predicate}
+use Rattle.mc_program.specs.PlainPrograms.{plain_pred}
 use Rattle.mc_items.specs.declared.entry.Entry.{Entry}
 use Rattle.mc_items.specs.Files.{place}
 use Rattle.mc_modules.specs.declared.names.Names.{Names}
-use Rattle.mc_link_rules.specs.Files.{plain_files}
+use Rattle.mc_linking.specs.Files.{plain_files}
 use Rattle.mc_modules.specs.Linked.{plain_names}
-use Rattle.mc_ground.specs.Database.{Database, Question, query_predicate}
+use Rattle.mc_ground_form.specs.Database.{Database, Question, query_predicate}
 use Rattle.mc_compile.specs.declared.given.Compiled.{Compiled}
 use Rattle.mc_compile.specs.declared.facts.enums.Enums.{Enums}
 use Rattle.mc_compile.specs.declared.facts.query.Asked.{Asked}
 use Rattle.mc_compile.specs.Facts.{LinkedFiles, facts, or_none}
-use Rattle.mc_compile.specs.Compiled.{over_facts, IsProgram, goal_variables, Keeps}
+use Rattle.mc_compile.specs.Compiled.{over_facts, IsProgram, goal_variables, KeepsMetadata}
 
 -- linked files, of which the first are given
 abbrev pub linked_files : List (List Entry) → (given : ℕ) → Names → LinkedFiles
@@ -23,7 +23,7 @@ linked_files files n names = record { given = plain_files (take n files); all = 
 
 abbrev pub IsAnswered : LinkedFiles → Option Term → Option Compiled → Type 0
 IsAnswered P goal None = over_facts P goal (facts P) ≡ None
-IsAnswered P goal (Some c) = (d : Database) × (q : Option Question) × (over_facts P goal (facts P) ≡ Some (d, q)) × IsProgram d q c × Keeps P goal q c
+IsAnswered P goal (Some c) = (d : Database) × (q : Option Question) × (over_facts P goal (facts P) ≡ Some (d, q)) × IsProgram d q c × KeepsMetadata P goal q c
 
 -- the query's predicate, and the number of the goal's behind so many others
 abbrev pub query_preds : List (List ℕ) → Option Question → List Predicate

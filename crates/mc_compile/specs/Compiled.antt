@@ -1,16 +1,16 @@
 -- What sources are compiled to (this project's phases; so far modules of facts alone).
 use Rattle.std.specs.Prelude.{◌≡◌, ◌≢◌, ◌⊎◌, ℕ, ◌+◌, Bool, true, false, List, [], ◌∷◌, ◌++◌, map, length, Option, Some, None}
-use Rattle.mc_syntax.specs.Plain.{plain_term}
-use Rattle.mc_syntax.specs.declared.term.Term.{Term}
-use Rattle.mc_model.specs.declared.program.Name.{Name}
-use Rattle.mc_model.specs.declared.program.Place.{Place}
-use Rattle.mc_model.specs.declared.program.TypeDef.{TypeDef}
-use Rattle.mc_model.specs.declared.program.Clause.{Clause}
-use Rattle.mc_model.specs.declared.program.Pred.{Pred}
-use Rattle.mc_model.specs.PlainPrograms.{plain_symbol, plain_pred}
+use Rattle.mc_term_data.specs.Plain.{plain_term}
+use Rattle.mc_term_data.specs.declared.term.Term.{Term}
+use Rattle.mc_source.specs.declared.name.Name.{Name}
+use Rattle.mc_source.specs.declared.place.Place.{Place}
+use Rattle.mc_program.specs.declared.program.TypeDef.{TypeDef}
+use Rattle.mc_program.specs.declared.program.Clause.{Clause}
+use Rattle.mc_program.specs.declared.program.Pred.{Pred}
+use Rattle.mc_program.specs.PlainPrograms.{plain_symbol, plain_pred}
 use Rattle.mc_items.specs.Files.{place}
 use Rattle.mc_modules.specs.Linked.{Defined, linked}
-use Rattle.mc_ground.specs.Database.{Database, Question, constructor_of, predicate_of, query_predicates}
+use Rattle.mc_ground_form.specs.Database.{Database, Question, constructor_of, predicate_of, query_predicates}
 use Rattle.mc_compile.specs.declared.given.Query.{Query}
 use Rattle.mc_compile.specs.declared.given.Compiled.{Compiled}
 use Rattle.mc_compile.specs.declared.given.CompileFault.{CompileFault}
@@ -86,13 +86,13 @@ beside_fact here = (0, here)
 abbrev pub beside_facts : LinkedFiles → List (List (ℕ × Place))
 beside_facts P = map (map beside_fact) (by_predicate 0 (given_preds P) (places P))
 
--- The query's clause has the variables that the question names. It stands where the rules do that the goal breaks: on the goal's line, in a file that is numbered behind the given ones.
+-- The query's clause has the variables that the question names. PlainDecl stands where the rules do that the goal breaks: on the goal's line, in a file that is numbered behind the given ones.
 abbrev pub beside_query : (number : ℕ) → Option Term → Option Question → List (List (ℕ × Place))
 beside_query n (Some goal) (Some q) = ((length q.variables, place n (line_of (plain_term goal))) ∷ []) ∷ []
 beside_query n _ _ = []
 
 -- Each type has its given name and no parameters. No predicate is a function, and the clauses are the facts of the predicates, in order, and then the query.
-pub record Keeps (P : LinkedFiles) (goal : Option Term) (q : Option Question) (c : Compiled) : Type 0 where
+pub record KeepsMetadata (P : LinkedFiles) (goal : Option Term) (q : Option Question) (c : Compiled) : Type 0 where
   pub types : map beside_type c.program.types ≡ map no_parameters (given_types P)
   pub preds : map beside_pred c.program.preds ≡ map no_function (beside_facts P ++ beside_query (length P.given) goal q)
 
@@ -108,7 +108,7 @@ pub record IsCompiled (library texts : List (List ℕ)) (query : Option (List �
   pub question : Option Question
   pub asked : asks legal ≡ Some (database, question)
   pub program : IsProgram database question c
-  pub kept : Keeps (files_of legal) legal.sources.goal question c
+  pub kept : KeepsMetadata (files_of legal) legal.sources.goal question c
 
 -- Why sources aren't compiled: they break rules; or they are legal, and a run of `main`, the first answer alone, or a form that isn't compiled yet is asked for.
 abbrev pub IsFault : (library texts : List (List ℕ)) → (query : Option (List ℕ)) → (unbuilt : Bool) → CompileFault → Type 0

@@ -1,29 +1,29 @@
 -- The form of modules of facts, which is compiled so far, and the program that they are: enumeration types, predicates whose arguments are all `out`, facts of constants, and a query that is one call over variables. (Mercury Language Reference Manual: Syntax, facts; Types, enumerations; Modes.)
 use Rattle.std.specs.Prelude.{ℕ, ◌+◌, Bool, true, false, cond, not, nat_eq, nat_lt, nat_le, ◌&&◌, ◌||◌, List, [], ◌∷◌, ◌++◌, map, length, Option, Some, None, codes, slice_get, slice_index_or}
 use Rattle.std.specs.Option.{is_some}
-use Rattle.mc_syntax.specs.Plain.{Tm, Tms, at, no_term, more_terms, Var, App, Items}
-use Rattle.mc_syntax.specs.Names.{count}
-use Rattle.mc_model.specs.declared.det.Det.{Det}
-use Rattle.mc_model.specs.declared.det.Most.{Most}
-use Rattle.mc_model.specs.declared.det.Most.TheVariants.{Many}
-use Rattle.mc_model.specs.declared.program.Candidate.{Candidate}
-use Rattle.mc_model.specs.declared.program.Place.{Place}
-use Rattle.mc_model.specs.declared.program.Candidate.TheVariants as C
-use Rattle.mc_clause_forms.specs.declared.connective.Parts.{Parts}
-use Rattle.mc_clause_forms.specs.declared.connective.Parts.TheVariants.{Arguments}
-use Rattle.mc_clause_forms.specs.Goals.{connective, parts}
-use Rattle.mc_clause_forms.specs.Clauses.{operands}
-use Rattle.mc_decl_forms.specs.Plain.{Path, It, ModuleStart, ModuleEnd, Interface, Implementation, Imports, UseOnly, UnionType, Pred, Func, Pragma, Clause}
-use Rattle.mc_decl_forms.specs.Terms.{pair, is_the_word, has_none, is_distinct}
-use Rattle.mc_item_names.specs.Plain.{Id, id, qualifiers, last_part}
-use Rattle.mc_item_names.specs.Things.{symbol_name}
-use Rattle.mc_item_names.specs.Occurrences.{is_truth, nil_path}
-use Rattle.mc_link_rules.specs.Files.{File, Standing, standing, joined}
-use Rattle.mc_link_rules.specs.Faults.{is_number}
-use Rattle.mc_link_rules.specs.Visible.{module_of, sole}
+use Rattle.mc_term_data.specs.Plain.{PlainTerm, PlainTerms, at, no_term, more_terms, Var, App, Items}
+use Rattle.mc_term_data.specs.Names.{count}
+use Rattle.mc_source.specs.declared.det.Det.{Det}
+use Rattle.mc_source.specs.declared.det.Most.{Most}
+use Rattle.mc_source.specs.declared.det.Most.TheVariants.{Many}
+use Rattle.mc_source.specs.declared.name.Candidate.{Candidate}
+use Rattle.mc_source.specs.declared.place.Place.{Place}
+use Rattle.mc_source.specs.declared.name.Candidate.TheVariants as C
+use Rattle.mc_clause_syntax.specs.declared.connective.Parts.{Parts}
+use Rattle.mc_clause_syntax.specs.declared.connective.Parts.TheVariants.{Arguments}
+use Rattle.mc_clause_syntax.specs.Goals.{connective, parts}
+use Rattle.mc_clause_syntax.specs.Clauses.{operands}
+use Rattle.mc_decl_syntax.specs.Plain.{Path, PlainDecl, ModuleStart, ModuleEnd, Interface, Implementation, Imports, UseOnly, UnionType, Pred, Func, Pragma, Clause}
+use Rattle.mc_decl_syntax.specs.Terms.{pair, is_the_word, has_none, is_distinct}
+use Rattle.mc_defs_uses.specs.Plain.{PlainNameArity, id, qualifiers, last_part}
+use Rattle.mc_defs_uses.specs.Definitions.{symbol_name}
+use Rattle.mc_defs_uses.specs.Occurrences.{is_truth, nil_path}
+use Rattle.mc_linking.specs.Files.{File, PlainItemInFile, items_in_file, joined}
+use Rattle.mc_linking.specs.Faults.{is_number}
+use Rattle.mc_linking.specs.Visible.{module_of, sole}
 use Rattle.mc_modules.specs.Linked.{Defined, Linked, each, flat, types_of, preds_of}
 use Rattle.mc_modules.specs.Candidates.{candidates, fitting, type_candidates}
-use Rattle.mc_ground.specs.Database.{Constant, Relation, Database, Question, from}
+use Rattle.mc_ground_form.specs.Database.{Constant, Relation, Database, Question, from}
 
 -- Files that were linked: those that were given, all of them with the library's behind, and their names.
 pub record LinkedFiles : Type 0 where
@@ -48,16 +48,16 @@ are_given P [] = true
 are_given P (w ∷ ws) = is_below (module_of P.all (joined w)) (length P.given) && are_given P ws
 
 -- a constant of a type: a name of two or more bytes, or the empty list, whose name `[]` is one of two
-abbrev pub is_constant : Tm → Bool
+abbrev pub is_constant : PlainTerm → Bool
 is_constant (at (App (w ∷ []) ts) l) = has_none ts && nat_le 2 (length w)
 is_constant (at (Items ts) l) = has_none ts
 is_constant _ = false
 
-abbrev pub are_constants : Tms → Bool
+abbrev pub are_constants : PlainTerms → Bool
 are_constants no_term = true
 are_constants (more_terms t ts) = is_constant t && are_constants ts
 
-abbrev pub has_no_parameters : Tm → Bool
+abbrev pub has_no_parameters : PlainTerm → Bool
 has_no_parameters (at (App w ts) l) = has_none ts
 has_no_parameters _ = false
 
@@ -66,17 +66,17 @@ below n None = None
 below n (Some k) = cond (nat_lt k n) (Some k) None
 
 -- the number of the given type that a name without arguments means
-abbrev pub type_number : LinkedFiles → (own : ℕ) → Tm → Option ℕ
+abbrev pub type_number : LinkedFiles → (own : ℕ) → PlainTerm → Option ℕ
 type_number P own (at (App w ts) l) =
     cond (has_none ts) (below (length (given_types P)) (sole (type_candidates P.names own (qualifiers w) (id (last_part w) 0)))) None
 type_number P own _ = None
 
-abbrev pub is_out : Tm → Bool
+abbrev pub is_out : PlainTerm → Bool
 is_out (at (App w ts) l) = is_the_word (codes "out") w && has_none ts
 is_out _ = false
 
 -- the type of an argument `T::out`
-abbrev pub argument_type : LinkedFiles → (own : ℕ) → Option (Tm × Tm) → Option ℕ
+abbrev pub argument_type : LinkedFiles → (own : ℕ) → Option (PlainTerm × PlainTerm) → Option ℕ
 argument_type P own None = None
 argument_type P own (Some p) = cond (is_out p.1) (type_number P own p.0) None
 
@@ -84,12 +84,12 @@ abbrev pub with_number : Option ℕ → Option (List ℕ) → Option (List ℕ)
 with_number (Some k) (Some ks) = Some (k ∷ ks)
 with_number _ _ = None
 
-abbrev pub argument_types : LinkedFiles → (own : ℕ) → Tms → Option (List ℕ)
+abbrev pub argument_types : LinkedFiles → (own : ℕ) → PlainTerms → Option (List ℕ)
 argument_types P own no_term = Some []
 argument_types P own (more_terms t ts) = with_number (argument_type P own (pair (codes "::") t)) (argument_types P own ts)
 
 -- the types of the arguments of a predicate, of which there is one at least
-abbrev pub signature : LinkedFiles → (own : ℕ) → Tm → Option (List ℕ)
+abbrev pub signature : LinkedFiles → (own : ℕ) → PlainTerm → Option (List ℕ)
 signature P own (at (App w (more_terms t ts)) l) = argument_types P own (more_terms t ts)
 signature P own _ = None
 
@@ -117,21 +117,21 @@ abbrev pub constant_named : LinkedFiles → (own : ℕ) → Path → Option ℕ
 constant_named P own w = sole_constructor (constructors (candidates P.names own (qualifiers w) (id (last_part w) 0)))
 
 -- the number of a constant, which the empty list is by its name
-abbrev pub constant_number : LinkedFiles → (own : ℕ) → Tm → Option ℕ
+abbrev pub constant_number : LinkedFiles → (own : ℕ) → PlainTerm → Option ℕ
 constant_number P own (at (App w ts) l) = cond (has_none ts) (constant_named P own w) None
 constant_number P own (at (Items ts) l) = cond (has_none ts) (constant_named P own nil_path) None
 constant_number P own _ = None
 
-abbrev pub constant_numbers : LinkedFiles → (own : ℕ) → Tms → Option (List ℕ)
+abbrev pub constant_numbers : LinkedFiles → (own : ℕ) → PlainTerms → Option (List ℕ)
 constant_numbers P own no_term = Some []
 constant_numbers P own (more_terms t ts) = with_number (constant_number P own t) (constant_numbers P own ts)
 
 -- the constants of types that are numbered from u on
-abbrev pub constants_in : (module_name : List ℕ) → (u : ℕ) → Tms → List Constant
+abbrev pub constants_in : (module_name : List ℕ) → (u : ℕ) → PlainTerms → List Constant
 constants_in m u no_term = []
 constants_in m u (more_terms t ts) = record { module_name = m; name = (symbol_name t).name; of_type = u } ∷ constants_in m u ts
 
-abbrev pub constants_by : (module_name : List ℕ) → (u : ℕ) → It → List Constant
+abbrev pub constants_by : (module_name : List ℕ) → (u : ℕ) → PlainDecl → List Constant
 constants_by m u (UnionType h ts) = constants_in m u ts
 constants_by m u i = []
 
@@ -164,7 +164,7 @@ abbrev pub sole_predicate : List Candidate → Option ℕ
 sole_predicate (C.Pred k ∷ []) = Some k
 sole_predicate _ = None
 
-abbrev pub own_predicate : Linked → (own : ℕ) → Id → Option ℕ
+abbrev pub own_predicate : Linked → (own : ℕ) → PlainNameArity → Option ℕ
 own_predicate l own x = sole_predicate (fitting l true x (slice_index_or l.declared own []))
 
 abbrev pub fact_of : List Constant → (pred : ℕ) → Option (List ℕ) → Option (List ℕ) → Option Fact
@@ -172,33 +172,33 @@ fact_of cs p (Some us) (Some row) = cond (are_of cs us row) (Some (p, row)) None
 fact_of cs p _ _ = None
 
 -- the types of the arguments that an item declares of a predicate; a function is none
-abbrev pub signature_by : LinkedFiles → (own : ℕ) → It → List (Option (List ℕ))
+abbrev pub signature_by : LinkedFiles → (own : ℕ) → PlainDecl → List (Option (List ℕ))
 signature_by P own (Pred t d) = cond (is_nondet d) (signature P own t) None ∷ []
 signature_by P own (Func t d) = None ∷ []
 signature_by P own i = []
 
-abbrev pub signatures_in : LinkedFiles → (own : ℕ) → List Standing → List (Option (List ℕ))
+abbrev pub signatures_in : LinkedFiles → (own : ℕ) → List PlainItemInFile → List (Option (List ℕ))
 signatures_in P own [] = []
 signatures_in P own (s ∷ ss) = signature_by P own s.item ++ signatures_in P own ss
 
 abbrev pub signatures_from : LinkedFiles → (own : ℕ) → List File → List (Option (List ℕ))
 signatures_from P own [] = []
-signatures_from P own (f ∷ fs) = signatures_in P own (standing f) ++ signatures_from P (own + 1) fs
+signatures_from P own (f ∷ fs) = signatures_in P own (items_in_file f) ++ signatures_from P (own + 1) fs
 
 -- the types of the arguments of each given predicate, by its number
 abbrev pub signatures : LinkedFiles → List (Option (List ℕ))
 signatures P = signatures_from P 0 P.given
 
-abbrev pub fact_over : LinkedFiles → (own : ℕ) → Option ℕ → Tms → Option Fact
+abbrev pub fact_over : LinkedFiles → (own : ℕ) → Option ℕ → PlainTerms → Option Fact
 fact_over P own None ts = None
 fact_over P own (Some p) ts = fact_of (constants P) p (slice_index_or (signatures P) p None) (constant_numbers P own ts)
 
 -- a fact without a body: its predicate is one of the module itself, and its constants are of the declared types
-abbrev pub bare_fact : LinkedFiles → (own : ℕ) → Tm → Option Fact
+abbrev pub bare_fact : LinkedFiles → (own : ℕ) → PlainTerm → Option Fact
 bare_fact P own (at (App (w ∷ []) ts) l) = fact_over P own (own_predicate P.names own (id w (count ts))) ts
 bare_fact P own _ = None
 
-abbrev pub is_rule_or_function : Tm → Bool
+abbrev pub is_rule_or_function : PlainTerm → Bool
 is_rule_or_function t = is_some (operands (codes ":-") t) || is_some (operands (codes "=") t)
 
 abbrev pub as_list : Option Fact → Option (List Fact)
@@ -209,7 +209,7 @@ abbrev pub nothing_where : Bool → Option (List Fact)
 nothing_where b = cond b (Some []) None
 
 -- the facts that an item of the form is: one or none; None where it isn't of the form
-abbrev pub facts_by : LinkedFiles → (own : ℕ) → It → Option (List Fact)
+abbrev pub facts_by : LinkedFiles → (own : ℕ) → PlainDecl → Option (List Fact)
 facts_by P own (ModuleStart w) = Some []
 facts_by P own (ModuleEnd w) = Some []
 facts_by P own Interface = Some []
@@ -226,20 +226,20 @@ abbrev pub both : Option (List Fact) → Option (List Fact) → Option (List Fac
 both (Some fs) (Some gs) = Some (fs ++ gs)
 both _ _ = None
 
-abbrev pub facts_in : LinkedFiles → (own : ℕ) → List Standing → Option (List Fact)
+abbrev pub facts_in : LinkedFiles → (own : ℕ) → List PlainItemInFile → Option (List Fact)
 facts_in P own [] = Some []
 facts_in P own (s ∷ ss) = both (facts_by P own s.item) (facts_in P own ss)
 
 abbrev pub facts_from : LinkedFiles → (own : ℕ) → List File → Option (List Fact)
 facts_from P own [] = Some []
-facts_from P own (f ∷ fs) = both (facts_in P own (standing f)) (facts_from P (own + 1) fs)
+facts_from P own (f ∷ fs) = both (facts_in P own (items_in_file f)) (facts_from P (own + 1) fs)
 
 -- where a fact stands, beside the number of its predicate
 abbrev pub place_of : Option Fact → Place → List (ℕ × Place)
 place_of None here = []
 place_of (Some f) here = (f.0, here) ∷ []
 
-abbrev pub places_by : LinkedFiles → (own : ℕ) → It → Place → List (ℕ × Place)
+abbrev pub places_by : LinkedFiles → (own : ℕ) → PlainDecl → Place → List (ℕ × Place)
 places_by P own (Clause t) here = place_of (bare_fact P own t) here
 places_by P own i here = []
 
@@ -281,7 +281,7 @@ relations_from p ss fs [] = []
 relations_from p ss fs (d ∷ ds) =
     record { module_name = d.name.module; name = d.name.name; types = or_none (slice_index_or ss p None); rows = those_of p fs } ∷ relations_from (p + 1) ss fs ds
 
-abbrev pub how_many : It → ℕ
+abbrev pub how_many : PlainDecl → ℕ
 how_many (UnionType h ts) = count ts
 how_many i = 0
 
@@ -305,7 +305,7 @@ abbrev pub is_hidden : List ℕ → Bool
 is_hidden [] = true
 is_hidden (b ∷ bs) = nat_eq b 95
 
-abbrev pub variable : Tm → Option (List ℕ)
+abbrev pub variable : PlainTerm → Option (List ℕ)
 variable (at (Var x) l) = cond (is_hidden x) None (Some x)
 variable _ = None
 
@@ -313,7 +313,7 @@ abbrev pub with_name : Option (List ℕ) → Option (List (List ℕ)) → Option
 with_name (Some x) (Some xs) = Some (x ∷ xs)
 with_name _ _ = None
 
-abbrev pub variables : Tms → Option (List (List ℕ))
+abbrev pub variables : PlainTerms → Option (List (List ℕ))
 variables no_term = Some []
 variables (more_terms t ts) = with_name (variable t) (variables ts)
 
@@ -322,7 +322,7 @@ are_arguments Arguments = true
 are_arguments _ = false
 
 -- a call, and no form of the language
-abbrev pub is_call : Path → Tms → Bool
+abbrev pub is_call : Path → PlainTerms → Bool
 is_call w ts = are_arguments (parts (connective w (count ts))) && not (is_truth w ts)
 
 abbrev pub asked : LinkedFiles → Option ℕ → Option (List (List ℕ)) → Option Question
@@ -330,7 +330,7 @@ asked P (Some p) (Some xs) = cond (is_distinct xs && nat_eq (length xs) (length 
 asked P _ _ = None
 
 -- The query that a goal is: one call of a given predicate over distinct variables, one for each argument.
-abbrev pub question : LinkedFiles → Tm → Option Question
+abbrev pub question : LinkedFiles → PlainTerm → Option Question
 question P (at (App w ts) l) =
     cond (is_call w ts) (asked P (below (length (given_preds P)) (sole_predicate (predicates (candidates P.names 0 (qualifiers w) (id (last_part w) (count ts)))))) (variables ts)) None
 question P _ = None

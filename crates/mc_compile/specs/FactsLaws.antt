@@ -1,9 +1,9 @@
 -- Laws of the form of facts and of what sources are compiled to.
 use Rattle.std.specs.Prelude.{◌≡◌, ℕ, List, [], Option, Some}
-use Rattle.mc_syntax.specs.Plain.{Tm}
-use Rattle.mc_model.specs.declared.rule.Broken.{Broken}
-use Rattle.mc_ground.specs.Database.{Question}
-use Rattle.mc_ground.specs.Laws.{Fits, Asks}
+use Rattle.mc_term_data.specs.Plain.{PlainTerm}
+use Rattle.mc_source.specs.declared.rule.Broken.{Broken}
+use Rattle.mc_ground_form.specs.Database.{Question}
+use Rattle.mc_ground_form.specs.Laws.{Fits, Asks}
 use Rattle.mc_compile.specs.Rejected.{AreLegal, Breaks}
 use Rattle.mc_compile.specs.Facts.{LinkedFiles, Fact, facts, database, question}
 use Rattle.mc_compile.specs.Compiled.{asks}
@@ -14,7 +14,7 @@ FactsFit = (P : LinkedFiles) (fs : List Fact) → facts P ≡ Some fs → Fits (
 
 -- the query that a goal is asks a predicate of the files, with a variable for each argument
 abbrev pub QuestionAsks : Type 0
-QuestionAsks = (P : LinkedFiles) (fs : List Fact) (t : Tm) (q : Question) → facts P ≡ Some fs → question P t ≡ Some q → Asks (database P fs) q
+QuestionAsks = (P : LinkedFiles) (fs : List Fact) (t : PlainTerm) (q : Question) → facts P ≡ Some fs → question P t ≡ Some q → Asks (database P fs) q
 
 -- legal sources are one program and one query at most
 abbrev pub CompiledOnce : Type 0

@@ -1,6 +1,6 @@
 -- Laws of the rules that sources break.
 use Rattle.std.specs.Prelude.{◌≡◌, ℕ, List, Option}
-use Rattle.mc_model.specs.declared.rule.Broken.{Broken}
+use Rattle.mc_source.specs.declared.rule.Broken.{Broken}
 use Rattle.mc_compile.specs.Rejected.{Breaks}
 
 -- sources break one list of rules at most

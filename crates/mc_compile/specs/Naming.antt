@@ -1,8 +1,8 @@
 -- What the phase that links answers.
 use Rattle.std.specs.Prelude.{◌≡◌, ◌≢◌, ℕ, ◌+◌, List, [], ◌++◌, length, Option}
-use Rattle.mc_syntax.specs.declared.term.Term.{Term}
+use Rattle.mc_term_data.specs.declared.term.Term.{Term}
 use Rattle.mc_items.specs.declared.entry.Entry.{Entry}
-use Rattle.mc_link_rules.specs.Files.{File, plain_files}
+use Rattle.mc_linking.specs.Files.{File, plain_files}
 use Rattle.mc_modules.specs.Linked.{linked, plain_names}
 use Rattle.mc_compile.specs.declared.given.CompileFault.{CompileFault}
 use Rattle.mc_compile.specs.declared.given.CompileFault.TheVariants as C

@@ -1,17 +1,17 @@
--- How it is decided that files are of the form of facts: in passes over their items, each of which asks one thing.
+-- How it is decided that files are of the form of facts: in passes over their items, each of which asks one definition.
 use Rattle.std.specs.Prelude.{◌≡◌, ℕ, ◌+◌, Bool, true, false, not, ◌&&◌, List, [], ◌∷◌, ◌++◌, map, length, take, slice_get, slice_set, slice_index_or, Option, Some, None}
 use Rattle.std.specs.Option.{is_some, option_map}
-use Rattle.mc_model.specs.declared.program.TypeDef.{TypeDef}
-use Rattle.mc_model.specs.PlainPrograms.{plain_symbol, plain_clause}
-use Rattle.mc_model.specs.Programs.{ClauseForm, Constructor, Predicate}
-use Rattle.mc_model.specs.declared.program.Clause.{Clause as ClauseItem}
-use Rattle.mc_model.specs.declared.program.Place.{Place}
-use Rattle.mc_decl_forms.specs.Plain.{It, ModuleStart, ModuleEnd, Interface, Implementation, Imports, UseOnly, UnionType, Pred, Pragma, Clause}
-use Rattle.mc_link_rules.specs.Files.{File, plain_files}
+use Rattle.mc_program.specs.declared.program.TypeDef.{TypeDef}
+use Rattle.mc_program.specs.PlainPrograms.{plain_symbol, plain_clause}
+use Rattle.mc_program.specs.Programs.{ClauseForm, Constructor, Predicate}
+use Rattle.mc_program.specs.declared.program.Clause.{Clause as ClauseItem}
+use Rattle.mc_source.specs.declared.place.Place.{Place}
+use Rattle.mc_decl_syntax.specs.Plain.{PlainDecl, ModuleStart, ModuleEnd, Interface, Implementation, Imports, UseOnly, UnionType, Pred, Pragma, Clause}
+use Rattle.mc_linking.specs.Files.{File, plain_files}
 use Rattle.mc_modules.specs.Linked.{Defined, plain_names}
-use Rattle.mc_ground.specs.Database.{constructor_of, fact, the_types, Question}
+use Rattle.mc_ground_form.specs.Database.{constructor_of, fact, the_types, Question}
 use Rattle.mc_compile.specs.declared.facts.enums.Enums.{Enums}
-use Rattle.mc_link_rules.specs.Faults.{is_number}
+use Rattle.mc_linking.specs.Faults.{is_number}
 use Rattle.mc_compile.specs.declared.facts.known.Known.{Known}
 use Rattle.mc_compile.specs.declared.facts.query.Asked.{Asked}
 use Rattle.mc_compile.specs.declared.facts.sources.Sources.{Sources}
@@ -19,16 +19,16 @@ use Rattle.mc_compile.specs.Compiled.{beside_type, no_parameters, beside_clause,
 use Rattle.mc_compile.specs.Facts.{LinkedFiles, Fact, are_given, has_no_parameters, are_constants, is_nondet, is_rule_or_function, signature_by, bare_fact, as_list, both, groups_from, constants_from, given_types, given_preds, constants, signatures, by_predicate, places_by}
 
 -- whether each item of a file, and of files that are numbered from one on, passes a test
-abbrev pub every : (It → Bool) → File → Bool
+abbrev pub every : (PlainDecl → Bool) → File → Bool
 every T [] = true
 every T (e ∷ es) = T e.0 && every T es
 
-abbrev pub everywhere : (ℕ → It → Bool) → (own : ℕ) → List File → Bool
+abbrev pub everywhere : (ℕ → PlainDecl → Bool) → (own : ℕ) → List File → Bool
 everywhere T k [] = true
 everywhere T k (f ∷ fs) = every (T k) f && everywhere T (k + 1) fs
 
 -- whether an item is of the form, as far as its own text tells
-abbrev pub is_plain : It → Bool
+abbrev pub is_plain : PlainDecl → Bool
 is_plain (ModuleStart w) = true
 is_plain (ModuleEnd w) = true
 is_plain Interface = true
@@ -45,7 +45,7 @@ abbrev pub all_plain : List File → Bool
 all_plain fs = everywhere (λ own i. is_plain i) 0 fs
 
 -- whether an item imports or uses modules that are given alone
-abbrev pub imports_given : LinkedFiles → It → Bool
+abbrev pub imports_given : LinkedFiles → PlainDecl → Bool
 imports_given P (Imports ws) = are_given P ws
 imports_given P (UseOnly ws) = are_given P ws
 imports_given P i = true
@@ -94,7 +94,7 @@ abbrev pub all_behind : List (List ℕ) → List (Option (List ℕ)) → Option 
 all_behind found ss = option_map (λ more. found ++ more) (all_some ss)
 
 -- the facts that are a file's clauses, and those of files that are numbered from one on
-abbrev pub facts_of_clause : LinkedFiles → (own : ℕ) → It → Option (List Fact)
+abbrev pub facts_of_clause : LinkedFiles → (own : ℕ) → PlainDecl → Option (List Fact)
 facts_of_clause P own (Clause t) = as_list (bare_fact P own t)
 facts_of_clause P own i = Some []
 
@@ -183,11 +183,11 @@ abbrev pub named_behind : List (List ℕ) → Option (List (List ℕ)) → Optio
 named_behind found more = option_map (λ xs. found ++ xs) more
 
 -- whether an item that declares a predicate gives it arguments of the form
-abbrev pub is_sound : LinkedFiles → (own : ℕ) → It → Bool
+abbrev pub is_sound : LinkedFiles → (own : ℕ) → PlainDecl → Bool
 is_sound P own i = is_some (all_some (signature_by P own i))
 
 -- how many types a file defines, and files, whose items are of the form
-abbrev pub types_by_item : It → ℕ
+abbrev pub types_by_item : PlainDecl → ℕ
 types_by_item (UnionType h ts) = 1
 types_by_item i = 0
 

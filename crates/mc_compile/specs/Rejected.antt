@@ -1,10 +1,10 @@
 -- The rules that sources break, of the first phase that has a fault: reading, then linking (this project's rules).
 use Rattle.std.specs.Prelude.{◌≡◌, ◌≢◌, ℕ, ◌+◌, List, [], ◌++◌, length, Option, Some, None}
-use Rattle.mc_syntax.specs.Plain.{Tm, at, plain_term}
-use Rattle.mc_syntax.specs.declared.term.Term.{Term}
-use Rattle.mc_model.specs.declared.rule.Broken.{Broken}
-use Rattle.mc_link_rules.specs.Files.{File}
-use Rattle.mc_link_rules.specs.Faults.{link_faults, broken_by, goal_fault}
+use Rattle.mc_term_data.specs.Plain.{PlainTerm, at, plain_term}
+use Rattle.mc_term_data.specs.declared.term.Term.{Term}
+use Rattle.mc_source.specs.declared.rule.Broken.{Broken}
+use Rattle.mc_linking.specs.Files.{File}
+use Rattle.mc_linking.specs.Faults.{link_faults, broken_by, goal_fault}
 use Rattle.mc_compile.specs.Sources.{Reading, FilesRead, QueryReads, rules_from, items_from}
 
 -- What sources read as: files, which are numbered from 0 on, and a query, whose number follows theirs.
@@ -24,7 +24,7 @@ pub record IsLibrary (library : List (List ℕ)) (modules : List Reading) : Type
 abbrev pub reading_rules : {texts : List (List ℕ)} {query : Option (List ℕ)} → AreRead texts query → List Broken
 reading_rules r = rules_from 0 r.files ++ r.goal_rules
 
-abbrev pub line_of : Tm → ℕ
+abbrev pub line_of : PlainTerm → ℕ
 line_of (at node line) = line
 
 -- the rule of linking that the goal of a query breaks, where there is one

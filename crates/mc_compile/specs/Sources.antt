@@ -1,12 +1,12 @@
 -- What the given files, the query and the library read as, and the rules of reading that they break (this project's rules; the Mercury manual: Syntax).
 use Rattle.std.specs.Prelude.{◌≡◌, ℕ, ◌+◌, ◌≤◌, ◌<◌, ◌⊎◌, min, List, [], ◌∷◌, ◌++◌, length, Option, Some, None}
-use Rattle.mc_syntax.specs.declared.term.Term.{Term}
-use Rattle.mc_model.specs.declared.rule.Broken.{Broken}
-use Rattle.mc_items.specs.Verdicts.{Verdict}
+use Rattle.mc_term_data.specs.declared.term.Term.{Term}
+use Rattle.mc_source.specs.declared.rule.Broken.{Broken}
+use Rattle.mc_items.specs.Verdicts.{PlainVerdict}
 use Rattle.mc_items.specs.Files.{Items, kept_in, broken_in, too_long_in, greatest_text}
 use Rattle.mc_items.specs.Queries.{IsGoal, IsQueryRefusal}
 use Rattle.mc_items.specs.declared.entry.ItemsFault.TheVariants as I
-use Rattle.mc_link_rules.specs.Files.{File}
+use Rattle.mc_linking.specs.Files.{File}
 
 -- the greatest length of the files together, in bytes: 16 MiB
 abbrev pub greatest_sources : ℕ
@@ -18,7 +18,7 @@ counted text = min (length text) (greatest_text + 1)
 
 -- what each item of a file is, with its line; of a file that is too long nothing is read
 abbrev pub Reading : Type 0
-Reading = Option (List (Verdict × ℕ))
+Reading = Option (List (PlainVerdict × ℕ))
 
 -- A file, behind others of so many bytes, is too long by itself or together with them, or its items are these.
 abbrev pub FileReads : (bytes_before : ℕ) → List ℕ → Reading → Type 0

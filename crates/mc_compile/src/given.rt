@@ -1,6 +1,6 @@
 use mc_base::{Memory, Row, Text};
-use mc_model::program::Program;
-use mc_model::rule::Broken;
+use mc_program::program::Program;
+use mc_source::rule::Broken;
 
 /// A file, by its name and its bytes.
 #[derive(Debug, Drop)]

@@ -1,5 +1,5 @@
 ghost use Rattle.std.specs.Prelude.{◌≡◌, ℕ, ◌+◌, ◌<◌, ◌^◌, [], ◌++◌, map, length, IfOk, IfErr};
-ghost use Rattle.mc_link_rules.specs.Files.{plain_files};
+ghost use Rattle.mc_linking.specs.Files.{plain_files};
 ghost use Rattle.mc_compile.specs.Library.{library_texts};
 ghost use Rattle.mc_compile.specs.Reading.{IsLibraryRead};
 ghost use Rattle.mc_compile.specs.Rejected.{goal_rules_in};
@@ -11,10 +11,10 @@ use crate::reader::Reader;
 use crate::reading::Read;
 use mc_base::{Memory, Row};
 use mc_items::{Entry, ItemsFault};
-use mc_model::program::Place;
-use mc_model::rule::Broken;
 use mc_modules::{Names, goal_rule, link};
-use mc_syntax::Term;
+use mc_source::place::Place;
+use mc_source::rule::Broken;
+use mc_term_data::Term;
 use std::alloc::Global;
 
 /// Sources with their names: the items of each file and behind them those of the library's modules, what their names

@@ -5,8 +5,8 @@ ghost use Rattle.mc_compile.specs.Reading.{IsOneMore, IsQueryRead, IsRejected, t
 use crate::given::{CompileFault, Query};
 use mc_base::{Memory, Row};
 use mc_items::{Entry, GREATEST_TEXT, ItemsFault, read_items, read_query, too_long};
-use mc_model::rule::Broken;
-use mc_syntax::Term;
+use mc_source::rule::Broken;
+use mc_term_data::Term;
 use std::alloc::Global;
 
 // The greatest length of the files together, in bytes: 16 MiB.

@@ -5,7 +5,7 @@ use crate::given::{CompileFault, Given, Query};
 use crate::reader::Reader;
 use mc_base::Row;
 use mc_items::Entry;
-use mc_syntax::Term;
+use mc_term_data::Term;
 use std::alloc::Global;
 
 /// Sources as they were read: the items of each file, and the goal of the query where there is one.

@@ -1,8 +1,8 @@
 use crate::{CompileFault, Given, LIBRARY, Query, Read, named};
 use mc_base::{Memory, Row, Text};
-use mc_item_names::{Kind, Thing, ThingSet, clause_of, things};
+use mc_defs_uses::{Definition, DefinitionSet, Kind, clause_of, definitions};
 use mc_items::{ItemsFault, read_items};
-use mc_model::rule::Broken;
+use mc_source::rule::Broken;
 use std::alloc::Global;
 use std::test::Fail;
 
@@ -223,17 +223,17 @@ fn faults_of_linking_are_told_where_none_of_reading_is(rt: HostRuntime) -> Resul
     Ok(())
 }
 
-// A clause of a predicate or a function, with a variable of its own for each argument. Other things have none.
-fn clause(alloc: Global, thing: Thing<'_>) -> Result<Vec<u8>, Fail> {
-    let end = match thing.kind {
+// A clause of a predicate or a function, with a variable of its own for each argument. Other definitions have none.
+fn clause(alloc: Global, definition: Definition<'_>) -> Result<Vec<u8>, Fail> {
+    let end = match definition.kind {
         Kind::Pred => b".\n".as_slice(),
         Kind::Func => b" = _.\n".as_slice(),
         _ => return Ok(Vec::new(alloc)),
     };
     let mut out = b"'".to_vec(alloc)?;
-    out.extend_from_slice(thing.id.name)?;
+    out.extend_from_slice(definition.id.name)?;
     out.extend_from_slice(b"'(_")?;
-    for _further in 1..thing.id.arity {
+    for _further in 1..definition.id.arity {
         out.extend_from_slice(b", _")?;
     }
     out.push(b')')?;
@@ -244,17 +244,17 @@ fn clause(alloc: Global, thing: Thing<'_>) -> Result<Vec<u8>, Fail> {
 // A clause, on a line of its own, of each predicate and function that a module declares and has no clause of.
 fn missing(alloc: Global, text: &str) -> Result<Vec<u8>, Fail> {
     let entries = read_items(alloc, 0, text.as_bytes())?;
-    let mut defined = ThingSet::new(alloc);
+    let mut defined = DefinitionSet::new(alloc);
     for entry in entries.as_slice() {
-        if let Some(thing) = clause_of(&entry.decl) {
-            defined.insert(thing)?;
+        if let Some(definition) = clause_of(&entry.decl) {
+            defined.insert(definition)?;
         }
     }
     let mut out = Vec::new(alloc);
     for entry in entries.as_slice() {
-        for thing in things(alloc, &entry.decl)?.as_slice() {
-            if !defined.contains(*thing) {
-                out.extend_from_slice(clause(alloc, *thing)?.as_slice())?;
+        for definition in definitions(alloc, &entry.decl)?.as_slice() {
+            if !defined.contains(*definition) {
+                out.extend_from_slice(clause(alloc, *definition)?.as_slice())?;
             }
         }
     }

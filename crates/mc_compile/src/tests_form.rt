@@ -1,7 +1,8 @@
 use crate::tests::fault_shown;
 use crate::{CompileFault, Compiled, Given, Query, compile};
 use mc_base::{Memory, Row, Text};
-use mc_model::program::{Goal, Place};
+use mc_program::program::Goal;
+use mc_source::place::Place;
 use std::alloc::Global;
 use std::process::Abort;
 use std::test::Fail;

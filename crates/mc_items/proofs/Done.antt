@@ -1,32 +1,32 @@
 -- What is known of a file where the items up to a place are read.
 use Rattle.std.proofs.Common.{◌≡◌, ◌≢◌, inr, ℕ, ◌≤◌, List, [], ◌∷◌, ◌++◌, map, length, Option, None, Result, Ok, Err, refl, sym, ap, ◌∙◌, subst}
 use Rattle.std.proofs.lemmas.List.{append_assoc, append-nil}
-use Rattle.mc_model.specs.declared.program.Place.{Place}
-use Rattle.mc_model.specs.declared.rule.Broken.{Broken}
+use Rattle.mc_source.specs.declared.place.Place.{Place}
+use Rattle.mc_source.specs.declared.rule.Broken.{Broken}
 use Rattle.mc_terms.specs.Answers.{IsOver}
-use Rattle.mc_decl_forms.specs.Plain.{It}
+use Rattle.mc_decl_syntax.specs.Plain.{PlainDecl}
 use Rattle.mc_items.specs.declared.entry.Entry.{Entry}
 use Rattle.std.specs.Prelude.{IfOk, IfErr, IfNone}
 use Rattle.mc_items.specs.declared.entry.ItemsFault.{ItemsFault}
 use Rattle.mc_items.specs.declared.entry.ItemsFault.TheVariants as I
 use Rattle.mc_items.specs.declared.next.Next.{Next}
-use Rattle.mc_items.specs.Verdicts.{Verdict, kept, breaks}
+use Rattle.mc_items.specs.Verdicts.{PlainVerdict, kept, breaks}
 use Rattle.mc_items.specs.Files.{IsItem, Items, over, item, kept_in, broken_in, plain_entry, IsWhole, IsFaulty, IsBrokenIn, IsRefusal, greatest_text}
 
-pub kept_append : (file : ℕ) (vs ws : List (Verdict × ℕ)) → kept_in file (vs ++ ws) ≡ kept_in file vs ++ kept_in file ws
+pub kept_append : (file : ℕ) (vs ws : List (PlainVerdict × ℕ)) → kept_in file (vs ++ ws) ≡ kept_in file vs ++ kept_in file ws
 kept_append file [] ws = refl
 kept_append file ((kept i, line) ∷ vs) ws = ap (λ es. (i, record { file = file; line = line }) ∷ es) (kept_append file vs ws)
 kept_append file ((breaks r w, line) ∷ vs) ws = kept_append file vs ws
 
-pub broken_append : (file : ℕ) (vs ws : List (Verdict × ℕ)) → broken_in file (vs ++ ws) ≡ broken_in file vs ++ broken_in file ws
+pub broken_append : (file : ℕ) (vs ws : List (PlainVerdict × ℕ)) → broken_in file (vs ++ ws) ≡ broken_in file vs ++ broken_in file ws
 broken_append file [] ws = refl
 broken_append file ((kept i, line) ∷ vs) ws = broken_append file vs ws
 broken_append file ((breaks r w, line) ∷ vs) ws = ap (λ bs. record { rule = r; at = record { file = file; line = line }; what = w } ∷ bs) (broken_append file vs ws)
 
 -- The items up to a place: those from the place on complete them.
-pub record Done (file : ℕ) (text : List ℕ) (at : ℕ) (entries : List (It × Place)) (broken : List Broken) : Type 0 where
-  pub verdicts : List (Verdict × ℕ)
-  pub leads : (vs : List (Verdict × ℕ)) → Items text at vs → Items text 0 (verdicts ++ vs)
+pub record Done (file : ℕ) (text : List ℕ) (at : ℕ) (entries : List (PlainDecl × Place)) (broken : List Broken) : Type 0 where
+  pub verdicts : List (PlainVerdict × ℕ)
+  pub leads : (vs : List (PlainVerdict × ℕ)) → Items text at vs → Items text 0 (verdicts ++ vs)
   pub kept_so_far : entries ≡ kept_in file verdicts
   pub broken_so_far : broken ≡ broken_in file verdicts
 
@@ -34,7 +34,7 @@ pub nothing_done : (file : ℕ) (text : List ℕ) → Done file text 0 [] []
 nothing_done file text = record { verdicts = []; leads = λ vs d. d; kept_so_far = refl; broken_so_far = refl }
 
 -- behind one more item
-pub one_more : (file : ℕ) (text : List ℕ) (at line next : ℕ) (v : Verdict) (es fs : List (It × Place)) (bs cs : List Broken) → Done file text at es bs → IsItem text at v line next
+pub one_more : (file : ℕ) (text : List ℕ) (at line next : ℕ) (v : PlainVerdict) (es fs : List (PlainDecl × Place)) (bs cs : List Broken) → Done file text at es bs → IsItem text at v line next
     → fs ≡ es ++ kept_in file ((v, line) ∷ []) → cs ≡ bs ++ broken_in file ((v, line) ∷ []) → Done file text next fs cs
 one_more file text at line next v es fs bs cs d i e b = record {
   verdicts = d.verdicts ++ (v, line) ∷ [];
@@ -57,7 +57,7 @@ whole file text at entries bs short d o e = record {
   sound = sym d.broken_so_far ∙ e;
 }
 
-pub faulty : (file : ℕ) (text : List ℕ) (at : ℕ) (es : List (It × Place)) (bs cs : List Broken) → length text ≤ greatest_text → Done file text at es bs → IsOver text at → cs ≡ bs → cs ≢ [] → IsFaulty file text cs
+pub faulty : (file : ℕ) (text : List ℕ) (at : ℕ) (es : List (PlainDecl × Place)) (bs cs : List Broken) → length text ≤ greatest_text → Done file text at es bs → IsOver text at → cs ≡ bs → cs ≢ [] → IsFaulty file text cs
 faulty file text at es bs cs short d o e n = record {
   short = short;
   verdicts = d.verdicts;
@@ -83,6 +83,6 @@ refusal file text walk at entries bs o (Err I.Memory) short same d e n i = i
 refusal file text walk at entries bs o (Ok es) short same d e n i = i
 
 -- one more item, as the walk answers it
-pub one_more_at : (file : ℕ) (text walk : List ℕ) (at line next : ℕ) (v : Verdict) (es fs : List (It × Place)) (bs cs : List Broken) → walk ≡ text → Done file text at es bs → IsItem walk at v line next
+pub one_more_at : (file : ℕ) (text walk : List ℕ) (at line next : ℕ) (v : PlainVerdict) (es fs : List (PlainDecl × Place)) (bs cs : List Broken) → walk ≡ text → Done file text at es bs → IsItem walk at v line next
     → fs ≡ es ++ kept_in file ((v, line) ∷ []) → cs ≡ bs ++ broken_in file ((v, line) ∷ []) → Done file text next fs cs
 one_more_at file text walk at line next v es fs bs cs same d i e b = one_more file text at line next v es fs bs cs d (subst (λ t. IsItem t at v line next) same i) e b

@@ -1,9 +1,9 @@
 -- What is known of a query's text that is no goal.
 use Rattle.std.proofs.Common.{◌≡◌, ◌≢◌, inr, ℕ, ◌≤◌, List, [], ◌∷◌, length, slice_index_or, Some, sym, subst}
-use Rattle.mc_syntax.specs.Plain.{plain_term}
-use Rattle.mc_syntax.specs.declared.term.Term.{Term}
-use Rattle.mc_model.specs.declared.rule.Rule.{Rule}
-use Rattle.mc_model.specs.declared.rule.Rule.TheVariants as R
+use Rattle.mc_term_data.specs.Plain.{plain_term}
+use Rattle.mc_term_data.specs.declared.term.Term.{Term}
+use Rattle.mc_source.specs.declared.rule.Rule.{Rule}
+use Rattle.mc_source.specs.declared.rule.Rule.TheVariants as R
 use Rattle.mc_terms.specs.declared.fault.ReadKind.{ReadKind}
 use Rattle.mc_terms.specs.declared.fault.ReadKind.TheVariants.{Memory}
 use Rattle.mc_terms.specs.Answers.{IsOver, IsItem, IsRefused, StandsAt, item_line}

@@ -1,14 +1,14 @@
 -- A query's text is one goal at most, or it breaks one rule.
 use Rattle.std.proofs.Common.{◌≡◌, inl, inr, ℕ, arith, List, [], ◌∷◌, Option, Some, None, refl, sym, ap, ◌∙◌, subst}
-use Rattle.mc_syntax.specs.Plain.{Tm, plain_term}
-use Rattle.mc_syntax.specs.declared.term.Term.{Term}
-use Rattle.mc_model.specs.declared.rule.Broken.{Broken}
-use Rattle.mc_model.specs.declared.rule.Rule.{Rule}
-use Rattle.mc_grammar.specs.Tree.{term}
-use Rattle.mc_grammar.specs.Laws.{AtMostOne}
+use Rattle.mc_term_data.specs.Plain.{PlainTerm, plain_term}
+use Rattle.mc_term_data.specs.declared.term.Term.{Term}
+use Rattle.mc_source.specs.declared.rule.Broken.{Broken}
+use Rattle.mc_source.specs.declared.rule.Rule.{Rule}
+use Rattle.mc_term_parser.specs.Tree.{term}
+use Rattle.mc_term_parser.specs.Laws.{AtMostOne}
 use Rattle.mc_terms.specs.Answers.{IsOver}
 use Rattle.mc_items.specs.declared.entry.ItemsFault.TheVariants as F
-use Rattle.mc_items.specs.Verdicts.{Verdict, breaks}
+use Rattle.mc_items.specs.Verdicts.{PlainVerdict, breaks}
 use Rattle.mc_items.specs.Files.{place, IsUnread, IsTooLong}
 use Rattle.mc_items.specs.Queries.{query_verdict, ReadsAs, IsGoal, Breaks, empty, unread, followed, refused, IsNoGoal, IsQueryRefusal}
 use Rattle.mc_items.proofs.Unique.{same_tree, read_not_refused, read_not_over, refused_not_over, one_item}
@@ -31,25 +31,25 @@ same_breaks r s w v e = let rule : r ≡ s = cc in let what : w ≡ v = cc in (r
 
 module _ (at_most_one : AtMostOne) (text : List ℕ) where
   -- a text reads as one term, with one place behind it
-  same_term : (t u : Tm) (next stop : ℕ) → ReadsAs text t next → ReadsAs text u stop → (t ≡ u) × (next ≡ stop)
+  same_term : (t u : PlainTerm) (next stop : ℕ) → ReadsAs text t next → ReadsAs text u stop → (t ≡ u) × (next ≡ stop)
   same_term t u next stop a b =
       let same = same_tree at_most_one text 0 a.0 b.0 next stop a.1 b.1 in
       (a.4 ∙ ap term same.0 ∙ sym b.4, same.1)
 
   -- where it reads as one, its first item is read
-  read_not_unread : (t : Tm) (v : Verdict) (next line stop : ℕ) → ReadsAs text t next → IsUnread text 0 v line stop → ⊥
+  read_not_unread : (t : PlainTerm) (v : PlainVerdict) (next line stop : ℕ) → ReadsAs text t next → IsUnread text 0 v line stop → ⊥
   read_not_unread t v next line stop a u = read_not_refused at_most_one text 0 a.0 next a.1 a.2 a.3 u.kind line stop u.told u.refused
 
   -- and there is an item
-  read_not_empty : (t : Tm) (next : ℕ) → ReadsAs text t next → IsOver text 0 → ⊥
+  read_not_empty : (t : PlainTerm) (next : ℕ) → ReadsAs text t next → IsOver text 0 → ⊥
   read_not_empty t next a o = read_not_over at_most_one text 0 a.0 next a.1 o
 
   -- as there is where the first one isn't read
-  unread_not_empty : (v : Verdict) (line next : ℕ) → IsUnread text 0 v line next → IsOver text 0 → ⊥
+  unread_not_empty : (v : PlainVerdict) (line next : ℕ) → IsUnread text 0 v line next → IsOver text 0 → ⊥
   unread_not_empty v line next u o = refused_not_over at_most_one text 0 u.kind line next u.told u.refused o
 
   -- nothing stands behind it, or something does
-  followed_not_alone : (t u : Tm) (next stop : ℕ) → ReadsAs text t next → (IsOver text next → ⊥) → ReadsAs text u stop → IsOver text stop → ⊥
+  followed_not_alone : (t u : PlainTerm) (next stop : ℕ) → ReadsAs text t next → (IsOver text next → ⊥) → ReadsAs text u stop → IsOver text stop → ⊥
   followed_not_alone t u next stop a more b alone = more (subst (λ place. IsOver text place) (sym (same_term t u next stop a b).1) alone)
 
   one_rule : (r s : Rule) (w v : List ℕ) (line row : ℕ) → Breaks text r w line → Breaks text s v row → SameRule r s w v line row

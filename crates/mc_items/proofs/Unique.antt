@@ -1,13 +1,13 @@
 -- One list of items stands for a text at most, and one answer.
 use Rattle.std.proofs.Common.{◌≡◌, ◌≢◌, inl, inr, ℕ, ◌+◌, Bool, ◌≤◌, arith, List, [], ◌∷◌, Some, None, refl, sym, ap, ◌∙◌, subst}
 use Rattle.std.specs.Prelude.{slice_index_or}
-use Rattle.mc_model.specs.declared.rule.Broken.{Broken}
-use Rattle.mc_grammar.specs.declared.lexeme.Lexeme.{Lexeme}
-use Rattle.mc_grammar.specs.Tree.{Tree, depth, too_large, term}
-use Rattle.mc_grammar.specs.Part.{Part}
-use Rattle.mc_grammar.specs.Reads.{Reads, ReadsTerm}
-use Rattle.mc_grammar.specs.Reads as R
-use Rattle.mc_grammar.specs.Laws.{AtMostOne}
+use Rattle.mc_source.specs.declared.rule.Broken.{Broken}
+use Rattle.mc_term_parser.specs.declared.lexeme.Lexeme.{Lexeme}
+use Rattle.mc_term_parser.specs.Tree.{Tree, depth, too_large, term}
+use Rattle.mc_term_parser.specs.Part.{Part}
+use Rattle.mc_term_parser.specs.Reads.{Reads, ReadsTerm}
+use Rattle.mc_term_parser.specs.Reads as R
+use Rattle.mc_term_parser.specs.Laws.{AtMostOne}
 use Rattle.mc_tokens.specs.declared.token.Kind.{Kind}
 use Rattle.mc_tokens.specs.declared.token.Kind.TheVariants.{Eof}
 use Rattle.mc_tokens.specs.Tokens.{Lexed, Tok, Fault}
@@ -21,7 +21,7 @@ use Rattle.mc_terms.specs.Lexemes.{lexemes}
 use Rattle.mc_terms.specs.Answers.{ItemTokens, ItemReads, IsOver, BeginsOn, place_of, item_line, token_line, IsRefused, StandsAt}
 use Rattle.mc_items.specs.declared.entry.Entry.{Entry}
 use Rattle.mc_items.specs.declared.entry.ItemsFault.TheVariants as F
-use Rattle.mc_items.specs.Verdicts.{Verdict, judged, unread}
+use Rattle.mc_items.specs.Verdicts.{PlainVerdict, judged, unread}
 use Rattle.mc_items.specs.Files.{IsItem, Items, over, item, broken_in, IsWhole, IsFaulty, IsTooLong, IsRefusal}
 use Rattle.mc_items.specs.Laws.{AtMostOneList}
 
@@ -97,12 +97,12 @@ module _ (at_most_one : AtMostOne) (text : List ℕ) (from : ℕ) where
   refused_not_over Memory line next told r o = told refl
 
   -- so no item is there
-  not_over : (v : Verdict) (line next : ℕ) → IsItem text from v line next → IsOver text from → ⊥
+  not_over : (v : PlainVerdict) (line next : ℕ) → IsItem text from v line next → IsOver text from → ⊥
   not_over v line next (inl a) o = read_not_over a.tree next a.reads o
   not_over v line next (inr a) o = refused_not_over a.kind line next a.told a.refused o
 
   -- what an item is that is refused so, with a faulty token in the place
-  abbrev said : ReadKind → ℕ → Verdict
+  abbrev said : ReadKind → ℕ → PlainVerdict
   said kind place = unread kind (slice_index_or text place 0)
 
   -- what is said of two refusals of one item, their lines, and the places behind it, are the same
@@ -140,7 +140,7 @@ module _ (at_most_one : AtMostOne) (text : List ℕ) (from : ℕ) where
   one_refusal kind Memory place there line row next stop told known r s a b = absurd (known refl)
 
   -- an item is one thing, on one line, with one place behind it
-  pub one_item : (v w : Verdict) (line row next stop : ℕ) → IsItem text from v line next → IsItem text from w row stop → (v ≡ w) × (line ≡ row) × (next ≡ stop)
+  pub one_item : (v w : PlainVerdict) (line row next stop : ℕ) → IsItem text from v line next → IsItem text from w row stop → (v ≡ w) × (line ≡ row) × (next ≡ stop)
   one_item v w line row next stop (inl a) (inl b) =
       let same = same_tree a.tree b.tree next stop a.reads b.reads in
       (a.is ∙ ap (λ t. judged (term t)) same.0 ∙ sym b.is, a.begins ∙ sym b.begins, same.1)

@@ -1,17 +1,17 @@
 -- The items of a file, and the rules that they break, in the order of the file.
 use Rattle.std.specs.Prelude.{◌≡◌, ◌≢◌, ℕ, ◌<◌, ◌≤◌, ◌⊎◌, List, [], ◌∷◌, map, length, slice_index_or, None}
-use Rattle.mc_model.specs.declared.program.Place.{Place}
-use Rattle.mc_model.specs.declared.rule.Broken.{Broken}
-use Rattle.mc_model.specs.declared.rule.Rule.TheVariants as R
-use Rattle.mc_grammar.specs.Tree.{Tree, depth, too_large, term}
+use Rattle.mc_source.specs.declared.place.Place.{Place}
+use Rattle.mc_source.specs.declared.rule.Broken.{Broken}
+use Rattle.mc_source.specs.declared.rule.Rule.TheVariants as R
+use Rattle.mc_term_parser.specs.Tree.{Tree, depth, too_large, term}
 use Rattle.mc_terms.specs.declared.fault.ReadKind.{ReadKind}
 use Rattle.mc_terms.specs.declared.fault.ReadKind.TheVariants.{Memory}
 use Rattle.mc_terms.specs.Answers.{IsOver, ItemReads, IsRefused, StandsAt, item_line}
-use Rattle.mc_decl_forms.specs.Plain.{It, plain_item}
+use Rattle.mc_decl_syntax.specs.Plain.{PlainDecl, plain_item}
 use Rattle.mc_items.specs.declared.entry.Entry.{Entry}
 use Rattle.mc_items.specs.declared.entry.ItemsFault.{ItemsFault}
 use Rattle.mc_items.specs.declared.entry.ItemsFault.TheVariants as I
-use Rattle.mc_items.specs.Verdicts.{Verdict, kept, breaks, judged, unread}
+use Rattle.mc_items.specs.Verdicts.{PlainVerdict, kept, breaks, judged, unread}
 use Rattle.mc_items.specs.Words as W
 
 -- the greatest length of one file's text, in bytes: 4 MiB
@@ -19,7 +19,7 @@ abbrev pub greatest_text : ℕ
 greatest_text = 4194304
 
 -- The item from a place on reads as a term, and this is what it is; it begins on a line, and `next` is the place behind its end.
-pub record IsRead (text : List ℕ) (from : ℕ) (verdict : Verdict) (line next : ℕ) : Type 0 where
+pub record IsRead (text : List ℕ) (from : ℕ) (verdict : PlainVerdict) (line next : ℕ) : Type 0 where
   pub tree : Tree
   pub reads : ItemReads text from tree next
   pub held : too_large tree ≡ None
@@ -28,7 +28,7 @@ pub record IsRead (text : List ℕ) (from : ℕ) (verdict : Verdict) (line next 
   pub begins : line ≡ item_line text from
 
 -- The item from a place on doesn't read as a term, and this is why; the line is the fault's.
-pub record IsUnread (text : List ℕ) (from : ℕ) (verdict : Verdict) (line next : ℕ) : Type 0 where
+pub record IsUnread (text : List ℕ) (from : ℕ) (verdict : PlainVerdict) (line next : ℕ) : Type 0 where
   pub kind : ReadKind
   pub place : ℕ
   pub told : kind ≢ Memory
@@ -37,37 +37,37 @@ pub record IsUnread (text : List ℕ) (from : ℕ) (verdict : Verdict) (line nex
   pub is : verdict ≡ unread kind (slice_index_or text place 0)
 
 -- what the item from a place on is, with its line and the place behind it
-abbrev pub IsItem : List ℕ → ℕ → Verdict → ℕ → ℕ → Type 0
+abbrev pub IsItem : List ℕ → ℕ → PlainVerdict → ℕ → ℕ → Type 0
 IsItem text from verdict line next = IsRead text from verdict line next ⊎ IsUnread text from verdict line next
 
 -- the items of a text from a place on: what each is, with its line
-pub data Items : List ℕ → ℕ → List (Verdict × ℕ) → Type 0 where
+pub data Items : List ℕ → ℕ → List (PlainVerdict × ℕ) → Type 0 where
   over : {text : List ℕ} {from : ℕ} → IsOver text from → Items text from []
-  item : {text : List ℕ} {from line next : ℕ} {v : Verdict} {vs : List (Verdict × ℕ)} → IsItem text from v line next → Items text next vs → Items text from ((v, line) ∷ vs)
+  item : {text : List ℕ} {from line next : ℕ} {v : PlainVerdict} {vs : List (PlainVerdict × ℕ)} → IsItem text from v line next → Items text next vs → Items text from ((v, line) ∷ vs)
 
 abbrev pub place : ℕ → ℕ → Place
 place file line = record { file = file; line = line }
 
 -- the items of a form, with their places
-abbrev pub kept_in : ℕ → List (Verdict × ℕ) → List (It × Place)
+abbrev pub kept_in : ℕ → List (PlainVerdict × ℕ) → List (PlainDecl × Place)
 kept_in file [] = []
 kept_in file ((kept i, line) ∷ vs) = (i, place file line) ∷ kept_in file vs
 kept_in file ((breaks r w, line) ∷ vs) = kept_in file vs
 
 -- the rules that are broken, with their places
-abbrev pub broken_in : ℕ → List (Verdict × ℕ) → List Broken
+abbrev pub broken_in : ℕ → List (PlainVerdict × ℕ) → List Broken
 broken_in file [] = []
 broken_in file ((kept i, line) ∷ vs) = broken_in file vs
 broken_in file ((breaks r w, line) ∷ vs) = record { rule = r; at = place file line; what = w } ∷ broken_in file vs
 
 -- an entry as plain data
-abbrev pub plain_entry : Entry → It × Place
+abbrev pub plain_entry : Entry → PlainDecl × Place
 plain_entry e = (plain_item e.decl, e.at)
 
 -- Each item of the text has a form and breaks no rule, and these are the items.
 pub record IsWhole (file : ℕ) (text : List ℕ) (entries : List Entry) : Type 0 where
   pub short : length text ≤ greatest_text
-  pub verdicts : List (Verdict × ℕ)
+  pub verdicts : List (PlainVerdict × ℕ)
   pub items : Items text 0 verdicts
   pub all : map plain_entry entries ≡ kept_in file verdicts
   pub sound : broken_in file verdicts ≡ []
@@ -75,7 +75,7 @@ pub record IsWhole (file : ℕ) (text : List ℕ) (entries : List Entry) : Type 
 -- Items of the text break rules, and these are the rules, one for each such item.
 pub record IsFaulty (file : ℕ) (text : List ℕ) (broken : List Broken) : Type 0 where
   pub short : length text ≤ greatest_text
-  pub verdicts : List (Verdict × ℕ)
+  pub verdicts : List (PlainVerdict × ℕ)
   pub items : Items text 0 verdicts
   pub all : broken ≡ broken_in file verdicts
   pub some : broken ≢ []

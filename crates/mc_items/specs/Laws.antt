@@ -1,17 +1,17 @@
 -- Laws of the relation between a text and its items.
 use Rattle.std.specs.Prelude.{◌≡◌, ℕ, List}
-use Rattle.mc_syntax.specs.Plain.{plain_term}
-use Rattle.mc_syntax.specs.declared.term.Term.{Term}
-use Rattle.mc_model.specs.declared.rule.Broken.{Broken}
+use Rattle.mc_term_data.specs.Plain.{plain_term}
+use Rattle.mc_term_data.specs.declared.term.Term.{Term}
+use Rattle.mc_source.specs.declared.rule.Broken.{Broken}
 use Rattle.mc_items.specs.declared.entry.Entry.{Entry}
 use Rattle.mc_items.specs.declared.entry.ItemsFault.TheVariants as I
-use Rattle.mc_items.specs.Verdicts.{Verdict}
+use Rattle.mc_items.specs.Verdicts.{PlainVerdict}
 use Rattle.mc_items.specs.Files.{Items, IsWhole, IsRefusal}
 use Rattle.mc_items.specs.Queries.{IsGoal, IsQueryRefusal}
 
 -- at most one list of items stands for a text from a place on
 abbrev pub AtMostOneList : Type 0
-AtMostOneList = (text : List ℕ) (from : ℕ) (vs ws : List (Verdict × ℕ)) → Items text from vs → Items text from ws → vs ≡ ws
+AtMostOneList = (text : List ℕ) (from : ℕ) (vs ws : List (PlainVerdict × ℕ)) → Items text from vs → Items text from ws → vs ≡ ws
 
 -- No text has items that are answered and breaks rules too.
 abbrev pub NotBoth : Type 0

@@ -1,32 +1,32 @@
 -- What an item is: an item of a form, or the first rule that it breaks (the Mercury manual: Items; this project's rules).
 use Rattle.std.specs.Prelude.{ℕ, Bool, true, false, cond, List, Option, Some, None}
-use Rattle.mc_syntax.specs.Plain.{Tm}
-use Rattle.mc_model.specs.declared.rule.Rule.{Rule}
-use Rattle.mc_model.specs.declared.rule.Rule.TheVariants as R
+use Rattle.mc_term_data.specs.Plain.{PlainTerm}
+use Rattle.mc_source.specs.declared.rule.Rule.{Rule}
+use Rattle.mc_source.specs.declared.rule.Rule.TheVariants as R
 use Rattle.mc_tokens.specs.declared.token.FaultKind.TheVariants as F
 use Rattle.mc_terms.specs.declared.fault.ReadKind.{ReadKind}
 use Rattle.mc_terms.specs.declared.fault.ReadKind.TheVariants as K
-use Rattle.mc_left_out.specs.declared.reason.LeftOut.{LeftOut}
-use Rattle.mc_left_out.specs.Reasons.{item_left_out}
-use Rattle.mc_left_out.specs.Words.{of_token}
-use Rattle.mc_clause_forms.specs.Clauses.{is_clause}
-use Rattle.mc_clause_forms.specs.Limits.{too_many_arguments, too_many_variables}
-use Rattle.mc_decl_forms.specs.Plain.{It, Clause}
-use Rattle.mc_decl_forms.specs.Terms.{declared_part}
-use Rattle.mc_decl_forms.specs.Declarations.{declaration}
+use Rattle.mc_unsupported.specs.declared.reason.LeftOut.{LeftOut}
+use Rattle.mc_unsupported.specs.Reasons.{item_left_out}
+use Rattle.mc_unsupported.specs.Words.{of_token}
+use Rattle.mc_clause_syntax.specs.Clauses.{is_clause}
+use Rattle.mc_clause_syntax.specs.Limits.{too_many_arguments, too_many_variables}
+use Rattle.mc_decl_syntax.specs.Plain.{PlainDecl, Clause}
+use Rattle.mc_decl_syntax.specs.Terms.{declared_part}
+use Rattle.mc_decl_syntax.specs.Declarations.{declaration}
 use Rattle.mc_items.specs.Words as W
 
 -- an item, or a rule that it breaks with what is said of it
-pub data Verdict : Type 0 where
-  kept : It → Verdict
-  breaks : Rule → (what : List ℕ) → Verdict
+pub data PlainVerdict : Type 0 where
+  kept : PlainDecl → PlainVerdict
+  breaks : Rule → (what : List ℕ) → PlainVerdict
 
 -- a declaration that has this form or none, and a name with too many arguments or not
-abbrev pub declaration_verdict : (too_many : Bool) → Option It → Verdict
+abbrev pub declaration_verdict : (too_many : Bool) → Option PlainDecl → PlainVerdict
 declaration_verdict too_many None = breaks R.S6 W.not_an_item
 declaration_verdict too_many (Some i) = cond too_many (breaks R.L3 W.too_many_arguments) (kept i)
 
-abbrev pub clause_verdict : Tm → Verdict
+abbrev pub clause_verdict : PlainTerm → PlainVerdict
 clause_verdict t =
     cond (is_clause t)
     (cond (too_many_arguments true t) (breaks R.L3 W.too_many_arguments)
@@ -35,20 +35,20 @@ clause_verdict t =
     (breaks R.S6 W.not_an_item)
 
 -- A declaration stands behind `:-`, and anything else is a clause.
-abbrev pub form_verdict : Tm → Option Tm → Verdict
+abbrev pub form_verdict : PlainTerm → Option PlainTerm → PlainVerdict
 form_verdict t (Some d) = declaration_verdict (too_many_arguments false t) (declaration d)
 form_verdict t None = clause_verdict t
 
-abbrev pub unless_left_out : Tm → Option LeftOut → Verdict
+abbrev pub unless_left_out : PlainTerm → Option LeftOut → PlainVerdict
 unless_left_out t (Some form) = breaks R.X1 (W.left_out form)
 unless_left_out t None = form_verdict t (declared_part t)
 
 -- What an item is that is read as a term: what is left out comes first, then the form, then the limits.
-abbrev pub judged : Tm → Verdict
+abbrev pub judged : PlainTerm → PlainVerdict
 judged t = unless_left_out t (item_left_out t)
 
 -- What an item is that isn't read, by the reader's fault and the byte at its place.
-abbrev pub unread : ReadKind → ℕ → Verdict
+abbrev pub unread : ReadKind → ℕ → PlainVerdict
 unread (K.Token F.BadChar) b = breaks R.S1 W.bad_character
 unread (K.Token F.Unterminated) b = breaks R.S2 W.not_closed
 unread (K.Token F.IntTooLarge) b = breaks R.S3 W.out_of_range

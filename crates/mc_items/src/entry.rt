@@ -1,7 +1,7 @@
 use mc_base::{Memory, Row};
-use mc_decl_forms::Decl;
-use mc_model::program::Place;
-use mc_model::rule::Broken;
+use mc_decl_syntax::Decl;
+use mc_source::place::Place;
+use mc_source::rule::Broken;
 
 /// An item, with the place of its first token.
 #[derive(Drop)]

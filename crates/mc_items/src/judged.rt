@@ -1,36 +1,36 @@
 ghost use Rattle.std.specs.Prelude.{◌≡◌, IfOk};
-ghost use Rattle.mc_syntax.specs.Plain.{plain_term};
+ghost use Rattle.mc_term_data.specs.Plain.{plain_term};
 ghost use Rattle.mc_items.specs.Verdicts as V;
 ghost use Rattle.std.specs.Option.{option_map};
-ghost use Rattle.mc_decl_forms.specs.Declarations as D;
-ghost use Rattle.mc_decl_forms.specs.Terms as T;
-ghost use Rattle.mc_decl_forms.specs.Plain.{plain_item};
-ghost use Rattle.mc_items.specs.Judgements.{verdict};
+ghost use Rattle.mc_decl_syntax.specs.Declarations as D;
+ghost use Rattle.mc_decl_syntax.specs.Terms as T;
+ghost use Rattle.mc_decl_syntax.specs.Plain.{plain_item};
+ghost use Rattle.mc_items.specs.VerdictViews.{verdict};
 
-use crate::said::left_out;
+use crate::messages::left_out;
 use mc_base::{Memory, Text};
-use mc_clause_forms::{
+use mc_clause_syntax::{
     clause_has_too_many_arguments, declaration_has_too_many_arguments, has_too_many_variables,
     is_clause,
 };
-use mc_decl_forms::{Decl, declaration, declared_part, is_declaration};
-use mc_left_out::item_left_out;
-use mc_model::rule::Rule;
-use mc_syntax::Term;
+use mc_decl_syntax::{Decl, declaration, declared_part, is_declaration};
+use mc_source::rule::Rule;
+use mc_term_data::Term;
+use mc_unsupported::item_left_out;
 use std::alloc::Global;
 
 /// What an item is.
 #[derive(Drop)]
-pub enum Judgement {
+pub enum Verdict {
     Kept(Decl),
     /// A rule that it breaks, and what is said of it.
     Breaks(Rule, Text),
 }
 
-fn breaks(alloc: Global, rule: Rule, words: &[u8]) -> Result<Judgement, Memory>
+fn breaks(alloc: Global, rule: Rule, words: &[u8]) -> Result<Verdict, Memory>
     ensures { IfOk result (λ j. verdict j ≡ V.breaks rule words.now) }
 {
-    Ok(Judgement::Breaks(rule, Text::new(alloc, words)?))
+    Ok(Verdict::Breaks(rule, Text::new(alloc, words)?))
 }
 
 // What a declaration is, by its form, where it has one.
@@ -38,18 +38,18 @@ fn declaration_judged(
     alloc: Global,
     too_many_arguments: bool,
     declared: Option<Decl>,
-) -> Result<Judgement, Memory>
+) -> Result<Verdict, Memory>
     ensures { IfOk result (λ j. verdict j ≡ V.declaration_verdict too_many_arguments (option_map plain_item declared)) }
 {
     match declared {
         None => breaks(alloc, Rule::S6, b"not an item"),
         Some(_) if too_many_arguments => breaks(alloc, Rule::L3, b"more than 255 arguments"),
-        Some(decl) => Ok(Judgement::Kept(decl)),
+        Some(decl) => Ok(Verdict::Kept(decl)),
     }
 }
 
 // What a clause is.
-fn clause_judged(alloc: Global, term: Term) -> Result<Judgement, Memory>
+fn clause_judged(alloc: Global, term: Term) -> Result<Verdict, Memory>
     ensures { IfOk result (λ j. verdict j ≡ V.clause_verdict (plain_term term)) }
 {
     if !is_clause(alloc, &term)? {
@@ -61,11 +61,11 @@ fn clause_judged(alloc: Global, term: Term) -> Result<Judgement, Memory>
     if has_too_many_variables(alloc, &term)? {
         return breaks(alloc, Rule::L4, b"more than 4096 variables");
     }
-    Ok(Judgement::Kept(Decl::Clause(term)))
+    Ok(Verdict::Kept(Decl::Clause(term)))
 }
 
 // What a term is behind `:-`.
-fn declared_judged(alloc: Global, too_many_arguments: bool, term: Term) -> Result<Judgement, Memory>
+fn declared_judged(alloc: Global, too_many_arguments: bool, term: Term) -> Result<Verdict, Memory>
     ensures { IfOk result (λ j. verdict j ≡ V.declaration_verdict too_many_arguments (D.declaration (plain_term term))) }
 {
     let declared = declaration(alloc, term)?;
@@ -73,7 +73,7 @@ fn declared_judged(alloc: Global, too_many_arguments: bool, term: Term) -> Resul
 }
 
 // What an item is in which nothing is left out.
-fn form_judged(alloc: Global, term: Term) -> Result<Judgement, Memory>
+fn form_judged(alloc: Global, term: Term) -> Result<Verdict, Memory>
     ensures { IfOk result (λ j. verdict j ≡ V.form_verdict (plain_term term) (T.declared_part (plain_term term))) }
 {
     if !is_declaration(&term) {
@@ -87,11 +87,11 @@ fn form_judged(alloc: Global, term: Term) -> Result<Judgement, Memory>
 }
 
 // What an item is, by its term.
-pub fn judged(alloc: Global, term: Term) -> Result<Judgement, Memory>
+pub fn judged(alloc: Global, term: Term) -> Result<Verdict, Memory>
     ensures { IfOk result (λ j. verdict j ≡ V.judged (plain_term term)) }
 {
     match item_left_out(&term) {
-        Some(form) => Ok(Judgement::Breaks(Rule::X1, left_out(alloc, form)?)),
+        Some(form) => Ok(Verdict::Breaks(Rule::X1, left_out(alloc, form)?)),
         None => form_judged(alloc, term),
     }
 }

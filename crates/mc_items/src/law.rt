@@ -1,6 +1,6 @@
 ghost use Rattle.mc_items.specs.Laws.{AtMostOneList, NotBoth, AtMostOneRefusal, AtMostOneGoal, NotGoalAndBroken, AtMostOneQueryRefusal};
 
-use mc_grammar::at_most_one_term;
+use mc_term_parser::at_most_one_term;
 
 /// At most one list of items stands for a text from a place on: a law, and nothing to run.
 pub fn at_most_one_list()

@@ -5,15 +5,15 @@ mod entry;
 mod goal;
 mod judged;
 mod law;
+mod messages;
 mod next;
 mod query;
 mod read;
-mod said;
 #[cfg(test)]
 mod tests;
 
 pub use entry::{Entry, ItemsFault};
 pub use law::{at_most_one_answer, at_most_one_goal, at_most_one_list};
-pub use mc_decl_forms::Decl;
+pub use mc_decl_syntax::Decl;
 pub use query::read_query;
 pub use read::{GREATEST_TEXT, read_items, too_long};

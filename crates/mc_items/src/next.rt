@@ -2,10 +2,10 @@ ghost use Rattle.std.specs.Prelude.{◌≡◌, ◌<◌, ◌≤◌, ◌^◌, ◌-
 ghost use Rattle.mc_terms.specs.Lines.{line_at};
 ghost use Rattle.mc_terms.specs.Answers.{IsOver, IsRefused, IsOnward, StandsAt};
 ghost use Rattle.mc_items.specs.Files.{IsItem, IsUnread};
-ghost use Rattle.mc_items.specs.Judgements.{verdict};
+ghost use Rattle.mc_items.specs.VerdictViews.{verdict};
 
-use crate::judged::{Judgement, judged};
-use crate::said::fault_rule;
+use crate::judged::{Verdict, judged};
+use crate::messages::fault_rule;
 use mc_base::Memory;
 use mc_terms::{ItemFault, Position, read_next};
 use mc_tokens::Walk;
@@ -14,7 +14,7 @@ use std::alloc::Global;
 // An item: what it is, its line, and the position behind its end.
 #[derive(Drop)]
 pub struct Next {
-    pub judgement: Judgement,
+    pub verdict: Verdict,
     pub line: u32,
     pub end: Position,
 }
@@ -26,14 +26,14 @@ fn refused(alloc: Global, walk: &mut Walk, from: Position, fault: ItemFault) -> 
     requires refused { IsRefused walk.old from.at fault.fault.kind fault.fault.line fault.fault.next }
     requires stands { StandsAt walk.old from.at fault.fault.kind fault.at }
     requires onward { IsOnward walk.old from.at fault.fault.kind fault.fault.next }
-    ensures item { IfOk result (λ n. IsUnread walk.old from.at (verdict n.judgement) n.line n.end.at) }
+    ensures item { IfOk result (λ n. IsUnread walk.old from.at (verdict n.verdict) n.line n.end.at) }
     ensures place { IfOk result (λ n. (n.end.line ≡ line_at walk.old n.end.at) × (from.at < n.end.at) × (n.end.at ≤ length walk.old)) }
     ensures same { walk.new ≡ walk.old }
 {
     let (rule, what) = fault_rule(alloc, walk.text(), fault)?;
     let fault = fault.fault;
     Ok(Next {
-        judgement: Judgement::Breaks(rule, what),
+        verdict: Verdict::Breaks(rule, what),
         line: fault.line,
         end: from.moved(walk.text(), fault.next),
     })
@@ -45,14 +45,14 @@ pub fn next_item(alloc: Global, walk: &mut Walk, from: Position) -> Result<Optio
     requires line { from.line ≡ line_at walk.old from.at }
     requires small { length walk.old < 2 ^ 32 - 1 }
     ensures over { IfOk result (λ answer. IfNone answer (IsOver walk.old from.at)) }
-    ensures item { IfOk result (λ answer. IfSome answer (λ n. IsItem walk.old from.at (verdict n.judgement) n.line n.end.at)) }
+    ensures item { IfOk result (λ answer. IfSome answer (λ n. IsItem walk.old from.at (verdict n.verdict) n.line n.end.at)) }
     ensures place { IfOk result (λ answer. IfSome answer (λ n. (n.end.line ≡ line_at walk.old n.end.at) × (from.at < n.end.at) × (n.end.at ≤ length walk.old))) }
     ensures same { walk.new ≡ walk.old }
 {
     match read_next(alloc, walk, from) {
         Ok(None) => Ok(None),
         Ok(Some(item)) => Ok(Some(Next {
-            judgement: judged(alloc, item.term)?,
+            verdict: judged(alloc, item.term)?,
             line: item.line,
             end: item.end,
         })),

@@ -6,12 +6,12 @@ ghost use Rattle.mc_items.specs.Words as W;
 
 use crate::entry::ItemsFault;
 use crate::goal::query_rule;
+use crate::messages::fault_rule;
 use crate::read::{GREATEST_TEXT, too_long};
-use crate::said::fault_rule;
 use mc_base::{Memory, Row, Text};
-use mc_model::program::Place;
-use mc_model::rule::{Broken, Rule};
-use mc_syntax::Term;
+use mc_source::place::Place;
+use mc_source::rule::{Broken, Rule};
+use mc_term_data::Term;
 use mc_terms::{ItemFault, Position, ReadItem, read_next};
 use mc_tokens::{Kind, Walk};
 use std::alloc::Global;

@@ -1,13 +1,13 @@
 ghost use Rattle.std.specs.Prelude.{◌≡◌, ◌++◌, IfOk, IfErr, OnOk, [], ◌∷◌, map, length, ◌≤◌};
 ghost use Rattle.mc_items.specs.Files.{IsWhole, IsBrokenIn, IsRefusal, plain_entry, kept_in, broken_in, too_long_in};
-ghost use Rattle.mc_items.specs.Judgements.{verdict};
+ghost use Rattle.mc_items.specs.VerdictViews.{verdict};
 
 use crate::entry::{Entry, ItemsFault};
-use crate::judged::Judgement;
+use crate::judged::Verdict;
 use crate::next::next_item;
 use mc_base::{Memory, Row, Text};
-use mc_model::program::Place;
-use mc_model::rule::{Broken, Rule};
+use mc_source::place::Place;
+use mc_source::rule::{Broken, Rule};
 use mc_terms::Position;
 use mc_tokens::Walk;
 use std::alloc::Global;
@@ -34,13 +34,13 @@ impl Found {
     }
 
     // Puts what an item is, with its place, behind the others.
-    fn put(&mut self, judgement: Judgement, at: Place) -> Result<(), Memory>
-        ensures entries { OnOk result (map plain_entry self.new.entries.items ≡ map plain_entry self.old.entries.items ++ kept_in at.file ((verdict judgement, at.line) ∷ [])) }
-        ensures broken { OnOk result (self.new.broken.items ≡ self.old.broken.items ++ broken_in at.file ((verdict judgement, at.line) ∷ [])) }
+    fn put(&mut self, verdict: Verdict, at: Place) -> Result<(), Memory>
+        ensures entries { OnOk result (map plain_entry self.new.entries.items ≡ map plain_entry self.old.entries.items ++ kept_in at.file ((verdict verdict, at.line) ∷ [])) }
+        ensures broken { OnOk result (self.new.broken.items ≡ self.old.broken.items ++ broken_in at.file ((verdict verdict, at.line) ∷ [])) }
     {
-        match judgement {
-            Judgement::Kept(decl) => self.entries.push(Entry { decl, at })?,
-            Judgement::Breaks(rule, what) => self.broken.push(Broken { rule, at, what })?,
+        match verdict {
+            Verdict::Kept(decl) => self.entries.push(Entry { decl, at })?,
+            Verdict::Breaks(rule, what) => self.broken.push(Broken { rule, at, what })?,
         }
         Ok(())
     }
@@ -91,7 +91,7 @@ pub fn read_items(alloc: Global, file: u32, text: &[u8]) -> Result<Row<Entry>, I
             None => return found.answer(),
             Some(item) => {
                 let line = item.line;
-                found.put(item.judgement, Place { file, line })?;
+                found.put(item.verdict, Place { file, line })?;
                 from = item.end;
             }
         }

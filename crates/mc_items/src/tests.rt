@@ -1,8 +1,8 @@
 use crate::{ItemsFault, read_items, read_query};
 use mc_base::Row;
-use mc_model::program::Place;
-use mc_model::rule::{Broken, Rule};
-use mc_syntax::Node;
+use mc_source::place::Place;
+use mc_source::rule::{Broken, Rule};
+use mc_term_data::Node;
 use std::alloc::{AllocError, Global};
 use std::process::Abort;
 use std::test::Fail;

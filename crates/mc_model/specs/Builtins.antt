@@ -7,11 +7,11 @@ use Rattle.std.specs.Ordering.{int_eq}
 use Rattle.std.specs.Fmt.{signed_decimal}
 use Rattle.std.specs.Str.{chars, is_utf8, all_ascii_digits}
 use Rattle.std.specs.Str.Parse.{without_leading_sign, signed_digits_value}
-use Rattle.mc_model.specs.Values.{Val, int, char, str, con, state, no_vals, val_then}
-use Rattle.mc_model.specs.Items.{zero_divide, error}
+use Rattle.mc_program.specs.Values.{Val, int, char, str, con, state, no_vals, val_then}
+use Rattle.mc_model.specs.EventList.{zero_divide, error}
 use Rattle.mc_model.specs.Outcomes.{Outcome, fails, gives, throws, writes, reads, reads_and_throws}
-use Rattle.mc_model.specs.declared.builtin.Builtin.{Builtin}
-use Rattle.mc_model.specs.declared.builtin.Builtin.TheVariants as B
+use Rattle.mc_program.specs.declared.builtin.Builtin.{Builtin}
+use Rattle.mc_program.specs.declared.builtin.Builtin.TheVariants as B
 
 -- What builtins need to know of a program: the symbols of `[]`, `[|]` and io's `ok` and `eof`, and the printed text of
 -- values.

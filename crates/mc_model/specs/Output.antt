@@ -1,9 +1,9 @@
 -- What the program writes of a run: the bytes on its output, the line on its error output and the status. (This
 -- project's profile.)
 use Rattle.std.specs.Prelude.{ℕ, List, [], ◌∷◌, ◌++◌, codes, decimal, Option, Some, None}
-use Rattle.mc_model.specs.Values.{Val}
-use Rattle.mc_model.specs.Items.{zero_divide, error, Halt, budget, too_deep, thrown, Items, End, Stuck, Stopped, Answer, Called, Wrote, Read}
-use Rattle.mc_model.specs.Printed.{answer_text}
+use Rattle.mc_program.specs.Values.{Val}
+use Rattle.mc_model.specs.EventList.{zero_divide, error, Halt, budget, too_deep, thrown, Items, End, Stuck, Stopped, Answer, Called, Wrote, Read}
+use Rattle.mc_program.specs.Printed.{answer_text}
 
 -- the texts of an answer's values; of an argument that isn't bound there is none
 abbrev pub texts_of : (text : Val → List ℕ) → List (Option Val) → List (List ℕ)

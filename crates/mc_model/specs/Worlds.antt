@@ -2,13 +2,13 @@
 -- library; this project's profile.)
 use Rattle.std.specs.Prelude.{ℕ, zero, suc, List, [], ◌∷◌, map, Bool, ◌&&◌, cond, nat_eq, codes}
 use Rattle.std.specs.Cmp.Lexicographic.{pointwise}
-use Rattle.mc_model.specs.Programs.{FullName}
-use Rattle.mc_model.specs.PlainPrograms.{plain_name, plain_program}
+use Rattle.mc_program.specs.Programs.{FullName}
+use Rattle.mc_program.specs.PlainPrograms.{plain_name, plain_program}
 use Rattle.mc_model.specs.Builtins.{Library, outcome}
-use Rattle.mc_model.specs.Printed.{names_of, printed}
+use Rattle.mc_program.specs.Printed.{names_of, printed}
 use Rattle.mc_model.specs.Truth.{World}
-use Rattle.mc_model.specs.declared.program.Program.{Program}
-use Rattle.mc_model.specs.declared.program.Symbol.{Symbol}
+use Rattle.mc_program.specs.declared.program.Program.{Program}
+use Rattle.mc_program.specs.declared.program.Symbol.{Symbol}
 
 -- a name of the library
 abbrev pub library_name : (module_name bytes : List ℕ) → (arity : ℕ) → FullName

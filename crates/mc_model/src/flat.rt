@@ -1,5 +1,5 @@
-use crate::value::Value;
 use mc_base::Row;
+use mc_program::value::Value;
 
 /// A goal whose atoms hold variables alone: an equation of two variables, of a variable and a constructor over
 /// variables, of a variable and a constant, a call, or a compound goal. `Disj` of an empty row is `fail`.

@@ -1,6 +1,6 @@
-use crate::det::Det;
-use crate::program::Place;
 use mc_base::{Row, Text};
+use mc_source::det::Det;
+use mc_source::place::Place;
 
 /// A node of the graph of insts, by its number: 0 is `free`, 1 `ground`, 2 `unique`, 3 `dead`.
 pub type InstId = u32;

@@ -1,23 +1,12 @@
-//! The data of the compiler, and the definitions of the language that every contract above cites.
+//! The language, as every phase behind linking speaks of it: types, builtins, truth, goals, insts, what runs do, and
+//! which runs are good. What the crates below say of sources and programs is passed on.
 #![tactic(auto)]
 
-pub mod builtin;
-pub mod copy;
-pub mod det;
-pub mod expr;
 pub mod flat;
 pub mod inst;
-pub mod laws;
-pub mod program;
-pub mod rows;
-pub mod rule;
 pub mod run;
-pub mod same;
 pub mod sched;
-pub mod ty;
-pub mod value;
 
 pub use mc_base::{Copied, Memory, Row, Text};
-
-#[cfg(test)]
-mod tests;
+pub use mc_program::{builtin, copy, expr, program, same, ty, value};
+pub use mc_source::{det, rule};

@@ -1,5 +1,5 @@
-use crate::value::Value;
 use mc_base::{Row, Text};
+use mc_program::value::Value;
 
 /// How many calls a run may make, and how high its calls may stand.
 #[derive(Clone, Copy, Debug, PartialEq, Eq)]

@@ -1,10 +1,10 @@
-use crate::builtin::Builtin;
-use crate::det::Det;
 use crate::inst::InstId;
-use crate::program::Place;
-use crate::ty::Ty;
-use crate::value::Value;
 use mc_base::Row;
+use mc_program::builtin::Builtin;
+use mc_program::ty::Ty;
+use mc_program::value::Value;
+use mc_source::det::Det;
+use mc_source::place::Place;
 
 /// What an arm of a switch is for: a constructor, by its number, or a constant.
 #[derive(Drop)]

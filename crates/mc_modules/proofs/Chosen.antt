@@ -1,9 +1,9 @@
--- Numbers of things that pass a test, chosen among those of things that pass another.
+-- Numbers of definitions that pass a test, chosen among those of definitions that pass another.
 use Rattle.std.proofs.Common.{◌≡◌, ℕ, suc, ◌+◌, Bool, true, false, cond, ◌&&◌, ◌||◌, nat_eq, List, [], ◌∷◌, ◌++◌, map, Some, refl, ap, sym, ◌∙◌, arith}
 use Rattle.std.specs.Prelude.{slice_get}
 use Rattle.std.specs.Str.{bytes_eq}
 use Rattle.std.specs.Cmp.Lexicographic.{nat_list_eq_equiv}
-use Rattle.mc_item_names.specs.Plain.{Id}
+use Rattle.mc_defs_uses.specs.Plain.{PlainNameArity}
 use Rattle.mc_modules.specs.declared.names.Named.{Named}
 use Rattle.mc_modules.specs.Index.{numbers_where, numbers_called}
 use Rattle.mc_modules.specs.Linked.{Linked, plain_named}
@@ -50,14 +50,14 @@ and_last false b true = refl
 and_last false b false = refl
 
 -- those of a name that have the number of arguments
-pub of_id : (types : List Named) (x : Id) → chosen (λ d. nat_eq d.name.arity x.arity) types (numbers_called x.name 0 types) ≡ numbers_where (has_id x) 0 (map plain_named types)
+pub of_id : (types : List Named) (x : PlainNameArity) → chosen (λ d. nat_eq d.name.arity x.arity) types (numbers_called x.name 0 types) ≡ numbers_where (has_id x) 0 (map plain_named types)
 of_id types x =
     chosen-numbers_where (λ d. nat_eq d.name.arity x.arity) (λ d. bytes_eq x.name d.name.name) types
     ∙ numbers_where-same _ (λ d. has_id x (plain_named d)) 0 types (λ d. ap (λ b. b && nat_eq d.name.arity x.arity) (nat_list_eq_equiv.symm x.name d.name.name) ∙ and_swapped (bytes_eq d.name.name x.name) (nat_eq d.name.arity x.arity))
     ∙ sym (numbers_where-map plain_named (has_id x) 0 types)
 
 -- those of them that the modules have, and the other module sees
-pub seen_of_id : (l : Linked) (own : ℕ) (x : Id) (js : List ℕ) → types_seen l own (numbers_where (has_id x) 0 l.types) js ≡ type_numbers l own x js
+pub seen_of_id : (l : Linked) (own : ℕ) (x : PlainNameArity) (js : List ℕ) → types_seen l own (numbers_where (has_id x) 0 l.types) js ≡ type_numbers l own x js
 seen_of_id l own x [] = refl
 seen_of_id l own x (j ∷ js) =
     let here : chosen (type_seen l own j) l.types (numbers_where (has_id x) 0 l.types) ≡ numbers_where (type_fits l own x j) 0 l.types =

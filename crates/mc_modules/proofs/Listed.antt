@@ -1,4 +1,4 @@
--- Things by their names.
+-- Definitions by their names.
 use Rattle.std.proofs.Common.{◌≡◌, ℕ, Bool, true, false, cond, ◌&&◌, ◌||◌, nat_eq, List, [], ◌∷◌, ◌++◌, map, length, get_or, Option, Some, None, zero, suc, refl, ap, sym, ◌∙◌, true≢false, arith, if◌then◌else◌, Vec}
 use Rattle.std.specs.Prelude.{slice_get}
 use Rattle.std.specs.Option.{option_map}
@@ -7,9 +7,9 @@ use Rattle.std.specs.Map.{lookup}
 use Rattle.std.specs.Str.{bytes_eq}
 use Rattle.std.proofs.lemmas.Option.{slice_get-map}
 use Rattle.indexmap.specs.IndexMap.{insert_entry}
-use Rattle.mc_model.specs.declared.program.Candidate.{Candidate}
-use Rattle.mc_model.specs.declared.program.Candidate.TheVariants as C
-use Rattle.mc_item_names.specs.Plain.{Id}
+use Rattle.mc_source.specs.declared.name.Candidate.{Candidate}
+use Rattle.mc_source.specs.declared.name.Candidate.TheVariants as C
+use Rattle.mc_defs_uses.specs.Plain.{PlainNameArity}
 use Rattle.mc_modules.specs.declared.names.Named.{Named}
 use Rattle.mc_modules.specs.Linked.{Defined, Linked, plain_named}
 use Rattle.mc_modules.specs.Candidates.{defined_by, fits, fitting}
@@ -78,7 +78,7 @@ listed_again index w v c = by (bytes_eq w v) refl
 abbrev pub vec_list : {X A : Type 0} → Vec X A → List X
 vec_list v = v.items
 
-fits_name : (own : Bool) (x : Id) (d : Defined) → bytes_eq x.name d.name.name ≡ false → fits own x (Some d) ≡ false
+fits_name : (own : Bool) (x : PlainNameArity) (d : Defined) → bytes_eq x.name d.name.name ≡ false → fits own x (Some d) ≡ false
 fits_name own x d h = rw (nat_list_eq_equiv.symm d.name.name x.name, h) (last (own || d.exported) (nat_eq d.name.arity x.arity))
   where
     last : (a b : Bool) → (a && (b && false)) ≡ false
@@ -87,23 +87,23 @@ fits_name own x d h = rw (nat_list_eq_equiv.symm d.name.name x.name, h) (last (o
     last false b = refl
 
 module _ (l : Linked) (ss ps : List Named) (s : l.symbols ≡ map plain_named ss) (p : l.preds ≡ map plain_named ps) where
-  of_named : (own : Bool) (x : Id) (o : Option Named) → is_called x.name (option_map its_name o) ≡ false → fits own x (option_map plain_named o) ≡ false
+  of_named : (own : Bool) (x : PlainNameArity) (o : Option Named) → is_called x.name (option_map its_name o) ≡ false → fits own x (option_map plain_named o) ≡ false
   of_named own x None h = refl
   of_named own x (Some n) h = fits_name own x (plain_named n) h
 
-  not_called : (own : Bool) (x : Id) (c : Candidate) → is_called x.name (name_at ss ps c) ≡ false → fits own x (defined_by l c) ≡ false
+  not_called : (own : Bool) (x : PlainNameArity) (c : Candidate) → is_called x.name (name_at ss ps c) ≡ false → fits own x (defined_by l c) ≡ false
   not_called own x (C.Con k) h = rw (s, slice_get-map plain_named ss k) (of_named own x (slice_get ss k) h)
   not_called own x (C.Func k) h = rw (p, slice_get-map plain_named ps k) (of_named own x (slice_get ps k) h)
   not_called own x (C.Pred k) h = rw (p, slice_get-map plain_named ps k) (of_named own x (slice_get ps k) h)
   not_called own x (C.Char c) h = refl
 
-  called_step : (own : Bool) (x : Id) (c : Candidate) (cs : List Candidate) (b : Bool) → is_called x.name (name_at ss ps c) ≡ b → fitting l own x (called ss ps x.name cs) ≡ fitting l own x cs
+  called_step : (own : Bool) (x : PlainNameArity) (c : Candidate) (cs : List Candidate) (b : Bool) → is_called x.name (name_at ss ps c) ≡ b → fitting l own x (called ss ps x.name cs) ≡ fitting l own x cs
       → fitting l own x (cond b (c ∷ called ss ps x.name cs) (called ss ps x.name cs)) ≡ fitting l own x (c ∷ cs)
   called_step own x c cs true h ih = ap (λ ds. cond (fits own x (defined_by l c)) (c ∷ ds) ds) ih
   called_step own x c cs false h ih = rw (not_called own x c h) ih
 
   -- what fits is among what has the name
-  pub fitting_called : (own : Bool) (x : Id) (cs : List Candidate) → fitting l own x (called ss ps x.name cs) ≡ fitting l own x cs
+  pub fitting_called : (own : Bool) (x : PlainNameArity) (cs : List Candidate) → fitting l own x (called ss ps x.name cs) ≡ fitting l own x cs
   fitting_called own x [] = refl
   fitting_called own x (c ∷ cs) = called_step own x c cs (is_called x.name (name_at ss ps c)) refl (fitting_called own x cs)
 

@@ -1,15 +1,15 @@
--- Things that are put in one list after another.
+-- Definitions that are put in one list after another.
 use Rattle.std.proofs.Common.{◌≡◌, ℕ, ◌+◌, ◌<◌, List, [], ◌∷◌, ◌++◌, length, get_or, drop, refl, ap, sym, ◌∙◌, drop-cons, add-one, append_assoc}
-use Rattle.mc_item_names.specs.Plain.{PlainThing}
-use Rattle.mc_item_names.specs.Sets.{put_all}
-use Rattle.mc_link_rules.proofs.Tables.{put_all-append}
+use Rattle.mc_defs_uses.specs.Plain.{PlainDefinition}
+use Rattle.mc_defs_uses.specs.Sets.{put_all}
+use Rattle.mc_linking.proofs.Tables.{put_all-append}
 
 -- what is left of a list at a place is the element there and what is left behind it
 pub drop_item : {A : Type 0} (xs : List A) (i : ℕ) (x : A) → i < length xs → x ≡ get_or xs i x → drop i xs ≡ x ∷ drop (i + 1) xs
 drop_item xs i x h e = drop-cons xs i x h ∙ rw (add-one, ← e) refl
 
 -- one list more
-pub put_more : (ts now us vs all : List PlainThing) → now ≡ put_all ts us → put_all ts (us ++ vs) ≡ all → put_all now vs ≡ all
+pub put_more : (ts now us vs all : List PlainDefinition) → now ≡ put_all ts us → put_all ts (us ++ vs) ≡ all → put_all now vs ≡ all
 put_more ts now us vs all e h = ap (λ xs. put_all xs vs) e ∙ sym (put_all-append ts us vs) ∙ h
 
 -- an element goes from what is left to what is done

@@ -1,6 +1,6 @@
 -- Types as they are looked up: those of a name, then those of them that have its arity, then those that a module has and another sees.
 use Rattle.std.specs.Prelude.{ℕ, Bool, false, cond, nat_eq, ◌&&◌, ◌||◌, List, [], ◌∷◌, ◌++◌, Option, Some, None, slice_get}
-use Rattle.mc_item_names.specs.Plain.{Id, id, is_id}
+use Rattle.mc_defs_uses.specs.Plain.{PlainNameArity, id, is_name_arity}
 use Rattle.mc_modules.specs.Linked.{Defined, Linked}
 use Rattle.mc_modules.specs.Candidates.{is_module}
 
@@ -8,14 +8,14 @@ abbrev pub passes : {A : Type 0} → (A → Bool) → Option A → Bool
 passes p None = false
 passes p (Some x) = p x
 
--- those of these numbers whose things pass a test
+-- those of these numbers whose definitions pass a test
 abbrev pub chosen : {A : Type 0} → (A → Bool) → List A → List ℕ → List ℕ
 chosen p xs [] = []
 chosen p xs (k ∷ ks) = cond (passes p (slice_get xs k)) (k ∷ chosen p xs ks) (chosen p xs ks)
 
 -- whether a type has the name
-abbrev pub has_id : Id → Defined → Bool
-has_id x d = is_id (id d.name.name d.name.arity) x
+abbrev pub has_id : PlainNameArity → Defined → Bool
+has_id x d = is_name_arity (id d.name.name d.name.arity) x
 
 -- whether a type stands in the module of this number, and the module of the number `own` sees it
 abbrev pub type_seen : Linked → (own : ℕ) → ℕ → Defined → Bool

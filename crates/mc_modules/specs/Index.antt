@@ -2,11 +2,11 @@
 use Rattle.std.specs.Prelude.{◌≡◌, ℕ, ◌+◌, Bool, false, cond, List, [], ◌∷◌, Option, Some, None, slice_get, slice_index_or}
 use Rattle.std.specs.Option.{option_map}
 use Rattle.std.specs.Str.{bytes_eq}
-use Rattle.mc_model.specs.declared.program.Candidate.{Candidate}
-use Rattle.mc_model.specs.declared.program.Candidate.TheVariants as C
+use Rattle.mc_source.specs.declared.name.Candidate.{Candidate}
+use Rattle.mc_source.specs.declared.name.Candidate.TheVariants as C
 use Rattle.mc_modules.specs.declared.names.Named.{Named}
 
--- things by their names
+-- definitions by their names
 abbrev pub Index : Type 0 → Type 0
 Index A = List (List ℕ × List A)
 
@@ -38,12 +38,12 @@ called ss ps w (c ∷ cs) = cond (is_called w (name_at ss ps c)) (c ∷ called s
 abbrev pub IsIndex : (symbols preds : List Named) → List (Index Candidate) → (declared : List (List Candidate)) → Type 0
 IsIndex ss ps index declared = (j : ℕ) (w : List ℕ) → listed (slice_index_or index j []) w ≡ called ss ps w (slice_index_or declared j [])
 
--- the numbers of those things that pass a test, where the first has the number n
+-- the numbers of those definitions that pass a test, where the first has the number n
 abbrev pub numbers_where : {A : Type 0} → (A → Bool) → (n : ℕ) → List A → List ℕ
 numbers_where p n [] = []
 numbers_where p n (x ∷ xs) = cond (p x) (n ∷ numbers_where p (n + 1) xs) (numbers_where p (n + 1) xs)
 
--- the numbers of those things that have a name
+-- the numbers of those definitions that have a name
 abbrev pub numbers_called : List ℕ → (n : ℕ) → List Named → List ℕ
 numbers_called w n ds = numbers_where (λ d. bytes_eq w (its_name d)) n ds
 

@@ -2,8 +2,8 @@
 use Rattle.std.specs.Prelude.{◌≡◌, ◌≢◌, List, []}
 use Rattle.mc_items.specs.declared.entry.ItemsFault.{ItemsFault}
 use Rattle.mc_items.specs.declared.entry.ItemsFault.TheVariants as I
-use Rattle.mc_link_rules.specs.Files.{File}
-use Rattle.mc_link_rules.specs.Faults.{link_faults}
+use Rattle.mc_linking.specs.Files.{File}
+use Rattle.mc_linking.specs.Faults.{link_faults}
 
 abbrev pub IsRefusedLink : List File → ItemsFault → Type 0
 IsRefusedLink files (I.Broken bs) = (bs ≡ link_faults files) × (bs ≢ [])

@@ -1,15 +1,15 @@
 ghost use Rattle.std.specs.Prelude.{◌≡◌, ◌++◌, [], true, Some, slice_get, slice_index_or, map, IfOk, OnOk};
-ghost use Rattle.mc_item_names.specs.Plain.{id, qualifiers, last_part, plain_id};
-ghost use Rattle.mc_link_rules.specs.Visible.{character};
+ghost use Rattle.mc_defs_uses.specs.Plain.{id, qualifiers, last_part, plain_name_arity};
+ghost use Rattle.mc_linking.specs.Visible.{character};
 ghost use Rattle.mc_modules.specs.Linked.{plain_named, plain_names};
 ghost use Rattle.mc_modules.specs.Candidates.{defined_by, fits, fitting, fitting_in, is_module, named_so, looked_in, as_character, candidates};
 
 use crate::column::put_where;
 use crate::names::{Named, Names};
 use mc_base::{Copied, Memory, Row, Text};
-use mc_item_names::{Indicator, Kind, Used};
-use mc_link_rules::{joined, sole_character};
-use mc_model::program::Candidate;
+use mc_defs_uses::{Kind, NameArity, Occurrence};
+use mc_linking::{joined, sole_character};
+use mc_source::name::Candidate;
 use std::alloc::Global;
 
 impl Names {
@@ -25,7 +25,7 @@ impl Names {
     ) -> Result<Row<Candidate>, Memory>
         ensures { IfOk result (λ all. all ≡ candidates (plain_names self.now) own (qualifiers name.now) (id (last_part name.now) arity)) }
     {
-        let used = Used::of(Kind::Symbol, name.as_slice(), arity as usize);
+        let used = Occurrence::of(Kind::Symbol, name.as_slice(), arity as usize);
         let mut all = Vec::new(alloc);
         let modules = self.looked_in(alloc, own, used.qualifiers)?;
         self.put_of_modules(own, modules.as_slice(), used.id, &mut all)?;
@@ -45,7 +45,7 @@ impl Names {
         ensures { IfOk result (λ all. all ≡ fitting (plain_names self.now) true (id name.now arity) (slice_index_or self.now.declared own [])) }
     {
         let mut all = Vec::new(alloc);
-        self.put_of_module(true, own, Indicator { name, arity }, &mut all)?;
+        self.put_of_module(true, own, NameArity { name, arity }, &mut all)?;
         Row::of(all)
     }
 
@@ -63,7 +63,7 @@ impl Names {
         }
         let scope = self.scopes.get(own);
         if qualifiers.is_empty() {
-            return scope.bare.copied(alloc);
+            return scope.unqualified.copied(alloc);
         }
         let name = joined(alloc, qualifiers)?;
         self.named_so(alloc, &name, scope.seen.as_slice())
@@ -92,10 +92,10 @@ impl Names {
         &self,
         own: u32,
         modules: &[u32],
-        id: Indicator,
+        id: NameArity,
         all: &mut Vec<Candidate>,
     ) -> Result<(), Memory>
-        ensures { OnOk result (all.new.items ≡ all.old.items ++ fitting_in (plain_names self.now) own (plain_id id.entry) modules.now) }
+        ensures { OnOk result (all.new.items ≡ all.old.items ++ fitting_in (plain_names self.now) own (plain_name_arity id.entry) modules.now) }
     {
         for module in modules {
             self.put_of_module(own == *module, *module, id, all)?;
@@ -108,10 +108,10 @@ impl Names {
         &self,
         own: bool,
         number: u32,
-        id: Indicator,
+        id: NameArity,
         all: &mut Vec<Candidate>,
     ) -> Result<(), Memory>
-        ensures { OnOk result (all.new.items ≡ all.old.items ++ fitting (plain_names self.now) own (plain_id id.entry) (slice_index_or self.now.declared number [])) }
+        ensures { OnOk result (all.new.items ≡ all.old.items ++ fitting (plain_names self.now) own (plain_name_arity id.entry) (slice_index_or self.now.declared number [])) }
     {
         self.put_fitting(own, id, self.called(number, id.name), all)
     }
@@ -119,11 +119,11 @@ impl Names {
     fn put_fitting(
         &self,
         own: bool,
-        id: Indicator,
+        id: NameArity,
         candidates: &[Candidate],
         all: &mut Vec<Candidate>,
     ) -> Result<(), Memory>
-        ensures { OnOk result (all.new.items ≡ all.old.items ++ fitting (plain_names self.now) own (plain_id id.entry) candidates.now) }
+        ensures { OnOk result (all.new.items ≡ all.old.items ++ fitting (plain_names self.now) own (plain_name_arity id.entry) candidates.now) }
     {
         for candidate in candidates {
             put_where(self.fits(own, id, *candidate), *candidate, all)?;
@@ -132,8 +132,8 @@ impl Names {
     }
 
     // Whether a candidate has the name, and is seen.
-    fn fits(&self, own: bool, id: Indicator, candidate: Candidate) -> bool
-        ensures { result ≡ fits own (plain_id id.entry) (defined_by (plain_names self.now) candidate) }
+    fn fits(&self, own: bool, id: NameArity, candidate: Candidate) -> bool
+        ensures { result ≡ fits own (plain_name_arity id.entry) (defined_by (plain_names self.now) candidate) }
     {
         match candidate {
             Candidate::Con(k) => fits_at(own, id, &self.symbols, k),
@@ -144,21 +144,21 @@ impl Names {
     }
 }
 
-fn fits_at(own: bool, id: Indicator, names: &Row<Named>, k: u32) -> bool
-    ensures { result ≡ fits own (plain_id id.entry) (slice_get (map plain_named names.now) k) }
+fn fits_at(own: bool, id: NameArity, names: &Row<Named>, k: u32) -> bool
+    ensures { result ≡ fits own (plain_name_arity id.entry) (slice_get (map plain_named names.now) k) }
 {
     k < names.len() && fits_named(own, id, names.get(k))
 }
 
-fn fits_named(own: bool, id: Indicator, named: &Named) -> bool
-    ensures { result ≡ fits own (plain_id id.entry) (Some (plain_named named.now)) }
+fn fits_named(own: bool, id: NameArity, named: &Named) -> bool
+    ensures { result ≡ fits own (plain_name_arity id.entry) (Some (plain_named named.now)) }
 {
     let name = &named.name;
     (own || named.exported) && (name.arity as usize == id.arity && name.name.bytes() == id.name)
 }
 
-fn put_character(qualifiers: &[Text], id: Indicator, all: &mut Vec<Candidate>) -> Result<(), Memory>
-    ensures { OnOk result (all.new.items ≡ all.old.items ++ as_character (character qualifiers.now (plain_id id.entry))) }
+fn put_character(qualifiers: &[Text], id: NameArity, all: &mut Vec<Candidate>) -> Result<(), Memory>
+    ensures { OnOk result (all.new.items ≡ all.old.items ++ as_character (character qualifiers.now (plain_name_arity id.entry))) }
 {
     if !qualifiers.is_empty() || id.arity != 0 {
         return Ok(());

@@ -1,6 +1,6 @@
 ghost use Rattle.std.specs.Prelude.{◌≡◌, ◌++◌, ◌∷◌, [], map, IfOk, OnOk};
 ghost use Rattle.mc_items.specs.Files.{plain_entry};
-ghost use Rattle.mc_link_rules.specs.Files.{plain_files};
+ghost use Rattle.mc_linking.specs.Files.{plain_files};
 ghost use Rattle.mc_modules.specs.Linked.{name_of, each, types_of, symbols_of, preds_of, insts_of, modes_defined, plain_named};
 
 use crate::column::Column;
@@ -8,7 +8,7 @@ use crate::names::Named;
 use crate::part::Part;
 use mc_base::{Memory, Row, Text};
 use mc_items::Entry;
-use mc_link_rules::{joined, module_name};
+use mc_linking::{joined, module_name};
 use std::alloc::Global;
 
 /// The name of the module that a file is, or none.

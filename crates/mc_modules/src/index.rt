@@ -6,11 +6,11 @@ ghost use Rattle.mc_modules.specs.Index.{listed, its_name, name_at, is_called, c
 use crate::names::Named;
 use indexmap::IndexMap;
 use mc_base::{Memory, Row};
-use mc_model::program::Candidate;
+use mc_source::name::Candidate;
 use std::alloc::Global;
 use std::marker::Model;
 
-/// Things by name. A look-up takes the time of one hash.
+/// Definitions by name. A look-up takes the time of one hash.
 #[derive(Drop)]
 pub struct Index<T> {
     named: IndexMap<Vec<u8>, Vec<T>>,
@@ -43,7 +43,7 @@ impl<T: Copy + Drop> Index<T> {
         }
     }
 
-    // Puts a thing behind the others of its name, which are copied: in legal sources a module has one of each arity.
+    // Puts a definition behind the others of its name, which are copied: in legal sources a module has one of each arity.
     fn put(&mut self, alloc: Global, name: &[u8], item: T) -> Result<(), Memory>
         ensures { OnOk result ((w : List ℕ) → listed self.new w ≡ cond (bytes_eq w name.now) (listed self.old w ++ item ∷ []) (listed self.old w)) }
     {
@@ -63,7 +63,7 @@ impl<T: Copy + Drop> Index<T> {
     }
 }
 
-/// The numbers of things, by their names.
+/// The numbers of definitions, by their names.
 pub fn numbers_by_name(alloc: Global, names: &Row<Named>) -> Result<Index<u32>, Memory>
     ensures { IfOk result (λ index. IsNumberIndex names.now index) }
 {

@@ -14,6 +14,6 @@ mod scopes;
 mod type_candidates;
 
 pub use linked::link;
-pub use mc_link_rules::{ModuleNames, goal_rule, link_faults, linked_files};
-pub use mc_model::program::Candidate;
+pub use mc_linking::{ModuleNames, goal_rule, link_faults, linked_files};
+pub use mc_source::name::Candidate;
 pub use names::{Named, NamedRows, Names, Scope};

@@ -1,6 +1,6 @@
 ghost use Rattle.std.specs.Prelude.{◌≡◌, [], IfOk, IfErr};
-ghost use Rattle.mc_link_rules.specs.Files.{plain_files};
-ghost use Rattle.mc_link_rules.specs.Faults.{link_faults};
+ghost use Rattle.mc_linking.specs.Files.{plain_files};
+ghost use Rattle.mc_linking.specs.Faults.{link_faults};
 ghost use Rattle.mc_modules.specs.Linked.{linked, plain_names};
 ghost use Rattle.mc_modules.specs.Refused.{IsRefusedLink};
 
@@ -10,7 +10,7 @@ use crate::numbered::declared;
 use crate::scopes::scopes;
 use mc_base::{Memory, Row};
 use mc_items::{Entry, ItemsFault};
-use mc_link_rules::{ModuleNames, link_faults, sights};
+use mc_linking::{ModuleNames, link_faults, visibilities};
 use std::alloc::Global;
 
 // The names of a program, whatever rules it breaks.
@@ -18,10 +18,10 @@ fn names(alloc: Global, files: &[Row<Entry>]) -> Result<Names, Memory>
     ensures { IfOk result (λ names. plain_names names ≡ linked (plain_files files.now)) }
 {
     let module_names = ModuleNames::of(alloc, files)?;
-    let sights = sights(alloc, files, &module_names)?;
+    let visibilities = visibilities(alloc, files, &module_names)?;
     let columns = Columns::of(alloc, files)?;
     let declared = declared(alloc, files, &columns.symbols, &columns.preds)?;
-    let scopes = scopes(alloc, files, sights, &columns)?;
+    let scopes = scopes(alloc, files, visibilities, &columns)?;
     let named = NamedRows {
         types: columns.types.flat(alloc)?,
         symbols: columns.symbols.flat(alloc)?,

@@ -1,20 +1,21 @@
 ghost use Rattle.std.specs.Prelude.{◌≡◌, ◌∷◌, ◌++◌, [], map, IfOk, OnOk};
-ghost use Rattle.mc_syntax.specs.Plain.{plain_term, tms};
-ghost use Rattle.mc_decl_forms.specs.Plain.{plain_item};
-ghost use Rattle.mc_item_names.specs.Plain.{plain_id, plain_thing};
-ghost use Rattle.mc_link_rules.specs.Files.{NoSection};
+ghost use Rattle.mc_term_data.specs.Plain.{plain_term, tms};
+ghost use Rattle.mc_decl_syntax.specs.Plain.{plain_item};
+ghost use Rattle.mc_defs_uses.specs.Plain.{plain_name_arity, plain_definition};
+ghost use Rattle.mc_linking.specs.Files.{NoSection};
 ghost use Rattle.mc_modules.specs.Linked.{defined, bare_head, constructors, symbols_by, of_kind, plain_named};
-ghost use Rattle.mc_link_rules.specs.Tables.{plain_section};
+ghost use Rattle.mc_linking.specs.Tables.{plain_section};
 ghost use Rattle.mc_modules.specs.Passes.{stands};
 
 use crate::names::Named;
 use mc_base::{Copied, Memory, Row, Text};
-use mc_decl_forms::Decl;
-use mc_item_names::{Indicator, Thing, symbol_name};
+use mc_decl_syntax::Decl;
+use mc_defs_uses::{Definition, NameArity, symbol_name};
 use mc_items::Entry;
-use mc_link_rules::Section;
-use mc_model::program::{Name, Place};
-use mc_syntax::{Node, Term};
+use mc_linking::Section;
+use mc_source::name::Name;
+use mc_source::place::Place;
+use mc_term_data::{Node, Term};
 use std::alloc::Global;
 
 /// A number below 2^32.
@@ -33,9 +34,9 @@ fn named(
     at: Place,
     exported: bool,
     decl: Decl,
-    id: Indicator,
+    id: NameArity,
 ) -> Result<Named, Memory>
-    ensures { IfOk result (λ n. plain_named n ≡ defined home.now (stands (plain_item decl) at NoSection) exported (plain_item decl) (plain_id id.entry)) }
+    ensures { IfOk result (λ n. plain_named n ≡ defined home.now (stands (plain_item decl) at NoSection) exported (plain_item decl) (plain_name_arity id.entry)) }
 {
     let name = Name {
         module: home.copied(alloc)?,
@@ -56,10 +57,10 @@ pub fn put_whole(
     home: &Text,
     entry: &Entry,
     exported: bool,
-    id: Indicator,
+    id: NameArity,
     all: &mut Vec<Named>,
 ) -> Result<(), Memory>
-    ensures { OnOk result (map plain_named all.new.items ≡ map plain_named all.old.items ++ defined home.now (stands (plain_item entry.now.decl) entry.now.at NoSection) exported (plain_item entry.now.decl) (plain_id id.entry) ∷ []) }
+    ensures { OnOk result (map plain_named all.new.items ≡ map plain_named all.old.items ++ defined home.now (stands (plain_item entry.now.decl) entry.now.at NoSection) exported (plain_item entry.now.decl) (plain_name_arity id.entry) ∷ []) }
 {
     let decl = entry.decl.copied(alloc)?;
     all.push(named(alloc, home, entry.at, exported, decl, id)?)?;
@@ -73,12 +74,12 @@ pub fn put_sorted(
     entry: &Entry,
     section: Section,
     wanted: bool,
-    things: &[Thing],
+    definitions: &[Definition],
     all: &mut Vec<Named>,
 ) -> Result<(), Memory>
-    ensures { OnOk result (map plain_named all.new.items ≡ map plain_named all.old.items ++ of_kind home.now (stands (plain_item entry.now.decl) entry.now.at (plain_section section)) wanted (map plain_thing things.now)) }
+    ensures { OnOk result (map plain_named all.new.items ≡ map plain_named all.old.items ++ of_kind home.now (stands (plain_item entry.now.decl) entry.now.at (plain_section section)) wanted (map plain_definition definitions.now)) }
 {
-    match things {
+    match definitions {
         [first, ..] if wanted => put_whole(alloc, home, entry, section.is_shown(), first.id, all),
         _ => Ok(()),
     }
@@ -152,7 +153,7 @@ fn constructor(
 
 // The head of a type without its parameters.
 fn bare_head(alloc: Global, head: &Term) -> Result<Term, Memory>
-    ensures { IfOk result (λ bare. plain_term bare ≡ bare_head (plain_term head.now)) }
+    ensures { IfOk result (λ unqualified. plain_term unqualified ≡ bare_head (plain_term head.now)) }
 {
     match &head.node {
         Node::App(name, _) => {

@@ -3,8 +3,9 @@ ghost use Rattle.mc_modules.specs.Index.{called, numbers_called, IsIndex, IsNumb
 
 use crate::index::{Index, indices, numbers_by_name};
 use mc_base::{Memory, Row, Text};
-use mc_decl_forms::Decl;
-use mc_model::program::{Candidate, Name, Place};
+use mc_decl_syntax::Decl;
+use mc_source::name::{Candidate, Name};
+use mc_source::place::Place;
 use std::alloc::Global;
 
 /// What is declared or defined: its name, the item that does it, where that stands, and whether other modules see it.
@@ -21,7 +22,7 @@ pub struct Named {
 
 /// What a module sees: the numbers of the types, constructors, predicates with functions, insts and modes, those of the
 /// module itself first, then those of the modules that it imports, in the order of first import, and last those of the
-/// modules that it only uses. `bare` has the numbers of the modules whose names it may write unqualified, in that order,
+/// modules that it only uses. `unqualified` has the numbers of the modules whose names it may write unqualified, in that order,
 /// and `seen` those of all modules that it sees.
 #[derive(Debug, Drop)]
 pub struct Scope {
@@ -31,7 +32,7 @@ pub struct Scope {
     pub preds: Row<u32>,
     pub insts: Row<u32>,
     pub modes: Row<u32>,
-    pub bare: Row<u32>,
+    pub unqualified: Row<u32>,
     pub seen: Row<u32>,
 }
 
@@ -102,14 +103,14 @@ impl Names {
         })
     }
 
-    /// The numbers of the types of a name, whatever module they stand in. It takes the time of one hash.
+    /// The numbers of the types of a name, whatever module they stand in. PlainDecl takes the time of one hash.
     pub(crate) fn types_called(&self, name: &[u8]) -> &[u32]
         ensures { result.now ≡ numbers_called name.now 0 self.now.types }
     {
         self.type_index.get(name)
     }
 
-    /// What a module, which has a number, has of a name, in the order of declaration. It takes the time of one hash.
+    /// What a module, which has a number, has of a name, in the order of declaration. PlainDecl takes the time of one hash.
     pub(crate) fn called(&self, number: u32, name: &[u8]) -> &[Candidate]
         ensures { result.now ≡ called self.now.symbols self.now.preds name.now (slice_index_or self.now.declared number []) }
     {

@@ -1,15 +1,15 @@
 ghost use Rattle.std.specs.Prelude.{◌≡◌, ◌+◌, ◌++◌, List, [], map, length, IfOk, OnOk};
 ghost use Rattle.mc_items.specs.Files.{plain_entry};
-ghost use Rattle.mc_item_names.specs.Plain.{PlainThing, plain_thing};
-ghost use Rattle.mc_link_rules.specs.Files.{plain_files};
+ghost use Rattle.mc_defs_uses.specs.Plain.{PlainDefinition, plain_definition};
+ghost use Rattle.mc_linking.specs.Files.{plain_files};
 ghost use Rattle.mc_modules.specs.Linked.{each, symbols_of, preds_of, plain_named, as_numbered, next_con, next_pred, numbered, declared_from};
-ghost use Rattle.mc_modules.specs.Passes.{things_pass};
+ghost use Rattle.mc_modules.specs.Passes.{definitions_pass};
 
 use crate::column::Column;
 use mc_base::{Memory, Row};
-use mc_item_names::{Kind, Thing, things};
+use mc_defs_uses::{Definition, Kind, definitions};
 use mc_items::Entry;
-use mc_model::program::Candidate;
+use mc_source::name::Candidate;
 use std::alloc::Global;
 
 // Candidates that are numbered so far, and the numbers of the next ones.
@@ -56,11 +56,11 @@ impl Numbered {
         }
     }
 
-    fn put_all(&mut self, things: &[Thing]) -> Result<(), Memory>
-        ensures { OnOk result ((ts : List PlainThing) → self.new.all.items ++ numbered self.new.con self.new.pred ts ≡ self.old.all.items ++ numbered self.old.con self.old.pred (map plain_thing things.now ++ ts)) }
+    fn put_all(&mut self, definitions: &[Definition]) -> Result<(), Memory>
+        ensures { OnOk result ((ts : List PlainDefinition) → self.new.all.items ++ numbered self.new.con self.new.pred ts ≡ self.old.all.items ++ numbered self.old.con self.old.pred (map plain_definition definitions.now ++ ts)) }
     {
-        for thing in things {
-            self.put(thing.kind)?;
+        for definition in definitions {
+            self.put(definition.kind)?;
         }
         Ok(())
     }
@@ -68,13 +68,13 @@ impl Numbered {
 
 // The constructors, functions and predicates of a file, each by its number.
 fn numbered_in(alloc: Global, con: u32, pred: u32, file: &[Entry]) -> Result<Row<Candidate>, Memory>
-    ensures { IfOk result (λ all. all ≡ numbered con pred (things_pass (map plain_entry file.now))) }
+    ensures { IfOk result (λ all. all ≡ numbered con pred (definitions_pass (map plain_entry file.now))) }
 {
     let all = Vec::new(alloc);
     let mut found = Numbered { all, con, pred };
     for entry in file {
-        let things = things(alloc, &entry.decl)?;
-        found.put_all(things.as_slice())?;
+        let definitions = definitions(alloc, &entry.decl)?;
+        found.put_all(definitions.as_slice())?;
     }
     Row::of(found.all)
 }

@@ -1,15 +1,15 @@
 ghost use Rattle.std.specs.Prelude.{◌≡◌, ◌<◌, map, length, IfOk};
-ghost use Rattle.mc_link_rules.specs.Files.{plain_files};
+ghost use Rattle.mc_linking.specs.Files.{plain_files};
 ghost use Rattle.mc_modules.specs.Linked.{each, types_of, symbols_of, preds_of, insts_of, modes_defined, plain_named, scope, scopes_from};
 ghost use Rattle.mc_modules.specs.Passes.{scope_over};
-ghost use Rattle.mc_link_rules.specs.Sights.{sight, sights_from};
+ghost use Rattle.mc_linking.specs.Visibilities.{visibility, visibilities_from};
 
 use crate::columns::{Columns, name_of};
 use crate::named::small;
 use crate::names::Scope;
 use mc_base::{Memory, Row, Text};
 use mc_items::Entry;
-use mc_link_rules::Sight;
+use mc_linking::Visibility;
 use std::alloc::Global;
 
 // What a module of this name sees.
@@ -17,12 +17,12 @@ fn scope(
     alloc: Global,
     name: Text,
     own: u32,
-    sight: Sight,
+    visibility: Visibility,
     columns: &Columns,
 ) -> Result<Scope, Memory>
-    ensures { IfOk result (λ s. s ≡ scope_over name sight own (map (map plain_named) columns.now.types.has.items) (map (map plain_named) columns.now.symbols.has.items) (map (map plain_named) columns.now.preds.has.items) (map (map plain_named) columns.now.insts.has.items) (map (map plain_named) columns.now.modes.has.items)) }
+    ensures { IfOk result (λ s. s ≡ scope_over name visibility own (map (map plain_named) columns.now.types.has.items) (map (map plain_named) columns.now.symbols.has.items) (map (map plain_named) columns.now.preds.has.items) (map (map plain_named) columns.now.insts.has.items) (map (map plain_named) columns.now.modes.has.items)) }
 {
-    let Sight { bare, seen } = sight;
+    let Visibility { unqualified, seen } = visibility;
     let types = columns.types.visible(alloc, own, &seen)?;
     let symbols = columns.symbols.visible(alloc, own, &seen)?;
     let preds = columns.preds.visible(alloc, own, &seen)?;
@@ -35,7 +35,7 @@ fn scope(
         preds,
         insts,
         modes,
-        bare,
+        unqualified,
         seen,
     })
 }
@@ -45,11 +45,11 @@ fn scope_of(
     alloc: Global,
     files: &[Row<Entry>],
     own: usize,
-    seen: Sight,
+    seen: Visibility,
     columns: &Columns,
 ) -> Result<Scope, Memory>
     requires own { own < length files.now }
-    requires sight { seen ≡ sight (plain_files files.now) own }
+    requires visibility { seen ≡ visibility (plain_files files.now) own }
     requires types { map (map plain_named) columns.now.types.has.items ≡ each types_of (plain_files files.now) }
     requires symbols { map (map plain_named) columns.now.symbols.has.items ≡ each symbols_of (plain_files files.now) }
     requires preds { map (map plain_named) columns.now.preds.has.items ≡ each preds_of (plain_files files.now) }
@@ -65,10 +65,10 @@ fn scope_of(
 pub fn scopes(
     alloc: Global,
     files: &[Row<Entry>],
-    sights: Vec<Sight>,
+    visibilities: Vec<Visibility>,
     columns: &Columns,
 ) -> Result<Row<Scope>, Memory>
-    requires sights { sights.items ≡ sights_from (plain_files files.now) 0 (plain_files files.now) }
+    requires visibilities { visibilities.items ≡ visibilities_from (plain_files files.now) 0 (plain_files files.now) }
     requires types { map (map plain_named) columns.now.types.has.items ≡ each types_of (plain_files files.now) }
     requires symbols { map (map plain_named) columns.now.symbols.has.items ≡ each symbols_of (plain_files files.now) }
     requires preds { map (map plain_named) columns.now.preds.has.items ≡ each preds_of (plain_files files.now) }
@@ -78,7 +78,7 @@ pub fn scopes(
 {
     let mut all = Vec::new(alloc);
     let mut own = 0;
-    for seen in sights {
+    for seen in visibilities {
         all.push(scope_of(alloc, files, own, seen, columns)?)?;
         own += 1;
     }

@@ -1,5 +1,5 @@
 ghost use Rattle.std.specs.Prelude.{◌≡◌, ◌++◌, nat_eq, ◌&&◌, ◌||◌, slice_get, IfOk, OnOk};
-ghost use Rattle.mc_item_names.specs.Plain.{id, qualifiers, last_part, plain_id};
+ghost use Rattle.mc_defs_uses.specs.Plain.{id, qualifiers, last_part, plain_name_arity};
 ghost use Rattle.mc_modules.specs.Linked.{plain_names};
 ghost use Rattle.mc_modules.specs.Index.{numbers_where};
 ghost use Rattle.mc_modules.specs.Candidates.{is_module, type_candidates};
@@ -8,7 +8,7 @@ ghost use Rattle.mc_modules.specs.Chosen.{passes, chosen, has_id, type_seen, typ
 use crate::column::put_where;
 use crate::names::{Named, Names};
 use mc_base::{Memory, Row, Text};
-use mc_item_names::{Indicator, Kind, Used};
+use mc_defs_uses::{Kind, NameArity, Occurrence};
 use std::alloc::Global;
 
 impl Names {
@@ -25,7 +25,7 @@ impl Names {
     ) -> Result<Row<u32>, Memory>
         ensures { IfOk result (λ all. all ≡ type_candidates (plain_names self.now) own (qualifiers name.now) (id (last_part name.now) arity)) }
     {
-        let used = Used::of(Kind::DefinedType, name.as_slice(), arity as usize);
+        let used = Occurrence::of(Kind::DefinedType, name.as_slice(), arity as usize);
         let modules = self.looked_in(alloc, own, used.qualifiers)?;
         let types = self.types_of(alloc, used.id)?;
         let seen = self.seen_in(alloc, own, modules.as_slice(), types.as_slice())?;
@@ -34,8 +34,8 @@ impl Names {
 
     // The types of a name over so many arguments, whatever module they stand in: in legal sources one for each module at
     // most.
-    fn types_of(&self, alloc: Global, id: Indicator) -> Result<Vec<u32>, Memory>
-        ensures { IfOk result (λ all. all.items ≡ numbers_where (has_id (plain_id id.entry)) 0 (plain_names self.now).types) }
+    fn types_of(&self, alloc: Global, id: NameArity) -> Result<Vec<u32>, Memory>
+        ensures { IfOk result (λ all. all.items ≡ numbers_where (has_id (plain_name_arity id.entry)) 0 (plain_names self.now).types) }
     {
         self.with_arity(alloc, self.types_called(id.name), id.arity)
     }

@@ -2,8 +2,8 @@
 -- after the last one.
 use Rattle.std.specs.Prelude.{ℕ, List, [], ◌∷◌, ◌++◌, Bool, true, false, nat_eq, codes, if◌then◌else◌, ⊤}
 use Rattle.std.specs.Cmp.Lexicographic.{pointwise}
-use Rattle.mc_model.specs.Values.{Val, con, val_then}
-use Rattle.mc_model.specs.Printed.{printed, printed_tail, name_text, constant_text, is_nil}
+use Rattle.mc_program.specs.Values.{Val, con, val_then}
+use Rattle.mc_program.specs.Printed.{printed, printed_tail, name_text, constant_text, is_nil}
 use Rattle.mc_print.specs.declared.value.Place.{Place}
 use Rattle.mc_print.specs.declared.value.Place.TheVariants.{Whole, Tail}
 

@@ -1,9 +1,9 @@
 ghost use Rattle.std.specs.Prelude.{◌≡◌, ◌++◌, length, OnOk, IfOk};
-ghost use Rattle.mc_model.specs.Printed.{binding_text, more_bindings, answer_text, rule_name, broken_text};
+ghost use Rattle.mc_program.specs.Printed.{binding_text, more_bindings, answer_text, rule_name, broken_text};
 
 use itoa::Buffer;
 use mc_base::{Memory, Row, Text};
-use mc_model::rule::{Broken, Rule};
+use mc_source::rule::{Broken, Rule};
 use std::alloc::Global;
 
 /// Writes a variable and its value.

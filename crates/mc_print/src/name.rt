@@ -1,6 +1,6 @@
 ghost use Rattle.std.specs.Prelude.{◌≡◌, ◌<◌, ◌++◌, OnOk};
 ghost use Rattle.std.specs.List.{list_all};
-ghost use Rattle.mc_model.specs.Printed.{hex_digit, escaped, in_quotes, is_bare, is_word_byte, name_text, constant_text};
+ghost use Rattle.mc_program.specs.Printed.{hex_digit, escaped, in_quotes, is_bare, is_word_byte, name_text, constant_text};
 
 use mc_base::{Memory, Text};
 

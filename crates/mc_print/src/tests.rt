@@ -1,17 +1,19 @@
 ghost use Rattle.std.specs.Prelude.{◌≡◌, ◌<◌, IsTrue, length, map};
 ghost use Rattle.std.specs.Bool.{OnTrue};
-ghost use Rattle.mc_model.specs.Values.{plain_value, vals};
-ghost use Rattle.mc_model.specs.Printed.{SymbolsBelow, AllSymbolsBelow};
+ghost use Rattle.mc_program.specs.Values.{plain_value, vals};
+ghost use Rattle.mc_program.specs.Printed.{SymbolsBelow, AllSymbolsBelow};
 ghost use Rattle.mc_values.specs.Heap.{IsLive};
 
 use crate::line::{answer_line, broken_line};
 use crate::value::{printed, split, value_text};
 use mc_base::{Memory, Row, Text};
-use mc_model::copy::copy_value;
-use mc_model::program::{Name, Place, Program, Symbol};
-use mc_model::rule::{Broken, Rule};
-use mc_model::same::same_value;
-use mc_model::value::Value;
+use mc_program::copy::copy_value;
+use mc_program::program::{Program, Symbol};
+use mc_program::same::same_value;
+use mc_program::value::Value;
+use mc_source::name::Name;
+use mc_source::place::Place;
+use mc_source::rule::{Broken, Rule};
 use mc_values::{Heap, Ref};
 use std::alloc::Global;
 use std::process::Abort;

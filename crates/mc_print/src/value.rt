@@ -1,6 +1,6 @@
 ghost use Rattle.std.specs.Prelude.{◌≡◌, ◌<◌, ◌++◌, ◌∷◌, [], ℕ, length, map, slice_index_or, OnOk, IfOk, MatchOption};
-ghost use Rattle.mc_model.specs.Values.{Val, plain_value, vals};
-ghost use Rattle.mc_model.specs.Printed.{Names, names_of, name_at, printed, AllSymbolsBelow};
+ghost use Rattle.mc_program.specs.Values.{Val, plain_value, vals};
+ghost use Rattle.mc_program.specs.Printed.{Names, names_of, name_at, printed, AllSymbolsBelow};
 ghost use Rattle.mc_values.specs.Heap.{IsLive, value_at};
 ghost use Rattle.mc_print.specs.Splits.{IsSplit};
 ghost use Rattle.mc_print.specs.Places.{lead, at_place, opening, separator, fronts_text, last_place, closing, last_constant, IsEnd, is_list_front};
@@ -8,8 +8,8 @@ ghost use Rattle.mc_print.specs.Places.{lead, at_place, opening, separator, fron
 use crate::name::{write_constant, write_name, write_quoted};
 use itoa::Buffer;
 use mc_base::{Memory, Text};
-use mc_model::program::Program;
-use mc_model::value::Value;
+use mc_program::program::Program;
+use mc_program::value::Value;
 use mc_values::{Heap, Ref};
 use std::alloc::Global;
 

@@ -1,7 +1,7 @@
 -- What is known of an item where some of its tokens are read.
 use Rattle.std.proofs.Common.{◌≡◌, ◌≢◌, ◌⊎◌, inl, inr, ℕ, ◌+◌, ◌≤◌, ◌<◌, arith, true, false, List, [], ◌∷◌, reverse, refl, sym, ap, ◌∙◌, subst, slice_range}
 use Rattle.std.proofs.lemmas.List.{reverse-reverse}
-use Rattle.mc_grammar.specs.declared.lexeme.Lexeme.{Lexeme}
+use Rattle.mc_term_parser.specs.declared.lexeme.Lexeme.{Lexeme}
 use Rattle.mc_tokens.specs.declared.token.Kind.{Kind}
 use Rattle.mc_tokens.specs.declared.token.Kind.TheVariants.{Eof}
 use Rattle.mc_tokens.specs.declared.token.FaultKind.{FaultKind}
@@ -16,8 +16,8 @@ use Rattle.mc_tokens.specs.declared.token.TokenFault.{TokenFault}
 use Rattle.mc_tokens.specs.declared.token.Token as D
 use Rattle.mc_terms.specs.declared.fault.ReadFault.{ReadFault}
 use Rattle.mc_terms.specs.declared.fault.ReadKind.TheVariants.{Token, NotATerm}
-use Rattle.mc_grammar.specs.Tree.{Tree}
-use Rattle.mc_grammar.specs.Reads.{ReadsTerm}
+use Rattle.mc_term_parser.specs.Tree.{Tree}
+use Rattle.mc_term_parser.specs.Reads.{ReadsTerm}
 use Rattle.mc_terms.specs.declared.fault.ReadKind.{ReadKind}
 use Rattle.mc_terms.specs.Answers.{ItemTokens, IsRefused, StandsAt, item_line, token_line}
 

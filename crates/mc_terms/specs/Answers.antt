@@ -1,10 +1,10 @@
 -- What the reader answers for the item that begins in a place of a text (this project's profile).
 use Rattle.std.specs.Prelude.{◌≡◌, ◌≢◌, ℕ, ◌+◌, ◌<◌, ◌≤◌, List, [], Some, None, length}
-use Rattle.mc_syntax.specs.Plain.{plain_term}
-use Rattle.mc_syntax.specs.declared.term.Term.{Term}
-use Rattle.mc_grammar.specs.declared.lexeme.Lexeme.{Lexeme}
-use Rattle.mc_grammar.specs.Tree.{Tree, depth, too_large, term}
-use Rattle.mc_grammar.specs.Reads.{ReadsTerm}
+use Rattle.mc_term_data.specs.Plain.{plain_term}
+use Rattle.mc_term_data.specs.declared.term.Term.{Term}
+use Rattle.mc_term_parser.specs.declared.lexeme.Lexeme.{Lexeme}
+use Rattle.mc_term_parser.specs.Tree.{Tree, depth, too_large, term}
+use Rattle.mc_term_parser.specs.Reads.{ReadsTerm}
 use Rattle.mc_tokens.specs.declared.token.Kind.{Kind}
 use Rattle.mc_tokens.specs.declared.token.Kind.TheVariants.{Eof}
 use Rattle.mc_tokens.specs.declared.token.FaultKind.{FaultKind}

@@ -1,7 +1,7 @@
 -- The tokens of an item as the reader of terms takes them (the Mercury manual, Tokens and Terms).
 use Rattle.std.specs.Prelude.{ℕ, Bool, true, false, List, [], ◌∷◌, ◌++◌, reverse, Option, Some, None}
-use Rattle.mc_grammar.specs.declared.lexeme.Lexeme.{Lexeme}
-use Rattle.mc_grammar.specs.declared.lexeme.Lexeme.TheVariants as L
+use Rattle.mc_term_parser.specs.declared.lexeme.Lexeme.{Lexeme}
+use Rattle.mc_term_parser.specs.declared.lexeme.Lexeme.TheVariants as L
 use Rattle.mc_tokens.specs.declared.token.Kind.{Kind}
 use Rattle.mc_tokens.specs.declared.token.Kind.TheVariants as K
 use Rattle.mc_tokens.specs.Contents.{stands_for}

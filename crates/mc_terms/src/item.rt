@@ -2,7 +2,7 @@ ghost use Rattle.std.specs.Prelude.{◌≡◌, ◌≢◌, ◌+◌, ◌≤◌, �
 ghost use Rattle.mc_tokens.specs.Contents.{stands_for};
 ghost use Rattle.mc_terms.specs.Lines.{line_at};
 ghost use Rattle.mc_terms.specs.Lexemes.{qualifier, with_name, with_token, IsMark};
-ghost use Rattle.mc_grammar.specs.declared.lexeme.Lexeme.{Lexeme};
+ghost use Rattle.mc_term_parser.specs.declared.lexeme.Lexeme.{Lexeme};
 ghost use Rattle.mc_terms.specs.Answers.{ItemTokens, IsRefused, IsOnward, StandsAt, item_line};
 ghost use Rattle.mc_tokens.specs.Tokens.{Tok, lexed};
 ghost use Rattle.mc_tokens.specs.Items.{Passes};
@@ -11,7 +11,7 @@ ghost use Rattle.std.specs.Prelude.{None, Some};
 use crate::fault::{ItemFault, ReadFault, ReadKind};
 use crate::position::Position;
 use mc_base::{Memory, Row, Text};
-use mc_grammar::Lexeme;
+use mc_term_parser::Lexeme;
 use mc_tokens::{FaultKind, Kind, Token, TokenFault, Walk, token_text};
 use std::alloc::Global;
 

@@ -9,7 +9,7 @@ mod term;
 mod tests;
 
 pub use fault::{ItemFault, ReadFault, ReadKind};
-pub use mc_grammar::{Fix, infix, prefix};
-pub use mc_syntax::{Node, Term};
+pub use mc_term_data::{Node, Term};
+pub use mc_term_parser::{Fix, infix, prefix};
 pub use position::Position;
 pub use term::{ReadItem, read_next, read_term};

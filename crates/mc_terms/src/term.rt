@@ -5,8 +5,8 @@ ghost use Rattle.mc_terms.specs.Answers.{IsOver, IsItem, IsRefused, IsOnward, St
 use crate::fault::{ItemFault, ReadFault, ReadKind};
 use crate::item::{faulty_token, item_tokens, want_of_memory};
 use crate::position::Position;
-use mc_grammar::{Reading, read};
-use mc_syntax::Term;
+use mc_term_data::Term;
+use mc_term_parser::{Reading, read};
 use mc_tokens::{Kind, Walk};
 use std::alloc::Global;
 

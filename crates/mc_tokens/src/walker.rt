@@ -11,7 +11,7 @@ use crate::seen::Seen;
 use crate::token::{Kind, Token, TokenFault};
 use std::marker::Model;
 
-/// A text that is walked token by token, which contracts see as its bytes. It answers what [`next_token`] answers, and
+/// A text that is walked token by token, which contracts see as its bytes. PlainDecl answers what [`next_token`] answers, and
 /// remembers what it found out past a fault.
 #[derive(Drop)]
 pub struct Walk<'a> {

@@ -1,8 +1,8 @@
 -- The arguments of a value, and the values that have some.
 use Rattle.std.proofs.Common.{◌≡◌, ℕ, ◌<◌, length, arith, List, map, refl, ap, ◌∙◌}
-use Rattle.mc_model.specs.Values.{Val, int, char, str, con, state, plain_value}
-use Rattle.mc_model.specs.declared.value.Value.{Value, Con}
-use Rattle.mc_model.proofs.Views.{plain_value-Con, listed-vals, all_held, held_con}
+use Rattle.mc_program.specs.Values.{Val, int, char, str, con, state, plain_value}
+use Rattle.mc_program.specs.declared.value.Value.{Value, Con}
+use Rattle.mc_program.proofs.Views.{plain_value-Con, listed-vals, all_held, held_con}
 use Rattle.mc_values.specs.Parts.{arguments}
 
 pub arguments-Con : (s : ℕ) (args : List Value) → arguments (plain_value (Con s args)) ≡ map plain_value args

@@ -4,8 +4,8 @@ use Rattle.std.specs.List.{All}
 use Rattle.std.proofs.lemmas.List.{get_or-map, get_or-take, get_or_append_left, map-append, take-map, length-take, length-map}
 use Rattle.std.proofs.lemmas.Simd.{map-map}
 use borrow.Author.Count.{below_more}
-use Rattle.mc_model.specs.declared.value.Value.{Value, Int}
-use Rattle.mc_model.specs.Values.{Val, plain_value}
+use Rattle.mc_program.specs.declared.value.Value.{Value, Int}
+use Rattle.mc_program.specs.Values.{Val, plain_value}
 use Rattle.mc_values.specs.Parts.{arguments}
 use Rattle.mc_values.proofs.Arguments.{is_con, arguments-Con}
 use Rattle.mc_values.specs.declared.cell.Cell.{Cell}

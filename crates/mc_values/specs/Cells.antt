@@ -1,6 +1,6 @@
 -- How the cells of a heap hold values: each its own, with the numbers of the cells that its arguments stand in.
 use Rattle.std.specs.Prelude.{◌≡◌, ℕ, pos, ◌<◌, List, map, length, slice_index_or, All}
-use Rattle.mc_model.specs.declared.value.Value.{Value, Int, Con}
+use Rattle.mc_program.specs.declared.value.Value.{Value, Int, Con}
 use Rattle.mc_values.specs.declared.cell.Cell.{Cell}
 
 -- the value in a cell; past the last cell 0

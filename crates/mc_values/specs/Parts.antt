@@ -1,6 +1,6 @@
 -- What a value is made of. (Mercury Language Reference Manual: Types.)
 use Rattle.std.specs.Prelude.{ℕ, ℤ, ◌+◌, List, [], ◌++◌, Option, Some, None, IsSome}
-use Rattle.mc_model.specs.Values.{Val, int, char, str, con, state, listed}
+use Rattle.mc_program.specs.Values.{Val, int, char, str, con, state, listed}
 
 -- the integer that a value is
 abbrev pub int_of : Val → Option ℤ

@@ -1,6 +1,6 @@
 use crate::heap::Ref;
 use mc_base::Row;
-use mc_model::value::Value;
+use mc_program::value::Value;
 
 /// A value, and the Refs of its arguments.
 #[derive(Drop)]

@@ -1,14 +1,14 @@
 ghost use Rattle.std.specs.Prelude.{◌≡◌, ℕ, ◌<◌, ◌≤◌, ◌+◌, ◌^◌, ◌++◌, ◌∷◌, [], ◌↔◌, IsTrue, IfOk, OnErr, All, length, map, slice_index_or, option_copied};
 ghost use Rattle.std.specs.Option.{ForSome};
-ghost use Rattle.mc_model.specs.Values.{plain_value, int, char, str, con, state, vals};
+ghost use Rattle.mc_program.specs.Values.{plain_value, int, char, str, con, state, vals};
 ghost use Rattle.mc_values.specs.Heap.{MarksRise};
 ghost use Rattle.mc_values.specs.Parts.{int_of, char_of, text_of, symbol_of, arguments, taken_of, IsState, with_written, with_taken};
 
 use crate::cell::Cell;
 use mc_base::{Copied, Memory, Row, Text};
-use mc_model::copy::copy_value;
-use mc_model::same::same_value;
-use mc_model::value::Value;
+use mc_program::copy::copy_value;
+use mc_program::same::same_value;
+use mc_program::value::Value;
 use std::alloc::Global;
 use std::marker::Model;
 
@@ -27,12 +27,12 @@ pub struct Heap {
 
 impl Model for Heap {
     ghost use Rattle.std.specs.Prelude.{List};
-    ghost use Rattle.mc_model.specs.declared.value.Value.{Value as Owned};
+    ghost use Rattle.mc_program.specs.declared.value.Value.{Value as Owned};
     ghost use Rattle.mc_values.specs.Cells.{held_in, AreCells};
 
     ghost Value = { List Owned };
 
-    ghost use Rattle.mc_model.specs.contracts.value.Value as owned;
+    ghost use Rattle.mc_program.specs.contracts.value.Value as owned;
     ghost use Rattle.std.specs.Coded.{coded_list};
 
     ghost coded = { coded_list owned.the_row.coded };
@@ -48,7 +48,7 @@ pub fn marks_rise()
 {}
 
 impl Heap {
-    ghost use Rattle.mc_model.specs.declared.value.Value.{Value, Con};
+    ghost use Rattle.mc_program.specs.declared.value.Value.{Value, Con};
     ghost use Rattle.mc_values.specs.Cells.{owned_at, IsCell, IsHeld};
     ghost use Rattle.mc_values.specs.Heap.{height, IsLive, IsBelow, value_at, values_at, StandsFor, Extends, KeepsBelow};
 

@@ -1,22 +1,23 @@
 ghost use Rattle.std.specs.Prelude.{◌≡◌, ◌<◌, ◌++◌, ◌∷◌, [], cond, Some, None, map, length, IfOk, IfSome, OnOk, IsTrue};
 ghost use Rattle.std.specs.Option.{option_map};
-ghost use Rattle.mc_syntax.specs.Plain.{plain_term, tms};
-ghost use Rattle.mc_decl_forms.specs.Plain.{plain_item};
+ghost use Rattle.mc_term_data.specs.Plain.{plain_term, tms};
+ghost use Rattle.mc_decl_syntax.specs.Plain.{plain_item};
 ghost use Rattle.mc_items.specs.Files.{plain_entry};
-ghost use Rattle.mc_model.specs.Programs.{made, no_expressions};
-ghost use Rattle.mc_model.specs.PlainPrograms.{plain_expression, plain_clause};
-ghost use Rattle.mc_ground.specs.Database.{fact};
+ghost use Rattle.mc_program.specs.Programs.{made, no_expressions};
+ghost use Rattle.mc_program.specs.PlainPrograms.{plain_expression, plain_clause};
+ghost use Rattle.mc_ground_form.specs.Database.{fact};
 ghost use Rattle.mc_compile.specs.Facts.{bare_fact, fact_over, places_by};
 ghost use Rattle.mc_compile.specs.Compiled.{beside_clause, beside_fact};
 ghost use Rattle.mc_compile.specs.Passes.{linked_of, IsKnown, facts_of_clause, put_behind, put_all, table_over, table_through, plain_table, put_places, places_over, places_through, beside_table, no_clauses};
 
 use crate::facts::known::{Known, are_of, signature_at};
 use mc_base::{Memory, Row};
-use mc_decl_forms::Decl;
+use mc_decl_syntax::Decl;
 use mc_items::Entry;
-use mc_model::expr::Expr;
-use mc_model::program::{Clause, Goal, Place};
-use mc_syntax::{Node, Term, arity};
+use mc_program::expr::Expr;
+use mc_program::program::{Clause, Goal};
+use mc_source::place::Place;
+use mc_term_data::{Node, Term, arity};
 use std::alloc::Global;
 
 impl Known<'_> {

@@ -1,14 +1,14 @@
 ghost use Rattle.std.specs.Prelude.{◌≡◌, map, IfOk};
-ghost use Rattle.mc_syntax.specs.Plain.{plain_term, tms};
-ghost use Rattle.mc_item_names.specs.Occurrences.{nil_path};
+ghost use Rattle.mc_term_data.specs.Plain.{plain_term, tms};
+ghost use Rattle.mc_defs_uses.specs.Occurrences.{nil_path};
 ghost use Rattle.mc_compile.specs.Facts.{constructors, sole_constructor, constant_named, constant_number, constant_numbers};
 ghost use Rattle.mc_compile.specs.Passes.{linked_of, behind};
 
 use crate::facts::sources::Sources;
 use mc_base::{Memory, Row, Text};
-use mc_decl_forms::has_none;
-use mc_model::program::Candidate;
-use mc_syntax::{Node, Term};
+use mc_decl_syntax::has_none;
+use mc_source::name::Candidate;
+use mc_term_data::{Node, Term};
 use std::alloc::Global;
 
 impl Sources<'_> {

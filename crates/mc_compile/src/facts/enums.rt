@@ -1,25 +1,25 @@
 ghost use Rattle.std.specs.Prelude.{◌≡◌, ℕ, [], ◌∷◌, ◌++◌, ◌+◌, map, length, IfOk, OnOk};
-ghost use Rattle.mc_syntax.specs.Plain.{plain_term, tms};
-ghost use Rattle.mc_syntax.specs.Names.{count};
-ghost use Rattle.mc_model.specs.declared.program.Symbol.{Symbol};
-ghost use Rattle.mc_model.specs.declared.program.TypeDef.{TypeDef};
-ghost use Rattle.mc_model.specs.PlainPrograms.{plain_symbol};
-ghost use Rattle.mc_decl_forms.specs.Terms.{is_distinct};
-ghost use Rattle.mc_decl_forms.specs.Plain.{plain_item};
-ghost use Rattle.mc_item_names.specs.Things.{symbol_name};
+ghost use Rattle.mc_term_data.specs.Plain.{plain_term, tms};
+ghost use Rattle.mc_term_data.specs.Names.{count};
+ghost use Rattle.mc_program.specs.declared.program.Symbol.{Symbol};
+ghost use Rattle.mc_program.specs.declared.program.TypeDef.{TypeDef};
+ghost use Rattle.mc_program.specs.PlainPrograms.{plain_symbol};
+ghost use Rattle.mc_decl_syntax.specs.Terms.{is_distinct};
+ghost use Rattle.mc_decl_syntax.specs.Plain.{plain_item};
+ghost use Rattle.mc_defs_uses.specs.Definitions.{symbol_name};
 ghost use Rattle.mc_modules.specs.Linked.{plain_named};
-ghost use Rattle.mc_ground.specs.Database.{constructor_of, from};
+ghost use Rattle.mc_ground_form.specs.Database.{constructor_of, from};
 ghost use Rattle.mc_compile.specs.Facts.{constants_in, constants_by, how_many};
 ghost use Rattle.mc_compile.specs.Compiled.{beside_type, no_parameters};
 ghost use Rattle.mc_compile.specs.Passes.{AreEnums};
 
-use mc_base::{Copied, Memory, Row, Text};
-use mc_decl_forms::Decl;
-use mc_item_names::symbol_name;
-use mc_model::program::{Name, Symbol, TypeDef};
+use mc_base::{Copied, Memory, NameSet, Row, Text};
+use mc_decl_syntax::Decl;
+use mc_defs_uses::symbol_name;
 use mc_modules::Named;
-use mc_names::NameSet;
-use mc_syntax::Term;
+use mc_program::program::{Symbol, TypeDef};
+use mc_source::name::Name;
+use mc_term_data::Term;
 use std::alloc::Global;
 
 /// Enumeration types and their constants, each by its number.

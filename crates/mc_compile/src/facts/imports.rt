@@ -1,15 +1,15 @@
 ghost use Rattle.std.specs.Prelude.{◌≡◌, map, length, IfOk};
-ghost use Rattle.mc_decl_forms.specs.Plain.{plain_item};
+ghost use Rattle.mc_decl_syntax.specs.Plain.{plain_item};
 ghost use Rattle.mc_items.specs.Files.{plain_entry};
-ghost use Rattle.mc_link_rules.specs.Files.{plain_files, joined};
-ghost use Rattle.mc_link_rules.specs.Visible.{module_of};
-ghost use Rattle.mc_link_rules.specs.Sights.{number_of};
+ghost use Rattle.mc_linking.specs.Files.{plain_files, joined};
+ghost use Rattle.mc_linking.specs.Visible.{module_of};
+ghost use Rattle.mc_linking.specs.Visibilities.{number_of};
 ghost use Rattle.mc_compile.specs.Facts.{are_given, is_below};
 ghost use Rattle.mc_compile.specs.Passes.{linked_of, every, imports_given, all_import_given};
 
 use crate::facts::sources::Sources;
 use mc_base::{Memory, Row, Text};
-use mc_decl_forms::Decl;
+use mc_decl_syntax::Decl;
 use mc_items::Entry;
 use mc_modules::ModuleNames;
 use std::alloc::Global;

@@ -1,12 +1,12 @@
 ghost use Rattle.std.specs.Prelude.{◌≡◌, Some, None, map, slice_get, slice_index_or};
 ghost use Rattle.std.specs.Option.{option_map};
-ghost use Rattle.mc_model.specs.PlainPrograms.{plain_symbol};
-ghost use Rattle.mc_link_rules.specs.Faults.{is_number};
+ghost use Rattle.mc_program.specs.PlainPrograms.{plain_symbol};
+ghost use Rattle.mc_linking.specs.Faults.{is_number};
 ghost use Rattle.mc_compile.specs.Passes.{type_of, are_of_types};
 
 use crate::facts::sources::Sources;
 use mc_base::Row;
-use mc_model::program::Symbol;
+use mc_program::program::Symbol;
 
 /// Linked files, with their constants and the types of each predicate's arguments.
 #[derive(Clone, Copy)]

@@ -1,11 +1,11 @@
 ghost use Rattle.std.specs.Prelude.{◌≡◌, IfOk};
-ghost use Rattle.mc_item_names.specs.Plain.{id};
+ghost use Rattle.mc_defs_uses.specs.Plain.{id};
 ghost use Rattle.mc_modules.specs.Linked.{plain_names};
 ghost use Rattle.mc_compile.specs.Facts.{sole_predicate, own_predicate};
 
 use crate::facts::sources::Sources;
 use mc_base::Memory;
-use mc_model::program::Candidate;
+use mc_source::name::Candidate;
 use std::alloc::Global;
 
 impl Sources<'_> {

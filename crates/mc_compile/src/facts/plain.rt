@@ -1,17 +1,17 @@
 ghost use Rattle.std.specs.Prelude.{◌≡◌, map};
-ghost use Rattle.mc_syntax.specs.Plain.{plain_term, tms};
-ghost use Rattle.mc_decl_forms.specs.Plain.{plain_item};
+ghost use Rattle.mc_term_data.specs.Plain.{plain_term, tms};
+ghost use Rattle.mc_decl_syntax.specs.Plain.{plain_item};
 ghost use Rattle.mc_items.specs.Files.{plain_entry};
-ghost use Rattle.mc_link_rules.specs.Files.{plain_files};
+ghost use Rattle.mc_linking.specs.Files.{plain_files};
 ghost use Rattle.mc_compile.specs.Facts.{has_no_parameters, is_constant, are_constants, is_nondet, is_rule_or_function};
 ghost use Rattle.mc_compile.specs.Passes.{every, is_plain, all_plain};
 
 use mc_base::Row;
-use mc_clause_forms::operands;
-use mc_decl_forms::{Decl, has_none};
+use mc_clause_syntax::operands;
+use mc_decl_syntax::{Decl, has_none};
 use mc_items::Entry;
-use mc_model::det::{Det, Most};
-use mc_syntax::{Node, Term};
+use mc_source::det::{Det, Most};
+use mc_term_data::{Node, Term};
 
 /// Whether each item of files is of the form, as far as its own text tells.
 pub fn all_plain(files: &[Row<Entry>]) -> bool

@@ -1,18 +1,20 @@
 ghost use Rattle.std.specs.Prelude.{◌≡◌, ◌∷◌, ◌++◌, [], false, Some, None, map, length, slice_index_or, IfOk, OnOk};
-ghost use Rattle.mc_model.specs.Programs.{Call, expressions, variable};
-ghost use Rattle.mc_model.specs.PlainPrograms.{plain_type, plain_expression, plain_clause, plain_pred};
+ghost use Rattle.mc_program.specs.Programs.{Call, expressions, variable};
+ghost use Rattle.mc_program.specs.PlainPrograms.{plain_type, plain_expression, plain_clause, plain_pred};
 ghost use Rattle.mc_modules.specs.Linked.{plain_named};
-ghost use Rattle.mc_ground.specs.Database.{the_types, from, variables_from, query_predicate};
+ghost use Rattle.mc_ground_form.specs.Database.{the_types, from, variables_from, query_predicate};
 ghost use Rattle.mc_compile.specs.Facts.{or_none};
 ghost use Rattle.mc_compile.specs.Compiled.{beside_clause, beside_pred, no_function};
 ghost use Rattle.mc_compile.specs.Passes.{plain_table, beside_table, predicate_over, predicates_over};
 
 use crate::facts::known::signature_at;
 use mc_base::{Copied, Memory, Row, Text};
-use mc_model::expr::Expr;
-use mc_model::program::{Clause, Goal, Name, Place, Pred};
-use mc_model::ty::Ty;
 use mc_modules::Named;
+use mc_program::expr::Expr;
+use mc_program::program::{Clause, Goal, Pred};
+use mc_program::ty::Ty;
+use mc_source::name::Name;
+use mc_source::place::Place;
 use std::alloc::Global;
 
 /// Predicates by their names, the types of their arguments and their clauses.

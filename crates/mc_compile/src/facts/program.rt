@@ -1,10 +1,10 @@
 ghost use Rattle.std.specs.Prelude.{◌≡◌, ◌≤◌, ◌+◌, ◌++◌, true, Some, map, take, length, IfOk, IfSome};
 ghost use Rattle.std.specs.Option.{option_map};
-ghost use Rattle.mc_decl_forms.specs.Terms.{is_distinct};
-ghost use Rattle.mc_model.specs.PlainPrograms.{plain_symbol};
+ghost use Rattle.mc_decl_syntax.specs.Terms.{is_distinct};
+ghost use Rattle.mc_program.specs.PlainPrograms.{plain_symbol};
 ghost use Rattle.mc_items.specs.Files.{plain_entry, place};
-ghost use Rattle.mc_decl_forms.specs.Plain.{plain_item};
-ghost use Rattle.mc_link_rules.specs.Files.{plain_files};
+ghost use Rattle.mc_decl_syntax.specs.Plain.{plain_item};
+ghost use Rattle.mc_linking.specs.Files.{plain_files};
 ghost use Rattle.mc_modules.specs.Linked.{linked, plain_names};
 ghost use Rattle.mc_compile.specs.Facts.{given_preds, given_types, names_of, constants};
 ghost use Rattle.mc_compile.specs.Passes.{linked_of, IsFormed, types_by_item, count_types_in, count_types, all_some, signatures_through, AreEnums, plain_table, beside_table, plain_question, predicates_over};
@@ -19,11 +19,12 @@ use crate::facts::query::Asked;
 use crate::facts::sources::Sources;
 use crate::given::Compiled;
 use mc_base::{Memory, Row, Text};
-use mc_decl_forms::Decl;
+use mc_decl_syntax::Decl;
 use mc_items::Entry;
-use mc_model::program::{Clause, Place, Pred, Program};
 use mc_modules::Names;
-use mc_syntax::Term;
+use mc_program::program::{Clause, Pred, Program};
+use mc_source::place::Place;
+use mc_term_data::Term;
 use std::alloc::Global;
 
 /// The program that linked files are, of which the first are given, with the query that a goal is; None where they
@@ -206,9 +207,9 @@ fn compiled(
     })
 }
 
-/// The first of some things, at most as many.
-fn first<T>(things: &[T], count: usize) -> &[T]
-    ensures { result.now ≡ take count things.now }
+/// The first of some definitions, at most as many.
+fn first<T>(definitions: &[T], count: usize) -> &[T]
+    ensures { result.now ≡ take count definitions.now }
 {
-    &things[..count.min(things.len())]
+    &definitions[..count.min(definitions.len())]
 }

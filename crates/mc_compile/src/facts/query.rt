@@ -1,7 +1,7 @@
 ghost use Rattle.std.specs.Prelude.{◌≡◌, None, map, length, slice_index_or, IfOk, IfSome};
 ghost use Rattle.std.specs.Option.{option_map};
-ghost use Rattle.mc_syntax.specs.Plain.{plain_term, tms};
-ghost use Rattle.mc_decl_forms.specs.Terms.{is_distinct};
+ghost use Rattle.mc_term_data.specs.Plain.{plain_term, tms};
+ghost use Rattle.mc_decl_syntax.specs.Terms.{is_distinct};
 ghost use Rattle.mc_compile.specs.Rejected.{line_of};
 ghost use Rattle.mc_compile.specs.Facts.{is_hidden, variable, variables, is_call, asked, predicates, question, or_none, signatures};
 ghost use Rattle.mc_compile.specs.Passes.{linked_of, IsKnown, plain_question, named_behind};
@@ -9,12 +9,11 @@ ghost use Rattle.mc_compile.specs.Passes.{linked_of, IsKnown, plain_question, na
 use crate::facts::known::{Known, signature_at};
 use crate::facts::own::sole_predicate;
 use crate::facts::typing::below;
-use mc_base::{Memory, Row, Text};
-use mc_clause_forms::{Connective, Parts};
-use mc_item_names::is_truth;
-use mc_model::program::Candidate;
-use mc_names::NameSet;
-use mc_syntax::{Node, Term, arity};
+use mc_base::{Memory, NameSet, Row, Text};
+use mc_clause_syntax::{Connective, Parts};
+use mc_defs_uses::is_truth;
+use mc_source::name::Candidate;
+use mc_term_data::{Node, Term, arity};
 use std::alloc::Global;
 
 /// A query: the number of the predicate that it asks, the names of its variables, one for each argument, and the line that

@@ -1,6 +1,6 @@
 ghost use Rattle.std.specs.Prelude.{◌≡◌, List, ℕ, ◌++◌, cond, Option, None, map, IfOk};
 ghost use Rattle.std.specs.Option.{option_map};
-ghost use Rattle.mc_decl_forms.specs.Plain.{plain_item};
+ghost use Rattle.mc_decl_syntax.specs.Plain.{plain_item};
 ghost use Rattle.mc_items.specs.Files.{plain_entry};
 ghost use Rattle.mc_compile.specs.Facts.{signature_by, given_preds};
 ghost use Rattle.mc_compile.specs.Passes.{linked_of, IsCounted, signatures_over, signatures_through, all_some, all_behind};
@@ -8,7 +8,7 @@ ghost use Rattle.mc_compile.specs.Passes.{linked_of, IsCounted, signatures_over,
 use crate::facts::plain::is_nondet;
 use crate::facts::sources::Sources;
 use mc_base::{Memory, Row};
-use mc_decl_forms::Decl;
+use mc_decl_syntax::Decl;
 use mc_items::Entry;
 use std::alloc::Global;
 

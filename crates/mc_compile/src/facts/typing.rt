@@ -1,14 +1,14 @@
 ghost use Rattle.std.specs.Prelude.{◌≡◌, map, codes, IfOk};
-ghost use Rattle.mc_syntax.specs.Plain.{plain_term, tms};
-ghost use Rattle.mc_decl_forms.specs.Terms.{pair};
-ghost use Rattle.mc_link_rules.specs.Visible.{sole};
+ghost use Rattle.mc_term_data.specs.Plain.{plain_term, tms};
+ghost use Rattle.mc_decl_syntax.specs.Terms.{pair};
+ghost use Rattle.mc_linking.specs.Visible.{sole};
 ghost use Rattle.mc_compile.specs.Facts.{below, type_number, is_out, argument_type, argument_types, signature};
 ghost use Rattle.mc_compile.specs.Passes.{linked_of, IsCounted};
 
 use crate::facts::sources::Sources;
 use mc_base::{Memory, Row};
-use mc_decl_forms::{has_none, is_the_word, pair};
-use mc_syntax::{Node, Term};
+use mc_decl_syntax::{has_none, is_the_word, pair};
+use mc_term_data::{Node, Term};
 use std::alloc::Global;
 
 impl Sources<'_> {

@@ -4,9 +4,9 @@ ghost use Rattle.mc_values.specs.Parts.{arguments};
 
 use crate::heap::{Heap, Mark, Ref};
 use mc_base::{Copied, Memory, Row, Text};
-use mc_model::copy::copy_value;
-use mc_model::same::same_value;
-use mc_model::value::Value;
+use mc_program::copy::copy_value;
+use mc_program::same::same_value;
+use mc_program::value::Value;
 use std::alloc::Global;
 use std::process::Abort;
 use std::test::Fail;

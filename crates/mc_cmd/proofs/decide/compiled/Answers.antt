@@ -1,6 +1,6 @@
 use Rattle.std.proofs.Common.{◌∙◌, ◌||◌, sym, subst}
 use Rattle.std.specs.Option.{option_copied}
-use Rattle.mc_words.specs.Plain.{plain_command}
+use Rattle.mc_command_line.specs.Plain.{plain_command}
 use Rattle.mc_compile.specs.declared.given.CompileFault.{CompileFault}
 use Rattle.mc_compile.specs.Library.{library_texts}
 use Rattle.mc_compile.specs.Reading.{texts_of, text_of}

@@ -1,6 +1,6 @@
 use Rattle.std.proofs.Common.{ℕ, List, get_or, ◌+◌, ◌∙◌, sym, ap, subst, length, take, arith, length-append, ◌∷◌, []}
 use Rattle.std.specs.Borrow.{Bor}
-use Rattle.mc_words.specs.Plain.{plain_text, plain_texts}
+use Rattle.mc_command_line.specs.Plain.{plain_text, plain_texts}
 use Rattle.mc_compile.specs.declared.given.Given.{Given}
 use Rattle.mc_compile.specs.Reading.{texts_of}
 use Rattle.mc_cmd.specs.Decisions.{IsHeld, StopsAt, Stops, given_names}

@@ -1,5 +1,5 @@
 use Rattle.std.proofs.Common.{◌∙◌, arith}
-use Rattle.mc_model.specs.Printed.{names_of}
+use Rattle.mc_program.specs.Printed.{names_of}
 use Rattle.mc_cmd.proofs.Puts.{texts_whole}
 use Rattle.mc_cmd.proofs.write.fact_texts.Goals as goal
 

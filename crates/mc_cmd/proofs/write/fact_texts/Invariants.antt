@@ -1,6 +1,6 @@
 use Rattle.std.proofs.Common.{◌≡◌, take, map}
-use Rattle.mc_model.specs.PlainPrograms.{plain_expression}
-use Rattle.mc_model.specs.Printed.{names_of}
+use Rattle.mc_program.specs.PlainPrograms.{plain_expression}
+use Rattle.mc_program.specs.Printed.{names_of}
 use Rattle.mc_cmd.specs.Lines.{head_text}
 use Rattle.mc_cmd.proofs.write.fact_texts.Given as goal
 

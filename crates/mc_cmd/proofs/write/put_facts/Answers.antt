@@ -1,6 +1,6 @@
 use Rattle.std.proofs.Common.{◌∙◌}
 use Rattle.std.specs.List.{flat_map}
-use Rattle.mc_model.specs.PlainPrograms.{plain_clause}
+use Rattle.mc_program.specs.PlainPrograms.{plain_clause}
 use Rattle.mc_cmd.specs.Lines.{fact_line}
 use Rattle.mc_cmd.proofs.Puts.{more_written, part_written, passed_front}
 use Rattle.mc_cmd.proofs.write.put_facts.Goals as goal

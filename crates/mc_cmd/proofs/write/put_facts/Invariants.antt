@@ -1,6 +1,6 @@
 use Rattle.std.proofs.Common.{◌≡◌, take}
 use Rattle.std.specs.List.{flat_map}
-use Rattle.mc_model.specs.PlainPrograms.{plain_clause}
+use Rattle.mc_program.specs.PlainPrograms.{plain_clause}
 use Rattle.mc_cmd.specs.Call.{Wrote}
 use Rattle.mc_cmd.specs.Lines.{fact_line}
 use Rattle.mc_cmd.proofs.write.put_facts.Given as goal

@@ -1,5 +1,5 @@
 use Rattle.std.proofs.Common.{subst, arith}
-use Rattle.mc_model.specs.declared.rule.Rule.TheVariants as R
+use Rattle.mc_source.specs.declared.rule.Rule.TheVariants as R
 use Rattle.mc_terms.specs.Answers.{IsOver}
 use Rattle.mc_items.specs.Queries.{empty}
 use Rattle.mc_items.specs.Words as W

@@ -1,5 +1,5 @@
 use Rattle.std.proofs.Common.{◌∙◌, sym}
-use Rattle.mc_model.specs.declared.rule.Rule.TheVariants as R
+use Rattle.mc_source.specs.declared.rule.Rule.TheVariants as R
 use Rattle.mc_items.specs.Words as W
 use Rattle.mc_items.proofs.NoGoal.{no_goal, followed_by, refused_by}
 use Rattle.mc_items.proofs.query.sole_goal.Goals as goal

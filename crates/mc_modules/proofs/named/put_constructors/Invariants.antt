@@ -1,8 +1,8 @@
 use Rattle.std.proofs.Common.{◌≡◌, ◌++◌, drop, map}
-use Rattle.mc_syntax.specs.Plain.{plain_term, tms}
-use Rattle.mc_decl_forms.specs.Plain.{plain_item}
+use Rattle.mc_term_data.specs.Plain.{plain_term, tms}
+use Rattle.mc_decl_syntax.specs.Plain.{plain_item}
 use Rattle.mc_modules.specs.Linked.{constructors, plain_named}
-use Rattle.mc_link_rules.specs.Tables.{plain_section}
+use Rattle.mc_linking.specs.Tables.{plain_section}
 use Rattle.mc_modules.specs.Passes.{stands}
 use Rattle.mc_modules.proofs.named.put_constructors.Given as goal
 

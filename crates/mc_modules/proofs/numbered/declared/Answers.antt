@@ -1,8 +1,8 @@
 use Rattle.std.proofs.Common.{◌+◌, ◌∷◌, drop, map, ap, sym, ◌∙◌, arith}
 use Rattle.mc_items.specs.Files.{plain_entry}
-use Rattle.mc_link_rules.specs.Files.{plain_files}
+use Rattle.mc_linking.specs.Files.{plain_files}
 use Rattle.mc_modules.specs.Linked.{symbols_of, preds_of, before, numbered, declared_from}
-use Rattle.mc_modules.specs.Passes.{things_pass}
+use Rattle.mc_modules.specs.Passes.{definitions_pass}
 use Rattle.mc_modules.proofs.Puts.{moved}
 use Rattle.mc_modules.proofs.Places.{as_many, declared_more}
 use Rattle.mc_modules.proofs.numbered.declared.Goals as goal
@@ -22,7 +22,7 @@ loop-own-preserved c =
     let p = c.start.result in
     let q = c.start-in-loop-own.result in
     let rest = declared_from (plain_files fs) (k + 1) (plain_files (drop (k + 1) fs)) in
-    let made = (c.in_ok-numbered_in.ensures {u = tt}) ∙ ap (λ es. numbered p q (things_pass (map plain_entry es))) c.as_slice-file.ensures.items in
+    let made = (c.in_ok-numbered_in.ensures {u = tt}) ∙ ap (λ es. numbered p q (definitions_pass (map plain_entry es))) c.as_slice-file.ensures.items in
     moved c.push.new.self.items c.loop-own.all.items c.in_ok-numbered_in.field-0 _ rest _ ((c.in_ok-push.ensures {u = tt}).items)
     (declared_more fs k c.index-files-own.result p q c.loop-own-test.true c.index-files-own.is (c.start.ensures ∙ ap (before k) c.requires.symbols) (c.start-in-loop-own.ensures ∙ ap (before k) c.requires.preds)
     ∙ ap (λ xs. xs ∷ rest) (sym made))

@@ -1,14 +1,14 @@
 use Rattle.std.proofs.Common.{◌≡◌, ◌+◌, [], ◌∷◌, ◌++◌, drop, ap, sym, ◌∙◌, subst, arith}
 use Rattle.std.specs.Prelude.{IfOk}
 use Rattle.std.proofs.lemmas.List.{append-nil}
-use Rattle.mc_link_rules.specs.Files.{plain_files}
+use Rattle.mc_linking.specs.Files.{plain_files}
 use Rattle.mc_modules.specs.Linked.{scopes_from}
 use Rattle.mc_modules.proofs.Puts.{moved}
 use Rattle.mc_modules.proofs.Places.{one_more, over}
 use Rattle.mc_modules.proofs.scopes.scopes.Goals as goal
 
-pub scope_of-requires-clause-sight : goal.scope_of-requires-clause-sight
-scope_of-requires-clause-sight c =
+pub scope_of-requires-clause-visibility : goal.scope_of-requires-clause-visibility
+scope_of-requires-clause-visibility c =
     (one_more c.args.files.now c.loop-seen.own c.in-Some.seen c.next.new.self.rest.items c.loop-seen.seen-iterator.rest.items ((c.in-Some.ensures {u = tt}).steps.0) c.loop-seen.invariant.rest).is
 
 pub loop-seen-preserved : goal.loop-seen-preserved

@@ -1,5 +1,5 @@
 use Rattle.std.proofs.Common.{◌≡◌, ◌++◌, drop}
-use Rattle.mc_model.specs.Printed.{more_bindings}
+use Rattle.mc_program.specs.Printed.{more_bindings}
 use Rattle.mc_print.proofs.line.write_bindings.Given as goal
 
 abbrev pub invariant-loop-k : goal.invariant-loop-k

@@ -1,6 +1,6 @@
 use Rattle.std.proofs.Common.{◌≡◌, ◌++◌, take}
 use Rattle.std.specs.List.{flat_map}
-use Rattle.mc_model.specs.Printed.{escaped}
+use Rattle.mc_program.specs.Printed.{escaped}
 use Rattle.mc_print.proofs.name.write_quoted.Given as goal
 
 abbrev pub invariant-loop-byte : goal.invariant-loop-byte

@@ -1,7 +1,7 @@
 use Rattle.std.proofs.Common.{◌≡◌, ℕ, ◌<◌, List, [], ◌∷◌, ◌++◌, map, subst, sym, arith}
-use Rattle.mc_model.specs.Values.{Val, plain_value, vals}
-use Rattle.mc_model.specs.Printed.{SymbolsBelow, AllSymbolsBelow}
-use Rattle.mc_model.specs.declared.value.Value.{Value, Con}
+use Rattle.mc_program.specs.Values.{Val, plain_value, vals}
+use Rattle.mc_program.specs.Printed.{SymbolsBelow, AllSymbolsBelow}
+use Rattle.mc_program.specs.declared.value.Value.{Value, Con}
 use Rattle.mc_print.proofs.Written.{plain_split}
 use Rattle.mc_print.proofs.tests.+named.Goals as goal
 

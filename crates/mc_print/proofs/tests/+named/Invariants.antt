@@ -1,8 +1,8 @@
 use Rattle.std.proofs.Common.{◌≤◌, ◌*◌, ◌+◌, drop, map}
 use denote.Param.Weighed.{most}
-use Rattle.mc_model.specs.Values.{plain_value, vals}
-use Rattle.mc_model.specs.Printed.{SymbolsBelow, AllSymbolsBelow}
-use Rattle.mc_model.specs.declared.value.Value.{size-Value}
+use Rattle.mc_program.specs.Values.{plain_value, vals}
+use Rattle.mc_program.specs.Printed.{SymbolsBelow, AllSymbolsBelow}
+use Rattle.mc_program.specs.declared.value.Value.{size-Value}
 use Rattle.mc_print.proofs.tests.+named.Given as goal
 
 abbrev pub decreases-is_named : goal.decreases-is_named

@@ -1,8 +1,8 @@
 use Rattle.std.proofs.Common.{◌≡◌, ◌≤◌, ◌*◌, ◌+◌, ◌++◌, drop, map, vec_len, reverse, length}
 use denote.Param.Weighed.{most}
-use Rattle.mc_model.specs.Values.{plain_value, vals}
-use Rattle.mc_model.specs.Printed.{printed, names_of, SymbolsBelow, AllSymbolsBelow}
-use Rattle.mc_model.specs.declared.value.Value.{size-Value}
+use Rattle.mc_program.specs.Values.{plain_value, vals}
+use Rattle.mc_program.specs.Printed.{printed, names_of, SymbolsBelow, AllSymbolsBelow}
+use Rattle.mc_program.specs.declared.value.Value.{size-Value}
 use Rattle.mc_print.specs.Places.{at_place, fronts_text}
 use Rattle.mc_print.proofs.value.+write.Given as goal
 

@@ -1,6 +1,6 @@
 use Rattle.std.proofs.Common.{◌≡◌, ◌++◌, drop, map}
-use Rattle.mc_model.specs.Programs.{made, no_expressions}
-use Rattle.mc_model.specs.PlainPrograms.{plain_expression}
+use Rattle.mc_program.specs.Programs.{made, no_expressions}
+use Rattle.mc_program.specs.PlainPrograms.{plain_expression}
 use Rattle.mc_compile.proofs.facts.clauses.head.Given as goal
 
 abbrev pub invariant-loop-number : goal.invariant-loop-number

@@ -1,5 +1,5 @@
 use Rattle.std.proofs.Common.{◌≡◌, drop, map}
-use Rattle.mc_model.specs.PlainPrograms.{plain_symbol}
+use Rattle.mc_program.specs.PlainPrograms.{plain_symbol}
 use Rattle.mc_compile.specs.Passes.{are_of_types}
 use Rattle.mc_compile.proofs.facts.known.are_of.Given as goal
 

@@ -1,5 +1,5 @@
 use Rattle.std.proofs.Common.{◌≡◌, drop}
-use Rattle.mc_link_rules.specs.Files.{plain_files}
+use Rattle.mc_linking.specs.Files.{plain_files}
 use Rattle.mc_compile.specs.Passes.{everywhere, is_plain, all_plain}
 use Rattle.mc_compile.proofs.facts.plain.all_plain.Given as goal
 

@@ -1,5 +1,5 @@
 use Rattle.std.proofs.Common.{◌≡◌, drop, map}
-use Rattle.mc_syntax.specs.Plain.{plain_term, tms}
+use Rattle.mc_term_data.specs.Plain.{plain_term, tms}
 use Rattle.mc_compile.specs.Facts.{are_constants}
 use Rattle.mc_compile.proofs.facts.plain.are_constants.Given as goal
 

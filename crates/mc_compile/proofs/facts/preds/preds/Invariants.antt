@@ -1,5 +1,5 @@
 use Rattle.std.proofs.Common.{◌≡◌, ◌+◌, ◌++◌, drop, map, length}
-use Rattle.mc_model.specs.PlainPrograms.{plain_pred}
+use Rattle.mc_program.specs.PlainPrograms.{plain_pred}
 use Rattle.mc_modules.specs.Linked.{plain_named}
 use Rattle.mc_compile.specs.Compiled.{beside_pred, no_function}
 use Rattle.mc_compile.specs.Passes.{plain_table, beside_table, predicates_over}

@@ -1,6 +1,6 @@
 use Rattle.std.proofs.Common.{◌≡◌, ◌++◌, drop, map}
-use Rattle.mc_model.specs.PlainPrograms.{plain_type}
-use Rattle.mc_ground.specs.Database.{the_types}
+use Rattle.mc_program.specs.PlainPrograms.{plain_type}
+use Rattle.mc_ground_form.specs.Database.{the_types}
 use Rattle.mc_compile.proofs.facts.preds.union_types.Given as goal
 
 abbrev pub invariant-loop-number : goal.invariant-loop-number

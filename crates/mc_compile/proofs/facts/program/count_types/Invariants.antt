@@ -1,5 +1,5 @@
 use Rattle.std.proofs.Common.{◌≡◌, ◌+◌, drop}
-use Rattle.mc_link_rules.specs.Files.{plain_files}
+use Rattle.mc_linking.specs.Files.{plain_files}
 use Rattle.mc_compile.specs.Passes.{count_types}
 use Rattle.mc_compile.proofs.facts.program.count_types.Given as goal
 

@@ -1,6 +1,6 @@
 use Rattle.std.proofs.Common.{arith}
 use Rattle.std.proofs.lemmas.Grind.{common_steps}
-use Rattle.mc_decl_forms.specs.Terms.{is_distinct}
+use Rattle.mc_decl_syntax.specs.Terms.{is_distinct}
 use Rattle.mc_compile.proofs.Passes.{put_distinct, repeated_itself, unrepeated_itself}
 use Rattle.mc_compile.proofs.facts.query.is_distinct.Goals as goal
 

@@ -1,5 +1,5 @@
 use Rattle.std.proofs.Common.{◌≡◌, ◌++◌, true, drop}
-use Rattle.mc_decl_forms.specs.Terms.{is_distinct}
+use Rattle.mc_decl_syntax.specs.Terms.{is_distinct}
 use Rattle.mc_compile.proofs.facts.query.is_distinct.Given as goal
 
 abbrev pub invariant-loop-name : goal.invariant-loop-name

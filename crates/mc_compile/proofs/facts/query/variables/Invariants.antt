@@ -1,5 +1,5 @@
 use Rattle.std.proofs.Common.{◌≡◌, drop, map}
-use Rattle.mc_syntax.specs.Plain.{plain_term, tms}
+use Rattle.mc_term_data.specs.Plain.{plain_term, tms}
 use Rattle.mc_compile.specs.Facts.{variables}
 use Rattle.mc_compile.specs.Passes.{named_behind}
 use Rattle.mc_compile.proofs.facts.query.variables.Given as goal

@@ -1,5 +1,5 @@
 use Rattle.std.proofs.Common.{◌≡◌, ◌++◌, drop, map}
-use Rattle.mc_link_rules.specs.Files.{plain_files}
+use Rattle.mc_linking.specs.Files.{plain_files}
 use Rattle.mc_modules.specs.Linked.{each, types_of, symbols_of, preds_of, insts_of, modes_defined, plain_named}
 use Rattle.mc_modules.proofs.columns.Parts.of.Given as goal
 

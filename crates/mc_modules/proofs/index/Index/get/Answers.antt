@@ -1,6 +1,6 @@
 use Rattle.std.proofs.Common.{sym, ap, ◌∙◌}
 use Rattle.std.specs.Option.{option_copied}
-use Rattle.mc_link_rules.proofs.Numbers.{vec_name}
+use Rattle.mc_linking.proofs.Numbers.{vec_name}
 use Rattle.mc_modules.proofs.Listed.{listed-there, listed-absent, vec_list}
 use Rattle.mc_modules.proofs.index.Index.get.Goals as goal
 

@@ -1,9 +1,9 @@
 use Rattle.std.proofs.Common.{◌≡◌, ◌∷◌, ◌++◌, [], ap, ◌∙◌, subst}
 use Rattle.std.specs.Prelude.{IfOk, slice_get}
-use Rattle.mc_item_names.specs.declared.thing.Kind.TheVariants as K
-use Rattle.mc_item_names.specs.Plain.{id, qualifiers, last_part, plain_use}
-use Rattle.mc_item_names.specs.Occurrences.{used}
-use Rattle.mc_link_rules.specs.Visible.{character}
+use Rattle.mc_defs_uses.specs.declared.definition.Kind.TheVariants as K
+use Rattle.mc_defs_uses.specs.Plain.{id, qualifiers, last_part, plain_occurrence}
+use Rattle.mc_defs_uses.specs.Occurrences.{used}
+use Rattle.mc_linking.specs.Visible.{character}
 use Rattle.mc_modules.specs.Linked.{plain_names}
 use Rattle.mc_modules.specs.Candidates.{fitting_in, looked_in, as_character, candidates}
 use Rattle.mc_modules.proofs.Uses.{qualifiers_are, id_is}
@@ -16,7 +16,7 @@ returns c =
     let own = c.args.own in
     let l = plain_names c.args.self.now in
     let scope = slice_get c.args.self.now.scopes own in
-    let u = plain_use c.of-used.result in
+    let u = plain_occurrence c.of-used.result in
     let e : u ∷ [] ≡ used K.Symbol w n = c.of-used.ensures ∙ ap (λ v. used K.Symbol v n) c.as_slice.ensures.items in
     let modules : c.as_slice-2.result.now ≡ looked_in l scope u.qualifiers = c.as_slice-2.ensures.items ∙ (c.in_ok-modules.ensures {u = tt}) in
     let found : c.put_of_modules.new.all.items ≡ fitting_in l own u.id (looked_in l scope u.qualifiers) =

@@ -1,8 +1,8 @@
 use Rattle.std.proofs.Common.{◌≡◌, ◌∷◌, [], ap, ◌∙◌, subst}
 use Rattle.std.specs.Prelude.{IfOk, slice_get}
-use Rattle.mc_item_names.specs.declared.thing.Kind.TheVariants as K
-use Rattle.mc_item_names.specs.Plain.{id, qualifiers, last_part, plain_use}
-use Rattle.mc_item_names.specs.Occurrences.{used}
+use Rattle.mc_defs_uses.specs.declared.definition.Kind.TheVariants as K
+use Rattle.mc_defs_uses.specs.Plain.{id, qualifiers, last_part, plain_occurrence}
+use Rattle.mc_defs_uses.specs.Occurrences.{used}
 use Rattle.mc_modules.specs.Index.{numbers_where}
 use Rattle.mc_modules.specs.Linked.{plain_names}
 use Rattle.mc_modules.specs.Candidates.{looked_in, type_candidates}
@@ -17,7 +17,7 @@ returns c =
     let n = c.args.arity in
     let own = c.args.own in
     let l = plain_names c.args.self.now in
-    let u = plain_use c.of-used.result in
+    let u = plain_occurrence c.of-used.result in
     let js = looked_in l (slice_get c.args.self.now.scopes own) u.qualifiers in
     let e : u ∷ [] ≡ used K.DefinedType w n = c.of-used.ensures ∙ ap (λ v. used K.DefinedType v n) c.as_slice.ensures.items in
     let modules : c.as_slice-2.result.now ≡ js = c.as_slice-2.ensures.items ∙ (c.in_ok-modules.ensures {u = tt}) in

@@ -1,6 +1,6 @@
 use Rattle.std.proofs.Common.{◌≡◌, ap, ◌∙◌, nat_eq, subst}
 use Rattle.std.specs.Prelude.{IfOk}
-use Rattle.mc_item_names.specs.Plain.{plain_id}
+use Rattle.mc_defs_uses.specs.Plain.{plain_name_arity}
 use Rattle.mc_modules.specs.Chosen.{chosen}
 use Rattle.mc_modules.proofs.Chosen.{of_id}
 use Rattle.mc_modules.proofs.names.Names.types_of.Goals as goal
@@ -8,6 +8,6 @@ use Rattle.mc_modules.proofs.names.Names.types_of.Goals as goal
 pub returns : goal.returns
 returns c =
     let types = c.args.self.now.types in
-    let x = plain_id c.args.id in
+    let x = plain_name_arity c.args.id in
     let same = ap (chosen (λ d. nat_eq d.name.arity x.arity) types) c.types_called.ensures ∙ of_id types x in
     subst (λ ks. IfOk c.with_arity.result (λ all. all.items ≡ ks)) same c.with_arity.ensures

@@ -1,8 +1,8 @@
 use Rattle.std.proofs.Common.{◌≡◌, ◌++◌, drop, map}
 use Rattle.mc_items.specs.Files.{plain_entry}
-use Rattle.mc_link_rules.specs.Files.{NoSection}
+use Rattle.mc_linking.specs.Files.{NoSection}
 use Rattle.mc_modules.specs.Linked.{is_pred, is_inst, is_mode, plain_named}
-use Rattle.mc_link_rules.specs.Tables.{plain_section}
+use Rattle.mc_linking.specs.Tables.{plain_section}
 use Rattle.mc_modules.specs.Passes.{types_pass, symbols_pass, sorted_pass}
 use Rattle.mc_modules.proofs.part.Part.of.Given as goal
 

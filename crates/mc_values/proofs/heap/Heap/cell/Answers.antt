@@ -1,5 +1,5 @@
 use Rattle.std.proofs.Common.{rules, ap}
-use Rattle.mc_model.specs.Values.{plain_value}
+use Rattle.mc_program.specs.Values.{plain_value}
 use Rattle.mc_values.specs.Heap.{IsLive, value_at}
 use Rattle.mc_values.proofs.CellLaws.{within, held_cell, cell_at}
 use Rattle.mc_values.proofs.heap.Heap.cell.Goals as goal

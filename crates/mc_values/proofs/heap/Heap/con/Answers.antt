@@ -1,10 +1,10 @@
 use Rattle.std.proofs.Common.{◌≡◌, ◌∙◌, IfOk, ℕ, List, map, sym, subst, ap, ◌<◌, length}
 use Rattle.std.specs.List.{All}
-use Rattle.mc_model.specs.Values.{plain_value}
-use Rattle.mc_model.specs.declared.value.Value.{Value, Con}
+use Rattle.mc_program.specs.Values.{plain_value}
+use Rattle.mc_program.specs.declared.value.Value.{Value, Con}
 use Rattle.mc_values.specs.Cells.{owned_at, IsHeld}
 use Rattle.mc_values.specs.Heap.{IsLive, StandsFor}
-use Rattle.mc_model.proofs.Views.{Con-args}
+use Rattle.mc_program.proofs.Views.{Con-args}
 use Rattle.mc_values.proofs.Grown.{plain_value-held}
 use Rattle.mc_values.proofs.heap.Heap.con.Goals as goal
 

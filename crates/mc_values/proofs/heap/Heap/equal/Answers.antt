@@ -1,6 +1,6 @@
 use Rattle.std.proofs.Common.{ap, sym, ◌∙◌}
-use Rattle.mc_model.specs.Values.{plain_value}
-use Rattle.mc_model.proofs.Views.{plain_value-injective}
+use Rattle.mc_program.specs.Values.{plain_value}
+use Rattle.mc_program.proofs.Views.{plain_value-injective}
 use Rattle.mc_values.proofs.heap.Heap.equal.Goals as goal
 
 pub returns : goal.returns

@@ -1,6 +1,6 @@
 use Rattle.std.proofs.Common.{length, ap, sym, ◌∙◌}
 use Rattle.std.proofs.lemmas.List.{length-map}
-use Rattle.mc_model.specs.Values.{plain_value}
+use Rattle.mc_program.specs.Values.{plain_value}
 use Rattle.mc_values.specs.Parts.{arguments}
 use Rattle.mc_values.proofs.Arguments.{arguments-Con}
 use Rattle.mc_values.proofs.heap.tests.arity.Goals as goal

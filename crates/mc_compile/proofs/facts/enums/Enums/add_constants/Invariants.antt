@@ -1,8 +1,8 @@
 use Rattle.std.proofs.Common.{◌≡◌, ◌++◌, ◌+◌, drop, map, length}
-use Rattle.mc_syntax.specs.Plain.{plain_term, tms}
-use Rattle.mc_syntax.specs.Names.{count}
-use Rattle.mc_model.specs.PlainPrograms.{plain_symbol}
-use Rattle.mc_ground.specs.Database.{constructor_of, from}
+use Rattle.mc_term_data.specs.Plain.{plain_term, tms}
+use Rattle.mc_term_data.specs.Names.{count}
+use Rattle.mc_program.specs.PlainPrograms.{plain_symbol}
+use Rattle.mc_ground_form.specs.Database.{constructor_of, from}
 use Rattle.mc_compile.specs.Facts.{constants_in}
 use Rattle.mc_compile.proofs.facts.enums.Enums.add_constants.Given as goal
 

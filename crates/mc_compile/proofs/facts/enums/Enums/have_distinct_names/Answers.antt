@@ -1,7 +1,7 @@
 use Rattle.std.proofs.Common.{arith, map}
 use Rattle.std.proofs.lemmas.Grind.{common_steps}
-use Rattle.mc_model.specs.declared.program.Symbol.{Symbol}
-use Rattle.mc_decl_forms.specs.Terms.{is_distinct}
+use Rattle.mc_program.specs.declared.program.Symbol.{Symbol}
+use Rattle.mc_decl_syntax.specs.Terms.{is_distinct}
 use Rattle.mc_compile.proofs.Passes.{put_distinct, repeated, unrepeated}
 use Rattle.mc_compile.proofs.facts.enums.Enums.have_distinct_names.Goals as goal
 

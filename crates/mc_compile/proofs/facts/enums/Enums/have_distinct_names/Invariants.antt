@@ -1,6 +1,6 @@
 use Rattle.std.proofs.Common.{◌≡◌, ◌++◌, true, drop, map}
-use Rattle.mc_model.specs.declared.program.Symbol.{Symbol}
-use Rattle.mc_decl_forms.specs.Terms.{is_distinct}
+use Rattle.mc_program.specs.declared.program.Symbol.{Symbol}
+use Rattle.mc_decl_syntax.specs.Terms.{is_distinct}
 use Rattle.mc_compile.proofs.facts.enums.Enums.have_distinct_names.Given as goal
 
 abbrev pub invariant-loop-symbol : goal.invariant-loop-symbol

@@ -1,8 +1,8 @@
 use Rattle.std.proofs.Common.{◌≡◌, ◌++◌, drop, map, length}
-use Rattle.mc_model.specs.declared.program.TypeDef.{TypeDef}
-use Rattle.mc_model.specs.PlainPrograms.{plain_symbol}
+use Rattle.mc_program.specs.declared.program.TypeDef.{TypeDef}
+use Rattle.mc_program.specs.PlainPrograms.{plain_symbol}
 use Rattle.mc_modules.specs.Linked.{plain_named}
-use Rattle.mc_ground.specs.Database.{constructor_of}
+use Rattle.mc_ground_form.specs.Database.{constructor_of}
 use Rattle.mc_compile.specs.Compiled.{beside_type, no_parameters}
 use Rattle.mc_compile.specs.Facts.{groups_from, constants_from}
 use Rattle.mc_compile.proofs.facts.enums.Enums.of.Given as goal

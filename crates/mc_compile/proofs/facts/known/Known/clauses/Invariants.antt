@@ -1,5 +1,5 @@
 use Rattle.std.proofs.Common.{◌≡◌, drop, length}
-use Rattle.mc_link_rules.specs.Files.{plain_files}
+use Rattle.mc_linking.specs.Files.{plain_files}
 use Rattle.mc_compile.specs.Passes.{linked_of, table_through, plain_table, places_through, beside_table, no_clauses}
 use Rattle.mc_compile.proofs.facts.known.Known.clauses.Given as goal
 

@@ -1,5 +1,5 @@
 use Rattle.std.proofs.Common.{◌≡◌, drop}
-use Rattle.mc_link_rules.specs.Files.{plain_files}
+use Rattle.mc_linking.specs.Files.{plain_files}
 use Rattle.mc_compile.specs.Passes.{linked_of, everywhere, imports_given, all_import_given}
 use Rattle.mc_compile.proofs.facts.sources.Sources.all_import_given.Given as goal
 

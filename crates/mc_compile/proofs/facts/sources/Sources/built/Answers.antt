@@ -1,8 +1,8 @@
 use Rattle.std.proofs.Common.{◌≡◌, ◌++◌, [], ◌∷◌, arith, refl, map, length, ap, ◌∙◌, slice_index_or, Some, None}
 use Rattle.std.specs.Option.{option_map}
 use Rattle.std.proofs.lemmas.List.{length-map}
-use Rattle.mc_model.specs.PlainPrograms.{plain_pred}
-use Rattle.mc_ground.specs.Database.{query_predicate}
+use Rattle.mc_program.specs.PlainPrograms.{plain_pred}
+use Rattle.mc_ground_form.specs.Database.{query_predicate}
 use Rattle.mc_compile.specs.Facts.{given_preds, or_none}
 use Rattle.mc_items.specs.Files.{place}
 use Rattle.mc_compile.specs.Compiled.{beside_pred, no_function}

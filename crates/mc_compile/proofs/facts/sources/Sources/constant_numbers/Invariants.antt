@@ -1,5 +1,5 @@
 use Rattle.std.proofs.Common.{◌≡◌, drop, map}
-use Rattle.mc_syntax.specs.Plain.{plain_term, tms}
+use Rattle.mc_term_data.specs.Plain.{plain_term, tms}
 use Rattle.mc_compile.specs.Facts.{constant_numbers}
 use Rattle.mc_compile.specs.Passes.{linked_of, behind}
 use Rattle.mc_compile.proofs.facts.sources.Sources.constant_numbers.Given as goal

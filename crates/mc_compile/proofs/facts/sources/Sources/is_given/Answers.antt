@@ -1,6 +1,6 @@
 use Rattle.std.proofs.Common.{arith, ap}
 use Rattle.std.proofs.lemmas.Grind.{common_steps}
-use Rattle.mc_link_rules.specs.Files.{joined}
+use Rattle.mc_linking.specs.Files.{joined}
 use Rattle.mc_compile.proofs.facts.sources.Sources.is_given.Goals as goal
 
 pub returns-in-Some : goal.returns-in-Some

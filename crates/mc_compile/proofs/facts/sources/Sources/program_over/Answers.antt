@@ -1,7 +1,7 @@
 use Rattle.std.proofs.Common.{◌≡◌, Some, None, map, length, sym, ◌∙◌, ap}
-use Rattle.mc_model.specs.PlainPrograms.{plain_symbol}
+use Rattle.mc_program.specs.PlainPrograms.{plain_symbol}
 use Rattle.std.specs.Option.{option_map}
-use Rattle.mc_syntax.specs.Plain.{plain_term}
+use Rattle.mc_term_data.specs.Plain.{plain_term}
 use Rattle.mc_compile.specs.Rejected.{line_of}
 use Rattle.mc_compile.specs.Facts.{question}
 use Rattle.mc_compile.specs.Passes.{linked_of, plain_table, beside_table, plain_question, table_through, places_through, no_clauses}

@@ -1,5 +1,5 @@
 use Rattle.std.proofs.Common.{◌+◌, drop, arith}
-use Rattle.mc_link_rules.specs.Files.{plain_files}
+use Rattle.mc_linking.specs.Files.{plain_files}
 use Rattle.mc_compile.specs.Passes.{linked_of, signatures_through}
 use Rattle.mc_compile.proofs.Passes.{through_front}
 use Rattle.mc_compile.proofs.facts.sources.Sources.signatures.Goals as goal

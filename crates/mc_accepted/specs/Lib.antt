@@ -1,0 +1,8 @@
+pub mod Accepted
+pub mod Determined
+pub mod Inclusion
+pub mod Normal
+pub mod Ordered
+pub mod PlainGoals
+pub mod Scope
+pub mod Typing

@@ -1,7 +1,0 @@
-use Rattle.std.proofs.Common.{◌≡◌, drop}
-use Rattle.mc_clause_forms.specs.States.{in_scope}
-use Rattle.mc_clause_forms.specs.Scopes.{all_names}
-use Rattle.mc_clause_forms.proofs.scope.Scope.has.Given as goal
-
-abbrev pub invariant-loop-set : goal.invariant-loop-set
-invariant-loop-set l = in_scope (all_names (drop l.set-index l.self.sets.items)) l.name ≡ in_scope (all_names l.self.sets.items) l.name

@@ -1,9 +1,0 @@
-use Rattle.std.proofs.Common.{◌≡◌, drop, map}
-use Rattle.mc_syntax.specs.Plain.{plain_term, tms}
-use Rattle.mc_clause_forms.specs.Limits.{all_variables}
-use Rattle.mc_clause_forms.specs.Found.{with_variables}
-use Rattle.mc_clause_forms.proofs.variables.Variables.+variables.Given as goal
-
-abbrev pub invariant-add_all-loop-term : goal.invariant-add_all-loop-term
-invariant-add_all-loop-term l =
-    with_variables l.self (all_variables (tms (map plain_term (drop l.term-index l.terms)))) ≡ with_variables l.initial.self (all_variables (tms (map plain_term l.terms)))

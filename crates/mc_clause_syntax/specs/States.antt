@@ -1,0 +1,88 @@
+-- Where state variables may stand (the Mercury manual: State variables).
+use Rattle.std.specs.Prelude.{ℕ, Bool, true, false, ◌&&◌, List, [], ◌∷◌, ◌++◌, Option, Some, None}
+use Rattle.std.specs.Str.{bytes_eq}
+use Rattle.std.specs.Set.{is_member}
+use Rattle.mc_term_data.specs.Plain.{PlainTerm, PlainTerms, at, no_term, more_terms, App, Items, Tailed, Conj, Disj}
+use Rattle.mc_term_data.specs.Names.{count}
+use Rattle.mc_clause_syntax.specs.declared.connective.Parts.{Parts}
+use Rattle.mc_clause_syntax.specs.declared.connective.Parts.TheVariants.{Goals, Quantified, Sides, Arguments}
+use Rattle.mc_clause_syntax.specs.declared.connective.StateForm.{StateForm}
+use Rattle.mc_clause_syntax.specs.declared.connective.StateForm.TheVariants.{Both, Before, After}
+use Rattle.mc_clause_syntax.specs.Goals.{connective, parts, state}
+
+-- whether the names in scope have this one
+abbrev pub in_scope : List (List ℕ) → List ℕ → Bool
+in_scope scope x = is_member bytes_eq scope x
+
+abbrev pub name_of : Option (StateForm × List ℕ) → List (List ℕ)
+name_of None = []
+name_of (Some s) = s.1 ∷ []
+
+-- the name of the state variable that a term is
+abbrev pub state_name : PlainTerm → List (List ℕ)
+state_name (at (App w ts) l) = name_of (state w ts)
+state_name _ = []
+
+-- the names of the state variables in a list behind a quantifier
+abbrev pub quantified_in : PlainTerms → List (List ℕ)
+quantified_in no_term = []
+quantified_in (more_terms t ts) = state_name t ++ quantified_in ts
+
+abbrev pub quantified : PlainTerm → List (List ℕ)
+quantified (at (Items ts) l) = quantified_in ts
+quantified _ = []
+
+abbrev mutual
+  -- the names of the state variables in a term
+  pub states_of : PlainTerm → List (List ℕ)
+  states_of (at (App w ts) l) = name_of (state w ts) ++ states_of_all ts
+  states_of (at (Items ts) l) = states_of_all ts
+  states_of (at (Tailed ts t) l) = states_of_all ts ++ states_of t
+  states_of (at (Conj ts) l) = states_of_all ts
+  states_of (at (Disj ts) l) = states_of_all ts
+  states_of _ = []
+
+  pub states_of_all : PlainTerms → List (List ℕ)
+  states_of_all no_term = []
+  states_of_all (more_terms t ts) = states_of t ++ states_of_all ts
+
+-- One version of a state variable stands where a variable may, and both where an argument of a name does; its name is in scope.
+abbrev pub placed_state : List (List ℕ) → (is_argument : Bool) → Option (StateForm × List ℕ) → Bool
+placed_state scope is_argument None = true
+placed_state scope is_argument (Some (Both, x)) = is_argument && in_scope scope x
+placed_state scope is_argument (Some (Before, x)) = in_scope scope x
+placed_state scope is_argument (Some (After, x)) = in_scope scope x
+
+abbrev mutual
+  -- whether the state variables in a term stand where they may; the term is an argument of a name, or it isn't
+  pub placed : List (List ℕ) → Bool → PlainTerm → Bool
+  placed scope is_argument (at (App w ts) l) = placed_state scope is_argument (state w ts) && all_placed scope true ts
+  placed scope is_argument (at (Items ts) l) = all_placed scope false ts
+  placed scope is_argument (at (Tailed ts t) l) = all_placed scope false ts && placed scope false t
+  placed scope is_argument (at (Conj ts) l) = all_placed scope false ts
+  placed scope is_argument (at (Disj ts) l) = all_placed scope false ts
+  placed scope is_argument _ = true
+
+  pub all_placed : List (List ℕ) → Bool → PlainTerms → Bool
+  all_placed scope is_argument no_term = true
+  all_placed scope is_argument (more_terms t ts) = placed scope is_argument t && all_placed scope is_argument ts
+
+abbrev mutual
+  -- the same of the terms in a goal; what a quantifier names is in scope in its goal
+  pub goal_placed : List (List ℕ) → PlainTerm → Bool
+  goal_placed scope (at (Conj ts) l) = goals_placed scope ts
+  goal_placed scope (at (Disj ts) l) = goals_placed scope ts
+  goal_placed scope (at (App w ts) l) = parts_placed scope (parts (connective w (count ts))) ts
+  goal_placed scope _ = true
+
+  pub parts_placed : List (List ℕ) → Parts → PlainTerms → Bool
+  parts_placed scope (Goals a b) no_term = true
+  parts_placed scope (Goals a b) (more_terms t ts) = goal_placed scope t && goals_placed scope ts
+  parts_placed scope Quantified no_term = true
+  parts_placed scope Quantified (more_terms t ts) = goals_placed (quantified t ++ scope) ts
+  parts_placed scope Sides ts = all_placed scope false ts
+  parts_placed scope Arguments ts = all_placed scope true ts
+
+  pub goals_placed : List (List ℕ) → PlainTerms → Bool
+  goals_placed scope no_term = true
+  goals_placed scope (more_terms t ts) = goal_placed scope t && goals_placed scope ts

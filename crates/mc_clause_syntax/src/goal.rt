@@ -1,0 +1,102 @@
+ghost use Rattle.std.specs.Prelude.{◌≡◌, map};
+ghost use Rattle.mc_term_data.specs.Plain.{plain_term, tms};
+ghost use Rattle.mc_term_data.specs.Names.{count};
+ghost use Rattle.mc_clause_syntax.specs.Goals.{is_quantifiable, all_quantifiable, is_quantified_list, is_goal, is_goal_of, have_form, are_goals, are_disjuncts};
+
+use crate::connective::{Connective, Parts, Stand};
+use crate::state::{is_both_versions, is_state};
+use mc_base::Text;
+use mc_term_data::{Node, Term, arity};
+
+/// Whether a term is a goal that may stand there.
+#[cycle(goals)]
+pub fn is_goal(term: &Term, stand: Stand) -> bool
+    ensures { result ≡ is_goal stand (plain_term term.now) }
+{
+    match &term.node {
+        Node::Conj(goals) => stand.is_open() && are_goals(goals.as_slice(), Stand::Whole),
+        Node::Disj(goals) => stand.is_open() && are_disjuncts(goals.as_slice()),
+        Node::App(name, parts) => is_goal_of(name.as_slice(), parts.as_slice(), stand),
+        Node::Var(_) | Node::Int(_) | Node::Str(_) | Node::List(_, _) => false,
+    }
+}
+
+// Whether a name over parts is a goal that may stand there.
+#[cycle(goals)]
+fn is_goal_of(name: &[Text], parts: &[Term], stand: Stand) -> bool
+    ensures { result ≡ is_goal_of stand name.now (tms (map plain_term parts.now)) }
+{
+    let connective = Connective::of(name, arity(parts));
+    !is_state(name, parts) && connective.may_stand(stand) && have_form(parts, connective.parts())
+}
+
+// Whether the parts of a goal are what they are to be.
+#[cycle(goals)]
+fn have_form(parts: &[Term], form: Parts) -> bool
+    ensures { result ≡ have_form form (tms (map plain_term parts.now)) }
+{
+    match form {
+        Parts::Goals(first, others) => match parts {
+            [] => true,
+            [goal, goals @ ..] => is_goal(goal, first) && are_goals(goals, others),
+        },
+        Parts::Quantified => match parts {
+            [] => false,
+            [list, goals @ ..] => is_quantified_list(list) && are_goals(goals, Stand::Whole),
+        },
+        Parts::Sides | Parts::Arguments => true,
+    }
+}
+
+#[cycle(goals)]
+fn are_goals(terms: &[Term], stand: Stand) -> bool
+    ensures { result ≡ are_goals stand (tms (map plain_term terms.now)) }
+{
+    for term in terms {
+        if !is_goal(term, stand) {
+            return false;
+        }
+    }
+    true
+}
+
+#[cycle(goals)]
+fn are_disjuncts(terms: &[Term]) -> bool
+    ensures { result ≡ are_disjuncts (tms (map plain_term terms.now)) }
+{
+    match terms {
+        [] => true,
+        [front @ .., last] => are_goals(front, Stand::Disjunct) && is_goal(last, Stand::Whole),
+    }
+}
+
+// Whether a term is a list of what a quantifier may name.
+fn is_quantified_list(term: &Term) -> bool
+    ensures { result ≡ is_quantified_list (plain_term term.now) }
+{
+    match &term.node {
+        Node::List(elements, None) => are_quantifiable(elements.as_slice()),
+        _ => false,
+    }
+}
+
+fn are_quantifiable(terms: &[Term]) -> bool
+    ensures { result ≡ all_quantifiable (tms (map plain_term terms.now)) }
+{
+    for term in terms {
+        if !is_quantifiable(term) {
+            return false;
+        }
+    }
+    true
+}
+
+fn is_quantifiable(term: &Term) -> bool
+    ensures { result ≡ is_quantifiable (plain_term term.now) }
+{
+    match &term.node {
+        Node::Var(_) => true,
+        Node::App(name, parts) => is_both_versions(name.as_slice(), parts.as_slice()),
+        _ => false,
+    }
+}

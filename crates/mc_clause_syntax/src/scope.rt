@@ -1,0 +1,184 @@
+ghost use Rattle.std.specs.Prelude.{◌≡◌, ◌∷◌, ◌++◌, [], map, IfOk, OnOk};
+ghost use Rattle.mc_base.specs.NameSets.{put_all};
+ghost use Rattle.mc_term_data.specs.Plain.{plain_term, tms};
+ghost use Rattle.mc_clause_syntax.specs.Goals.{state};
+ghost use Rattle.mc_clause_syntax.specs.States.{in_scope, name_of, state_name, quantified_in, quantified, states_of, states_of_all, placed_state, placed, all_placed};
+ghost use Rattle.mc_clause_syntax.specs.Scopes.{all_names};
+
+use crate::connective::StateForm;
+use crate::state::state;
+use mc_base::{Memory, NameSet, Text};
+use mc_term_data::{Node, Term};
+use std::alloc::Global;
+
+/// The names of the state variables in scope: the head's, and those of each quantifier around, the innermost last.
+#[derive(Drop)]
+pub struct Scope<'a> {
+    pub alloc: Global,
+    pub sets: Vec<NameSet<'a>>,
+}
+
+impl<'a> Scope<'a> {
+    /// No name is in scope. PlainDecl takes no memory.
+    pub fn empty(alloc: Global) -> Scope<'a>
+        ensures { result.sets.items ≡ [] }
+    {
+        Scope {
+            alloc,
+            sets: Vec::new(alloc),
+        }
+    }
+
+    /// The state variables in a clause's head are in scope.
+    pub fn of_head(alloc: Global, head: &'a Term) -> Result<Scope<'a>, Memory>
+        ensures { IfOk result (λ scope. scope.sets.items ≡ put_all [] (states_of (plain_term head.now)) ∷ []) }
+    {
+        let mut names = NameSet::new(alloc);
+        add_states(&mut names, head)?;
+        let mut scope = Scope::empty(alloc);
+        scope.sets.push(names)?;
+        Ok(scope)
+    }
+
+    /// Whether a name is in scope.
+    pub fn has(&self, name: &[u8]) -> bool
+        ensures { result ≡ in_scope (all_names self.now.sets.items) name.now }
+    {
+        for set in &self.sets {
+            if set.contains(name) {
+                return true;
+            }
+        }
+        false
+    }
+
+    /// Whether the state variables in a term stand where they may; the term is an argument of a name, or it isn't.
+    #[cycle(placed)]
+    pub fn places(&self, term: &Term, is_argument: bool) -> bool
+        ensures { result ≡ placed (all_names self.now.sets.items) is_argument (plain_term term.now) }
+    {
+        match &term.node {
+            Node::App(name, parts) => {
+                self.places_state(name.as_slice(), parts.as_slice(), is_argument)
+                    && self.places_all(parts.as_slice(), true)
+            }
+            Node::List(elements, tail) => {
+                if !self.places_all(elements.as_slice(), false) {
+                    return false;
+                }
+                match tail {
+                    Some(tail) => self.places(tail, false),
+                    None => true,
+                }
+            }
+            Node::Conj(parts) | Node::Disj(parts) => self.places_all(parts.as_slice(), false),
+            Node::Var(_) | Node::Int(_) | Node::Str(_) => true,
+        }
+    }
+
+    /// The same of each of these terms.
+    #[cycle(placed)]
+    pub fn places_all(&self, terms: &[Term], are_arguments: bool) -> bool
+        ensures { result ≡ all_placed (all_names self.now.sets.items) are_arguments (tms (map plain_term terms.now)) }
+    {
+        for term in terms {
+            if !self.places(term, are_arguments) {
+                return false;
+            }
+        }
+        true
+    }
+
+    // The same of a name over parts, apart from the parts.
+    fn places_state(&self, name: &[Text], parts: &[Term], is_argument: bool) -> bool
+        ensures { result ≡ placed_state (all_names self.now.sets.items) is_argument (state name.now (tms (map plain_term parts.now))) }
+    {
+        match state(name, parts) {
+            Some((StateForm::Both, variable)) => is_argument && self.has(variable),
+            Some((_, variable)) => self.has(variable),
+            None => true,
+        }
+    }
+}
+
+// Puts in the names of the state variables in a term.
+#[cycle(states)]
+fn add_states<'a>(names: &mut NameSet<'a>, term: &'a Term) -> Result<(), Memory>
+    ensures { OnOk result (names.new ≡ put_all names.old (states_of (plain_term term.now))) }
+{
+    match &term.node {
+        Node::App(name, parts) => {
+            add_state(names, name.as_slice(), parts.as_slice())?;
+            add_all_states(names, parts.as_slice())?;
+            Ok(())
+        }
+        Node::List(elements, tail) => {
+            add_all_states(names, elements.as_slice())?;
+            match tail {
+                Some(tail) => {
+                    add_states(names, tail)?;
+                    Ok(())
+                }
+                None => Ok(()),
+            }
+        }
+        Node::Conj(parts) | Node::Disj(parts) => add_all_states(names, parts.as_slice()),
+        Node::Var(_) | Node::Int(_) | Node::Str(_) => Ok(()),
+    }
+}
+
+#[cycle(states)]
+fn add_all_states<'a>(names: &mut NameSet<'a>, terms: &'a [Term]) -> Result<(), Memory>
+    ensures { OnOk result (names.new ≡ put_all names.old (states_of_all (tms (map plain_term terms.now)))) }
+{
+    for term in terms {
+        add_states(names, term)?;
+    }
+    Ok(())
+}
+
+// Puts in the name of a state variable, where a name over parts is one.
+fn add_state<'a>(names: &mut NameSet<'a>, name: &[Text], parts: &'a [Term]) -> Result<(), Memory>
+    ensures { OnOk result (names.new ≡ put_all names.old (name_of (state name.now (tms (map plain_term parts.now))))) }
+{
+    match state(name, parts) {
+        Some((_, variable)) => {
+            names.insert(variable)?;
+            Ok(())
+        }
+        None => Ok(()),
+    }
+}
+
+/// The names of the state variables in a list behind a quantifier.
+pub fn quantified<'a>(alloc: Global, list: &'a Term) -> Result<NameSet<'a>, Memory>
+    ensures { IfOk result (λ names. names ≡ put_all [] (quantified (plain_term list.now))) }
+{
+    let mut names = NameSet::new(alloc);
+    match &list.node {
+        Node::List(elements, None) => {
+            add_quantified(&mut names, elements.as_slice())?;
+            Ok(names)
+        }
+        _ => Ok(names),
+    }
+}
+
+fn add_quantified<'a>(names: &mut NameSet<'a>, terms: &'a [Term]) -> Result<(), Memory>
+    ensures { OnOk result (names.new ≡ put_all names.old (quantified_in (tms (map plain_term terms.now)))) }
+{
+    for term in terms {
+        add_state_of(names, term)?;
+    }
+    Ok(())
+}
+
+// Puts in the name of a state variable, where a term is one.
+fn add_state_of<'a>(names: &mut NameSet<'a>, term: &'a Term) -> Result<(), Memory>
+    ensures { OnOk result (names.new ≡ put_all names.old (state_name (plain_term term.now))) }
+{
+    match &term.node {
+        Node::App(name, parts) => add_state(names, name.as_slice(), parts.as_slice()),
+        _ => Ok(()),
+    }
+}

@@ -1,8 +1,0 @@
-use Rattle.std.proofs.Common.{◌≡◌, true, drop, map}
-use Rattle.mc_syntax.specs.Plain.{plain_term, tms}
-use Rattle.mc_decl_forms.specs.Terms.{is_distinct, parameters_in}
-use Rattle.mc_decl_forms.specs.Steps.{parameters_with}
-use Rattle.mc_decl_forms.proofs.head.parameters_in.Given as goal
-
-abbrev pub invariant-loop-term : goal.invariant-loop-term
-invariant-loop-term l = (parameters_with l.names (tms (map plain_term (drop l.term-index l.terms))) ≡ parameters_in (tms (map plain_term l.terms))) × (is_distinct l.names ≡ true)

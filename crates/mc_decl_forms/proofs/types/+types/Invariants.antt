@@ -1,7 +1,0 @@
-use Rattle.std.proofs.Common.{◌≡◌, drop, map}
-use Rattle.mc_syntax.specs.Plain.{plain_term, tms}
-use Rattle.mc_decl_forms.specs.Types.{are_types}
-use Rattle.mc_decl_forms.proofs.types.+types.Given as goal
-
-abbrev pub invariant-are_types-loop-term : goal.invariant-are_types-loop-term
-invariant-are_types-loop-term l = are_types (tms (map plain_term (drop l.term-index l.terms))) ≡ are_types (tms (map plain_term l.terms))

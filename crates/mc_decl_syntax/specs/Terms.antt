@@ -1,0 +1,162 @@
+-- What the forms of declarations ask of terms: names, pairs, heads of definitions (the Mercury manual: Declarations).
+use Rattle.std.specs.Prelude.{ℕ, Bool, true, false, cond, not, ◌&&◌, List, [], ◌∷◌, Option, Some, None, codes}
+use Rattle.std.specs.Option.{is_some, option_or}
+use Rattle.std.specs.Str.{bytes_eq}
+use Rattle.std.specs.Set.{is_member}
+use Rattle.mc_term_data.specs.Plain.{PlainTerm, PlainTerms, at, no_term, more_terms, Var, App, Conj, Disj}
+use Rattle.mc_term_data.specs.Names.{Row, row, found}
+use Rattle.mc_source.specs.declared.det.Det.{Det}
+use Rattle.mc_source.specs.Determinism.{Determinism, erroneous, failure, det, semidet, multi, nondet, inferred}
+use Rattle.mc_decl_syntax.specs.Plain.{Path}
+
+-- a name without qualifiers
+abbrev pub word : Path → Option (List ℕ)
+word (w ∷ []) = Some w
+word _ = None
+
+abbrev pub is_word : Path → Bool
+is_word (w ∷ []) = true
+is_word _ = false
+
+-- this name, without qualifiers
+abbrev pub is_the_word : List ℕ → Path → Bool
+is_the_word name (w ∷ []) = bytes_eq w name
+is_the_word name _ = false
+
+-- no terms
+abbrev pub has_none : PlainTerms → Bool
+has_none no_term = true
+has_none _ = false
+
+-- one term
+abbrev pub has_one : PlainTerms → Bool
+has_one (more_terms t no_term) = true
+has_one _ = false
+
+-- the one term that these are
+abbrev pub one : PlainTerms → Option PlainTerm
+one (more_terms t no_term) = Some t
+one _ = None
+
+-- the two terms that these are
+abbrev pub two : PlainTerms → Option (PlainTerm × PlainTerm)
+two (more_terms a (more_terms b no_term)) = Some (a, b)
+two _ = None
+
+-- a name without arguments, by its parts
+abbrev pub path : PlainTerm → Option Path
+path (at (App w ts) l) = cond (has_none ts) (Some w) None
+path _ = None
+
+-- a name without qualifiers and arguments
+abbrev pub constant : PlainTerm → Option (List ℕ)
+constant (at (App w ts) l) = cond (has_none ts) (word w) None
+constant _ = None
+
+-- what stands behind the `:-` of a declaration
+abbrev pub declared_part : PlainTerm → Option PlainTerm
+declared_part (at (App w ts) l) = cond (is_the_word (codes ":-") w) (one ts) None
+declared_part _ = None
+
+-- the two parts of this name, which has no qualifiers
+abbrev pub pair : List ℕ → PlainTerm → Option (PlainTerm × PlainTerm)
+pair name (at (App w ts) l) = cond (is_the_word name w) (two ts) None
+pair name _ = None
+
+-- the one part of a name
+abbrev pub only : PlainTerm → Option PlainTerm
+only (at (App w ts) l) = one ts
+only _ = None
+
+-- the terms that `;` stands between
+abbrev pub alternatives : PlainTerm → PlainTerms
+alternatives (at (Disj ts) l) = ts
+alternatives t = more_terms t no_term
+
+-- the terms that `,` stands between
+abbrev pub conjuncts : PlainTerm → PlainTerms
+conjuncts (at (Conj ts) l) = ts
+conjuncts t = more_terms t no_term
+
+abbrev pub joined : Option Path → Option (List Path) → Option (List Path)
+joined (Some w) (Some ws) = Some (w ∷ ws)
+joined _ _ = None
+
+-- names without arguments, each by its parts
+abbrev pub paths : PlainTerms → Option (List Path)
+paths no_term = Some []
+paths (more_terms t ts) = joined (path t) (paths ts)
+
+-- the name of a variable
+abbrev pub variable : PlainTerm → Option (List ℕ)
+variable (at (Var x) l) = Some x
+variable _ = None
+
+abbrev pub are_variables : PlainTerms → Bool
+are_variables no_term = true
+are_variables (more_terms t ts) = is_some (variable t) && are_variables ts
+
+-- names with one more in front; each `_` is a variable of its own, which has no name
+abbrev pub with_name : Option (List ℕ) → List (List ℕ) → List (List ℕ)
+with_name None xs = xs
+with_name (Some x) xs = cond (bytes_eq x (codes "_")) xs (x ∷ xs)
+
+-- the names of variables among terms
+abbrev pub names_in : PlainTerms → List (List ℕ)
+names_in no_term = []
+names_in (more_terms t ts) = with_name (variable t) (names_in ts)
+
+-- no name stands twice
+abbrev pub is_distinct : List (List ℕ) → Bool
+is_distinct [] = true
+is_distinct (x ∷ xs) = not (is_member bytes_eq xs x) && is_distinct xs
+
+-- the names of distinct variables
+abbrev pub parameters_in : PlainTerms → Option (List (List ℕ))
+parameters_in ts = cond (are_variables ts && is_distinct (names_in ts)) (Some (names_in ts)) None
+
+-- The parameters of a definition, by its head: a name without qualifiers over distinct variables.
+abbrev pub parameters : PlainTerm → Option (List (List ℕ))
+parameters (at (App w ts) l) = cond (is_word w) (parameters_in ts) None
+parameters _ = None
+
+-- a determinism that commits to its first answer
+abbrev pub committed : Determinism → Det
+committed d = record { can_fail = d.can_fail; most = d.most; committed = true }
+
+-- the determinisms, in two tables
+unfoldable pub common_determinisms : List (Row Det)
+common_determinisms =
+    row (codes "det") 0 (inferred det)
+    ∷ row (codes "semidet") 0 (inferred semidet)
+    ∷ row (codes "multi") 0 (inferred multi)
+    ∷ row (codes "nondet") 0 (inferred nondet)
+    ∷ []
+
+unfoldable pub rare_determinisms : List (Row Det)
+rare_determinisms =
+    row (codes "cc_multi") 0 (committed multi)
+    ∷ row (codes "cc_nondet") 0 (committed nondet)
+    ∷ row (codes "erroneous") 0 (inferred erroneous)
+    ∷ row (codes "failure") 0 (inferred failure)
+    ∷ []
+
+abbrev pub named_determinism : Option (List ℕ) → Option Det
+named_determinism None = None
+named_determinism (Some w) = option_or (found common_determinisms w 0) (found rare_determinisms w 0)
+
+-- the determinism of a name
+abbrev pub determinism : PlainTerm → Option Det
+determinism t = named_determinism (constant t)
+
+abbrev pub with_determinism : PlainTerm → Option Det → Option (PlainTerm × Option Det)
+with_determinism t None = None
+with_determinism t (Some d) = Some (t, Some d)
+
+abbrev pub split_is : PlainTerm → Option (PlainTerm × PlainTerm) → Option (PlainTerm × Option Det)
+split_is t None = Some (t, None)
+split_is t (Some p) = with_determinism p.0 (determinism p.1)
+
+-- A declaration, and its determinism where `is D` stands behind it; none where what stands behind `is` is no determinism.
+abbrev pub declared_as : PlainTerm → Option (PlainTerm × Option Det)
+declared_as t = split_is t (pair (codes "is") t)

@@ -1,0 +1,17 @@
+use Rattle.std.proofs.Common.{sym, ◌∙◌, ap, not, map}
+use Rattle.mc_base.proofs.NameSetLaws.{on_err_always}
+use Rattle.mc_defs_uses.specs.Plain.{is_definition, plain_definition}
+use Rattle.mc_defs_uses.proofs.Views.{same_definition, is_member-views, views-put}
+use Rattle.mc_defs_uses.proofs.definition_set.DefinitionSet.insert.Goals as goal
+
+pub returns-clause-added : goal.returns-clause-added
+returns-clause-added c =
+    rw (← c.self.view_is) (c.in_ok-added.ensures.added ∙ ap not (sym (is_member-views plain_definition _ is_definition same_definition c.args.definition c.self.inside.definitions.keys)))
+
+pub returns-clause-ok : goal.returns-clause-ok
+returns-clause-ok c = rw (← c.self.view_is) (ap (map plain_definition) c.in_ok-added.ensures.keys ∙ views-put plain_definition _ is_definition same_definition c.args.definition c.self.inside.definitions.keys)
+
+pub returns-in_err-added-clause-absent : goal.returns-in_err-added-clause-absent
+returns-in_err-added-clause-absent c =
+    on_err_always c.from_residual.result
+    (rw (← c.self.view_is) (is_member-views plain_definition _ is_definition same_definition c.args.definition c.self.inside.definitions.keys ∙ c.in_err-added.ensures.absent))

@@ -1,0 +1,7 @@
+pub mod Plain
+pub mod Definitions
+pub mod Occurrences
+pub mod Twice
+pub mod Clauses
+pub mod Sets
+pub mod Steps

@@ -1,0 +1,17 @@
+-- What a step of a walk over an item adds.
+use Rattle.std.specs.Prelude.{cond, List, [], ◌∷◌, ◌++◌}
+use Rattle.std.specs.Set.{is_member}
+use Rattle.mc_term_data.specs.Plain.{PlainTerms, no_term, more_terms}
+use Rattle.mc_decl_syntax.specs.Plain.{Path}
+use Rattle.mc_defs_uses.specs.declared.definition.Kind.TheVariants as K
+use Rattle.mc_defs_uses.specs.Plain.{PlainNameArity, PlainOccurrence, is_name_arity}
+use Rattle.mc_defs_uses.specs.Occurrences.{used, terms_in}
+
+-- terms that a name stands before, each
+abbrev pub behind : Path → PlainTerms → List PlainOccurrence
+behind w no_term = []
+behind w (more_terms t ts) = used K.Symbol w 2 ++ (terms_in t ++ behind w ts)
+
+-- the names with one more put in
+abbrev pub put_id : List PlainNameArity → PlainNameArity → List PlainNameArity
+put_id xs x = cond (is_member is_name_arity xs x) xs (xs ++ x ∷ [])

@@ -1,0 +1,55 @@
+ghost use Rattle.std.specs.Prelude.{◌≡◌, [], not, false, IfOk, OnOk, OnErr};
+ghost use Rattle.std.specs.Set.{is_member};
+ghost use Rattle.mc_defs_uses.specs.Plain.{is_definition, plain_definition};
+ghost use Rattle.mc_defs_uses.specs.Sets.{put};
+
+use crate::definition::Definition;
+use indexmap::IndexSet;
+use mc_base::Memory;
+use std::alloc::Global;
+use std::marker::Model;
+
+/// Definitions, each once, in the order in which they came. A look-up takes the time of one hash.
+#[derive(Drop)]
+pub struct DefinitionSet<'a> {
+    definitions: IndexSet<Definition<'a>>,
+}
+
+impl<'a> Model for DefinitionSet<'a> {
+    ghost use Rattle.std.specs.Prelude.{List, map};
+    ghost use Rattle.mc_defs_uses.specs.Plain.{PlainDefinition, plain_definition};
+
+    ghost Value = { List PlainDefinition };
+
+    ghost view = { λ s. map plain_definition s.definitions.keys };
+}
+
+impl<'a> DefinitionSet<'a> {
+    /// The set of no definitions, which takes no memory yet.
+    pub fn new(alloc: Global) -> DefinitionSet<'a>
+        ensures { result ≡ [] }
+    {
+        DefinitionSet {
+            definitions: IndexSet::new(alloc),
+        }
+    }
+
+    /// Puts a definition in, where the set doesn't have it yet, and answers whether it was new. After want of memory the
+    /// set is as it was; a definition that is there wants none.
+    pub fn insert(&mut self, definition: Definition<'a>) -> Result<bool, Memory>
+        ensures added { IfOk result (λ added. added ≡ not (is_member is_definition self.old (plain_definition definition.entry))) }
+        ensures ok { OnOk result (self.new ≡ put self.old (plain_definition definition.entry)) }
+        ensures err { OnErr result (self.new ≡ self.old) }
+        ensures absent { OnErr result (is_member is_definition self.old (plain_definition definition.entry) ≡ false) }
+    {
+        let added = self.definitions.insert(definition)?;
+        Ok(added)
+    }
+
+    /// Whether the set has a definition.
+    pub fn contains(&self, definition: Definition<'a>) -> bool
+        ensures { result ≡ is_member is_definition self.now (plain_definition definition.entry) }
+    {
+        self.definitions.contains(&definition)
+    }
+}

@@ -1,7 +1,0 @@
-use Rattle.std.proofs.Common.{ap, ◌∙◌}
-use Rattle.mc_grammar.specs.Views.{frames}
-use Rattle.mc_grammar.proofs.Steps.{frames_push}
-use Rattle.mc_grammar.proofs.frame.Bench.with.Goals as goal
-
-pub returns-clause-frames : goal.returns-clause-frames
-returns-clause-frames c = ap frames c.in_ok-push.ensures.items ∙ frames_push c.args.self.stack.items _

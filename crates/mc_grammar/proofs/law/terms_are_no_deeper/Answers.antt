@@ -1,5 +1,0 @@
-use Rattle.mc_grammar.proofs.Depths.{no_deeper}
-use Rattle.mc_grammar.proofs.law.terms_are_no_deeper.Goals as goal
-
-pub returns : goal.returns
-returns c = no_deeper

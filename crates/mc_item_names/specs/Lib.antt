@@ -1,7 +1,0 @@
-pub mod Plain
-pub mod Things
-pub mod Occurrences
-pub mod Twice
-pub mod Clauses
-pub mod Sets
-pub mod Steps

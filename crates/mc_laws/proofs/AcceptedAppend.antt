@@ -1,0 +1,165 @@
+-- append in the mode (in, in, out) is accepted.
+use Rattle.std.proofs.Common.{◌≡◌, ◌⊎◌, inl, inr, ℕ, List, [], ◌∷◌, Some, None, Bool, true, false, cond, not, nat_eq, refl, sym, ap, ◌∙◌, subst, arith, ⊎_elim}
+use Rattle.mc_program.specs.Programs.{TypeTerm, variable_type, Source}
+use Rattle.mc_model.specs.Types.{argument_types}
+use Rattle.mc_model.specs.Truth.{In}
+use Rattle.mc_model.specs.Insts.{Graph}
+use Rattle.mc_accepted.specs.Inclusion.{Tip, symbol_tip, constant_tip, state_tip, Path, Allows, NoMore, Merged}
+use Rattle.mc_accepted.specs.Ordered.{Insts, also, change_at, here, there, no_part, to_part, to_rest, keeps, output, no_more, assign, take, build, call, conj, switch, OrderedNode, kept, next, done, arm, no_arm}
+use Rattle.mc_accepted.specs.Accepted.{entered, type_of, AcceptedProcedure}
+use Rattle.mc_model.specs.Flat as F
+use Rattle.mc_accepted.specs.Normal.{flats}
+use Rattle.mc_model.specs.Scheduled.{Procedure}
+use Rattle.mc_laws.specs.Examples.{det, nil, cell}
+use Rattle.mc_source.specs.declared.det.Det.{Det}
+use Rattle.mc_laws.specs.ExamplesOfGoals.{append, append_goal}
+use Rattle.mc_laws.specs.ExamplesOfProcedures.{list_source, list_insts, nil_listed, cell_listed, empty_arm, cell_arm, append_body, append_system, append_procedure, AppendIsAccepted}
+use Rattle.mc_laws.proofs.ListInsts.{swapped, entered_off, on_types, on_either, apart, differ, bound_below_ground, included_ground, both_ground, ground_or_cell}
+
+abbrev P : Source
+P = list_source
+
+abbrev G : Graph
+G = list_insts
+
+-- the insts before the body and at its points
+abbrev entry : Insts
+entry = entered (0 ∷ 1 ∷ 2 ∷ []) (1 ∷ 1 ∷ 0 ∷ [])
+
+abbrev after_empty : Insts
+after_empty = also 2 1 (also 0 4 entry)
+
+abbrev after_take : Insts
+after_take = also 4 1 (also 3 1 (also 0 5 entry))
+
+abbrev after_cell : Insts
+after_cell = also 2 5 (also 5 1 after_take)
+
+abbrev cell_alone : Insts
+cell_alone = entered (0 ∷ 1 ∷ 2 ∷ []) (5 ∷ 1 ∷ 5 ∷ [])
+
+abbrev after_both : Insts
+after_both = entered (0 ∷ 1 ∷ 2 ∷ []) (6 ∷ 1 ∷ 1 ∷ [])
+
+abbrev p : Procedure
+p = append_procedure det det
+
+abbrev T : ℕ → TypeTerm
+T = type_of append_system p
+
+abbrev head : List ℕ
+head = 0 ∷ 1 ∷ 2 ∷ []
+
+changed_take : (x : ℕ) → after_take x ≡ change_at x ((0, 5) ∷ (3, 1) ∷ (4, 1) ∷ []) (entry x)
+changed_take x =
+    ap (cond (nat_eq x 4) 1) (swapped x 3 0 1 5 (entry x) (apart 3 0 refl)) ∙ swapped x 4 0 1 5 (cond (nat_eq x 3) 1 (entry x)) (apart 4 0 refl) ∙ ap (cond (nat_eq x 0) 5) (swapped x 4 3 1 1 (entry x) (apart 4 3 refl))
+
+changed_call : (x : ℕ) → also 5 1 after_take x ≡ change_at x ((0, 5) ∷ (3, 1) ∷ (4, 1) ∷ (5, 1) ∷ []) (entry x)
+changed_call x =
+    ap (cond (nat_eq x 5) 1) (changed_take x)
+    ∙ swapped x 5 0 1 5 (cond (nat_eq x 3) 1 (cond (nat_eq x 4) 1 (entry x))) (apart 5 0 refl)
+    ∙ ap (cond (nat_eq x 0) 5) (swapped x 5 3 1 1 (cond (nat_eq x 4) 1 (entry x)) (apart 5 3 refl) ∙ ap (cond (nat_eq x 3) 1) (swapped x 5 4 1 1 (entry x) (apart 5 4 refl)))
+
+changed_cell : (x : ℕ) → after_cell x ≡ change_at x ((0, 5) ∷ (2, 5) ∷ (3, 1) ∷ (4, 1) ∷ (5, 1) ∷ []) (entry x)
+changed_cell x = ap (cond (nat_eq x 2) 5) (changed_call x) ∙ swapped x 2 0 5 5 (cond (nat_eq x 3) 1 (cond (nat_eq x 4) 1 (cond (nat_eq x 5) 1 (entry x)))) (apart 2 0 refl)
+
+changed_both : (x : ℕ) → after_both x ≡ change_at x ((0, 6) ∷ (2, 1) ∷ []) (entry x)
+changed_both x = by_tests (nat_eq x 0) (nat_eq x 1) (nat_eq x 2)
+  where
+    by_tests : (s t u : Bool) → ◌≡◌ {A = ℕ} (cond s 6 (cond t 1 (cond u 1 0))) (cond s 6 (cond u 1 (cond s 1 (cond t 1 (cond u 0 0)))))
+    by_tests true t u = refl
+    by_tests false true true = refl
+    by_tests false true false = refl
+    by_tests false false true = refl
+    by_tests false false false = refl
+
+-- the first arm
+empty_is_ordered : OrderedNode append_system T head head entry (F.And (flats (F.Made 0 nil [] ∷ F.Same 2 1 ∷ []))) empty_arm (Some after_empty)
+empty_is_ordered =
+    kept
+    (conj
+    (next {c = also 0 4 entry} here
+    (kept (take {i = 4} {is = []} (apart 1 0 refl) ((λ e. cc), tt) refl refl) ((λ x. refl), (omega arith, tt), (apart 1 4 refl, tt)))
+    (next {c = after_empty} here
+    (kept (assign refl (apart 1 0 refl) ((λ e. cc), ((λ e. cc), tt))) ((λ x. refl), (omega arith, tt), (apart 0 1 refl, tt)))
+    done)))
+    ((λ x. swapped x 2 0 1 4 (entry x) (apart 2 0 refl)), (omega arith, (omega arith, tt)), (apart 1 4 refl, (apart 0 1 refl, tt)))
+
+-- the second arm
+cell_is_ordered :
+    OrderedNode append_system T head head entry (F.And (flats (F.Made 0 cell (3 ∷ 4 ∷ []) ∷ F.Made 2 cell (3 ∷ 5 ∷ []) ∷ F.Call append (4 ∷ 1 ∷ 5 ∷ []) ∷ []))) cell_arm (Some after_cell)
+cell_is_ordered =
+    kept
+    (conj
+    (next {c = after_take} here
+    (kept (take {i = 5} {is = 1 ∷ 1 ∷ []} (apart 1 0 refl) ((λ e. cc), ((λ e. cc), ((λ e. cc), tt))) refl refl) (changed_take, (omega arith, (omega arith, (omega arith, tt))), (apart 1 5 refl, (apart 0 1 refl, (apart 0 1 refl, tt)))))
+    (next {c = also 5 1 after_take} (there here)
+    (kept
+    (call {c = also 5 1 after_take} {p = 0} (omega arith)
+    ((λ h. (refl, included_ground P (T 4), (λ e. cc))), ((λ h. (refl, included_ground P (T 1), (λ e. cc))), ((λ h. absurd (h refl)), tt)))
+    ((λ e. cc), ((λ e. cc), ((λ e. cc), tt)))
+    (keeps (apart 1 0 refl) (λ e. cc) (included_ground P (T 4)) (keeps (apart 1 0 refl) (λ e. cc) (included_ground P (T 1)) (output (apart 1 0 refl) refl no_more))))
+    ((λ x. refl), (omega arith, tt), (apart 0 1 refl, tt)))
+    (next {c = after_cell} here
+    (kept (build {i = 5} refl (refl, (refl, tt)) (refl, (refl, tt)) ((λ e. cc), ((λ e. cc), tt)) refl) ((λ x. refl), (omega arith, tt), (apart 0 5 refl, tt)))
+    done))))
+    (changed_cell, (omega arith, (omega arith, (omega arith, (omega arith, (omega arith, tt))))), (apart 1 5 refl, (apart 0 5 refl, (apart 0 1 refl, (apart 0 1 refl, (apart 0 1 refl, tt))))))
+
+-- by the argument that a variable of the head is
+by_head : (Q : ℕ → Type 0) → Q 0 → Q 1 → Q 2 → (x : ℕ) → In x head → Q x
+by_head Q a b c x h = ⊎_elim (λ e. subst Q (sym e) a) (λ h. ⊎_elim (λ e. subst Q (sym e) b) (λ h. ⊎_elim (λ e. subst Q (sym e) c) (λ h. absurd h) h) h) h
+
+nil_or_cell : (t : TypeTerm) → Merged P G 4 5 6 t
+nil_or_cell t =
+    record {
+      least = least;
+      above_first = above_first;
+      above_second = above_second;
+    }
+  where
+    least : (path : Path) (e : Tip) → Allows P G path e 6 t → Allows P G path e 4 t ⊎ Allows P G path e 5 t
+    least [] (symbol_tip s) a = on_either (argument_types P s t) _ _ _ (λ ts h. ⊎_elim (λ l. inl (inl l)) (λ r. inr r) h) a
+    least [] (constant_tip b) a = absurd a.1
+    least [] (state_tip m) a = absurd a.1
+    least ((s, k) ∷ path) e a = on_either (argument_types P s t) _ _ _ (λ ts h. ⊎_elim (λ l. inl (inl l)) (λ r. inr r) h) a
+
+    above_first : NoMore P G 4 6 t
+    above_first [] (symbol_tip s) a = on_types (argument_types P s t) _ _ (λ ts h. ⊎_elim (λ l. inl l) (λ r. absurd r) h) a
+    above_first [] (constant_tip b) a = absurd a.1
+    above_first [] (state_tip m) a = absurd a.1
+    above_first ((s, k) ∷ path) e a = on_types (argument_types P s t) _ _ (λ ts h. ⊎_elim (λ l. inl l) (λ r. absurd r) h) a
+
+    above_second : NoMore P G 5 6 t
+    above_second [] (symbol_tip s) a = on_types (argument_types P s t) _ _ (λ ts h. inr h) a
+    above_second [] (constant_tip b) a = absurd a.1
+    above_second [] (state_tip m) a = absurd a.1
+    above_second ((s, k) ∷ path) e a = on_types (argument_types P s t) _ _ (λ ts h. inr h) a
+
+body_is_ordered : OrderedNode append_system T head head entry append_goal (append_body det) (Some after_both)
+body_is_ordered =
+    kept
+    (switch (apart 1 0 refl)
+    (arm {o = Some after_empty} {o' = Some cell_alone} (to_part (to_rest no_part)) (inl (refl, refl)) ((λ e. cc), tt) empty_is_ordered
+    (arm {o = Some after_cell} {o' = None} (to_part no_part) (inl (refl, refl)) tt cell_is_ordered no_arm
+    (λ x. (by_head (λ y. cell_alone y ≡ after_cell y) refl refl refl x, entered_off head (5 ∷ 1 ∷ 5 ∷ []) x)))
+    (λ x. (by_head (λ y. Merged P G (after_empty y) (cell_alone y) (after_both y) (T y)) (nil_or_cell (T 0)) (both_ground P (T 1)) (ground_or_cell P (T 2)) x, entered_off head (6 ∷ 1 ∷ 1 ∷ []) x))))
+    (changed_both, (omega arith, (omega arith, tt)), (apart 1 6 refl, (apart 0 1 refl, tt)))
+
+accepted_append : AcceptedProcedure append_system p
+accepted_append =
+    record {
+      scopes = (tt, (tt, tt));
+      typed = ((refl, (refl, tt)), ((refl, (refl, ((variable_type, refl), tt))), tt));
+      head = refl;
+      lengths = (refl, refl);
+      after = Some after_both;
+      ordered = body_is_ordered;
+      final = (bound_below_ground P 6 (nil_listed ∷ cell_listed ∷ []) (T 0) refl (refl, (refl, tt)), (included_ground P (T 1), (included_ground P (T 2), tt)));
+      kept = (refl, ((refl, ((refl, tt), ((refl, tt), tt))), ((refl, ((refl, tt), ((refl, tt), ((refl, tt), tt)))), tt)));
+      allowed = ((λ h. h), omega arith);
+      placed = ((tt, (tt, tt)), ((tt, ((λ e. absurd (differ e)), (tt, tt))), tt));
+      io = (tt, ((tt, ((tt, tt), ((tt, tt), tt))), ((tt, ((tt, tt), ((tt, tt), ((tt, tt), tt)))), tt)));
+    }
+
+pub append_is_accepted : AppendIsAccepted
+append_is_accepted = ((λ k lt. accepted_append), (λ a. differ (ap (λ (d : Det). not d.can_fail) a.kept.0)), (λ a. absurd (omega (arith, a.allowed.1))))

@@ -1,0 +1,20 @@
+use Rattle.std.proofs.Common.{refl, inl}
+use Rattle.mc_laws.proofs.examples.scopes.Goals as goal
+
+pub returns-clause-negations : goal.returns-clause-negations
+returns-clause-negations c = (refl, refl, refl, refl, (λ e. cc))
+
+pub returns-clause-conditions : goal.returns-clause-conditions
+returns-clause-conditions c = (refl, refl, refl, refl, (λ e. cc))
+
+pub returns-clause-written : goal.returns-clause-written
+returns-clause-written c = (
+  ((λ x h. h), ((λ x h k. k), tt)),
+  (λ h. h.0 0 (inl refl)),
+  ((λ x h. h), tt),
+  (λ h. h.1.0 0 (inl refl) (inl refl)),
+  (((λ x h k. k), tt), (tt, tt)),
+  (λ h. h.0.0 0 (inl refl) (inl refl)),
+  ((λ x h k. k), (λ x h. h), tt, tt, tt),
+  (λ h. h.1 0 (inl refl)),
+)

@@ -1,0 +1,103 @@
+//! Computed examples of the definitions: programs written out as scheduled procedures, and what their runs do. Each is
+//! the contract of a function that does nothing, and each group has an equation that does not hold.
+ghost use Rattle.mc_laws.specs.ExamplesOfBranches.{BranchesAreAccepted};
+ghost use Rattle.mc_laws.specs.ExamplesOfBuiltins.{NumbersWrap, DivisionRounds, DivisionAtItsEnds, Comparisons, NumbersInTexts, CharactersInTexts, Writing, Reading, InPrograms};
+ghost use Rattle.mc_laws.specs.ExamplesOfGoals.{NegationsQuantify, ConditionsQuantify, ScopesAreWritten, NormalGoals};
+ghost use Rattle.mc_laws.specs.ExamplesOfLists.{Facts, Appends, Members, Queens};
+ghost use Rattle.mc_laws.specs.ExamplesOfModes.{Determinisms, CommittedCalls, IoGoals, GoalsWithoutOrder};
+ghost use Rattle.mc_laws.specs.ExamplesOfProcedures.{AppendIsAccepted};
+ghost use Rattle.mc_laws.specs.ExamplesOfTypes.{Typings};
+ghost use Rattle.mc_laws.specs.ExamplesOfRuns.{Order, Budgets, Depths, Throws, Output};
+
+/// What builtins do at some inputs.
+pub fn builtins()
+    ensures numbers_wrap { NumbersWrap }
+    ensures division_rounds { DivisionRounds }
+    ensures division_at_its_ends { DivisionAtItsEnds }
+    ensures comparisons { Comparisons }
+    ensures numbers_in_texts { NumbersInTexts }
+    ensures characters_in_texts { CharactersInTexts }
+    ensures writing { Writing }
+    ensures reading { Reading }
+    ensures in_programs { InPrograms }
+{}
+
+/// Facts, in order and as often as they are given.
+pub fn facts()
+    ensures { Facts }
+{}
+
+/// A predicate in two modes, in one of which its last argument is taken apart first.
+pub fn appends()
+    ensures { Appends }
+{}
+
+/// Negated, quantified and committed goals.
+pub fn members()
+    ensures { Members }
+{}
+
+/// Four queens on a board.
+pub fn queens()
+    ensures { Queens }
+{}
+
+/// A conjunction whose goals run in another order than they are written.
+pub fn order()
+    ensures { Order }
+{}
+
+/// Runs that a budget, or the depth, stops, and runs that they just allow.
+pub fn limits()
+    ensures budgets { Budgets }
+    ensures depths { Depths }
+{}
+
+/// A division by zero after an answer.
+pub fn throws()
+    ensures { Throws }
+{}
+
+/// What a program writes, with all the calls that it needs and with one less.
+pub fn output()
+    ensures { Output }
+{}
+
+/// Variables that a goal quantifies, and goals whose scopes are written out.
+pub fn scopes()
+    ensures negations { NegationsQuantify }
+    ensures conditions { ConditionsQuantify }
+    ensures written { ScopesAreWritten }
+{}
+
+/// Predicates as one goal whose atoms hold variables alone.
+pub fn normal_goals()
+    ensures { NormalGoals }
+{}
+
+/// A procedure that is accepted, and two that are not.
+pub fn accepted_procedures()
+    ensures { AppendIsAccepted }
+{}
+
+/// Procedures with an if-then-else and with a negation that are accepted, and two that are not.
+pub fn accepted_branches()
+    ensures { BranchesAreAccepted }
+{}
+
+/// Clauses that are well typed, and some that are not.
+pub fn typings()
+    ensures { Typings }
+{}
+
+/// The determinism of goals by the tables, and the contexts in which committed calls and goals that write may stand.
+pub fn determinisms()
+    ensures determinisms { Determinisms }
+    ensures committed_calls { CommittedCalls }
+    ensures io_goals { IoGoals }
+{}
+
+/// Goals that no order makes mode-correct.
+pub fn goals_without_order()
+    ensures { GoalsWithoutOrder }
+{}

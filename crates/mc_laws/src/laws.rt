@@ -1,0 +1,77 @@
+//! The laws that show how the definitions fit together. Each is the contract of a function that does nothing.
+ghost use Rattle.mc_laws.specs.Laws.{GoalsStay, CallsStay, NoGoalIsBoth, NoCallIsBoth, LevelsSuffice, LevelsSufficeForCalls, LevelsSufficeForQueries, OneLevelMore, BudgetsExtend, BudgetsExtendCalls, BudgetsExtendQueries, SameIsEqual, PlainIsExact, PlainTypesAreExact, PlainTermsAreExact};
+ghost use Rattle.mc_laws.specs.Proper.{IncludedSets};
+ghost use Rattle.mc_laws.specs.FlatLaws.{FlatGoalsCarry};
+ghost use Rattle.mc_laws.specs.PredicateLaws.{PredicatesCarry};
+ghost use Rattle.mc_source.specs.Determinism.{ConjIsMonotone, DisjIsMonotone, IteIsMonotone, NegatedIsMonotone, PrunedIsMonotone, AllowsItself, AllowsInTurn, AllowsOneWay};
+
+/// What is true, or false, at a stage is so at every later one.
+pub fn stages_stay()
+    ensures goals { GoalsStay }
+    ensures calls { CallsStay }
+{}
+
+/// Nothing is true at one stage and false at another.
+pub fn nothing_is_both()
+    ensures goals { NoGoalIsBoth }
+    ensures calls { NoCallIsBoth }
+{}
+
+/// As many levels of calls as the budget allows are enough for a run, and more change nothing.
+pub fn levels_suffice()
+    ensures goals { LevelsSuffice }
+    ensures calls { LevelsSufficeForCalls }
+    ensures queries { LevelsSufficeForQueries }
+    ensures one_more { OneLevelMore }
+{}
+
+/// The items of a run are a prefix of those of any run with a larger budget.
+pub fn budgets_extend()
+    ensures goals { BudgetsExtend }
+    ensures calls { BudgetsExtendCalls }
+    ensures queries { BudgetsExtendQueries }
+{}
+
+/// The test of equality on values tells equality.
+pub fn same_is_equal()
+    ensures { SameIsEqual }
+{}
+
+/// The plain views of values, types and terms forget nothing but their rows.
+pub fn plain_is_exact()
+    ensures values { PlainIsExact }
+    ensures types { PlainTypesAreExact }
+    ensures terms { PlainTermsAreExact }
+{}
+
+/// The tables of determinism are monotone.
+pub fn determinism_is_monotone()
+    ensures conj { ConjIsMonotone }
+    ensures disj { DisjIsMonotone }
+    ensures ite { IteIsMonotone }
+    ensures negated { NegatedIsMonotone }
+    ensures pruned { PrunedIsMonotone }
+{}
+
+/// That a declaration allows an inference is an order on determinisms, which the tables respect.
+pub fn allowing_is_an_order()
+    ensures itself { AllowsItself }
+    ensures in_turn { AllowsInTurn }
+    ensures one_way { AllowsOneWay }
+{}
+
+/// Included insts have included sets: a value of the type that is within the first is within the second.
+pub fn included_insts_have_included_sets()
+    ensures { IncludedSets }
+{}
+
+/// Flat truth implies nested truth: a goal of nested terms is true, or false, where its flat goal is.
+pub fn flat_goals_carry_over()
+    ensures { FlatGoalsCarry }
+{}
+
+/// A predicate's one normal goal says of its head variables what its clauses say of arguments: a clause is true where
+/// the goal has an answer, and each is false where the goal is for all values of its other variables.
+pub fn predicates_carry_over()
+    ensures { PredicatesCarry }
+{}

@@ -1,4 +1,0 @@
-pub mod Spots
-pub mod Declarations
-pub mod Reasons
-pub mod Words

@@ -1,7 +1,0 @@
-use Rattle.std.proofs.Common.{◌≡◌, drop}
-use Rattle.mc_link_rules.specs.Files.{plain_files}
-use Rattle.mc_link_rules.specs.Faults.{missing}
-use Rattle.mc_link_rules.proofs.linking.Linking.missing.Given as goal
-
-abbrev pub invariant-loop-name : goal.invariant-loop-name
-invariant-loop-name l = missing (plain_files l.self.files.now) (drop l.name-index l.names) ≡ missing (plain_files l.self.files.now) l.names

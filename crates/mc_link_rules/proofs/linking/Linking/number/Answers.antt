@@ -1,6 +1,0 @@
-use Rattle.std.proofs.Common.{◌∙◌, ap}
-use Rattle.mc_link_rules.specs.Files.{joined}
-use Rattle.mc_link_rules.proofs.linking.Linking.number.Goals as goal
-
-pub returns : goal.returns
-returns c = c.in_ok-number.ensures ∙ ap (λ f. f (joined c.args.name.now)) c.requires.linking.named

@@ -1,6 +1,0 @@
-use Rattle.std.proofs.Common.{◌≡◌, drop}
-use Rattle.mc_link_rules.specs.Sights.{number_of, with_named}
-use Rattle.mc_link_rules.proofs.sight.add_all.Given as goal
-
-abbrev pub invariant-loop-path : goal.invariant-loop-path
-invariant-loop-path l = with_named (number_of l.names) (drop l.path-index l.paths) l.modules ≡ with_named (number_of l.names) l.paths l.initial.modules

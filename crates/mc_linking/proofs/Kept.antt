@@ -1,0 +1,79 @@
+-- What is kept of each file, by its number.
+use Rattle.std.proofs.Common.{◌≡◌, ℕ, ◌+◌, ◌<◌, ◌≤◌, suc, zero, Bool, true, false, cond, nat_eq, List, [], ◌∷◌, map, length, get_or, refl, ap, sym, ◌∙◌, arith}
+use Rattle.std.proofs.lemmas.List.{length-map}
+use Rattle.mc_defs_uses.specs.declared.definition.Kind.{Kind}
+use Rattle.mc_defs_uses.specs.declared.definition.Kind.TheVariants as K
+use Rattle.mc_defs_uses.specs.Plain.{PlainNameArity}
+use Rattle.mc_items.specs.declared.entry.Entry.{Entry}
+use Rattle.mc_items.specs.Files.{plain_entry}
+use Rattle.mc_linking.specs.declared.visibility.Visibility.{Visibility}
+use Rattle.mc_linking.specs.declared.table.Table.{Table}
+use Rattle.mc_linking.specs.Files.{File, PlainItemInFile, items_in_file, definitions_of, shown_of, has, plain_files}
+use Rattle.mc_linking.specs.Visible.{file_at, has_definition}
+use Rattle.mc_linking.specs.Visibilities.{visibility, visibilities_from}
+use Rattle.mc_linking.specs.Tables.{table, tables}
+use Rattle.mc_linking.proofs.Tables.{has-set}
+
+length-visibilities : (F : List File) (k : ℕ) (fs : List File) → length (visibilities_from F k fs) ≡ length fs
+length-visibilities F k [] = refl
+length-visibilities F k (f ∷ fs) = ap suc (length-visibilities F (k + 1) fs)
+
+visibility-from : (F : List File) (k : ℕ) (fs : List File) (i j : ℕ) (d : Visibility) → i < length fs → k + i ≡ j → get_or (visibilities_from F k fs) i d ≡ visibility F j
+visibility-from F k [] i j d h e = absurd (omega arith)
+visibility-from F k (f ∷ fs) zero j d h e = let p : k ≡ j = omega (arith, e) in ap (visibility F) p
+visibility-from F k (f ∷ fs) (suc i) j d h e = visibility-from F (k + 1) fs i j d (omega arith) (omega (arith, e))
+
+-- as many visibilities and tables as files
+pub visibilities-length : (files : List (List Entry)) (all : List Visibility) → all ≡ visibilities_from (plain_files files) 0 (plain_files files) → length all ≡ length files
+visibilities-length files all e = ap length e ∙ length-visibilities (plain_files files) 0 (plain_files files) ∙ length-map files (map plain_entry)
+
+pub visibility-at : (files : List (List Entry)) (all : List Visibility) (own : ℕ) (s : Visibility) → all ≡ visibilities_from (plain_files files) 0 (plain_files files) → own < length files → s ≡ get_or all own s → s ≡ visibility (plain_files files) own
+visibility-at files all own s e h p =
+    let l : own < length (plain_files files) = rw (length-map files (map plain_entry)) h in
+    p ∙ ap (λ xs. get_or xs own s) e ∙ visibility-from (plain_files files) 0 (plain_files files) own own s l (omega arith)
+
+length-tables : (fs : List File) → length (tables fs) ≡ length fs
+length-tables [] = refl
+length-tables (f ∷ fs) = ap suc (length-tables fs)
+
+table-from : (fs : List File) (i : ℕ) (d : Table) → i < length fs → get_or (tables fs) i d ≡ table (items_in_file (file_at fs i))
+table-from [] i d h = absurd (omega arith)
+table-from (f ∷ fs) zero d h = refl
+table-from (f ∷ fs) (suc i) d h = table-from fs i d (omega arith)
+
+pub tables-length : (files : List (List Entry)) (all : List Table) → all ≡ tables (plain_files files) → length all ≡ length files
+tables-length files all e = ap length e ∙ length-tables (plain_files files) ∙ length-map files (map plain_entry)
+
+pub table-at : (files : List (List Entry)) (all : List Table) (own : ℕ) (t : Table) → all ≡ tables (plain_files files) → own < length files → t ≡ get_or all own t → t ≡ table (items_in_file (file_at (plain_files files) own))
+table-at files all own t e h p =
+    let l : own < length (plain_files files) = rw (length-map files (map plain_entry)) h in
+    p ∙ ap (λ xs. get_or xs own t) e ∙ table-from (plain_files files) own t l
+
+has-table : (k : Kind) (x : PlainNameArity) (b : Bool) (ss : List PlainItemInFile) → has k x (cond b (table ss).definitions (table ss).shown) ≡ has k x (cond b (definitions_of ss) (shown_of ss))
+has-table k x true ss = has-set k x (definitions_of ss)
+has-table k x false ss = has-set k x (shown_of ss)
+
+-- a file's table has what the file has
+pub has-at : (files : List (List Entry)) (all : List Table) (own k : ℕ) (kind : Kind) (x : PlainNameArity) (t : Table) → all ≡ tables (plain_files files) → k < length files → t ≡ get_or all k t
+    → has kind x (cond (nat_eq own k) t.definitions t.shown) ≡ has_definition (plain_files files) own kind x k
+has-at files all own k kind x t e h p =
+    ap (λ s. has kind x (cond (nat_eq own k) s.definitions s.shown)) (table-at files all k t e h p) ∙ has-table kind x (nat_eq own k) (items_in_file (file_at (plain_files files) k))
+
+no_file : (fs : List File) (k : ℕ) → length fs ≤ k → file_at fs k ≡ []
+no_file [] k h = refl
+no_file (f ∷ fs) zero h = absurd (omega arith)
+no_file (f ∷ fs) (suc k) h = no_file fs k (omega arith)
+
+nothing : (k : Kind) (x : PlainNameArity) → has k x [] ≡ false
+nothing K.DefinedType x = refl
+nothing k x = refl
+
+has_nothing : (kind : Kind) (x : PlainNameArity) (b : Bool) → has kind x (cond b [] []) ≡ false
+has_nothing kind x true = nothing kind x
+has_nothing kind x false = nothing kind x
+
+-- a file that isn't there has nothing
+pub has-nowhere : (files : List (List Entry)) (own k : ℕ) (kind : Kind) (x : PlainNameArity) → length files ≤ k → false ≡ has_definition (plain_files files) own kind x k
+has-nowhere files own k kind x h =
+    let l : length (plain_files files) ≤ k = rw (length-map files (map plain_entry)) h in
+    sym (ap (λ f. has kind x (cond (nat_eq own k) (definitions_of (items_in_file f)) (shown_of (items_in_file f)))) (no_file (plain_files files) k l) ∙ has_nothing kind x (nat_eq own k))

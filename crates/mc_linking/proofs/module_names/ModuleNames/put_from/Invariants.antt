@@ -1,0 +1,14 @@
+use Rattle.std.proofs.Common.{◌≡◌, ◌≤◌, length, drop}
+use Rattle.mc_linking.specs.Files.{module_names, plain_files}
+use Rattle.mc_linking.specs.Visibilities.{number_of, named_behind}
+use Rattle.mc_linking.proofs.module_names.ModuleNames.put_from.Given as goal
+
+abbrev pub invariant-loop-k : goal.invariant-loop-k
+invariant-loop-k l = record {
+  above : l.from ≤ l.k;
+  within : l.k ≤ length l.files;
+  named : number_of l.self ≡ named_behind l.k (drop l.k (module_names (plain_files l.files))) (number_of l.initial.self);
+}
+
+abbrev pub decreases-loop-k : goal.decreases-loop-k
+decreases-loop-k l = l.k

@@ -1,5 +1,0 @@
-use Rattle.mc_model.proofs.FlatWhole.{flat_goals_carry}
-use Rattle.mc_model.proofs.laws.flat_goals_carry_over.Goals as goal
-
-pub returns : goal.returns
-returns c = flat_goals_carry

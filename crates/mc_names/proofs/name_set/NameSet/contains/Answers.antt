@@ -1,6 +1,0 @@
-use Rattle.std.proofs.Common.{sym, ◌∙◌}
-use Rattle.mc_names.proofs.Views.{is_member-names_of}
-use Rattle.mc_names.proofs.name_set.NameSet.contains.Goals as goal
-
-pub returns : goal.returns
-returns c = rw (← c.self.view_is) (c.contains.ensures ∙ sym (is_member-names_of c.args.name.now c.self.inside.names.keys))

@@ -1,0 +1,103 @@
+-- The item of a printed value, and that the reader's definition answers nothing else of it.
+use Rattle.std.proofs.Common.{◌≡◌, ℕ, suc, ◌+◌, ◌≤◌, Bool, true, false, List, [], ◌∷◌, ◌++◌, length, refl, sym, ap, ◌∙◌, subst, arith, Some, None}
+use Rattle.std.proofs.Math.Seq.{drop-append_seam}
+use Rattle.std.proofs.lemmas.List.{length-append}
+use Rattle.mc_program.specs.Values.{Val}
+use Rattle.mc_program.specs.Printed.{printed}
+use Rattle.mc_tokens.specs.Tokens.{ends_item}
+use Rattle.mc_tokens.specs.Items.{Piece, Item}
+use Rattle.mc_tokens.specs.Items as I
+use Rattle.mc_tokens.specs.declared.token.Kind.TheVariants as K
+use Rattle.mc_tokens.proofs.ItemLaws.{Item-unique, Item-Faulty}
+use Rattle.mc_term_data.specs.Plain.{PlainTerm}
+use Rattle.mc_term_parser.specs.declared.lexeme.Lexeme.{Lexeme}
+use Rattle.mc_term_parser.specs.Tree.{Tree, depth, too_large, term}
+use Rattle.mc_term_parser.specs.Part.{Part, closed}
+use Rattle.mc_term_parser.specs.Reads.{Reads, ReadsTerm}
+use Rattle.mc_term_parser.specs.Reads as R
+use Rattle.mc_term_parser.specs.Laws.{AtMostOne}
+use Rattle.mc_terms.specs.declared.fault.ReadKind.{ReadKind}
+use Rattle.mc_terms.specs.declared.fault.ReadKind.TheVariants.{Token, NotATerm, IntTooLarge, TooNested, Memory}
+use Rattle.mc_terms.specs.Lines.{line_at}
+use Rattle.mc_terms.specs.Lexemes.{lexemes}
+use Rattle.mc_terms.specs.Answers.{ItemTokens, ItemReads, IsRefused}
+use Rattle.mc_print_roundtrip.specs.Terms.{term_of, HasText, depth_of}
+use Rattle.mc_print_roundtrip.specs.Whole.{IsTheTerm}
+use Rattle.mc_print_roundtrip.proofs.Cursor.{Cursor, Spells}
+use Rattle.mc_print_roundtrip.proofs.Marks.{follows_stop, spells_stop}
+use Rattle.mc_print_roundtrip.proofs.Trees.{tree_of, value_stands}
+use Rattle.mc_print_roundtrip.proofs.Values.{value_reads}
+
+-- the value's item
+item_reads : (names : List (List ℕ)) (v : Val) (text : List ℕ) (line place : ℕ) (rest : List ℕ) → HasText names v → ends_item rest ≡ true → Cursor text line place (printed names v ++ (46 ∷ rest))
+    → ItemReads text place (tree_of line names v) (place + length (printed names v) + 1)
+item_reads names v text line place rest h e c =
+    let last = place + length (printed names v) + 1 in
+    let long : length (printed names v ++ (46 ∷ rest)) ≡ length (printed names v) + suc (length rest) = length-append (printed names v) (46 ∷ rest) in
+    let w = (value_reads text line last names v h).whole (46 ∷ rest) [] (follows_stop rest e) refl in
+    let stop : (p : ℕ) → Cursor text line p (46 ∷ rest) → p + 1 ≡ last = λ p d. ends_so p (length (printed names v)) (length (printed names v ++ (46 ∷ rest))) (length rest) (length text) place long c.counts d.counts in
+    let spelled = w.spells place K.Eof refl c (λ k p d. subst (λ n. Spells text p k [] n) (stop p d) (spells_stop text line p k rest e d)) [] refl in
+    (w.tokens, (spelled.0, spelled.1, spelled.2), (closed (tree_of line names v), w.reads false 1200, omega arith, refl))
+  where
+    ends_so : (p n m k l place : ℕ) → m ≡ n + suc k → place + m ≡ l → p + suc k ≡ l → p + 1 ≡ place + n + 1
+    ends_so p n m k l place e f g = omega arith
+
+-- something reads from no tokens
+reads_some : {c : Bool} {limit : ℕ} {ts rest : List Lexeme} {p : Part Tree} → Reads c limit ts p rest → ts ≡ [] → ⊥
+reads_some R.variable e = cc
+reads_some R.number e = cc
+reads_some R.string e = cc
+reads_some (R.negative h) e = cc
+reads_some (R.name h) e = cc
+reads_some (R.path h) e = cc
+reads_some (R.compound h k) e = cc
+reads_some (R.paren h k l) e = cc
+reads_some R.nil e = cc
+reads_some (R.elements h) e = cc
+reads_some (R.tailed h k l) e = cc
+reads_some (R.prefix h k l) e = cc
+reads_some (R.quantified h k l m n o) e = cc
+reads_some (R.binary h k l m n o) e = reads_some h e
+reads_some (R.chained h k l m) e = reads_some h e
+
+module _ (at_most_one : AtMostOne) (text : List ℕ) (place : ℕ) where
+  -- an item has one list of tokens and one end
+  same_tokens : (ts us : List Lexeme) (stop next : ℕ) → ItemTokens text place ts stop → ItemTokens text place us next → (ts ≡ us) × (stop ≡ next)
+  same_tokens ts us stop next a b =
+      let same = Item-unique a.1 b.1 in
+      (sym a.2 ∙ ap (lexemes text []) same.0 ∙ b.2, same.1)
+
+  -- and one tree
+  same_tree : (t u : Tree) (stop next : ℕ) → ItemReads text place t stop → ItemReads text place u next → (t ≡ u) × (stop ≡ next)
+  same_tree t u stop next a b =
+      let same = same_tokens a.0 b.0 stop next a.1 b.1 in
+      (at_most_one b.0 1200 t u (subst (λ ts. ReadsTerm ts t 1200) same.0 a.2) b.2, same.1)
+
+  -- what holds of the one item is all that the reader's definition answers
+  the_term : (t : Tree) (u : PlainTerm) (next : ℕ) → ItemReads text place t next → too_large t ≡ None → depth t ≤ 256 → term t ≡ u → IsTheTerm text place u next
+  the_term t u next h fits deep same = record {
+    reads = (t, h, fits, deep, same);
+    given = λ r e. (t, h, fits, deep, e ∙ sym same);
+    alone = λ r stop i. let one = same_tree i.0 t stop next i.1 h in (i.4 ∙ ap term one.0 ∙ same, one.1);
+    not_over = λ over. reads_some h.2.1 (sym h.1.2 ∙ ap (lexemes text []) (Item-unique h.1.1 (I.over over.2 refl)).0);
+    not_refused = not_refused;
+  }
+    where
+      not_refused : (kind : ReadKind) (line stop : ℕ) → IsRefused text place kind line stop → kind ≡ Memory
+      not_refused (Token f) line stop r = absurd (Item-Faulty h.1.1 r.1)
+      not_refused NotATerm line stop r = absurd (r.2 t (subst (λ ts. ReadsTerm ts t 1200) (same_tokens h.0 r.0 next stop h.1 r.1).0 h.2))
+      not_refused IntTooLarge line stop r = let no : None ≡ Some line = sym fits ∙ ap too_large (sym (same_tree r.0 t stop next r.1 h).0) ∙ r.2 in cc
+      not_refused TooNested line stop r = let d : depth r.0 ≡ depth t = ap depth (same_tree r.0 t stop next r.1 h).0 in let high = r.3 in absurd (omega arith)
+      not_refused Memory line stop r = refl
+
+-- a printed value before a full stop
+pub value_item : (at_most_one : AtMostOne) (names : List (List ℕ)) (v : Val) (text : List ℕ) (line place : ℕ) (rest : List ℕ) → HasText names v → ends_item rest ≡ true
+    → Cursor text line place (printed names v ++ (46 ∷ rest)) → depth_of (term_of names line v) ≤ 256 → IsTheTerm text place (term_of names line v) (place + length (printed names v) + 1)
+value_item at_most_one names v text line place rest h e c deep =
+    let stands = value_stands line names v h in
+    let d = stands.deep in
+    the_term at_most_one text place (tree_of line names v) (term_of names line v) (place + length (printed names v) + 1) (item_reads names v text line place rest h e c) stands.fits (omega arith) stands.same
+
+-- the place behind a front of a text
+pub behind : (front here : List ℕ) → Cursor (front ++ here) (line_at (front ++ here) (length front)) (length front) here
+behind front here = record { follows = drop-append_seam front here; counts = sym (length-append front here); on_line = refl }

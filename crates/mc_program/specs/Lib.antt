@@ -1,0 +1,4 @@
+pub mod PlainPrograms
+pub mod Printed
+pub mod Programs
+pub mod Values

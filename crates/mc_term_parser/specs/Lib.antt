@@ -1,0 +1,10 @@
+pub mod Table
+pub mod Infixes
+pub mod Tree
+pub mod Part
+pub mod Reads
+pub mod Machine
+pub mod Leads
+pub mod Seen
+pub mod Views
+pub mod Laws

@@ -1,0 +1,20 @@
+//! Terms from tokens: the operators, and the reader of the tokens of one item.
+#![tactic(auto)]
+
+mod frame;
+mod infix;
+mod law;
+mod lexeme;
+mod reader;
+mod reading;
+mod starting;
+mod table;
+
+pub use law::{at_most_one_term, terms_are_no_deeper};
+pub use lexeme::Lexeme;
+pub use reading::Reading;
+pub use starting::read;
+pub use table::{Fix, infix, prefix};
+
+#[cfg(test)]
+mod tests;

@@ -1,0 +1,4 @@
+pub mod Roles
+pub mod Declarations
+pub mod Reasons
+pub mod Words

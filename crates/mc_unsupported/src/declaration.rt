@@ -1,0 +1,193 @@
+ghost use Rattle.std.specs.Prelude.{◌≡◌, map};
+ghost use Rattle.mc_term_data.specs.Plain.{plain_term, tms};
+ghost use Rattle.mc_term_data.specs.Names.{count};
+ghost use Rattle.mc_unsupported.specs.Declarations.{is_order, is_constraint, declares, declared, is_indicator, indicates, is_predicate, indicates_pred, is_constant, is_number, is_string, is_fact_table, named_pragma, pragma, sole_pragma, is_constrained, is_existential, declaration};
+
+use crate::reason::LeftOut;
+use mc_term_data::{Node, Term, arity};
+
+/// What a declaration, a name over these parts, is left out for.
+pub fn declaration(name: &[u8], parts: &[Term]) -> Option<LeftOut>
+    ensures { result ≡ declaration name.now (tms (map plain_term parts.now)) }
+{
+    match name {
+        b"pragma" => sole_pragma(parts),
+        b"<=" => is_constrained(parts).then_some(LeftOut::TypeClass),
+        b"some" => is_existential(parts).then_some(LeftOut::ExistentialType),
+        b"mutable" => Some(LeftOut::Mutable),
+        _ => None,
+    }
+}
+
+// The pragma of a declaration.
+fn sole_pragma(parts: &[Term]) -> Option<LeftOut>
+    ensures { result ≡ sole_pragma (tms (map plain_term parts.now)) }
+{
+    match parts {
+        [only] => pragma(only),
+        _ => None,
+    }
+}
+
+// Whether a declaration has constraints of type classes behind it.
+fn is_constrained(parts: &[Term]) -> bool
+    ensures { result ≡ is_constrained (tms (map plain_term parts.now)) }
+{
+    match parts {
+        [first, _] => declares(first),
+        _ => false,
+    }
+}
+
+// Whether a declaration has type variables in front of it.
+fn is_existential(parts: &[Term]) -> bool
+    ensures { result ≡ is_existential (tms (map plain_term parts.now)) }
+{
+    match parts {
+        [_, second] => declares(second),
+        _ => false,
+    }
+}
+
+// Whether a term declares a predicate or function, constraints of type classes behind it or not.
+#[cycle(declares)]
+fn declares(term: &Term) -> bool
+    ensures { result ≡ declares (plain_term term.now) }
+{
+    match &term.node {
+        Node::App(name, parts) => match name.as_slice() {
+            [word] => declared(word.bytes(), parts.as_slice()),
+            _ => false,
+        },
+        _ => false,
+    }
+}
+
+#[cycle(declares)]
+fn declared(name: &[u8], parts: &[Term]) -> bool
+    ensures { result ≡ declared name.now (tms (map plain_term parts.now)) }
+{
+    match parts {
+        [_] => is_order(name),
+        [first, _] => is_constraint(name) && declares(first),
+        _ => false,
+    }
+}
+
+// Whether constraints of type classes stand behind a name.
+fn is_constraint(name: &[u8]) -> bool
+    ensures { result ≡ is_constraint name.now }
+{
+    matches!(name, b"<=" | b"=>")
+}
+
+// A pragma that isn't one of those that this profile knows, or that it knows and doesn't have yet.
+fn pragma(term: &Term) -> Option<LeftOut>
+    ensures { result ≡ pragma (plain_term term.now) }
+{
+    match &term.node {
+        Node::App(name, parts) => match name.as_slice() {
+            [word] => named_pragma(word.bytes(), parts.as_slice()),
+            _ => Some(LeftOut::Pragma),
+        },
+        _ => None,
+    }
+}
+
+fn named_pragma(name: &[u8], parts: &[Term]) -> Option<LeftOut>
+    ensures { result ≡ named_pragma name.now (tms (map plain_term parts.now)) }
+{
+    match name {
+        b"inline" | b"no_inline" => None,
+        b"fact_table" => is_fact_table(parts).then_some(LeftOut::Pragma),
+        _ => Some(LeftOut::Pragma),
+    }
+}
+
+// Whether these are the arguments of a pragma that names a file of facts.
+fn is_fact_table(parts: &[Term]) -> bool
+    ensures { result ≡ is_fact_table (tms (map plain_term parts.now)) }
+{
+    match parts {
+        [predicate, file] => is_predicate(predicate) && is_string(file),
+        _ => false,
+    }
+}
+
+// Whether a term is a predicate, by its name and the number of its arguments.
+fn is_predicate(term: &Term) -> bool
+    ensures { result ≡ is_predicate (plain_term term.now) }
+{
+    match &term.node {
+        Node::App(name, parts) => match name.as_slice() {
+            [word] => {
+                indicates(word.bytes(), parts.as_slice())
+                    || indicates_pred(word.bytes(), parts.as_slice())
+            }
+            _ => false,
+        },
+        _ => false,
+    }
+}
+
+// Whether a name over parts is `pred(p/2)`.
+fn indicates_pred(name: &[u8], parts: &[Term]) -> bool
+    ensures { result ≡ indicates_pred name.now (tms (map plain_term parts.now)) }
+{
+    match parts {
+        [only] => b"pred".as_slice() == name && is_indicator(only),
+        _ => false,
+    }
+}
+
+fn is_indicator(term: &Term) -> bool
+    ensures { result ≡ is_indicator (plain_term term.now) }
+{
+    match &term.node {
+        Node::App(name, parts) => match name.as_slice() {
+            [word] => indicates(word.bytes(), parts.as_slice()),
+            _ => false,
+        },
+        _ => false,
+    }
+}
+
+// Whether a name over parts is `p/2`.
+fn indicates(name: &[u8], parts: &[Term]) -> bool
+    ensures { result ≡ indicates name.now (tms (map plain_term parts.now)) }
+{
+    match parts {
+        [predicate, arity] => {
+            b"/".as_slice() == name && is_constant(predicate) && is_number(arity)
+        }
+        _ => false,
+    }
+}
+
+fn is_constant(term: &Term) -> bool
+    ensures { result ≡ is_constant (plain_term term.now) }
+{
+    match &term.node {
+        Node::App(_, parts) => arity(parts.as_slice()) == 0,
+        _ => false,
+    }
+}
+
+fn is_number(term: &Term) -> bool
+    ensures { result ≡ is_number (plain_term term.now) }
+{
+    matches!(&term.node, Node::Int(_))
+}
+
+fn is_string(term: &Term) -> bool
+    ensures { result ≡ is_string (plain_term term.now) }
+{
+    matches!(&term.node, Node::Str(_))
+}
+
+/// Whether a name is `pred` or `func`.
+pub fn is_order(name: &[u8]) -> bool
+    ensures { result ≡ is_order name.now }
+{
+    matches!(name, b"pred" | b"func")
+}

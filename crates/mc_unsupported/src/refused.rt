@@ -1,0 +1,151 @@
+ghost use Rattle.std.specs.Prelude.{◌≡◌, map};
+ghost use Rattle.mc_term_data.specs.Plain.{plain_term, tms};
+ghost use Rattle.mc_term_data.specs.Names.{found};
+ghost use Rattle.mc_unsupported.specs.Reasons.{reason, by_role, refused, infix_rows, prefix_rows, item_rows, conditional_rows, inst_rows, mode_specific_rows, higher_order};
+
+use crate::declaration::{declaration, is_order};
+use crate::reason::LeftOut;
+use crate::role::Role;
+use mc_base::Text;
+use mc_term_data::{Term, arity};
+
+/// What a name over parts is left out for. A qualified name is no operator and no form.
+pub fn reason(role: Role, name: &[Text], parts: &[Term]) -> Option<LeftOut>
+    ensures { result ≡ reason role name.now (tms (map plain_term parts.now)) }
+{
+    match name {
+        [word] => match refused(word.bytes(), arity(parts)) {
+            Some(form) => Some(form),
+            None => by_role(role, word.bytes(), parts),
+        },
+        _ => None,
+    }
+}
+
+// The operators that are read and then refused, wherever they stand.
+fn refused(name: &[u8], arity: usize) -> Option<LeftOut>
+    ensures { result ≡ refused name.now arity }
+{
+    infix(name, arity).or(prefix(name, arity).or(item(name, arity)))
+}
+
+// Those over two parts.
+#[tactic(auto, unfolding(crate::specs::Reasons::infix_rows))]
+fn infix(name: &[u8], arity: usize) -> Option<LeftOut>
+    ensures { result ≡ found infix_rows name.now arity }
+{
+    match arity {
+        2 => match name {
+            b"^" | b":=" => Some(LeftOut::FieldAccess),
+            b"for" => Some(LeftOut::InstFor),
+            b"&" => Some(LeftOut::ParallelConjunction),
+            b"where" => Some(LeftOut::UserEquality),
+            b"-->" => Some(LeftOut::GrammarRule),
+            _ => None,
+        },
+        _ => None,
+    }
+}
+
+// Those before a declaration.
+#[tactic(auto, unfolding(crate::specs::Reasons::prefix_rows))]
+fn prefix(name: &[u8], arity: usize) -> Option<LeftOut>
+    ensures { result ≡ found prefix_rows name.now arity }
+{
+    match arity {
+        1 => match name {
+            b"impure" | b"semipure" => Some(LeftOut::Purity),
+            b"solver" => Some(LeftOut::SolverType),
+            _ => None,
+        },
+        _ => None,
+    }
+}
+
+// Those that begin an item.
+#[tactic(auto, unfolding(crate::specs::Reasons::item_rows))]
+fn item(name: &[u8], arity: usize) -> Option<LeftOut>
+    ensures { result ≡ found item_rows name.now arity }
+{
+    match arity {
+        1 => match name {
+            b"include_module" => Some(LeftOut::NestedModule),
+            b"typeclass" | b"instance" => Some(LeftOut::TypeClass),
+            b"promise" => Some(LeftOut::Promise),
+            b"initialise" => Some(LeftOut::Initialise),
+            _ => None,
+        },
+        _ => None,
+    }
+}
+
+// What is left out by what the name over these parts is there.
+fn by_role(role: Role, name: &[u8], parts: &[Term]) -> Option<LeftOut>
+    ensures { result ≡ by_role role name.now (tms (map plain_term parts.now)) }
+{
+    match role {
+        Role::Item | Role::Head => {
+            conditional(name, arity(parts)).or(mode_specific(name, arity(parts)))
+        }
+        Role::Argument => conditional(name, arity(parts)),
+        Role::Goal if name.starts_with(b"promise_") => Some(LeftOut::Promise),
+        Role::Declaration => declaration(name, parts),
+        Role::Field | Role::TypeTerm | Role::Parameter => higher_order(name, parts),
+        Role::Inst => higher_order(name, parts).or(inst(name, arity(parts))),
+        _ => None,
+    }
+}
+
+// The parts of a conditional expression.
+#[tactic(auto, unfolding(crate::specs::Reasons::conditional_rows))]
+fn conditional(name: &[u8], arity: usize) -> Option<LeftOut>
+    ensures { result ≡ found conditional_rows name.now arity }
+{
+    match arity {
+        1 => match name {
+            b"if" => Some(LeftOut::ConditionalExpression),
+            _ => None,
+        },
+        2 => match name {
+            b"->" | b"then" | b"else" => Some(LeftOut::ConditionalExpression),
+            _ => None,
+        },
+        _ => None,
+    }
+}
+
+// A mode in the head of a clause.
+#[tactic(auto, unfolding(crate::specs::Reasons::mode_specific_rows))]
+fn mode_specific(name: &[u8], arity: usize) -> Option<LeftOut>
+    ensures { result ≡ found mode_specific_rows name.now arity }
+{
+    match arity {
+        2 => match name {
+            b"::" => Some(LeftOut::ModeSpecificClause),
+            _ => None,
+        },
+        _ => None,
+    }
+}
+
+// The insts that this profile does not have.
+#[tactic(auto, unfolding(crate::specs::Reasons::inst_rows))]
+fn inst(name: &[u8], arity: usize) -> Option<LeftOut>
+    ensures { result ≡ found inst_rows name.now arity }
+{
+    match arity {
+        0 => match name {
+            b"any" => Some(LeftOut::AnyInst),
+            b"mostly_unique" | b"mostly_clobbered" => Some(LeftOut::MostlyUniqueInst),
+            _ => None,
+        },
+        _ => None,
+    }
+}
+
+// A type or inst `pred(..)` or `func(..)`.
+fn higher_order(name: &[u8], parts: &[Term]) -> Option<LeftOut>
+    ensures { result ≡ higher_order name.now (tms (map plain_term parts.now)) }
+{
+    (arity(parts) > 0 && is_order(name)).then_some(LeftOut::HigherOrder)
+}

@@ -1,0 +1,218 @@
+ghost use Rattle.std.specs.Prelude.{◌≡◌};
+ghost use Rattle.mc_term_data.specs.Names.{found};
+ghost use Rattle.mc_unsupported.specs.Roles.{inner, joined, parts, rows_at, item_rows, goal_rows, declaration_rows, type_rows, inst_rows, mode_rows, signature_rows};
+
+use mc_base::Text;
+
+/// What a part of an item is there, as far as it decides what is left out.
+#[derive(Clone, Copy, Debug, PartialEq, Eq)]
+pub enum Role {
+    /// An item: a declaration, a clause with a body, or a fact.
+    Item,
+    /// A clause's head, and what stands in it.
+    Head,
+    Goal,
+    /// An argument of a goal, and what stands in it.
+    Argument,
+    /// What a declaration declares.
+    Declaration,
+    /// What stands behind the word `type`.
+    TypeItem,
+    /// The constructors of a type's definition.
+    Constructors,
+    /// An argument of a constructor there.
+    Field,
+    TypeTerm,
+    /// What stands behind the word `inst`.
+    InstItem,
+    Inst,
+    /// The symbols of a bound inst.
+    Symbols,
+    /// What stands behind the word `mode`.
+    ModeItem,
+    Mode,
+    /// What stands behind the word `pred` or `func`.
+    Signature,
+    /// An argument or the result there.
+    Parameter,
+    /// Any other place.
+    Elsewhere,
+}
+
+impl Role {
+    /// What each part of a term is that no table names.
+    pub fn inner(self) -> Role
+        ensures { result ≡ inner self }
+    {
+        match self {
+            Role::Item | Role::Head => Role::Head,
+            Role::Goal | Role::Argument => Role::Argument,
+            Role::Constructors => Role::Field,
+            Role::Field | Role::TypeTerm | Role::Parameter => Role::TypeTerm,
+            Role::Inst | Role::Symbols | Role::Mode => Role::Inst,
+            Role::ModeItem => Role::Mode,
+            Role::Signature => Role::Parameter,
+            _ => Role::Elsewhere,
+        }
+    }
+
+    /// What each part of a conjunction or a disjunction is.
+    pub fn joined(self) -> Role
+        ensures { result ≡ joined self }
+    {
+        match self {
+            Role::Goal | Role::Constructors | Role::Symbols => self,
+            _ => self.inner(),
+        }
+    }
+
+    /// What the first part of a name over parts is, and what its other parts are.
+    pub fn parts(self, name: &[Text], arity: usize) -> (Role, Role)
+        ensures { result ≡ parts self name.now arity }
+    {
+        let inner = self.inner();
+        match name {
+            [word] => self.row(word.bytes(), arity).unwrap_or((inner, inner)),
+            _ => (inner, inner),
+        }
+    }
+
+    // What the table for this place says.
+    fn row(self, name: &[u8], arity: usize) -> Option<(Role, Role)>
+        ensures { result ≡ found (rows_at self) name.now arity }
+    {
+        match self {
+            Role::Item => item_parts(name, arity),
+            Role::Goal => goal_parts(name, arity),
+            Role::Declaration => declaration_parts(name, arity),
+            Role::TypeItem => type_parts(name, arity),
+            Role::InstItem => inst_parts(name, arity),
+            Role::ModeItem => mode_parts(name, arity),
+            Role::Signature => signature_parts(name, arity),
+            Role::Field => match (arity, name) {
+                (2, b"::") => Some((Role::Elsewhere, Role::TypeTerm)),
+                _ => None,
+            },
+            Role::Parameter => match (arity, name) {
+                (2, b"::") => Some((Role::TypeTerm, Role::Mode)),
+                _ => None,
+            },
+            Role::Inst => match (arity, name) {
+                (1, b"bound") => Some((Role::Symbols, Role::Symbols)),
+                _ => None,
+            },
+            _ => None,
+        }
+    }
+}
+
+// The parts of a declaration and of a clause with a body.
+#[tactic(auto, unfolding(crate::specs::Roles::item_rows))]
+fn item_parts(name: &[u8], arity: usize) -> Option<(Role, Role)>
+    ensures { result ≡ found item_rows name.now arity }
+{
+    match (arity, name) {
+        (1, b":-") => Some((Role::Declaration, Role::Elsewhere)),
+        (2, b":-") => Some((Role::Head, Role::Goal)),
+        _ => None,
+    }
+}
+
+// The parts of goals made of goals.
+#[tactic(auto, unfolding(crate::specs::Roles::goal_rows))]
+fn goal_parts(name: &[u8], arity: usize) -> Option<(Role, Role)>
+    ensures { result ≡ found goal_rows name.now arity }
+{
+    match arity {
+        1 => match name {
+            b"if" | b"not" | b"\\+" => Some((Role::Goal, Role::Goal)),
+            _ => None,
+        },
+        2 => match name {
+            b"," | b";" | b"->" | b"then" | b"else" | b"=>" | b"<=" | b"<=>" => {
+                Some((Role::Goal, Role::Goal))
+            }
+            b"some" | b"all" => Some((Role::Elsewhere, Role::Goal)),
+            _ => None,
+        },
+        _ => None,
+    }
+}
+
+// What a declaration declares.
+#[tactic(auto, unfolding(crate::specs::Roles::declaration_rows))]
+fn declaration_parts(name: &[u8], arity: usize) -> Option<(Role, Role)>
+    ensures { result ≡ found declaration_rows name.now arity }
+{
+    match arity {
+        1 => match name {
+            b"type" => Some((Role::TypeItem, Role::Elsewhere)),
+            b"inst" => Some((Role::InstItem, Role::Elsewhere)),
+            b"mode" => Some((Role::ModeItem, Role::Elsewhere)),
+            b"pred" | b"func" => Some((Role::Signature, Role::Elsewhere)),
+            _ => None,
+        },
+        _ => None,
+    }
+}
+
+// The parts of a type's definition.
+#[tactic(auto, unfolding(crate::specs::Roles::type_rows))]
+fn type_parts(name: &[u8], arity: usize) -> Option<(Role, Role)>
+    ensures { result ≡ found type_rows name.now arity }
+{
+    match arity {
+        2 => match name {
+            b"--->" => Some((Role::Elsewhere, Role::Constructors)),
+            b"==" => Some((Role::Elsewhere, Role::TypeTerm)),
+            _ => None,
+        },
+        _ => None,
+    }
+}
+
+// The parts of an inst's definition.
+#[tactic(auto, unfolding(crate::specs::Roles::inst_rows))]
+fn inst_parts(name: &[u8], arity: usize) -> Option<(Role, Role)>
+    ensures { result ≡ found inst_rows name.now arity }
+{
+    match arity {
+        2 => match name {
+            b"--->" => Some((Role::Elsewhere, Role::Symbols)),
+            b"==" => Some((Role::Elsewhere, Role::Inst)),
+            _ => None,
+        },
+        _ => None,
+    }
+}
+
+// The parts of a mode's definition, and of a mode of a predicate or function.
+#[tactic(auto, unfolding(crate::specs::Roles::mode_rows))]
+fn mode_parts(name: &[u8], arity: usize) -> Option<(Role, Role)>
+    ensures { result ≡ found mode_rows name.now arity }
+{
+    match arity {
+        2 => match name {
+            b"==" => Some((Role::Elsewhere, Role::Mode)),
+            b"is" => Some((Role::ModeItem, Role::Elsewhere)),
+            b"=" => Some((Role::ModeItem, Role::Mode)),
+            _ => None,
+        },
+        _ => None,
+    }
+}
+
+// The parts of what a declaration of a predicate or function declares.
+#[tactic(auto, unfolding(crate::specs::Roles::signature_rows))]
+fn signature_parts(name: &[u8], arity: usize) -> Option<(Role, Role)>
+    ensures { result ≡ found signature_rows name.now arity }
+{
+    match arity {
+        2 => match name {
+            b"is" => Some((Role::Signature, Role::Elsewhere)),
+            b"=" => Some((Role::Signature, Role::Parameter)),
+            _ => None,
+        },
+        _ => None,
+    }
+}
