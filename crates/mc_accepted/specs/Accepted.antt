@@ -1,6 +1,6 @@
--- Accepted procedures: what a compiler's answer has to meet, so that its runs are good. (Mercury Language Reference
--- Manual: Modes; Determinism; this project's certificates.)
-use Rattle.std.specs.Prelude.{◌≡◌, ℕ, zero, suc, ◌<◌, List, [], ◌∷◌, length, get_or, Option, Some, None, cond, nat_eq}
+-- Accepted procedures: what a compiler's answer has to meet, so that its runs are good. (Mercury
+-- Language Reference Manual: Modes; Determinism; this project's certificates.)
+use Rattle.std.specs.Prelude.{◌≡◌, ℕ, zero, suc, ◌<◌, List, [], ◌∷◌, length, get_or, Option, Some, None, nat_eq, if◌then◌else◌}
 use Rattle.mc_program.specs.Programs.{TypeTerm, variable_type, ClauseForm}
 use Rattle.mc_accepted.specs.Scope.{ClauseHasScopes}
 use Rattle.mc_accepted.specs.Normal.{Normal_goal, normal_goal}
@@ -16,7 +16,7 @@ use Rattle.mc_model.specs.Good.{System}
 abbrev pub entered : List ℕ → List ℕ → Insts
 entered [] is = λ x. 0
 entered (y ∷ ys) [] = λ x. 0
-entered (y ∷ ys) (i ∷ is) = λ x. cond (nat_eq x y) i (entered ys is x)
+entered (y ∷ ys) (i ∷ is) = λ x. if nat_eq x y then i else entered ys is x
 
 -- n, n + 1, .. and so on, as many as that
 abbrev pub from : ℕ → ℕ → List ℕ
@@ -41,13 +41,18 @@ module _ (S : System) (p : Procedure) where
   -- each goal keeps the determinism that the table gives it
   abbrev mutual
     pub KeepsDeterminism : Insts → Known → Node → Type 0
-    KeepsDeterminism b known (node s changes d is_pruned) = (d ≡ inferred (determined S type_of b known (node s changes d is_pruned))) × KeepsInside b known s
+    KeepsDeterminism b known (node s changes d is_pruned) =
+        (d ≡ inferred (determined S type_of b known (node s changes d is_pruned)))
+        × KeepsInside b known s
 
     pub KeepsInside : Insts → Known → Scheduled → Type 0
     KeepsInside b known (Conj ns) = AllKeep b known ns
     KeepsInside b known (Disj ns) = EachKeeps b known ns
     KeepsInside b known (Switch x arms) = ArmsKeep b known x arms
-    KeepsInside b known (Ite vs c t e) = KeepsDeterminism b known c × KeepsDeterminism (insts_after c b) known t × KeepsDeterminism b known e
+    KeepsInside b known (Ite vs c t e) =
+        KeepsDeterminism b known c
+        × KeepsDeterminism (insts_after c b) known t
+        × KeepsDeterminism b known e
     KeepsInside b known (Not n) = KeepsDeterminism b known n
     KeepsInside b known (Exists vs n) = KeepsDeterminism b known n
     KeepsInside b known (Assign x y) = Unit {0}
@@ -61,7 +66,8 @@ module _ (S : System) (p : Procedure) where
 
     pub AllKeep : Insts → Known → Nodes → Type 0
     AllKeep b known no_nodes = Unit {0}
-    AllKeep b known (node_then n ns) = KeepsDeterminism b known n × AllKeep (insts_after n b) known ns
+    AllKeep b known (node_then n ns) =
+        KeepsDeterminism b known n × AllKeep (insts_after n b) known ns
 
     pub EachKeeps : Insts → Known → Nodes → Type 0
     EachKeeps b known no_nodes = Unit {0}
@@ -69,7 +75,8 @@ module _ (S : System) (p : Procedure) where
 
     pub ArmsKeep : Insts → Known → ℕ → Arms → Type 0
     ArmsKeep b known x no_arms = Unit {0}
-    ArmsKeep b known x (arm_then l n arms) = KeepsDeterminism b (learned x l known) n × ArmsKeep b known x arms
+    ArmsKeep b known x (arm_then l n arms) =
+        KeepsDeterminism b (learned x l known) n × ArmsKeep b known x arms
 
 abbrev pub EachClauseHasScopes : List ClauseForm → Type 0
 EachClauseHasScopes [] = Unit {0}
@@ -77,21 +84,27 @@ EachClauseHasScopes (c ∷ cs) = ClauseHasScopes c × EachClauseHasScopes cs
 
 -- the normal goal of the procedure's predicate
 abbrev pub goal_of : System → Procedure → Normal_goal
-goal_of S p = normal_goal (length (S.world.source.preds p.pred).types) (S.world.source.preds p.pred).clauses
+goal_of S p =
+    normal_goal (length (S.world.source.preds p.pred).types) (S.world.source.preds p.pred).clauses
 
 pub record AcceptedProcedure (S : System) (p : Procedure) : Type 0 where
   -- the clauses' scopes are written out, and the atoms of the predicate's one goal are typed
   pub scopes : EachClauseHasScopes (S.world.source.preds p.pred).clauses
   pub typed : TypedGoal S.world.source (type_of S p) (goal_of S p).body
-  -- the head is that of the goal, and the body is the goal in a mode-correct order, in its switch form
+  -- the head is that of the goal, and the body is the goal in a mode-correct order, in its switch
+  -- form
   pub head : p.head ≡ from 0 (goal_of S p).arity
   pub lengths : (length p.first ≡ (goal_of S p).arity) × (length p.last ≡ (goal_of S p).arity)
   pub after : Option Insts
-  pub ordered : OrderedNode S (type_of S p) p.head p.head (entered p.head p.first) (goal_of S p).body p.body after
+  pub ordered :
+      OrderedNode S (type_of S p) p.head p.head (entered p.head p.first) (goal_of S p).body p.body
+      after
   pub final : FinalAfter S p after
   -- the determinisms are those of the table, and the procedure's allows its body's
   pub kept : KeepsDeterminism S p (entered p.head p.first) nothing_known p.body
-  pub allowed : Allows (row_of p.det) (determined S (type_of S p) (entered p.head p.first) nothing_known p.body)
+  pub allowed :
+      Allows (row_of p.det)
+      (determined S (type_of S p) (entered p.head p.first) nothing_known p.body)
   -- committed calls and io goals stand where they may
   pub placed : Placed S (type_of S p) (entered p.head p.first) nothing_known p.det.committed p.body
   pub io : IoPlaced S (type_of S p) (entered p.head p.first) nothing_known p.det.committed p.body

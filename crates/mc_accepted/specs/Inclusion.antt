@@ -1,12 +1,12 @@
--- Inclusion of insts, by paths: at a type, an inst allows a path where it allows each symbol on it. (Mercury Language
--- Reference Manual: Modes, insts; this project's profile of uniqueness.)
+-- Inclusion of insts, by paths: at a type, an inst allows a path where it allows each symbol on it.
+-- (Mercury Language Reference Manual: Modes, insts; this project's profile of uniqueness.)
 use Rattle.std.specs.Prelude.{◌≡◌, ◌⊎◌, ℕ, ◌<◌, List, [], ◌∷◌, length, get_or, Option, Some, None, true}
 use Rattle.mc_program.specs.Programs.{TypeTerm, state_type, variable_type, Source}
 use Rattle.mc_model.specs.Types.{takes, argument_types}
 use Rattle.mc_model.specs.Insts.{InstNode, free, ground, unique, dead, bound, Graph, AllowsSymbol, AllowsConstants}
 
--- What a state of io is marked with: it has one holder, several, or none that may use it. The state is taken once for
--- each mark, so that `unique` and `ground` differ there.
+-- What a state of io is marked with: it has one holder, several, or none that may use it. The state
+-- is taken once for each mark, so that `unique` and `ground` differ there.
 pub data Mark : Type 0 where
   sole : Mark
   shared : Mark
@@ -40,7 +40,8 @@ OnTypes None Q = ⊥
 OnTypes (Some ts) Q = Q ts
 
 abbrev pub AllowsTip : Source → InstNode → (node : ℕ) → TypeTerm → Tip → Type 0
-AllowsTip P N i t (symbol_tip s) = OnTypes (argument_types P s t) (λ ts. AllowsSymbol P N i s (λ is. Unit {0}))
+AllowsTip P N i t (symbol_tip s) =
+    OnTypes (argument_types P s t) (λ ts. AllowsSymbol P N i s (λ is. Unit {0}))
 AllowsTip P N i t (constant_tip b) = (takes b t ≡ true) × AllowsConstants N
 AllowsTip P N i t (state_tip m) = (takes state_type t ≡ true) × AllowsMark N m
 
@@ -48,14 +49,18 @@ AllowsTip P N i t (state_tip m) = (takes state_type t ≡ true) × AllowsMark N 
 abbrev pub Allows : Source → Graph → Path → Tip → ℕ → TypeTerm → Type 0
 Allows P G [] e i t = AllowsTip P (G i) i t e
 Allows P G ((s, k) ∷ path) e i t =
-    OnTypes (argument_types P s t) (λ ts. AllowsSymbol P (G i) i s (λ is. (k < length is) × Allows P G path e (get_or is k 0) (get_or ts k (variable_type 0))))
+    OnTypes (argument_types P s t)
+    (λ ts.
+    AllowsSymbol P (G i) i s
+    (λ is.
+    (k < length is) × Allows P G path e (get_or is k 0) (get_or ts k (variable_type 0))))
 
 -- the first inst allows no more than the second
 abbrev pub NoMore : Source → Graph → ℕ → ℕ → TypeTerm → Type 0
 NoMore P G i j t = (path : Path) (e : Tip) → Allows P G path e i t → Allows P G path e j t
 
--- `free` is included in `free` alone; every other inst is included in `dead`, and `dead` in `dead` alone; any other is
--- included where it allows no more
+-- `free` is included in `free` alone; every other inst is included in `dead`, and `dead` in `dead`
+-- alone; any other is included where it allows no more
 abbrev pub IncludedNodes : InstNode → InstNode → Type 0 → Type 0
 IncludedNodes free free Q = Unit {0}
 IncludedNodes free _ Q = ⊥
@@ -72,7 +77,8 @@ IncludedNodes _ _ Q = Q
 abbrev pub Included : Source → Graph → ℕ → ℕ → TypeTerm → Type 0
 Included P G i j t = IncludedNodes (G i) (G j) (NoMore P G i j t)
 
--- The least inst above two: `free` above `free`, `dead` where one is; else it allows exactly what one of the two allows.
+-- The least inst above two: `free` above `free`, `dead` where one is; else it allows exactly what
+-- one of the two allows.
 abbrev pub MergedNodes : InstNode → InstNode → InstNode → Type 0 → Type 0
 MergedNodes free free free Q = Unit {0}
 MergedNodes free free _ Q = ⊥
@@ -85,7 +91,9 @@ MergedNodes _ dead _ Q = ⊥
 MergedNodes _ _ _ Q = Q
 
 pub record AllowsEither (P : Source) (G : Graph) (i j k : ℕ) (t : TypeTerm) : Type 0 where
-  pub least : (path : Path) (e : Tip) → Allows P G path e k t → Allows P G path e i t ⊎ Allows P G path e j t
+  pub least :
+      (path : Path) (e : Tip)
+      → Allows P G path e k t → Allows P G path e i t ⊎ Allows P G path e j t
   pub above_first : NoMore P G i k t
   pub above_second : NoMore P G j k t
 

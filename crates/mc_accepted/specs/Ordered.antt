@@ -1,9 +1,11 @@
--- Ordered goals: how a scheduled goal comes from a normal goal, with the insts before and after it. (Mercury Language
--- Reference Manual: Modes, strict sequential semantics; this project's profile of implied modes and uniqueness.)
+-- Ordered goals: how a scheduled goal comes from a normal goal, with the insts before and after it.
+-- (Mercury Language Reference Manual: Modes, strict sequential semantics; this project's profile of
+-- implied modes and uniqueness.)
 --
--- This is the relation that soundness rests on: a conjunction may run its goals in any mode-correct order. That the first
--- mode-correct goal is the one that is taken is said where goals are scheduled.
-use Rattle.std.specs.Prelude.{◌≡◌, ◌≢◌, ◌⊎◌, ℕ, suc, ◌<◌, ◌≤◌, List, [], ◌∷◌, ◌++◌, map, Option, Some, None, Bool, true, false, cond, not, nat_eq, ◌&&◌, ◌||◌}
+-- This is the relation that soundness rests on: a conjunction may run its goals in any mode-correct
+-- order. That the first mode-correct goal is the one that is taken is said where goals are
+-- scheduled.
+use Rattle.std.specs.Prelude.{◌≡◌, ◌≢◌, ◌⊎◌, ℕ, suc, ◌<◌, ◌≤◌, List, [], ◌∷◌, ◌++◌, map, Option, Some, None, Bool, true, false, not, nat_eq, ◌&&◌, ◌||◌, if◌then◌else◌}
 use Rattle.mc_program.specs.Values.{Val}
 use Rattle.mc_program.specs.Programs.{TypeTerm, state_type}
 use Rattle.mc_model.specs.Insts.{dead, bound, AllowsSymbol, AllowsConstants}
@@ -28,7 +30,7 @@ Insts = ℕ → ℕ
 
 -- a variable gets an inst
 abbrev pub also : ℕ → ℕ → Insts → Insts
-also x i b = λ y. cond (nat_eq y x) i (b y)
+also x i b = λ y. if nat_eq y x then i else b y
 
 abbrev pub is_state : TypeTerm → Bool
 is_state state_type = true
@@ -53,7 +55,7 @@ uo_mode = (0, 2)
 -- the modes of a builtin's arguments
 abbrev pub plain_modes : List Bool → List Mode
 plain_modes [] = []
-plain_modes (b ∷ bs) = cond b in_mode out_mode ∷ plain_modes bs
+plain_modes (b ∷ bs) = (if b then in_mode else out_mode) ∷ plain_modes bs
 
 abbrev pub modes_of : Builtin → List Mode
 modes_of B.WriteString = in_mode ∷ di_mode ∷ uo_mode ∷ []
@@ -75,13 +77,19 @@ modes_of_procedure p = zipped p.first p.last
 -- one of the goals, and the others in order
 pub data Picks : Flat_goals → Flat_goal → Flat_goals → Type 0 where
   here : {g : Flat_goal} {gs : Flat_goals} → Picks (flat_then g gs) g gs
-  there : {k g : Flat_goal} {gs rest : Flat_goals} → Picks gs g rest → Picks (flat_then k gs) g (flat_then k rest)
+  there :
+      {k g : Flat_goal} {gs rest : Flat_goals} → Picks gs g rest
+      → Picks (flat_then k gs) g (flat_then k rest)
 
 -- some of the goals, and the others, both in order
 pub data Parts : Flat_goals → Flat_goals → Flat_goals → Type 0 where
   no_part : Parts no_flat no_flat no_flat
-  to_part : {g : Flat_goal} {gs hs ks : Flat_goals} → Parts gs hs ks → Parts (flat_then g gs) (flat_then g hs) ks
-  to_rest : {g : Flat_goal} {gs hs ks : Flat_goals} → Parts gs hs ks → Parts (flat_then g gs) hs (flat_then g ks)
+  to_part :
+      {g : Flat_goal} {gs hs ks : Flat_goals} → Parts gs hs ks
+      → Parts (flat_then g gs) (flat_then g hs) ks
+  to_rest :
+      {g : Flat_goal} {gs hs ks : Flat_goals} → Parts gs hs ks
+      → Parts (flat_then g gs) hs (flat_then g ks)
 
 -- the disjuncts of one arm: one is that goal, several are their disjunction
 abbrev pub arm_goal : Flat_goals → Flat_goal
@@ -97,7 +105,8 @@ abbrev mutual
   variables_of_scheduled (Conj ns) = variables_of_nodes ns
   variables_of_scheduled (Disj ns) = variables_of_nodes ns
   variables_of_scheduled (Switch v arms) = v ∷ variables_of_arms arms
-  variables_of_scheduled (Ite vs c t e) = vs ++ (variables_of_node c ++ (variables_of_node t ++ variables_of_node e))
+  variables_of_scheduled (Ite vs c t e) =
+      vs ++ (variables_of_node c ++ (variables_of_node t ++ variables_of_node e))
   variables_of_scheduled (Not n) = variables_of_node n
   variables_of_scheduled (Exists vs n) = vs ++ variables_of_node n
   variables_of_scheduled (Assign v w) = v ∷ w ∷ []
@@ -148,9 +157,10 @@ abbrev mutual
 -- whether a goal binds one of these variables; None comes where the point after it is unreachable
 abbrev pub binds_one : List ℕ → Insts → Insts → Bool
 binds_one [] b c = false
-binds_one (x ∷ xs) b c = cond (not (is_bound (b x)) && is_bound (c x)) true (binds_one xs b c)
+binds_one (x ∷ xs) b c = if not (is_bound (b x)) && is_bound (c x) then true else binds_one xs b c
 
--- a goal is pruned where the point after it is reachable and it binds no variable that occurs outside it
+-- a goal is pruned where the point after it is reachable and it binds no variable that occurs
+-- outside it
 abbrev pub is_pruned : (outside : List ℕ) → Insts → Option Insts → Bool
 is_pruned O b None = false
 is_pruned O b (Some c) = not (binds_one O b c)
@@ -160,11 +170,11 @@ abbrev pub BindsNone : List ℕ → Insts → Option Insts → Type 0
 BindsNone xs b None = Unit {0}
 BindsNone xs b (Some c) = binds_one xs b c ≡ false
 
--- The kept changes: the insts of variables that differ after the goal, in order of variables; none where the point after
--- it is unreachable.
+-- The kept changes: the insts of variables that differ after the goal, in order of variables; none
+-- where the point after it is unreachable.
 abbrev pub change_at : ℕ → List (ℕ × ℕ) → ℕ → ℕ
 change_at x [] i = i
-change_at x (change ∷ changes) i = cond (nat_eq x change.0) change.1 (change_at x changes i)
+change_at x (change ∷ changes) i = if nat_eq x change.0 then change.1 else change_at x changes i
 
 abbrev pub RisesFrom : ℕ → List (ℕ × ℕ) → Type 0
 RisesFrom n [] = Unit {0}
@@ -176,15 +186,18 @@ EachChanges b (change ∷ changes) = (b change.0 ≢ change.1) × EachChanges b 
 
 abbrev pub KeepsChanges : Insts → Option Insts → List (ℕ × ℕ) → Type 0
 KeepsChanges b None changes = changes ≡ []
-KeepsChanges b (Some c) changes = ((x : ℕ) → c x ≡ change_at x changes (b x)) × RisesFrom 0 changes × EachChanges b changes
+KeepsChanges b (Some c) changes =
+    ((x : ℕ) → c x ≡ change_at x changes (b x)) × RisesFrom 0 changes × EachChanges b changes
 
--- the places of a call's implied arguments: outputs whose variable is bound, or was an output before
+-- the places of a call's implied arguments: outputs whose variable is bound, or was an output
+-- before
 abbrev pub implied_places : (place : ℕ) → List Mode → List ℕ → (is_there : ℕ → Bool) → List ℕ
 implied_places k [] xs is_there = []
 implied_places k (m ∷ ms) [] is_there = []
 implied_places k (m ∷ ms) (x ∷ xs) is_there =
-    cond (is_bound m.0 || not (is_bound m.1)) (implied_places (suc k) ms xs is_there)
-    (cond (is_there x) (k ∷ implied_places (suc k) ms xs is_there) (implied_places (suc k) ms xs (λ y. cond (nat_eq y x) true (is_there y))))
+    if is_bound m.0 || not (is_bound m.1) then implied_places (suc k) ms xs is_there
+    else if is_there x then k ∷ implied_places (suc k) ms xs is_there
+    else implied_places (suc k) ms xs (λ y. if nat_eq y x then true else is_there y)
 
 abbrev pub FreshenedHere : Bool → ℕ → ℕ → Flat_goals → (Flat_goals → Type 0) → Type 0
 FreshenedHere false x z tests Q = (z ≡ x) × Q tests
@@ -196,27 +209,29 @@ abbrev pub before_goals : Flat_goals → Flat_goals → Flat_goals
 before_goals no_flat hs = hs
 before_goals (flat_then g gs) hs = flat_then g (before_goals gs hs)
 
--- the arguments with fresh variables in the places of implied ones, and the tests of these, in order
+-- the arguments with fresh variables in the places of implied ones, and the tests of these, in
+-- order
 abbrev pub Freshened : (place : ℕ) → (implied : List ℕ) → (xs fresh : List ℕ) → Flat_goals → Type 0
 Freshened k is [] [] tests = tests ≡ no_flat
-Freshened k is (x ∷ xs) (z ∷ zs) tests = FreshenedHere (is_in k is) x z tests (Freshened (suc k) is xs zs)
+Freshened k is (x ∷ xs) (z ∷ zs) tests =
+    FreshenedHere (is_in k is) x z tests (Freshened (suc k) is xs zs)
 Freshened k is _ _ tests = ⊥
 
 -- how often a variable stands in a list
 abbrev pub times_in : ℕ → List ℕ → ℕ
 times_in x [] = 0
-times_in x (y ∷ ys) = cond (nat_eq x y) (suc (times_in x ys)) (times_in x ys)
+times_in x (y ∷ ys) = if nat_eq x y then suc (times_in x ys) else times_in x ys
 
 -- the arguments at inputs, and those at outputs
 abbrev pub at_inputs : List Bool → List ℕ → List ℕ
 at_inputs [] xs = []
 at_inputs (b ∷ bs) [] = []
-at_inputs (b ∷ bs) (x ∷ xs) = cond b (x ∷ at_inputs bs xs) (at_inputs bs xs)
+at_inputs (b ∷ bs) (x ∷ xs) = if b then x ∷ at_inputs bs xs else at_inputs bs xs
 
 abbrev pub at_outputs : List Bool → List ℕ → List ℕ
 at_outputs [] xs = []
 at_outputs (b ∷ bs) [] = []
-at_outputs (b ∷ bs) (x ∷ xs) = cond b (at_outputs bs xs) (x ∷ at_outputs bs xs)
+at_outputs (b ∷ bs) (x ∷ xs) = if b then at_outputs bs xs else x ∷ at_outputs bs xs
 
 -- unreachable after what never answers
 abbrev pub unless_never : Most → Insts → Option Insts
@@ -233,7 +248,7 @@ builtin_most op = One
 abbrev pub take_all : List ℕ → List ℕ → Insts → Insts
 take_all [] is b = b
 take_all (y ∷ ys) [] b = b
-take_all (y ∷ ys) (i ∷ is) b = take_all ys is (cond (is_bound (b y)) b (also y i b))
+take_all (y ∷ ys) (i ∷ is) b = take_all ys is (if is_bound (b y) then b else also y i b)
 
 abbrev pub AllBound : List ℕ → Insts → Type 0
 AllBound [] b = Unit {0}
@@ -295,12 +310,16 @@ module _ (S : System) (T : ℕ → TypeTerm) where
   abbrev pub IsSymbolOver : ℕ → ℕ → List ℕ → Type 0
   IsSymbolOver i s is = S.insts i ≡ bound (record { name = (S.world.source.symbols s).name.bytes; arity = (S.world.source.symbols s).name.arity; args = is } ∷ [])
 
-  -- A mode is usable where each argument with an initial inst that isn't free is included in it. A variable at an input
-  -- place whose final inst is dead stands at no other place of the call.
+  -- A mode is usable where each argument with an initial inst that isn't free is included in it. A
+  -- variable at an input place whose final inst is dead stands at no other place of the call.
   abbrev pub UsableAt : List ℕ → List Mode → List ℕ → Insts → Type 0
   UsableAt all [] [] b = Unit {0}
   UsableAt all (m ∷ ms) (x ∷ xs) b =
-      (m.0 ≢ 0 → (is_bound (b x) ≡ true) × Included S.world.source S.insts (b x) m.0 (T x) × (S.insts m.1 ≡ dead → times_in x all ≡ 1)) × UsableAt all ms xs b
+      (m.0 ≢ 0
+      → (is_bound (b x) ≡ true)
+      × Included S.world.source S.insts (b x) m.0 (T x)
+      × (S.insts m.1 ≡ dead → times_in x all ≡ 1))
+      × UsableAt all ms xs b
   UsableAt all _ _ b = ⊥
 
   abbrev pub Usable : List Mode → List ℕ → Insts → Type 0
@@ -310,19 +329,34 @@ module _ (S : System) (T : ℕ → TypeTerm) where
   pub data After : List Mode → List ℕ → Insts → Insts → Type 0 where
     no_more : {b : Insts} → After [] [] b b
     -- `free >> free` takes any variable and keeps its inst
-    not_passed : {b c : Insts} {x : ℕ} {ms : List Mode} {xs : List ℕ} → After ms xs b c → After ((0, 0) ∷ ms) (x ∷ xs) b c
+    not_passed :
+        {b c : Insts} {x : ℕ} {ms : List Mode} {xs : List ℕ} → After ms xs b c
+        → After ((0, 0) ∷ ms) (x ∷ xs) b c
     -- an output has the final inst
-    output : {b c : Insts} {x l : ℕ} {ms : List Mode} {xs : List ℕ} → l ≢ 0 → b x ≡ 0 → After ms xs (also x l b) c → After ((0, l) ∷ ms) (x ∷ xs) b c
+    output :
+        {b c : Insts} {x l : ℕ} {ms : List Mode} {xs : List ℕ} → l ≢ 0 → b x ≡ 0
+        → After ms xs (also x l b) c → After ((0, l) ∷ ms) (x ∷ xs) b c
     -- an implied argument is tested and keeps its inst
-    implied : {b c : Insts} {x l : ℕ} {ms : List Mode} {xs : List ℕ} → l ≢ 0 → b x ≢ 0 → After ms xs b c → After ((0, l) ∷ ms) (x ∷ xs) b c
-    -- an input becomes dead where its final inst is; any other keeps its inst where the final inst includes it, else has
-    -- the final inst
-    dies : {b c : Insts} {x i l : ℕ} {ms : List Mode} {xs : List ℕ} → i ≢ 0 → S.insts l ≡ dead → After ms xs (also x l b) c → After ((i, l) ∷ ms) (x ∷ xs) b c
-    keeps : {b c : Insts} {x i l : ℕ} {ms : List Mode} {xs : List ℕ} → i ≢ 0 → S.insts l ≢ dead → Included S.world.source S.insts (b x) l (T x) → After ms xs b c → After ((i, l) ∷ ms) (x ∷ xs) b c
-    becomes : {b c : Insts} {x i l : ℕ} {ms : List Mode} {xs : List ℕ} → i ≢ 0 → S.insts l ≢ dead → (Included S.world.source S.insts (b x) l (T x) → ⊥) → After ms xs (also x l b) c → After ((i, l) ∷ ms) (x ∷ xs) b c
+    implied :
+        {b c : Insts} {x l : ℕ} {ms : List Mode} {xs : List ℕ} → l ≢ 0 → b x ≢ 0 → After ms xs b c
+        → After ((0, l) ∷ ms) (x ∷ xs) b c
+    -- an input becomes dead where its final inst is; any other keeps its inst where the final inst
+    -- includes it, else has the final inst
+    dies :
+        {b c : Insts} {x i l : ℕ} {ms : List Mode} {xs : List ℕ} → i ≢ 0 → S.insts l ≡ dead
+        → After ms xs (also x l b) c → After ((i, l) ∷ ms) (x ∷ xs) b c
+    keeps :
+        {b c : Insts} {x i l : ℕ} {ms : List Mode} {xs : List ℕ} → i ≢ 0 → S.insts l ≢ dead
+        → Included S.world.source S.insts (b x) l (T x) → After ms xs b c
+        → After ((i, l) ∷ ms) (x ∷ xs) b c
+    becomes :
+        {b c : Insts} {x i l : ℕ} {ms : List Mode} {xs : List ℕ} → i ≢ 0 → S.insts l ≢ dead
+        → (Included S.world.source S.insts (b x) l (T x) → ⊥) → After ms xs (also x l b) c
+        → After ((i, l) ∷ ms) (x ∷ xs) b c
 
-  -- The insts after two branches: an unreachable one takes no part. A variable that occurs outside is free after both or
-  -- after neither, and then has the least inst above both; any other counts as free.
+  -- The insts after two branches: an unreachable one takes no part. A variable that occurs outside
+  -- is free after both or after neither, and then has the least inst above both; any other counts
+  -- as free.
   abbrev pub Joined : List ℕ → Option Insts → Option Insts → Option Insts → Type 0
   Joined O None None o = o ≡ None
   Joined O (Some c) None None = ⊥
@@ -330,75 +364,129 @@ module _ (S : System) (T : ℕ → TypeTerm) where
   Joined O None (Some d) None = ⊥
   Joined O None (Some d) (Some e) = (x : ℕ) → (In x O → e x ≡ d x) × ((In x O → ⊥) → e x ≡ 0)
   Joined O (Some c) (Some d) None = ⊥
-  Joined O (Some c) (Some d) (Some e) = (x : ℕ) → (In x O → Merged S.world.source S.insts (c x) (d x) (e x) (T x)) × ((In x O → ⊥) → e x ≡ 0)
+  Joined O (Some c) (Some d) (Some e) =
+      (x : ℕ)
+      → (In x O → Merged S.world.source S.insts (c x) (d x) (e x) (T x))
+      × ((In x O → ⊥) → e x ≡ 0)
 
   mutual
-    -- Ordered O Q b g s o: a normal goal g, whose variables outside are O, and its scheduled goal s, whose variables
-    -- outside are Q, with the insts b before and o after, where None is an unreachable point.
+    -- Ordered O Q b g s o: a normal goal g, whose variables outside are O, and its scheduled goal
+    -- s, whose variables outside are Q, with the insts b before and o after, where None is an
+    -- unreachable point.
     pub data Ordered : (O Q : List ℕ) → Insts → Flat_goal → Scheduled → Option Insts → Type 0 where
       assign : {O Q : List ℕ} {b : Insts} {x y : ℕ} → b x ≡ 0 → b y ≢ 0 → NoneDead (x ∷ y ∷ []) b →
-          Ordered O Q b (F.Same x y) (Assign x y) (Some (also x (b y) (cond (is_state (T y)) (also y 3 b) b)))
+          Ordered O Q b (F.Same x y) (Assign x y)
+          (Some (also x (b y) (if is_state (T y) then also y 3 b else b)))
       assign_back : {O Q : List ℕ} {b : Insts} {x y : ℕ} → b x ≡ 0 → b y ≢ 0 → NoneDead (x ∷ y ∷ []) b →
-          Ordered O Q b (F.Same y x) (Assign x y) (Some (also x (b y) (cond (is_state (T y)) (also y 3 b) b)))
-      test : {O Q : List ℕ} {b : Insts} {x y : ℕ} → b x ≢ 0 → b y ≢ 0 → is_state (T x) ≡ false → NoneDead (x ∷ y ∷ []) b → Ordered O Q b (F.Same x y) (Test x y) (Some b)
+          Ordered O Q b (F.Same y x) (Assign x y)
+          (Some (also x (b y) (if is_state (T y) then also y 3 b else b)))
+      test :
+          {O Q : List ℕ} {b : Insts} {x y : ℕ} → b x ≢ 0 → b y ≢ 0 → is_state (T x) ≡ false
+          → NoneDead (x ∷ y ∷ []) b → Ordered O Q b (F.Same x y) (Test x y) (Some b)
       build : {O Q : List ℕ} {b : Insts} {x s i : ℕ} {ys : List ℕ} → b x ≡ 0 → AllBound ys b → NoneState ys → NoneDead ys b → IsSymbolOver i s (map b ys) →
           Ordered O Q b (F.Made x s ys) (Build x s ys) (Some (also x i b))
       take : {O Q : List ℕ} {b : Insts} {x s i : ℕ} {ys is : List ℕ} → b x ≢ 0 → NoneDead (x ∷ ys) b →
-          AllowsSymbol S.world.source (S.insts (b x)) (b x) s (λ js. js ≡ is) → IsSymbolOver i s is →
+          AllowsSymbol S.world.source (S.insts (b x)) (b x) s (λ js. js ≡ is) → IsSymbolOver i s is
+          →
           Ordered O Q b (F.Made x s ys) (Take x s ys) (Some (take_all ys is (also x i b)))
       take_never : {O Q : List ℕ} {b : Insts} {x s : ℕ} {ys : List ℕ} → b x ≢ 0 → NoneDead (x ∷ ys) b →
           (AllowsSymbol S.world.source (S.insts (b x)) (b x) s (λ js. Unit {0}) → ⊥) →
           Ordered O Q b (F.Made x s ys) (Take x s ys) None
-      put : {O Q : List ℕ} {b : Insts} {x : ℕ} {v : Val} → b x ≡ 0 → Ordered O Q b (F.Is x v) (Const x v) (Some (also x 1 b))
-      test_constant : {O Q : List ℕ} {b : Insts} {x : ℕ} {v : Val} → b x ≢ 0 → NoneDead (x ∷ []) b → AllowsConstants (S.insts (b x)) → Ordered O Q b (F.Is x v) (TestConst x v) (Some b)
-      test_never : {O Q : List ℕ} {b : Insts} {x : ℕ} {v : Val} → b x ≢ 0 → NoneDead (x ∷ []) b → (AllowsConstants (S.insts (b x)) → ⊥) → Ordered O Q b (F.Is x v) (TestConst x v) None
+      put :
+          {O Q : List ℕ} {b : Insts} {x : ℕ} {v : Val} → b x ≡ 0
+          → Ordered O Q b (F.Is x v) (Const x v) (Some (also x 1 b))
+      test_constant :
+          {O Q : List ℕ} {b : Insts} {x : ℕ} {v : Val} → b x ≢ 0 → NoneDead (x ∷ []) b
+          → AllowsConstants (S.insts (b x)) → Ordered O Q b (F.Is x v) (TestConst x v) (Some b)
+      test_never :
+          {O Q : List ℕ} {b : Insts} {x : ℕ} {v : Val} → b x ≢ 0 → NoneDead (x ∷ []) b
+          → (AllowsConstants (S.insts (b x)) → ⊥) → Ordered O Q b (F.Is x v) (TestConst x v) None
       call : {O Q : List ℕ} {b c : Insts} {p : ℕ} {xs : List ℕ} {last : Bool} → p < S.count →
-          Usable (modes_of_procedure (S.procs p)) xs b → NoneDead xs b → After (modes_of_procedure (S.procs p)) xs b c →
-          Ordered O Q b (F.Call (S.procs p).pred xs) (Call p xs (implied_places 0 (modes_of_procedure (S.procs p)) xs (λ x. is_bound (b x))) last) (unless_never (S.procs p).det.most c)
+          Usable (modes_of_procedure (S.procs p)) xs b → NoneDead xs b
+          → After (modes_of_procedure (S.procs p)) xs b c →
+          Ordered O Q b (F.Call (S.procs p).pred xs)
+          (Call p xs (implied_places 0 (modes_of_procedure (S.procs p)) xs (λ x. is_bound (b x)))
+          last) (unless_never (S.procs p).det.most c)
       apply : {O Q : List ℕ} {b c : Insts} {p : ℕ} {op : Builtin} {xs : List ℕ} → (S.world.source.preds p).builtin ≡ Some op →
-          Usable (modes_of op) xs b → NoneDead xs b → implied_places 0 (modes_of op) xs (λ x. is_bound (b x)) ≡ [] → After (modes_of op) xs b c →
-          Ordered O Q b (F.Call p xs) (Apply op (at_inputs (inputs_of op) xs) (at_outputs (inputs_of op) xs)) (unless_never (builtin_most op) c)
-      conj : {O Q : List ℕ} {b : Insts} {gs : Flat_goals} {ns : Nodes} {o : Option Insts} → OrderedAll O Q b gs ns o → Ordered O Q b (F.And gs) (Conj ns) o
-      disj : {O Q : List ℕ} {b : Insts} {gs : Flat_goals} {ns : Nodes} {o : Option Insts} → OrderedAny O Q b gs ns o → Ordered O Q b (F.Or gs) (Disj ns) o
-      switch : {O Q : List ℕ} {b : Insts} {x : ℕ} {gs : Flat_goals} {arms : Arms} {o : Option Insts} → b x ≢ 0 → OrderedArms O Q b x gs arms o → Ordered O Q b (F.Or gs) (Switch x arms) o
-      -- a condition binds nothing that occurs outside it and its then part, and its own variables are quantified
+          Usable (modes_of op) xs b → NoneDead xs b
+          → implied_places 0 (modes_of op) xs (λ x. is_bound (b x)) ≡ []
+          → After (modes_of op) xs b c →
+          Ordered O Q b (F.Call p xs)
+          (Apply op (at_inputs (inputs_of op) xs) (at_outputs (inputs_of op) xs))
+          (unless_never (builtin_most op) c)
+      conj :
+          {O Q : List ℕ} {b : Insts} {gs : Flat_goals} {ns : Nodes} {o : Option Insts}
+          → OrderedAll O Q b gs ns o → Ordered O Q b (F.And gs) (Conj ns) o
+      disj :
+          {O Q : List ℕ} {b : Insts} {gs : Flat_goals} {ns : Nodes} {o : Option Insts}
+          → OrderedAny O Q b gs ns o → Ordered O Q b (F.Or gs) (Disj ns) o
+      switch :
+          {O Q : List ℕ} {b : Insts} {x : ℕ} {gs : Flat_goals} {arms : Arms} {o : Option Insts}
+          → b x ≢ 0 → OrderedArms O Q b x gs arms o → Ordered O Q b (F.Or gs) (Switch x arms) o
+      -- a condition binds nothing that occurs outside it and its then part, and its own variables
+      -- are quantified
       ite : {O Q : List ℕ} {b c : Insts} {vs : List ℕ} {g h k : Flat_goal} {n t u : Node} {o o' o'' : Option Insts} →
           Apart vs O → Among (without (free_in g) vs) O →
-          OrderedNode (O ++ (vs ++ variables_of h)) (Q ++ (vs ++ variables_of_node t)) b g n (Some c) → BindsNone (without (free_in g) vs) b (Some c) →
-          OrderedNode (O ++ (vs ++ variables_of g)) (Q ++ (vs ++ variables_of_node n)) c h t o → OrderedNode O Q b k u o' → Joined O o o' o'' →
+          OrderedNode (O ++ (vs ++ variables_of h)) (Q ++ (vs ++ variables_of_node t)) b g n
+          (Some c)
+          → BindsNone (without (free_in g) vs) b (Some c) →
+          OrderedNode (O ++ (vs ++ variables_of g)) (Q ++ (vs ++ variables_of_node n)) c h t o
+          → OrderedNode O Q b k u o' → Joined O o o' o'' →
           Ordered O Q b (F.If vs g h k) (Ite vs n t u) o''
-      -- where the point after a condition is unreachable, its then part stands as the empty conjunction
+      -- where the point after a condition is unreachable, its then part stands as the empty
+      -- conjunction
       ite_never : {O Q : List ℕ} {b : Insts} {vs : List ℕ} {g h k : Flat_goal} {n t u : Node} {o o'' : Option Insts} →
           Apart vs O → Among (without (free_in g) vs) O →
-          OrderedNode (O ++ (vs ++ variables_of h)) (Q ++ vs) b g n None → IsEmpty t → OrderedNode O Q b k u o → Joined O None o o'' →
+          OrderedNode (O ++ (vs ++ variables_of h)) (Q ++ vs) b g n None → IsEmpty t
+          → OrderedNode O Q b k u o → Joined O None o o'' →
           Ordered O Q b (F.If vs g h k) (Ite vs n t u) o''
-      neg : {O Q : List ℕ} {b : Insts} {g : Flat_goal} {n : Node} {o : Option Insts} → Among (free_in g) O → OrderedNode O Q b g n o → BindsNone (free_in g) b o → Ordered O Q b (F.Not g) (Not n) (Some b)
-      some : {O Q : List ℕ} {b : Insts} {vs : List ℕ} {g : Flat_goal} {n : Node} {o : Option Insts} → Apart vs O → OrderedNode O Q b g n o → Ordered O Q b (F.Exists vs g) (Exists vs n) o
+      neg :
+          {O Q : List ℕ} {b : Insts} {g : Flat_goal} {n : Node} {o : Option Insts}
+          → Among (free_in g) O → OrderedNode O Q b g n o → BindsNone (free_in g) b o
+          → Ordered O Q b (F.Not g) (Not n) (Some b)
+      some :
+          {O Q : List ℕ} {b : Insts} {vs : List ℕ} {g : Flat_goal} {n : Node} {o : Option Insts}
+          → Apart vs O → OrderedNode O Q b g n o → Ordered O Q b (F.Exists vs g) (Exists vs n) o
 
     -- with the kept changes and the mark for pruned goals
     pub data OrderedNode : (O Q : List ℕ) → Insts → Flat_goal → Node → Option Insts → Type 0 where
       kept : {O Q : List ℕ} {b : Insts} {g : Flat_goal} {s : Scheduled} {changes : List (ℕ × ℕ)} {det : Det} {o : Option Insts} →
-          Ordered O Q b g s o → KeepsChanges b o changes → OrderedNode O Q b g (node s changes det (is_pruned Q b o)) o
+          Ordered O Q b g s o → KeepsChanges b o changes
+          → OrderedNode O Q b g (node s changes det (is_pruned Q b o)) o
 
-    -- the parts of a conjunction in the order in which they run; after an unreachable point the rest is dropped
+    -- the parts of a conjunction in the order in which they run; after an unreachable point the
+    -- rest is dropped
     pub data OrderedAll : (O Q : List ℕ) → Insts → Flat_goals → Nodes → Option Insts → Type 0 where
       done : {O Q : List ℕ} {b : Insts} → OrderedAll O Q b no_flat no_nodes (Some b)
-      dropped : {O Q : List ℕ} {b : Insts} {g : Flat_goal} {gs rest : Flat_goals} {n : Node} → Picks gs g rest → OrderedNode (O ++ variables_of_all rest) Q b g n None → OrderedAll O Q b gs (node_then n no_nodes) None
+      dropped :
+          {O Q : List ℕ} {b : Insts} {g : Flat_goal} {gs rest : Flat_goals} {n : Node}
+          → Picks gs g rest → OrderedNode (O ++ variables_of_all rest) Q b g n None
+          → OrderedAll O Q b gs (node_then n no_nodes) None
       next : {O Q : List ℕ} {b c : Insts} {g : Flat_goal} {gs rest : Flat_goals} {n : Node} {ns : Nodes} {o : Option Insts} →
-          Picks gs g rest → OrderedNode (O ++ variables_of_all rest) (Q ++ variables_of_nodes ns) b g n (Some c) →
-          OrderedAll (O ++ variables_of g) (Q ++ variables_of_node n) c rest ns o → OrderedAll O Q b gs (node_then n ns) o
+          Picks gs g rest
+          → OrderedNode (O ++ variables_of_all rest) (Q ++ variables_of_nodes ns) b g n (Some c)
+          →
+          OrderedAll (O ++ variables_of g) (Q ++ variables_of_node n) c rest ns o
+          → OrderedAll O Q b gs (node_then n ns) o
       -- an implied output of a builtin stands as a fresh variable, with a test after the builtin
       implied_outputs : {O Q : List ℕ} {b : Insts} {p : ℕ} {op : Builtin} {xs zs : List ℕ} {gs rest : Flat_goals} {ns : Nodes} {o : Option Insts} (tests : Flat_goals) →
-          Picks gs (F.Call p xs) rest → (S.world.source.preds p).builtin ≡ Some op → Freshened 0 (implied_places 0 (modes_of op) xs (λ x. is_bound (b x))) xs zs tests →
-          Apart (without zs xs) (O ++ variables_of_all gs) → OrderedAll O Q b (flat_then (F.Call p zs) (before_goals tests rest)) ns o → OrderedAll O Q b gs ns o
+          Picks gs (F.Call p xs) rest → (S.world.source.preds p).builtin ≡ Some op
+          → Freshened 0 (implied_places 0 (modes_of op) xs (λ x. is_bound (b x))) xs zs tests →
+          Apart (without zs xs) (O ++ variables_of_all gs)
+          → OrderedAll O Q b (flat_then (F.Call p zs) (before_goals tests rest)) ns o
+          → OrderedAll O Q b gs ns o
 
     pub data OrderedAny : (O Q : List ℕ) → Insts → Flat_goals → Nodes → Option Insts → Type 0 where
       no_other : {O Q : List ℕ} {b : Insts} → OrderedAny O Q b no_flat no_nodes None
       either : {O Q : List ℕ} {b : Insts} {g : Flat_goal} {gs : Flat_goals} {n : Node} {ns : Nodes} {o o' o'' : Option Insts} →
-          OrderedNode O Q b g n o → OrderedAny O Q b gs ns o' → Joined O o o' o'' → OrderedAny O Q b (flat_then g gs) (node_then n ns) o''
+          OrderedNode O Q b g n o → OrderedAny O Q b gs ns o' → Joined O o o' o''
+          → OrderedAny O Q b (flat_then g gs) (node_then n ns) o''
 
-    -- the arms of a switch on a variable: the disjuncts of one symbol or constant share an arm, in order
+    -- the arms of a switch on a variable: the disjuncts of one symbol or constant share an arm, in
+    -- order
     pub data OrderedArms : (O Q : List ℕ) → Insts → ℕ → Flat_goals → Arms → Option Insts → Type 0 where
       no_arm : {O Q : List ℕ} {b : Insts} {x : ℕ} → OrderedArms O Q b x no_flat no_arms None
       arm : {O Q : List ℕ} {b : Insts} {x : ℕ} {gs hs ks : Flat_goals} {l : Label} {n : Node} {arms : Arms} {o o' o'' : Option Insts} →
-          Parts gs hs ks → Opens x l n → AbsentFrom l arms → OrderedNode O Q b (arm_goal hs) n o → OrderedArms O Q b x ks arms o' → Joined O o o' o'' → OrderedArms O Q b x gs (arm_then l n arms) o''
+          Parts gs hs ks → Opens x l n → AbsentFrom l arms → OrderedNode O Q b (arm_goal hs) n o
+          → OrderedArms O Q b x ks arms o' → Joined O o o' o''
+          → OrderedArms O Q b x gs (arm_then l n arms) o''

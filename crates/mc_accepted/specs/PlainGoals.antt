@@ -1,4 +1,5 @@
--- The plain data that flat goals, scheduled goals and procedures stand for, without their rows and boxes.
+-- The plain data that flat goals, scheduled goals and procedures stand for, without their rows and
+-- boxes.
 use Rattle.std.specs.Prelude.{List, [], ◌∷◌, map, false}
 use Rattle.mc_program.specs.Values.{plain_value}
 use Rattle.mc_program.specs.PlainPrograms.{plain_type}
@@ -50,7 +51,8 @@ plain_arm_step a = (plain_label a.on, a.body)
 abbrev pub plain_node_step : SO.GoalNode-F Scheduled (Label × Node) Node → Node
 plain_node_step g = node g.goal g.changes g.det g.pruned
 
--- Which calls are last is no part of a goal: it is told of a procedure's calls by their places. Here none is.
+-- Which calls are last is no part of a goal: it is told of a procedure's calls by their places.
+-- Here none is.
 abbrev pub plain_sched_step : SO.Sched-F Scheduled (Label × Node) Node → Scheduled
 plain_sched_step (SO.Conj goals) = S.Conj (nodes goals)
 plain_sched_step (SO.Disj goals) = S.Disj (nodes goals)
@@ -68,10 +70,12 @@ plain_sched_step (SO.Call p args implied) = S.Call p args implied false
 plain_sched_step (SO.Apply op inputs outputs) = S.Apply op inputs outputs
 
 abbrev pub plain_node : GoalNode → Node
-plain_node = fold-GoalNode Scheduled (Label × Node) Node plain_sched_step plain_arm_step plain_node_step
+plain_node =
+    fold-GoalNode Scheduled (Label × Node) Node plain_sched_step plain_arm_step plain_node_step
 
 abbrev pub plain_sched : Sched → Scheduled
-plain_sched = fold-Sched Scheduled (Label × Node) Node plain_sched_step plain_arm_step plain_node_step
+plain_sched =
+    fold-Sched Scheduled (Label × Node) Node plain_sched_step plain_arm_step plain_node_step
 
 abbrev pub plain_arm : Arm → Label × Node
 plain_arm = fold-Arm Scheduled (Label × Node) Node plain_sched_step plain_arm_step plain_node_step

@@ -1,5 +1,5 @@
--- Scopes: which variables a goal of a clause quantifies. (Mercury Language Reference Manual: Syntax, implicit
--- quantification.)
+-- Scopes: which variables a goal of a clause quantifies. (Mercury Language Reference Manual:
+-- Syntax, implicit quantification.)
 use Rattle.std.specs.Prelude.{ℕ, List, [], ◌∷◌, ◌++◌}
 use Rattle.mc_program.specs.Programs.{Expression, variable, constant, made, applied, Expressions, no_expressions, expression_then, expressions, Formula, Equal, Call, And, Or, If, Not, Exists, Formulas, no_formulas, formula_then, ClauseForm}
 use Rattle.mc_model.specs.Truth.{In}
@@ -56,30 +56,35 @@ abbrev pub quantified : List ℕ → Formula → Formula
 quantified [] g = g
 quantified (v ∷ vs) g = Exists (v ∷ vs) g
 
--- a condition quantifies its own variables over itself and the then part; a negation its own over its goal
+-- a condition quantifies its own variables over itself and the then part; a negation its own over
+-- its goal
 abbrev pub scoped_condition : List ℕ → List ℕ → Formula → Formula → Formula → Formula
 scoped_condition O vs c t e = If (vs ++ once (without (free_of c) (O ++ vs))) c t e
 
 abbrev pub scoped_negation : List ℕ → Formula → Formula
 scoped_negation O g = Not (quantified (once (without (free_of g) O)) g)
 
--- Implicit quantification, outside being the variables that occur outside the goal in the head or in goals that aren't
--- parallel to it: other disjuncts are parallel, and an else part to its condition and then part. A negation, and a
--- condition with its then part, quantifies each variable that occurs free in it and doesn't occur outside it; inner ones
--- come first. A variable that an explicit quantifier names counts as one that occurs outside the goal under it.
+-- Implicit quantification, outside being the variables that occur outside the goal in the head or
+-- in goals that aren't parallel to it: other disjuncts are parallel, and an else part to its
+-- condition and then part. A negation, and a condition with its then part, quantifies each variable
+-- that occurs free in it and doesn't occur outside it; inner ones come first. A variable that an
+-- explicit quantifier names counts as one that occurs outside the goal under it.
 abbrev mutual
   pub scoped : (outside : List ℕ) → Formula → Formula
   scoped O (Equal a b) = Equal a b
   scoped O (Call p ts) = Call p ts
   scoped O (And gs) = And (scoped_parts O gs)
   scoped O (Or gs) = Or (scoped_disjuncts O gs)
-  scoped O (If vs c t e) = scoped_condition O vs (scoped (O ++ (vs ++ occurring t)) c) (scoped (O ++ (vs ++ occurring c)) t) (scoped O e)
+  scoped O (If vs c t e) =
+      scoped_condition O vs (scoped (O ++ (vs ++ occurring t)) c)
+      (scoped (O ++ (vs ++ occurring c)) t) (scoped O e)
   scoped O (Not g) = scoped_negation O (scoped O g)
   scoped O (Exists vs g) = Exists vs (scoped (O ++ vs) g)
 
   pub scoped_parts : (outside : List ℕ) → Formulas → Formulas
   scoped_parts O no_formulas = no_formulas
-  scoped_parts O (formula_then g gs) = formula_then (scoped (O ++ occurring_all gs) g) (scoped_parts (O ++ occurring g) gs)
+  scoped_parts O (formula_then g gs) =
+      formula_then (scoped (O ++ occurring_all gs) g) (scoped_parts (O ++ occurring g) gs)
 
   pub scoped_disjuncts : (outside : List ℕ) → Formulas → Formulas
   scoped_disjuncts O no_formulas = no_formulas
@@ -92,22 +97,28 @@ Apart xs ys = (x : ℕ) → In x xs → In x ys → ⊥
 abbrev pub Among : List ℕ → List ℕ → Type 0
 Among xs ys = (x : ℕ) → In x xs → In x ys
 
--- Scopes are written out: a quantified variable doesn't occur outside its scope but in parallel goals, and a variable
--- that occurs free in a negation, or in a condition, and isn't quantified there occurs outside it in the head or in a
--- goal that isn't parallel.
+-- Scopes are written out: a quantified variable doesn't occur outside its scope but in parallel
+-- goals, and a variable that occurs free in a negation, or in a condition, and isn't quantified
+-- there occurs outside it in the head or in a goal that isn't parallel.
 abbrev mutual
   pub HasScopes : (outside : List ℕ) → Formula → Type 0
   HasScopes O (Equal a b) = Unit {0}
   HasScopes O (Call p ts) = Unit {0}
   HasScopes O (And gs) = PartsHaveScopes O gs
   HasScopes O (Or gs) = DisjunctsHaveScopes O gs
-  HasScopes O (If vs c t e) = Apart vs O × Among (without (free_of c) vs) O × HasScopes (O ++ (vs ++ occurring t)) c × HasScopes (O ++ (vs ++ occurring c)) t × HasScopes O e
+  HasScopes O (If vs c t e) =
+      Apart vs O
+      × Among (without (free_of c) vs) O
+      × HasScopes (O ++ (vs ++ occurring t)) c
+      × HasScopes (O ++ (vs ++ occurring c)) t
+      × HasScopes O e
   HasScopes O (Not g) = Among (free_of g) O × HasScopes O g
   HasScopes O (Exists vs g) = Apart vs O × HasScopes (O ++ vs) g
 
   pub PartsHaveScopes : (outside : List ℕ) → Formulas → Type 0
   PartsHaveScopes O no_formulas = Unit {0}
-  PartsHaveScopes O (formula_then g gs) = HasScopes (O ++ occurring_all gs) g × PartsHaveScopes (O ++ occurring g) gs
+  PartsHaveScopes O (formula_then g gs) =
+      HasScopes (O ++ occurring_all gs) g × PartsHaveScopes (O ++ occurring g) gs
 
   pub DisjunctsHaveScopes : (outside : List ℕ) → Formulas → Type 0
   DisjunctsHaveScopes O no_formulas = Unit {0}
@@ -115,7 +126,8 @@ abbrev mutual
 
 -- a clause's scopes are taken with the variables of its head outside
 abbrev pub clause_scoped : ClauseForm → ClauseForm
-clause_scoped c = record { head = c.head; body = scoped (variables_in_all (expressions c.head)) c.body }
+clause_scoped c =
+    record { head = c.head; body = scoped (variables_in_all (expressions c.head)) c.body }
 
 abbrev pub ClauseHasScopes : ClauseForm → Type 0
 ClauseHasScopes c = HasScopes (variables_in_all (expressions c.head)) c.body

@@ -1,5 +1,5 @@
 -- The forms of clauses, and of the goal of a query (the Mercury manual: Clauses; State variables).
-use Rattle.std.specs.Prelude.{ℕ, Bool, false, cond, not, nat_le, ◌&&◌, List, [], ◌∷◌, Option, Some, None, codes}
+use Rattle.std.specs.Prelude.{ℕ, Bool, false, not, nat_le, ◌&&◌, List, [], ◌∷◌, Option, Some, None, codes, if◌then◌else◌}
 use Rattle.std.specs.Str.{bytes_eq}
 use Rattle.mc_term_data.specs.Plain.{PlainTerm, PlainTerms, at, no_term, more_terms, App}
 use Rattle.mc_clause_syntax.specs.declared.connective.Stand.TheVariants.{Whole}
@@ -10,9 +10,11 @@ use Rattle.mc_clause_syntax.specs.States.{states_of, placed, goal_placed}
 abbrev pub greatest_equivalences : ℕ
 greatest_equivalences = 8
 
--- A body under a head, or the goal of a query: the names of state variables that the head gives are in scope.
+-- A body under a head, or the goal of a query: the names of state variables that the head gives are
+-- in scope.
 abbrev pub is_body : List (List ℕ) → PlainTerm → Bool
-is_body scope t = is_goal Whole t && nat_le (equivalences t) greatest_equivalences && goal_placed scope t
+is_body scope t =
+    is_goal Whole t && nat_le (equivalences t) greatest_equivalences && goal_placed scope t
 
 -- a name without qualifiers, over any arguments
 abbrev pub is_headed : PlainTerm → Bool
@@ -26,10 +28,11 @@ pair _ = None
 
 -- the operands of an infix operator
 abbrev pub operands : List ℕ → PlainTerm → Option (PlainTerm × PlainTerm)
-operands name (at (App (w ∷ []) ts) l) = cond (bytes_eq name w) (pair ts) None
+operands name (at (App (w ∷ []) ts) l) = if bytes_eq name w then pair ts else None
 operands name _ = None
 
--- The head of a predicate's clause, `p(..)`, or of a function's, `f(..) = R`, by the sides of the latter. Each state variable in it is in scope.
+-- The head of a predicate's clause, `p(..)`, or of a function's, `f(..) = R`, by the sides of the
+-- latter. Each state variable in it is in scope.
 abbrev pub is_head_of : List (List ℕ) → PlainTerm → Option (PlainTerm × PlainTerm) → Bool
 is_head_of scope t None = is_headed t && placed scope false t
 is_head_of scope t (Some (f, r)) = is_headed f && placed scope false f && placed scope false r

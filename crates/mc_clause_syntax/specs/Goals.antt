@@ -115,7 +115,10 @@ abbrev mutual
   pub is_goal : Stand → PlainTerm → Bool
   is_goal s (at (Conj ts) l) = is_open s && are_goals Whole ts
   is_goal s (at (Disj ts) l) = is_open s && are_disjuncts ts
-  is_goal s (at (App w ts) l) = not (is_state w ts) && admits (connective w (count ts)) s && have_form (parts (connective w (count ts))) ts
+  is_goal s (at (App w ts) l) =
+      not (is_state w ts)
+      && admits (connective w (count ts)) s
+      && have_form (parts (connective w (count ts))) ts
   is_goal s _ = false
 
   -- whether the parts of a goal are what they are to be; what the terms in it hold is asked below
@@ -135,7 +138,8 @@ abbrev mutual
   pub are_disjuncts : PlainTerms → Bool
   are_disjuncts no_term = true
   are_disjuncts (more_terms t no_term) = is_goal Whole t
-  are_disjuncts (more_terms t (more_terms u us)) = is_goal Disjunct t && are_disjuncts (more_terms u us)
+  are_disjuncts (more_terms t (more_terms u us)) =
+      is_goal Disjunct t && are_disjuncts (more_terms u us)
 
 -- whether a name over parts is a goal that may stand there
 abbrev pub is_goal_of : Stand → List (List ℕ) → PlainTerms → Bool
@@ -151,7 +155,9 @@ abbrev mutual
   pub equivalences : PlainTerm → ℕ
   equivalences (at (Conj ts) l) = most_equivalences ts
   equivalences (at (Disj ts) l) = most_equivalences ts
-  equivalences (at (App w ts) l) = one_equivalence (connective w (count ts)) + equivalences_within (parts (connective w (count ts))) ts
+  equivalences (at (App w ts) l) =
+      one_equivalence (connective w (count ts))
+      + equivalences_within (parts (connective w (count ts))) ts
   equivalences _ = 0
 
   pub equivalences_within : Parts → PlainTerms → ℕ

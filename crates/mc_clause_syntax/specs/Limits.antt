@@ -1,5 +1,5 @@
 -- How many arguments a name may have, and how many variables a clause (this project's profile).
-use Rattle.std.specs.Prelude.{ℕ, ◌+◌, Bool, false, cond, nat_lt, ◌&&◌, ◌||◌, List, [], ◌∷◌, ◌++◌, codes}
+use Rattle.std.specs.Prelude.{ℕ, ◌+◌, Bool, false, nat_lt, ◌&&◌, ◌||◌, List, [], ◌∷◌, ◌++◌, codes, if◌then◌else◌}
 use Rattle.std.specs.Str.{bytes_eq}
 use Rattle.std.specs.Set.{distinct_count}
 use Rattle.mc_term_data.specs.Plain.{PlainTerm, PlainTerms, at, no_term, more_terms, Var, App, Items, Tailed, Conj, Disj}
@@ -11,9 +11,10 @@ greatest_arguments = 255
 abbrev pub greatest_variables : ℕ
 greatest_variables = 4096
 
--- How many arguments a term counts as where it is one. In a clause both versions of a state variable count as two.
+-- How many arguments a term counts as where it is one. In a clause both versions of a state
+-- variable count as two.
 abbrev pub width : (in_clause : Bool) → PlainTerm → ℕ
-width in_clause (at (App w ts) l) = cond (in_clause && both_versions (state w ts)) 2 1
+width in_clause (at (App w ts) l) = if in_clause && both_versions (state w ts) then 2 else 1
 width in_clause _ = 1
 
 abbrev pub argument_count : (in_clause : Bool) → PlainTerms → ℕ
@@ -23,19 +24,23 @@ argument_count in_clause (more_terms t ts) = width in_clause t + argument_count 
 abbrev mutual
   -- whether a name in a term has too many arguments
   pub too_many_arguments : (in_clause : Bool) → PlainTerm → Bool
-  too_many_arguments in_clause (at (App w ts) l) = nat_lt greatest_arguments (argument_count in_clause ts) || any_too_many in_clause ts
+  too_many_arguments in_clause (at (App w ts) l) =
+      nat_lt greatest_arguments (argument_count in_clause ts) || any_too_many in_clause ts
   too_many_arguments in_clause (at (Items ts) l) = any_too_many in_clause ts
-  too_many_arguments in_clause (at (Tailed ts t) l) = any_too_many in_clause ts || too_many_arguments in_clause t
+  too_many_arguments in_clause (at (Tailed ts t) l) =
+      any_too_many in_clause ts || too_many_arguments in_clause t
   too_many_arguments in_clause (at (Conj ts) l) = any_too_many in_clause ts
   too_many_arguments in_clause (at (Disj ts) l) = any_too_many in_clause ts
   too_many_arguments in_clause _ = false
 
   pub any_too_many : (in_clause : Bool) → PlainTerms → Bool
   any_too_many in_clause no_term = false
-  any_too_many in_clause (more_terms t ts) = too_many_arguments in_clause t || any_too_many in_clause ts
+  any_too_many in_clause (more_terms t ts) =
+      too_many_arguments in_clause t || any_too_many in_clause ts
 
 abbrev mutual
-  -- the names of the variables in a term, as often as they occur; a state variable's versions have one name
+  -- the names of the variables in a term, as often as they occur; a state variable's versions have
+  -- one name
   pub variables : PlainTerm → List (List ℕ)
   variables (at (Var x) l) = x ∷ []
   variables (at (App w ts) l) = all_variables ts
@@ -55,12 +60,12 @@ is_anonymous x = bytes_eq x (codes "_")
 -- how many these are that have no name
 abbrev pub anonymous : List (List ℕ) → ℕ
 anonymous [] = 0
-anonymous (x ∷ xs) = cond (is_anonymous x) 1 0 + anonymous xs
+anonymous (x ∷ xs) = (if is_anonymous x then 1 else 0) + anonymous xs
 
 -- those that have a name
 abbrev pub with_name : List (List ℕ) → List (List ℕ)
 with_name [] = []
-with_name (x ∷ xs) = cond (is_anonymous x) (with_name xs) (x ∷ with_name xs)
+with_name (x ∷ xs) = if is_anonymous x then with_name xs else x ∷ with_name xs
 
 -- each `_` is a variable of its own
 abbrev pub variable_count : PlainTerm → ℕ

@@ -46,7 +46,8 @@ abbrev mutual
   states_of_all no_term = []
   states_of_all (more_terms t ts) = states_of t ++ states_of_all ts
 
--- One version of a state variable stands where a variable may, and both where an argument of a name does; its name is in scope.
+-- One version of a state variable stands where a variable may, and both where an argument of a name
+-- does; its name is in scope.
 abbrev pub placed_state : List (List ℕ) → (is_argument : Bool) → Option (StateForm × List ℕ) → Bool
 placed_state scope is_argument None = true
 placed_state scope is_argument (Some (Both, x)) = is_argument && in_scope scope x
@@ -54,9 +55,11 @@ placed_state scope is_argument (Some (Before, x)) = in_scope scope x
 placed_state scope is_argument (Some (After, x)) = in_scope scope x
 
 abbrev mutual
-  -- whether the state variables in a term stand where they may; the term is an argument of a name, or it isn't
+  -- whether the state variables in a term stand where they may; the term is an argument of a name,
+  -- or it isn't
   pub placed : List (List ℕ) → Bool → PlainTerm → Bool
-  placed scope is_argument (at (App w ts) l) = placed_state scope is_argument (state w ts) && all_placed scope true ts
+  placed scope is_argument (at (App w ts) l) =
+      placed_state scope is_argument (state w ts) && all_placed scope true ts
   placed scope is_argument (at (Items ts) l) = all_placed scope false ts
   placed scope is_argument (at (Tailed ts t) l) = all_placed scope false ts && placed scope false t
   placed scope is_argument (at (Conj ts) l) = all_placed scope false ts
@@ -65,7 +68,8 @@ abbrev mutual
 
   pub all_placed : List (List ℕ) → Bool → PlainTerms → Bool
   all_placed scope is_argument no_term = true
-  all_placed scope is_argument (more_terms t ts) = placed scope is_argument t && all_placed scope is_argument ts
+  all_placed scope is_argument (more_terms t ts) =
+      placed scope is_argument t && all_placed scope is_argument ts
 
 abbrev mutual
   -- the same of the terms in a goal; what a quantifier names is in scope in its goal

@@ -64,7 +64,8 @@ fn is_head(scope: &Scope, term: &Term) -> bool
 
 // Whether a term is a body, where these names are in scope.
 fn is_body<'a>(scope: &mut Scope<'a>, goal: &'a Term) -> Result<bool, Memory>
-    ensures { IfOk result (λ holds. holds ≡ is_body (all_names scope.old.sets.items) (plain_term goal.now)) }
+    ensures { IfOk result
+        (λ holds. holds ≡ is_body (all_names scope.old.sets.items) (plain_term goal.now)) }
 {
     if is_goal(goal, Stand::Whole) && nests_at_most(goal, GREATEST_EQUIVALENCES) {
         scope.places_goal(goal)
@@ -88,7 +89,8 @@ fn is_headed(term: &Term) -> bool
 
 /// The operands of an infix operator.
 pub fn operands<'a>(name: &[u8], term: &'a Term) -> Option<(&'a Term, &'a Term)>
-    ensures { option_map (λ p. (plain_term p.0.now, plain_term p.1.now)) result ≡ operands name.now (plain_term term.now) }
+    ensures { option_map (λ p. (plain_term p.0.now, plain_term p.1.now)) result
+        ≡ operands name.now (plain_term term.now) }
 {
     match &term.node {
         Node::App(words, parts) => match words.as_slice() {
@@ -102,7 +104,8 @@ pub fn operands<'a>(name: &[u8], term: &'a Term) -> Option<(&'a Term, &'a Term)>
 // The two terms that these are.
 #[tactic(auto, using(crate::proofs::Shapes::pair_of_two, crate::proofs::Shapes::pair_of_fewer, crate::proofs::Shapes::pair_of_more))]
 fn pair(terms: &[Term]) -> Option<(&Term, &Term)>
-    ensures { option_map (λ p. (plain_term p.0.now, plain_term p.1.now)) result ≡ pair (tms (map plain_term terms.now)) }
+    ensures { option_map (λ p. (plain_term p.0.now, plain_term p.1.now)) result
+        ≡ pair (tms (map plain_term terms.now)) }
 {
     match terms {
         [] => None,

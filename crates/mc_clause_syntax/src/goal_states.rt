@@ -13,7 +13,8 @@ impl<'a> Scope<'a> {
     /// it, but after want of memory there may be more.
     #[cycle(goals_placed)]
     pub fn places_goal(&mut self, goal: &'a Term) -> Result<bool, Memory>
-        ensures answer { IfOk result (λ placed. placed ≡ goal_placed (all_names self.old.sets.items) (plain_term goal.now)) }
+        ensures answer { IfOk result
+            (λ placed. placed ≡ goal_placed (all_names self.old.sets.items) (plain_term goal.now)) }
         ensures kept { OnOk result (self.new.sets.items ≡ self.old.sets.items) }
     {
         match &goal.node {
@@ -29,7 +30,11 @@ impl<'a> Scope<'a> {
     #[cycle(goals_placed)]
     #[tactic(auto, using(crate::proofs::Scoped::parts_are_goals))]
     fn places_parts(&mut self, parts: &'a [Term], form: Parts) -> Result<bool, Memory>
-        ensures answer { IfOk result (λ placed. placed ≡ parts_placed (all_names self.old.sets.items) form (tms (map plain_term parts.now))) }
+        ensures answer { IfOk result
+            (λ placed.
+            placed
+            ≡ parts_placed (all_names self.old.sets.items) form
+            (tms (map plain_term parts.now))) }
         ensures kept { OnOk result (self.new.sets.items ≡ self.old.sets.items) }
     {
         match form {
@@ -45,7 +50,12 @@ impl<'a> Scope<'a> {
 
     #[cycle(goals_placed)]
     fn places_quantified(&mut self, list: &'a Term, goals: &'a [Term]) -> Result<bool, Memory>
-        ensures answer { IfOk result (λ placed. placed ≡ goals_placed (quantified (plain_term list.now) ++ all_names self.old.sets.items) (tms (map plain_term goals.now))) }
+        ensures answer { IfOk result
+            (λ placed.
+            placed
+            ≡ goals_placed
+            (quantified (plain_term list.now) ++ all_names self.old.sets.items)
+            (tms (map plain_term goals.now))) }
         ensures kept { OnOk result (self.new.sets.items ≡ self.old.sets.items) }
     {
         self.sets.push(quantified(self.alloc, list)?)?;
@@ -56,7 +66,10 @@ impl<'a> Scope<'a> {
 
     #[cycle(goals_placed)]
     fn places_goals(&mut self, goals: &'a [Term]) -> Result<bool, Memory>
-        ensures answer { IfOk result (λ placed. placed ≡ goals_placed (all_names self.old.sets.items) (tms (map plain_term goals.now))) }
+        ensures answer { IfOk result
+            (λ placed.
+            placed
+            ≡ goals_placed (all_names self.old.sets.items) (tms (map plain_term goals.now))) }
         ensures kept { OnOk result (self.new.sets.items ≡ self.old.sets.items) }
     {
         for goal in goals {

@@ -31,7 +31,8 @@ impl<'a> Scope<'a> {
 
     /// The state variables in a clause's head are in scope.
     pub fn of_head(alloc: Global, head: &'a Term) -> Result<Scope<'a>, Memory>
-        ensures { IfOk result (λ scope. scope.sets.items ≡ put_all [] (states_of (plain_term head.now)) ∷ []) }
+        ensures { IfOk result
+            (λ scope. scope.sets.items ≡ put_all [] (states_of (plain_term head.now)) ∷ []) }
     {
         let mut names = NameSet::new(alloc);
         add_states(&mut names, head)?;
@@ -79,7 +80,9 @@ impl<'a> Scope<'a> {
     /// The same of each of these terms.
     #[cycle(placed)]
     pub fn places_all(&self, terms: &[Term], are_arguments: bool) -> bool
-        ensures { result ≡ all_placed (all_names self.now.sets.items) are_arguments (tms (map plain_term terms.now)) }
+        ensures { result
+            ≡ all_placed (all_names self.now.sets.items) are_arguments
+            (tms (map plain_term terms.now)) }
     {
         for term in terms {
             if !self.places(term, are_arguments) {
@@ -91,7 +94,9 @@ impl<'a> Scope<'a> {
 
     // The same of a name over parts, apart from the parts.
     fn places_state(&self, name: &[Text], parts: &[Term], is_argument: bool) -> bool
-        ensures { result ≡ placed_state (all_names self.now.sets.items) is_argument (state name.now (tms (map plain_term parts.now))) }
+        ensures { result
+            ≡ placed_state (all_names self.now.sets.items) is_argument
+            (state name.now (tms (map plain_term parts.now))) }
     {
         match state(name, parts) {
             Some((StateForm::Both, variable)) => is_argument && self.has(variable),
@@ -139,7 +144,9 @@ fn add_all_states<'a>(names: &mut NameSet<'a>, terms: &'a [Term]) -> Result<(), 
 
 // Puts in the name of a state variable, where a name over parts is one.
 fn add_state<'a>(names: &mut NameSet<'a>, name: &[Text], parts: &'a [Term]) -> Result<(), Memory>
-    ensures { OnOk result (names.new ≡ put_all names.old (name_of (state name.now (tms (map plain_term parts.now))))) }
+    ensures { OnOk result
+        (names.new
+        ≡ put_all names.old (name_of (state name.now (tms (map plain_term parts.now))))) }
 {
     match state(name, parts) {
         Some((_, variable)) => {

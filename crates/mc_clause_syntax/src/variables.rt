@@ -64,7 +64,8 @@ impl<'a> Variables<'a> {
     #[cycle(variables)]
     #[tactic(auto, using(crate::proofs::Appended::with_variables_append))]
     fn add_all(&mut self, terms: &'a [Term]) -> Result<(), Memory>
-        ensures { OnOk result (self.new ≡ with_variables self.old (all_variables (tms (map plain_term terms.now)))) }
+        ensures { OnOk result
+            (self.new ≡ with_variables self.old (all_variables (tms (map plain_term terms.now)))) }
     {
         for term in terms {
             self.add(term)?;

@@ -46,7 +46,8 @@ abbrev pub HoldTexts : Option Held → (files texts : List (List ℕ)) → Type 
 HoldTexts None files texts = Unit {0}
 HoldTexts (Some held) files texts = texts_in held files ≡ These texts
 
--- the files are read one after another, and this is the one that can't be read: where it is told what they hold, those before it are held
+-- the files are read one after another, and this is the one that can't be read: where it is told
+-- what they hold, those before it are held
 pub record CannotRead (store : Option Held) (files : List (List ℕ)) (file : List ℕ) : Type 0 where
   pub before : List (List ℕ)
   pub after : List (List ℕ)
@@ -55,19 +56,24 @@ pub record CannotRead (store : Option Held) (files : List (List ℕ)) (file : Li
   pub holds : HoldTexts store before texts
 
 -- on the error output was put a front part of the line that says of the file that can't be read
-abbrev pub SaysUnreadable : Option Held → (before after : Option (List ℕ)) → (files : List (List ℕ)) → Type 0
-SaysUnreadable store before after files = (file : List ℕ) × CannotRead store files file × PutsFront before after (unreadable_line file)
+abbrev pub SaysUnreadable :
+    Option Held → (before after : Option (List ℕ)) → (files : List (List ℕ)) → Type 0
+SaysUnreadable store before after files =
+    (file : List ℕ) × CannotRead store files file × PutsFront before after (unreadable_line file)
 
 -- each sink was given a front part of a defined answer
-abbrev pub PutsDefined : (words : List (List ℕ)) → Held → (out0 out1 err0 err1 : Option (List ℕ)) → Type 0
-PutsDefined words held out0 out1 err0 err1 = (o : Outcome) × Defined words held o × PutsFront out0 out1 o.out × PutsFront err0 err1 o.err
+abbrev pub PutsDefined :
+    (words : List (List ℕ)) → Held → (out0 out1 err0 err1 : Option (List ℕ)) → Type 0
+PutsDefined words held out0 out1 err0 err1 =
+    (o : Outcome) × Defined words held o × PutsFront out0 out1 o.out × PutsFront err0 err1 o.err
 
 -- every run of the query, where there is one, is good
 abbrev pub QueryIsGood : Database → Option Question → Type 0
 QueryIsGood d None = Unit {0}
 QueryIsGood d (Some q) = (n h : ℕ) → GoodQuery (system_of d (Some q)) n h (query_procedure d q)
 
--- the words mean a command that is built, whose sources are legal and of the form that is answered; and the run of its query, where it has one, ends
+-- the words mean a command that is built, whose sources are legal and of the form that is answered;
+-- and the run of its query, where it has one, ends
 pub record WasDone (words : List (List ℕ)) (store : Option Held) : Type 0 where
   pub command : Meaning
   pub means : meaning words ≡ Some command

@@ -43,8 +43,11 @@ pub record AreCompiled (m : Meaning) (texts : List (List ℕ)) (c : Compiled) : 
 
 -- what a decision says of a command and the texts of its files
 abbrev pub Understood : Meaning → (texts : List (List ℕ)) → Decision → Type 0
-Understood m texts (D.Rejected files broken) = (given_names files ≡ files_of m) × (Breaks library_texts texts (query_of m) broken × (broken ≢ []))
-Understood m texts D.NotBuilt = (l : AreLegal library_texts texts (query_of m)) × ((is_unbuilt m ≡ true) ⊎ (asks l ≡ None))
+Understood m texts (D.Rejected files broken) =
+    (given_names files ≡ files_of m)
+    × (Breaks library_texts texts (query_of m) broken × (broken ≢ []))
+Understood m texts D.NotBuilt =
+    (l : AreLegal library_texts texts (query_of m)) × ((is_unbuilt m ≡ true) ⊎ (asks l ≡ None))
 Understood m texts D.Checked = AreChecked m texts
 Understood m texts (D.Answers c) = AreCompiled m texts c
 Understood m texts D.Memory = Unit {0}
@@ -53,7 +56,8 @@ Understood m texts _ = ⊥
 -- why the reading of one file ends a call
 abbrev pub IsHeld : Option Held → (file text : List ℕ) → Type 0
 IsHeld None file text = Unit {0}
-IsHeld (Some held) file text = (bytes : List ℕ) × ((finmap.get held file ≡ Some bytes) × (text ≡ first_part bytes))
+IsHeld (Some held) file text =
+    (bytes : List ℕ) × ((finmap.get held file ≡ Some bytes) × (text ≡ first_part bytes))
 
 abbrev pub IsNotHeld : Option Held → (file : List ℕ) → Type 0
 IsNotHeld None file = Unit {0}
@@ -74,8 +78,10 @@ IsStopped file _ _ = ⊥
 
 -- why the reading of files ends a call
 abbrev pub Stops : Option Held → (files : List (List ℕ)) → Decision → Type 0
-Stops store files (D.Absent line) = (file : List ℕ) × (Lacks store files file × (line.items ≡ absent_line file))
-Stops store files (D.Unreadable line) = (file : List ℕ) × (CannotRead store files file × (line.items ≡ unreadable_line file))
+Stops store files (D.Absent line) =
+    (file : List ℕ) × (Lacks store files file × (line.items ≡ absent_line file))
+Stops store files (D.Unreadable line) =
+    (file : List ℕ) × (CannotRead store files file × (line.items ≡ unreadable_line file))
 Stops store files D.Memory = Unit {0}
 Stops store files _ = ⊥
 
@@ -127,7 +133,8 @@ told_of (D.Answers c) = record { out = lines_of c; err = []; status = S.Done }
 told_of D.Memory = said [] S.Memory
 
 -- what is written of several pieces: all of them, or some from the front
-abbrev pub Writes : {T : Type 0} → Option (List ℕ) → Option (List ℕ) → Result T PutFault → List ℕ → Type 0
+abbrev pub Writes :
+    {T : Type 0} → Option (List ℕ) → Option (List ℕ) → Result T PutFault → List ℕ → Type 0
 Writes before after (Ok u) bytes = Wrote before after bytes
 Writes before after (Err e) bytes = PutsFront before after bytes
 
@@ -137,9 +144,11 @@ ended (Ok u) s = s
 ended (Err put.Failed) s = S.WriteFault
 ended (Err put.Memory) s = S.Memory
 
--- the counts of faults of both sinks: one of them rose where a put failed, and else they are as they were
+-- the counts of faults of both sinks: one of them rose where a put failed, and else they are as
+-- they were
 abbrev pub CountPuts : {T : Type 0} → Result T PutFault → (out0 out1 err0 err1 : ℕ) → Type 0
-CountPuts (Err put.Failed) out0 out1 err0 err1 = ((out0 ≡ out1) × Rose err0 err1) ⊎ (Rose out0 out1 × (err0 ≡ err1))
+CountPuts (Err put.Failed) out0 out1 err0 err1 =
+    ((out0 ≡ out1) × Rose err0 err1) ⊎ (Rose out0 out1 × (err0 ≡ err1))
 CountPuts _ out0 out1 err0 err1 = (out0 ≡ out1) × (err0 ≡ err1)
 
 -- at want of memory nothing was to be put

@@ -5,4 +5,6 @@ use Rattle.mc_cmd.specs.Outcome.{Outcome, Defined}
 
 -- of words and of what files hold there is one defined answer at most
 abbrev pub AtMostOneAnswer : Type 0
-AtMostOneAnswer = (words : List (List ℕ)) (held : Held) (o p : Outcome) → Defined words held o → Defined words held p → o ≡ p
+AtMostOneAnswer =
+    (words : List (List ℕ)) (held : Held) (o p : Outcome)
+    → Defined words held o → Defined words held p → o ≡ p

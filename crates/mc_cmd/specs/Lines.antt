@@ -1,4 +1,6 @@
--- The lines of a query's answers, as they are read off a program over facts: the query is one clause that calls a predicate, and each clause of that predicate is an answer. (This project's profile.)
+-- The lines of a query's answers, as they are read off a program over facts: the query is one
+-- clause that calls a predicate, and each clause of that predicate is an answer. (This project's
+-- profile.)
 use Rattle.std.specs.Prelude.{◌≡◌, ℕ, List, [], ◌∷◌, map, length, get_or, All, Option, Some, None}
 use Rattle.mc_program.specs.Programs.{Expression, made, Formula, Call, ClauseForm, Predicate}
 use Rattle.mc_program.specs.PlainPrograms.{no_pred, plain_pred}

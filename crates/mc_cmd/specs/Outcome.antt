@@ -1,4 +1,5 @@
--- What a call of the command answers: the bytes on its output and on its error output, and the status. (This project's profile.)
+-- What a call of the command answers: the bytes on its output and on its error output, and the
+-- status. (This project's profile.)
 use Rattle.std.specs.Prelude.{◌≡◌, ◌≢◌, ◌⊎◌, ℕ, Bool, true, false, List, [], ◌∷◌, ◌++◌, codes, Option, Some, None, slice_index_or}
 use Rattle.std.specs.FinMap as finmap
 use Rattle.mc_outside.specs.Meaning.{Held, first_part}
@@ -39,7 +40,8 @@ unreadable_line file = codes "merc: cannot read " ++ (file ++ codes "\n")
 
 -- the line of a broken rule; what isn't in a file is in the query
 abbrev pub broken_line : (files : List (List ℕ)) → Broken → List ℕ
-broken_line files b = broken_text (slice_index_or files b.at.file (codes "query")) b.at.line b.rule b.what
+broken_line files b =
+    broken_text (slice_index_or files b.at.file (codes "query")) b.at.line b.rule b.what
 
 abbrev pub broken_lines : (files : List (List ℕ)) → List Broken → List ℕ
 broken_lines files [] = []
@@ -94,9 +96,13 @@ RunEnds (Some q) d b = Ends (run_of d q b)
 -- What is answered of a command whose files hold these texts.
 pub data Answers (m : Meaning) (texts : List (List ℕ)) : Outcome → Type 0 where
   -- the sources break rules
-  rejected : {broken : List Broken} → Breaks library_texts texts (query_of m) broken → broken ≢ [] → Answers m texts (said (broken_lines (files_of m) broken) S.Rejected)
+  rejected :
+      {broken : List Broken} → Breaks library_texts texts (query_of m) broken → broken ≢ []
+      → Answers m texts (said (broken_lines (files_of m) broken) S.Rejected)
   -- they break none, and something is asked for that isn't built yet
-  not_built : (l : AreLegal library_texts texts (query_of m)) → (is_unbuilt m ≡ true) ⊎ (asks l ≡ None) → Answers m texts (said not_built_line S.NotBuilt)
+  not_built :
+      (l : AreLegal library_texts texts (query_of m))
+      → (is_unbuilt m ≡ true) ⊎ (asks l ≡ None) → Answers m texts (said not_built_line S.NotBuilt)
   -- they break none, and the run of the query, where there is one, ends
   done : (l : AreLegal library_texts texts (query_of m)) {d : Database} {q : Option Question} → is_unbuilt m ≡ false → asks l ≡ Some (d, q) → RunEnds q d (bounds_of m) →
       Answers m texts (record { out = answered q d (bounds_of m); err = []; status = S.Done })

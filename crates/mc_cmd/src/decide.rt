@@ -54,9 +54,13 @@ fn read_file<F: Files>(alloc: Global, name: &str, files: &mut F) -> Result<Given
     ensures read { IfOk result (λ given. IsHeld (F.held files.old) name.now given.bytes) }
     ensures stopped { IfErr result (StopsAt (F.held files.old) name.now) }
     ensures held { F.held files.new ≡ F.held files.old }
-    ensures counted { IfOk result (λ _. (F.faults files.new ≡ F.faults files.old) × (F.absents files.new ≡ F.absents files.old)) }
+    ensures counted { IfOk result
+        (λ _.
+        (F.faults files.new ≡ F.faults files.old)
+        × (F.absents files.new ≡ F.absents files.old)) }
     ensures faults { IfErr result (λ decision. CountsFaults decision (F.faults files.old) (F.faults files.new)) }
-    ensures absents { IfErr result (λ decision. CountsAbsents decision (F.absents files.old) (F.absents files.new)) }
+    ensures absents { IfErr result
+        (λ decision. CountsAbsents decision (F.absents files.old) (F.absents files.new)) }
 {
     let bytes = match files.read(alloc, name) {
         Ok(bytes) => bytes,
@@ -76,12 +80,17 @@ fn read_files<F: Files>(
 ) -> Result<Row<Given>, Decision>
     requires { length names.now ≤ 64 }
     ensures named { IfOk result (λ sources. given_names sources ≡ plain_texts names.now) }
-    ensures read { IfOk result (λ sources. HoldTexts (F.held files.old) (plain_texts names.now) (texts_of sources)) }
+    ensures read { IfOk result
+        (λ sources. HoldTexts (F.held files.old) (plain_texts names.now) (texts_of sources)) }
     ensures stopped { IfErr result (Stops (F.held files.old) (plain_texts names.now)) }
     ensures held { F.held files.new ≡ F.held files.old }
-    ensures counted { IfOk result (λ _. (F.faults files.new ≡ F.faults files.old) × (F.absents files.new ≡ F.absents files.old)) }
+    ensures counted { IfOk result
+        (λ _.
+        (F.faults files.new ≡ F.faults files.old)
+        × (F.absents files.new ≡ F.absents files.old)) }
     ensures faults { IfErr result (λ decision. CountsFaults decision (F.faults files.old) (F.faults files.new)) }
-    ensures absents { IfErr result (λ decision. CountsAbsents decision (F.absents files.old) (F.absents files.new)) }
+    ensures absents { IfErr result
+        (λ decision. CountsAbsents decision (F.absents files.old) (F.absents files.new)) }
 {
     let mut sources = Row::new(alloc);
     for name in names {
@@ -104,7 +113,10 @@ fn files_of<'c, 'a>(command: &'c Command<'a>) -> &'c [&'a str]
 /// The query of a command, where it has one.
 fn query_of(alloc: Global, command: &Command<'_>) -> Result<Option<Query>, Memory>
     ensures text { IfOk result (λ query. text_of query ≡ query_of (plain_command command.now)) }
-    ensures unbuilt { IfOk result (λ query. (is_run (plain_command command.now) || is_first query) ≡ is_unbuilt (plain_command command.now)) }
+    ensures unbuilt { IfOk result
+        (λ query.
+        (is_run (plain_command command.now) || is_first query)
+        ≡ is_unbuilt (plain_command command.now)) }
 {
     let Command::Query { first, goal, .. } = command else {
         return Ok(None);

@@ -61,7 +61,8 @@ pub fn merc<F: Files, I: Source, O: Sink, E: Sink>(
     // The causes of the answers.
     ensures done { result ≡ Status.Done → WasDone (map string_bytes words.now.items) (F.held files.old) }
     ensures usage { result ≡ Status.Usage → meaning (map string_bytes words.now.items) ≡ None }
-    ensures usage_told { meaning (map string_bytes words.now.items) ≡ None → (result ≡ Status.Usage) ⊎ ((result ≡ Status.WriteFault) ⊎ (result ≡ Status.Memory)) }
+    ensures usage_told { meaning (map string_bytes words.now.items) ≡ None
+        → (result ≡ Status.Usage) ⊎ ((result ≡ Status.WriteFault) ⊎ (result ≡ Status.Memory)) }
     ensures rejected { result ≡ Status.Rejected → (m : Meaning) × ((meaning (map string_bytes words.now.items) ≡ Some m) ×
         ((texts : List (List ℕ)) × (HoldTexts (F.held files.old) (files_of m) texts × ((broken : List Broken) × (Breaks library_texts texts (query_of m) broken × (broken ≢ [])))))) }
     ensures absent { result ≡ Status.Absent → Rose (F.absents files.old) (F.absents files.new) }
@@ -70,9 +71,12 @@ pub fn merc<F: Files, I: Source, O: Sink, E: Sink>(
     ensures read_told { result ≡ Status.ReadFault → (m : Meaning) × ((meaning (map string_bytes words.now.items) ≡ Some m) ×
         ((file : List ℕ) × (CannotRead (F.held files.old) (files_of m) file ×
         (Wrote (O.written out.old) (O.written out.new) [] × Wrote (E.written err.old) (E.written err.new) (unreadable_line file))))) }
-    ensures read_seen { F.faults files.old < F.faults files.new → (result ≡ Status.ReadFault) ⊎ ((result ≡ Status.WriteFault) ⊎ (result ≡ Status.Memory)) }
-    ensures write { result ≡ Status.WriteFault → Rose (O.faults out.old) (O.faults out.new) ⊎ Rose (E.faults err.old) (E.faults err.new) }
-    ensures write_seen { (O.faults out.old < O.faults out.new) ⊎ (E.faults err.old < E.faults err.new) → result ≡ Status.WriteFault }
+    ensures read_seen { F.faults files.old < F.faults files.new
+        → (result ≡ Status.ReadFault) ⊎ ((result ≡ Status.WriteFault) ⊎ (result ≡ Status.Memory)) }
+    ensures write { result ≡ Status.WriteFault
+        → Rose (O.faults out.old) (O.faults out.new) ⊎ Rose (E.faults err.old) (E.faults err.new) }
+    ensures write_seen { (O.faults out.old < O.faults out.new) ⊎ (E.faults err.old < E.faults err.new)
+        → result ≡ Status.WriteFault }
     ensures not_built { result ≡ Status.NotBuilt → (m : Meaning) × ((meaning (map string_bytes words.now.items) ≡ Some m) ×
         ((texts : List (List ℕ)) × (HoldTexts (F.held files.old) (files_of m) texts × ((l : AreLegal library_texts texts (query_of m)) × ((is_unbuilt m ≡ true) ⊎ (asks l ≡ None)))))) }
     ensures others { CanCome result }

@@ -32,7 +32,8 @@ fn put_rule<E: Sink>(
     broken: &Broken,
     err: &mut E,
 ) -> Result<(), PutFault>
-    ensures written { Writes (E.written err.old) (E.written err.new) result (broken_line (given_names files.now) broken.now) }
+    ensures written { Writes (E.written err.old) (E.written err.new) result
+        (broken_line (given_names files.now) broken.now) }
     ensures faults { PutFaults result (E.faults err.old) (E.faults err.new) }
 {
     let Ok(line) = rule_line(alloc, files, broken) else {
@@ -48,7 +49,8 @@ pub fn put_rules<E: Sink>(
     broken: &[Broken],
     err: &mut E,
 ) -> Result<(), PutFault>
-    ensures written { Writes (E.written err.old) (E.written err.new) result (broken_lines (given_names files.now) broken.now) }
+    ensures written { Writes (E.written err.old) (E.written err.new) result
+        (broken_lines (given_names files.now) broken.now) }
     ensures faults { PutFaults result (E.faults err.old) (E.faults err.new) }
 {
     for rule in broken {
@@ -109,7 +111,8 @@ fn name_at(program: &Program, symbol: u32) -> &[u8]
 
 /// The text of a constant.
 fn head_text(alloc: Global, program: &Program, constant: &Expr) -> Result<Text, Memory>
-    ensures { IfOk result (λ text. text ≡ head_text (names_of program.now) (plain_expression constant.now)) }
+    ensures { IfOk result
+        (λ text. text ≡ head_text (names_of program.now) (plain_expression constant.now)) }
 {
     let mut text = Text::empty(alloc);
     if let Expr::Con(symbol, _) = constant {
@@ -137,7 +140,8 @@ fn put_fact<O: Sink>(
     out: &mut O,
 ) -> Result<(), PutFault>
     requires { length compiled.now.vars ≡ length fact.now.head }
-    ensures written { Writes (O.written out.old) (O.written out.new) result (fact_line compiled.now (plain_clause fact.now)) }
+    ensures written { Writes (O.written out.old) (O.written out.new) result
+        (fact_line compiled.now (plain_clause fact.now)) }
     ensures faults { PutFaults result (O.faults out.old) (O.faults out.new) }
 {
     let Ok(texts) = fact_texts(alloc, &compiled.program, fact) else {
@@ -157,7 +161,8 @@ fn put_facts<O: Sink>(
     out: &mut O,
 ) -> Result<(), PutFault>
     requires { All (λ fact. length compiled.now.vars ≡ length fact.head) facts.now }
-    ensures written { Writes (O.written out.old) (O.written out.new) result (flat_map (λ fact. fact_line compiled.now (plain_clause fact)) facts.now) }
+    ensures written { Writes (O.written out.old) (O.written out.new) result
+        (flat_map (λ fact. fact_line compiled.now (plain_clause fact)) facts.now) }
     ensures faults { PutFaults result (O.faults out.old) (O.faults out.new) }
 {
     for fact in facts {

@@ -21,7 +21,8 @@ plain_spoken s = record {
 }
 
 abbrev pub first_rule : Rule
-first_rule = record (new_rule (codes "first")) { long = Some (codes "first"); action = Some SetTrue }
+first_rule =
+    record (new_rule (codes "first")) { long = Some (codes "first"); action = Some SetTrue }
 
 abbrev pub limit_rule : Text → Rule
 limit_rule name = record (new_rule name) { long = Some name; action = Some Set }
@@ -32,14 +33,19 @@ words_rule = record (new_rule (codes "words")) { action = Some Append }
 
 -- a parser without arguments, help or version, whose words are all arguments
 abbrev pub no_arguments : App
-no_arguments = on_top (λ s. record s { no_binary_name = true; disable_help_flag = true; disable_version_flag = true }) (new_app (codes "merc"))
+no_arguments =
+    on_top
+    (λ s.
+    record s { no_binary_name = true; disable_help_flag = true; disable_version_flag = true })
+    (new_app (codes "merc"))
 
 abbrev pub with_first_rule : Bool → App → App
 with_first_rule true a = with_rule a first_rule
 with_first_rule false a = a
 
 abbrev pub with_limit_rules : Bool → App → App
-with_limit_rules true a = with_rule (with_rule a (limit_rule (codes "budget"))) (limit_rule (codes "depth"))
+with_limit_rules true a =
+    with_rule (with_rule a (limit_rule (codes "budget"))) (limit_rule (codes "depth"))
 with_limit_rules false a = a
 
 abbrev pub app : Options → App

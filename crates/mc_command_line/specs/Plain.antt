@@ -19,4 +19,5 @@ plain_bounds b = record { budget = b.budget; depth = b.depth }
 abbrev pub plain_command : Command → Meaning
 plain_command (command.Check files) = Check (plain_texts files.items)
 plain_command (command.Run bounds files) = Run (plain_bounds bounds) (plain_texts files.items)
-plain_command (command.Query first bounds goal files) = Query first (plain_bounds bounds) goal.now (plain_texts files.items)
+plain_command (command.Query first bounds goal files) =
+    Query first (plain_bounds bounds) goal.now (plain_texts files.items)

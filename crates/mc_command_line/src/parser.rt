@@ -89,7 +89,10 @@ fn parser<'a>(alloc: Global, options: Options) -> Result<Command<'a>, AllocError
 
 /// The words of a parse that are no options.
 fn rest<'a>(alloc: Global, matches: &ArgMatches<'a>) -> Result<Vec<&'a str>, AllocError>
-    ensures { IfOk result (λ words. plain_texts words.items ≡ unwrap_or (all_of (codes "words") (rows_of (found_of matches.now))) []) }
+    ensures { IfOk result
+        (λ words.
+        plain_texts words.items
+        ≡ unwrap_or (all_of (codes "words") (rows_of (found_of matches.now))) []) }
 {
     match matches.get_strs("words") {
         Some(words) => words.to_vec(alloc),
@@ -99,7 +102,8 @@ fn rest<'a>(alloc: Global, matches: &ArgMatches<'a>) -> Result<Vec<&'a str>, All
 
 /// What a parse found.
 fn found<'a>(alloc: Global, matches: &ArgMatches<'a>) -> Result<Spoken<'a>, AllocError>
-    ensures { IfOk result (λ s. (t : SpecSpoken) → IsFound t (rows_of (found_of matches.now)) → plain_spoken s ≡ t) }
+    ensures { IfOk result
+        (λ s. (t : SpecSpoken) → IsFound t (rows_of (found_of matches.now)) → plain_spoken s ≡ t) }
 {
     let rest = rest(alloc, matches)?;
     Ok(Spoken {
@@ -116,7 +120,10 @@ pub(crate) fn read_spoken<'a>(
     options: Options,
     words: &'a [String],
 ) -> Result<Option<Spoken<'a>>, Memory>
-    ensures { IfOk result (λ s. option_map plain_spoken s ≡ spoken_with (plain_options options) (map string_bytes words.entry.now)) }
+    ensures { IfOk result
+        (λ s.
+        option_map plain_spoken s
+        ≡ spoken_with (plain_options options) (map string_bytes words.entry.now)) }
 {
     let parser = parser(alloc, options)?;
     match parser.try_get_matches_from(words) {

@@ -99,7 +99,9 @@ fn commanded<'a>(
     command: &str,
     behind: &'a [String],
 ) -> Result<Option<Command<'a>>, Memory>
-    ensures { IfOk result (λ c. option_map plain_command c ≡ commanded command.now (map string_bytes behind.entry.now)) }
+    ensures { IfOk result
+        (λ c.
+        option_map plain_command c ≡ commanded command.now (map string_bytes behind.entry.now)) }
 {
     match command {
         "check" => Ok(read_spoken(alloc, CHECK, behind)?.and_then(check)),

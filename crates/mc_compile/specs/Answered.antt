@@ -1,4 +1,5 @@
--- What is answered of linked files and a goal: the program that they are, or that they aren't of the form.
+-- What is answered of linked files and a goal: the program that they are, or that they aren't of
+-- the form.
 use Rattle.std.specs.Prelude.{◌≡◌, ℕ, List, [], ◌∷◌, ◌++◌, map, length, take, slice_index_or, Option, Some, None}
 use Rattle.mc_term_data.specs.declared.term.Term.{Term}
 use Rattle.mc_program.specs.declared.program.Pred.{Pred}
@@ -23,17 +24,26 @@ linked_files files n names = record { given = plain_files (take n files); all = 
 
 abbrev pub IsAnswered : LinkedFiles → Option Term → Option Compiled → Type 0
 IsAnswered P goal None = over_facts P goal (facts P) ≡ None
-IsAnswered P goal (Some c) = (d : Database) × (q : Option Question) × (over_facts P goal (facts P) ≡ Some (d, q)) × IsProgram d q c × KeepsMetadata P goal q c
+IsAnswered P goal (Some c) =
+    (d : Database)
+    × (q : Option Question)
+    × (over_facts P goal (facts P) ≡ Some (d, q))
+    × IsProgram d q c
+    × KeepsMetadata P goal q c
 
 -- the query's predicate, and the number of the goal's behind so many others
 abbrev pub query_preds : List (List ℕ) → Option Question → List Predicate
 query_preds uss None = []
-query_preds uss (Some q) = query_predicate q.relation (or_none (slice_index_or (map (λ us. Some us) uss) q.relation None)) ∷ []
+query_preds uss (Some q) =
+    query_predicate q.relation (or_none (slice_index_or (map (λ us. Some us) uss) q.relation None))
+    ∷ []
 
 -- what stands beside its clause: a variable for each argument, and its place
 abbrev pub query_besides : (number : ℕ) → List (List ℕ) → Option Asked → List (List (ℕ × Place))
 query_besides n uss None = []
-query_besides n uss (Some a) = ((length (or_none (slice_index_or (map (λ us. Some us) uss) a.relation None)), place n a.line) ∷ []) ∷ []
+query_besides n uss (Some a) =
+    ((length (or_none (slice_index_or (map (λ us. Some us) uss) a.relation None)), place n a.line)
+    ∷ []) ∷ []
 
 abbrev pub goal_behind : ℕ → Option Question → ℕ
 goal_behind n None = 0

@@ -20,7 +20,9 @@ use Rattle.mc_compile.specs.Rejected.{AreLegal, Breaks, line_of}
 use Rattle.mc_compile.specs.Facts.{LinkedFiles, facts, database, question, given_types, given_preds, places, by_predicate}
 
 -- the files of legal sources, with their names
-abbrev pub files_of : {library texts : List (List ℕ)} {query : Option (List ℕ)} → AreLegal library texts query → LinkedFiles
+abbrev pub files_of :
+    {library texts : List (List ℕ)} {query : Option (List ℕ)} → AreLegal library texts query
+    → LinkedFiles
 files_of {texts = texts} l =
     record {
       given = items_from 0 l.sources.files;
@@ -36,12 +38,16 @@ abbrev pub asked_of : LinkedFiles → Option Term → Database → Option (Datab
 asked_of P None d = Some (d, None)
 asked_of P (Some goal) d = with_question d (question P (plain_term goal))
 
-abbrev pub over_facts : LinkedFiles → Option Term → Option (List (ℕ × List ℕ)) → Option (Database × Option Question)
+abbrev pub over_facts :
+    LinkedFiles → Option Term → Option (List (ℕ × List ℕ)) → Option (Database × Option Question)
 over_facts P goal None = None
 over_facts P goal (Some fs) = asked_of P goal (database P fs)
 
--- The program that files are, and the query that a goal is; None where an item or the goal isn't of the form that is compiled so far.
-abbrev pub asks : {library texts : List (List ℕ)} {query : Option (List ℕ)} → AreLegal library texts query → Option (Database × Option Question)
+-- The program that files are, and the query that a goal is; None where an item or the goal isn't of
+-- the form that is compiled so far.
+abbrev pub asks :
+    {library texts : List (List ℕ)} {query : Option (List ℕ)} → AreLegal library texts query
+    → Option (Database × Option Question)
 asks l = over_facts (files_of l) l.sources.goal (facts (files_of l))
 
 abbrev pub goal_number : Database → Option Question → ℕ
@@ -52,7 +58,8 @@ abbrev pub goal_variables : Option Question → List (List ℕ)
 goal_variables None = []
 goal_variables (Some q) = q.variables
 
--- the program over a database: its types, constructors and predicates, the query's behind the others, its number and its variables
+-- the program over a database: its types, constructors and predicates, the query's behind the
+-- others, its number and its variables
 pub record IsProgram (d : Database) (q : Option Question) (c : Compiled) : Type 0 where
   pub types : map (λ (t : TypeDef). t.symbols) c.program.types ≡ d.types
   pub symbols : map plain_symbol c.program.symbols ≡ map constructor_of d.constants
@@ -86,22 +93,28 @@ beside_fact here = (0, here)
 abbrev pub beside_facts : LinkedFiles → List (List (ℕ × Place))
 beside_facts P = map (map beside_fact) (by_predicate 0 (given_preds P) (places P))
 
--- The query's clause has the variables that the question names. PlainDecl stands where the rules do that the goal breaks: on the goal's line, in a file that is numbered behind the given ones.
+-- The query's clause has the variables that the question names. PlainDecl stands where the rules do
+-- that the goal breaks: on the goal's line, in a file that is numbered behind the given ones.
 abbrev pub beside_query : (number : ℕ) → Option Term → Option Question → List (List (ℕ × Place))
-beside_query n (Some goal) (Some q) = ((length q.variables, place n (line_of (plain_term goal))) ∷ []) ∷ []
+beside_query n (Some goal) (Some q) =
+    ((length q.variables, place n (line_of (plain_term goal))) ∷ []) ∷ []
 beside_query n _ _ = []
 
--- Each type has its given name and no parameters. No predicate is a function, and the clauses are the facts of the predicates, in order, and then the query.
+-- Each type has its given name and no parameters. No predicate is a function, and the clauses are
+-- the facts of the predicates, in order, and then the query.
 pub record KeepsMetadata (P : LinkedFiles) (goal : Option Term) (q : Option Question) (c : Compiled) : Type 0 where
   pub types : map beside_type c.program.types ≡ map no_parameters (given_types P)
-  pub preds : map beside_pred c.program.preds ≡ map no_function (beside_facts P ++ beside_query (length P.given) goal q)
+  pub preds :
+      map beside_pred c.program.preds
+      ≡ map no_function (beside_facts P ++ beside_query (length P.given) goal q)
 
 -- whether the first answer alone is wanted
 abbrev pub is_first : Option Query → Bool
 is_first None = false
 is_first (Some q) = q.first
 
--- The sources are legal, and compiled to a program over the database that they are, which keeps names and places.
+-- The sources are legal, and compiled to a program over the database that they are, which keeps
+-- names and places.
 pub record IsCompiled (library texts : List (List ℕ)) (query : Option (List ℕ)) (c : Compiled) : Type 0 where
   pub legal : AreLegal library texts query
   pub database : Database
@@ -110,8 +123,13 @@ pub record IsCompiled (library texts : List (List ℕ)) (query : Option (List �
   pub program : IsProgram database question c
   pub kept : KeepsMetadata (files_of legal) legal.sources.goal question c
 
--- Why sources aren't compiled: they break rules; or they are legal, and a run of `main`, the first answer alone, or a form that isn't compiled yet is asked for.
-abbrev pub IsFault : (library texts : List (List ℕ)) → (query : Option (List ℕ)) → (unbuilt : Bool) → CompileFault → Type 0
-IsFault library texts query unbuilt (F.Rejected broken) = Breaks library texts query broken × (broken ≢ [])
-IsFault library texts query unbuilt F.NotBuilt = (l : AreLegal library texts query) × ((unbuilt ≡ true) ⊎ (asks l ≡ None))
+-- Why sources aren't compiled: they break rules; or they are legal, and a run of `main`, the first
+-- answer alone, or a form that isn't compiled yet is asked for.
+abbrev pub IsFault :
+    (library texts : List (List ℕ))
+    → (query : Option (List ℕ)) → (unbuilt : Bool) → CompileFault → Type 0
+IsFault library texts query unbuilt (F.Rejected broken) =
+    Breaks library texts query broken × (broken ≢ [])
+IsFault library texts query unbuilt F.NotBuilt =
+    (l : AreLegal library texts query) × ((unbuilt ≡ true) ⊎ (asks l ≡ None))
 IsFault library texts query unbuilt F.Memory = Unit {0}

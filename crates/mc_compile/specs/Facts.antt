@@ -1,5 +1,8 @@
--- The form of modules of facts, which is compiled so far, and the program that they are: enumeration types, predicates whose arguments are all `out`, facts of constants, and a query that is one call over variables. (Mercury Language Reference Manual: Syntax, facts; Types, enumerations; Modes.)
-use Rattle.std.specs.Prelude.{ℕ, ◌+◌, Bool, true, false, cond, not, nat_eq, nat_lt, nat_le, ◌&&◌, ◌||◌, List, [], ◌∷◌, ◌++◌, map, length, Option, Some, None, codes, slice_get, slice_index_or}
+-- The form of modules of facts, which is compiled so far, and the program that they are:
+-- enumeration types, predicates whose arguments are all `out`, facts of constants, and a query that
+-- is one call over variables. (Mercury Language Reference Manual: Syntax, facts; Types,
+-- enumerations; Modes.)
+use Rattle.std.specs.Prelude.{ℕ, ◌+◌, Bool, true, false, not, nat_eq, nat_lt, nat_le, ◌&&◌, ◌||◌, List, [], ◌∷◌, ◌++◌, map, length, Option, Some, None, codes, slice_get, slice_index_or, if◌then◌else◌}
 use Rattle.std.specs.Option.{is_some}
 use Rattle.mc_term_data.specs.Plain.{PlainTerm, PlainTerms, at, no_term, more_terms, Var, App, Items}
 use Rattle.mc_term_data.specs.Names.{count}
@@ -25,7 +28,8 @@ use Rattle.mc_modules.specs.Linked.{Defined, Linked, each, flat, types_of, preds
 use Rattle.mc_modules.specs.Candidates.{candidates, fitting, type_candidates}
 use Rattle.mc_ground_form.specs.Database.{Constant, Relation, Database, Question, from}
 
--- Files that were linked: those that were given, all of them with the library's behind, and their names.
+-- Files that were linked: those that were given, all of them with the library's behind, and their
+-- names.
 pub record LinkedFiles : Type 0 where
   pub given : List File
   pub all : List File
@@ -47,7 +51,8 @@ abbrev pub are_given : LinkedFiles → List Path → Bool
 are_given P [] = true
 are_given P (w ∷ ws) = is_below (module_of P.all (joined w)) (length P.given) && are_given P ws
 
--- a constant of a type: a name of two or more bytes, or the empty list, whose name `[]` is one of two
+-- a constant of a type: a name of two or more bytes, or the empty list, whose name `[]` is one of
+-- two
 abbrev pub is_constant : PlainTerm → Bool
 is_constant (at (App (w ∷ []) ts) l) = has_none ts && nat_le 2 (length w)
 is_constant (at (Items ts) l) = has_none ts
@@ -63,12 +68,15 @@ has_no_parameters _ = false
 
 abbrev pub below : ℕ → Option ℕ → Option ℕ
 below n None = None
-below n (Some k) = cond (nat_lt k n) (Some k) None
+below n (Some k) = if nat_lt k n then Some k else None
 
 -- the number of the given type that a name without arguments means
 abbrev pub type_number : LinkedFiles → (own : ℕ) → PlainTerm → Option ℕ
 type_number P own (at (App w ts) l) =
-    cond (has_none ts) (below (length (given_types P)) (sole (type_candidates P.names own (qualifiers w) (id (last_part w) 0)))) None
+    if has_none ts
+    then below (length (given_types P))
+    (sole (type_candidates P.names own (qualifiers w) (id (last_part w) 0)))
+    else None
 type_number P own _ = None
 
 abbrev pub is_out : PlainTerm → Bool
@@ -78,7 +86,7 @@ is_out _ = false
 -- the type of an argument `T::out`
 abbrev pub argument_type : LinkedFiles → (own : ℕ) → Option (PlainTerm × PlainTerm) → Option ℕ
 argument_type P own None = None
-argument_type P own (Some p) = cond (is_out p.1) (type_number P own p.0) None
+argument_type P own (Some p) = if is_out p.1 then type_number P own p.0 else None
 
 abbrev pub with_number : Option ℕ → Option (List ℕ) → Option (List ℕ)
 with_number (Some k) (Some ks) = Some (k ∷ ks)
@@ -86,7 +94,8 @@ with_number _ _ = None
 
 abbrev pub argument_types : LinkedFiles → (own : ℕ) → PlainTerms → Option (List ℕ)
 argument_types P own no_term = Some []
-argument_types P own (more_terms t ts) = with_number (argument_type P own (pair (codes "::") t)) (argument_types P own ts)
+argument_types P own (more_terms t ts) =
+    with_number (argument_type P own (pair (codes "::") t)) (argument_types P own ts)
 
 -- the types of the arguments of a predicate, of which there is one at least
 abbrev pub signature : LinkedFiles → (own : ℕ) → PlainTerm → Option (List ℕ)
@@ -114,22 +123,26 @@ sole_constructor _ = None
 
 -- the number of the constant that a name means
 abbrev pub constant_named : LinkedFiles → (own : ℕ) → Path → Option ℕ
-constant_named P own w = sole_constructor (constructors (candidates P.names own (qualifiers w) (id (last_part w) 0)))
+constant_named P own w =
+    sole_constructor (constructors (candidates P.names own (qualifiers w) (id (last_part w) 0)))
 
 -- the number of a constant, which the empty list is by its name
 abbrev pub constant_number : LinkedFiles → (own : ℕ) → PlainTerm → Option ℕ
-constant_number P own (at (App w ts) l) = cond (has_none ts) (constant_named P own w) None
-constant_number P own (at (Items ts) l) = cond (has_none ts) (constant_named P own nil_path) None
+constant_number P own (at (App w ts) l) = if has_none ts then constant_named P own w else None
+constant_number P own (at (Items ts) l) =
+    if has_none ts then constant_named P own nil_path else None
 constant_number P own _ = None
 
 abbrev pub constant_numbers : LinkedFiles → (own : ℕ) → PlainTerms → Option (List ℕ)
 constant_numbers P own no_term = Some []
-constant_numbers P own (more_terms t ts) = with_number (constant_number P own t) (constant_numbers P own ts)
+constant_numbers P own (more_terms t ts) =
+    with_number (constant_number P own t) (constant_numbers P own ts)
 
 -- the constants of types that are numbered from u on
 abbrev pub constants_in : (module_name : List ℕ) → (u : ℕ) → PlainTerms → List Constant
 constants_in m u no_term = []
-constants_in m u (more_terms t ts) = record { module_name = m; name = (symbol_name t).name; of_type = u } ∷ constants_in m u ts
+constants_in m u (more_terms t ts) =
+    record { module_name = m; name = (symbol_name t).name; of_type = u } ∷ constants_in m u ts
 
 abbrev pub constants_by : (module_name : List ℕ) → (u : ℕ) → PlainDecl → List Constant
 constants_by m u (UnionType h ts) = constants_in m u ts
@@ -168,12 +181,12 @@ abbrev pub own_predicate : Linked → (own : ℕ) → PlainNameArity → Option 
 own_predicate l own x = sole_predicate (fitting l true x (slice_index_or l.declared own []))
 
 abbrev pub fact_of : List Constant → (pred : ℕ) → Option (List ℕ) → Option (List ℕ) → Option Fact
-fact_of cs p (Some us) (Some row) = cond (are_of cs us row) (Some (p, row)) None
+fact_of cs p (Some us) (Some row) = if are_of cs us row then Some (p, row) else None
 fact_of cs p _ _ = None
 
 -- the types of the arguments that an item declares of a predicate; a function is none
 abbrev pub signature_by : LinkedFiles → (own : ℕ) → PlainDecl → List (Option (List ℕ))
-signature_by P own (Pred t d) = cond (is_nondet d) (signature P own t) None ∷ []
+signature_by P own (Pred t d) = (if is_nondet d then signature P own t else None) ∷ []
 signature_by P own (Func t d) = None ∷ []
 signature_by P own i = []
 
@@ -183,7 +196,8 @@ signatures_in P own (s ∷ ss) = signature_by P own s.item ++ signatures_in P ow
 
 abbrev pub signatures_from : LinkedFiles → (own : ℕ) → List File → List (Option (List ℕ))
 signatures_from P own [] = []
-signatures_from P own (f ∷ fs) = signatures_in P own (items_in_file f) ++ signatures_from P (own + 1) fs
+signatures_from P own (f ∷ fs) =
+    signatures_in P own (items_in_file f) ++ signatures_from P (own + 1) fs
 
 -- the types of the arguments of each given predicate, by its number
 abbrev pub signatures : LinkedFiles → List (Option (List ℕ))
@@ -191,11 +205,14 @@ signatures P = signatures_from P 0 P.given
 
 abbrev pub fact_over : LinkedFiles → (own : ℕ) → Option ℕ → PlainTerms → Option Fact
 fact_over P own None ts = None
-fact_over P own (Some p) ts = fact_of (constants P) p (slice_index_or (signatures P) p None) (constant_numbers P own ts)
+fact_over P own (Some p) ts =
+    fact_of (constants P) p (slice_index_or (signatures P) p None) (constant_numbers P own ts)
 
--- a fact without a body: its predicate is one of the module itself, and its constants are of the declared types
+-- a fact without a body: its predicate is one of the module itself, and its constants are of the
+-- declared types
 abbrev pub bare_fact : LinkedFiles → (own : ℕ) → PlainTerm → Option Fact
-bare_fact P own (at (App (w ∷ []) ts) l) = fact_over P own (own_predicate P.names own (id w (count ts))) ts
+bare_fact P own (at (App (w ∷ []) ts) l) =
+    fact_over P own (own_predicate P.names own (id w (count ts))) ts
 bare_fact P own _ = None
 
 abbrev pub is_rule_or_function : PlainTerm → Bool
@@ -206,7 +223,7 @@ as_list None = None
 as_list (Some f) = Some (f ∷ [])
 
 abbrev pub nothing_where : Bool → Option (List Fact)
-nothing_where b = cond b (Some []) None
+nothing_where b = if b then Some [] else None
 
 -- the facts that an item of the form is: one or none; None where it isn't of the form
 abbrev pub facts_by : LinkedFiles → (own : ℕ) → PlainDecl → Option (List Fact)
@@ -219,7 +236,7 @@ facts_by P own (UseOnly ws) = nothing_where (are_given P ws)
 facts_by P own (UnionType h ts) = nothing_where (has_no_parameters h && are_constants ts)
 facts_by P own (Pred t d) = nothing_where (is_nondet d && is_some (signature P own t))
 facts_by P own Pragma = Some []
-facts_by P own (Clause t) = cond (is_rule_or_function t) None (as_list (bare_fact P own t))
+facts_by P own (Clause t) = if is_rule_or_function t then None else as_list (bare_fact P own t)
 facts_by P own i = None
 
 abbrev pub both : Option (List Fact) → Option (List Fact) → Option (List Fact)
@@ -251,21 +268,23 @@ abbrev pub places_from : LinkedFiles → (own : ℕ) → List File → List (ℕ
 places_from P own [] = []
 places_from P own (f ∷ fs) = places_in P own f ++ places_from P (own + 1) fs
 
--- The places of the facts of the given files, in order: each clause of the form is one fact, which stands where its item does.
+-- The places of the facts of the given files, in order: each clause of the form is one fact, which
+-- stands where its item does.
 abbrev pub places : LinkedFiles → List (ℕ × Place)
 places P = places_from P 0 P.given
 
 abbrev pub names_of : List Constant → List (List ℕ)
 names_of cs = map (λ c. c.name) cs
 
--- The facts of the given files, in order, where each item is of the form and no two constants have one name.
+-- The facts of the given files, in order, where each item is of the form and no two constants have
+-- one name.
 abbrev pub facts : LinkedFiles → Option (List Fact)
-facts P = cond (is_distinct (names_of (constants P))) (facts_from P 0 P.given) None
+facts P = if is_distinct (names_of (constants P)) then facts_from P 0 P.given else None
 
 -- those of a predicate, of what stands beside the numbers of predicates
 abbrev pub those_of : {A : Type 0} → ℕ → List (ℕ × A) → List A
 those_of p [] = []
-those_of p (x ∷ xs) = cond (nat_eq x.0 p) (x.1 ∷ those_of p xs) (those_of p xs)
+those_of p (x ∷ xs) = if nat_eq x.0 p then x.1 ∷ those_of p xs else those_of p xs
 
 -- those of each predicate, which are numbered from p on
 abbrev pub by_predicate : {A B : Type 0} → (p : ℕ) → (preds : List B) → List (ℕ × A) → List (List A)
@@ -276,7 +295,8 @@ abbrev pub or_none : Option (List ℕ) → List ℕ
 or_none None = []
 or_none (Some us) = us
 
-abbrev pub relations_from : (p : ℕ) → List (Option (List ℕ)) → List Fact → List Defined → List Relation
+abbrev pub relations_from :
+    (p : ℕ) → List (Option (List ℕ)) → List Fact → List Defined → List Relation
 relations_from p ss fs [] = []
 relations_from p ss fs (d ∷ ds) =
     record { module_name = d.name.module; name = d.name.name; types = or_none (slice_index_or ss p None); rows = those_of p fs } ∷ relations_from (p + 1) ss fs ds
@@ -306,7 +326,7 @@ is_hidden [] = true
 is_hidden (b ∷ bs) = nat_eq b 95
 
 abbrev pub variable : PlainTerm → Option (List ℕ)
-variable (at (Var x) l) = cond (is_hidden x) None (Some x)
+variable (at (Var x) l) = if is_hidden x then None else Some x
 variable _ = None
 
 abbrev pub with_name : Option (List ℕ) → Option (List (List ℕ)) → Option (List (List ℕ))
@@ -326,11 +346,23 @@ abbrev pub is_call : Path → PlainTerms → Bool
 is_call w ts = are_arguments (parts (connective w (count ts))) && not (is_truth w ts)
 
 abbrev pub asked : LinkedFiles → Option ℕ → Option (List (List ℕ)) → Option Question
-asked P (Some p) (Some xs) = cond (is_distinct xs && nat_eq (length xs) (length (or_none (slice_index_or (signatures P) p None)))) (Some (record { relation = p; variables = xs })) None
+asked P (Some p) (Some xs) =
+    if is_distinct xs
+    && nat_eq (length xs) (length (or_none (slice_index_or (signatures P) p None)))
+    then Some (record { relation = p; variables = xs })
+    else None
 asked P _ _ = None
 
--- The query that a goal is: one call of a given predicate over distinct variables, one for each argument.
+-- The query that a goal is: one call of a given predicate over distinct variables, one for each
+-- argument.
 abbrev pub question : LinkedFiles → PlainTerm → Option Question
 question P (at (App w ts) l) =
-    cond (is_call w ts) (asked P (below (length (given_preds P)) (sole_predicate (predicates (candidates P.names 0 (qualifiers w) (id (last_part w) (count ts)))))) (variables ts)) None
+    if is_call w ts
+    then asked P
+    (below (length (given_preds P))
+    (sole_predicate
+    (predicates
+    (candidates P.names 0 (qualifiers w) (id (last_part w) (count ts))))))
+    (variables ts)
+    else None
 question P _ = None

@@ -10,16 +10,24 @@ use Rattle.mc_compile.specs.Compiled.{asks}
 
 -- the facts of files of the form have constants of their predicates' types
 abbrev pub FactsFit : Type 0
-FactsFit = (P : LinkedFiles) (fs : List Fact) → facts P ≡ Some fs → Fits (database P fs) (database P fs).relations
+FactsFit =
+    (P : LinkedFiles) (fs : List Fact)
+    → facts P ≡ Some fs → Fits (database P fs) (database P fs).relations
 
 -- the query that a goal is asks a predicate of the files, with a variable for each argument
 abbrev pub QuestionAsks : Type 0
-QuestionAsks = (P : LinkedFiles) (fs : List Fact) (t : PlainTerm) (q : Question) → facts P ≡ Some fs → question P t ≡ Some q → Asks (database P fs) q
+QuestionAsks =
+    (P : LinkedFiles) (fs : List Fact) (t : PlainTerm) (q : Question)
+    → facts P ≡ Some fs → question P t ≡ Some q → Asks (database P fs) q
 
 -- legal sources are one program and one query at most
 abbrev pub CompiledOnce : Type 0
-CompiledOnce = (library texts : List (List ℕ)) (query : Option (List ℕ)) (l m : AreLegal library texts query) → asks l ≡ asks m
+CompiledOnce =
+    (library texts : List (List ℕ)) (query : Option (List ℕ)) (l m : AreLegal library texts query)
+    → asks l ≡ asks m
 
 -- legal sources break no rule
 abbrev pub NotBoth : Type 0
-NotBoth = (library texts : List (List ℕ)) (query : Option (List ℕ)) (broken : List Broken) → Breaks library texts query broken → AreLegal library texts query → broken ≡ []
+NotBoth =
+    (library texts : List (List ℕ)) (query : Option (List ℕ)) (broken : List Broken)
+    → Breaks library texts query broken → AreLegal library texts query → broken ≡ []

@@ -5,4 +5,6 @@ use Rattle.mc_compile.specs.Rejected.{Breaks}
 
 -- sources break one list of rules at most
 abbrev pub AtMostOneBreaks : Type 0
-AtMostOneBreaks = (library texts : List (List ℕ)) (query : Option (List ℕ)) (bs cs : List Broken) → Breaks library texts query bs → Breaks library texts query cs → bs ≡ cs
+AtMostOneBreaks =
+    (library texts : List (List ℕ)) (query : Option (List ℕ)) (bs cs : List Broken)
+    → Breaks library texts query bs → Breaks library texts query cs → bs ≡ cs

@@ -20,7 +20,8 @@ pub record IsWithLibrary (library : List (List ℕ)) (given : List (List Entry))
   pub is_library : IsLibrary library modules
   pub items : plain_files all ≡ plain_files given ++ library_behind (plain_files given) modules
 
--- Files and the goal of a query break no rule of linking, and these are their names, with the library's.
+-- Files and the goal of a query break no rule of linking, and these are their names, with the
+-- library's.
 pub record IsNamed (library : List (List ℕ)) (given : List File) (goal : Option Term) (named : Named) : Type 0 where
   pub modules : List Reading
   pub is_library : IsLibrary library modules
@@ -30,16 +31,25 @@ pub record IsNamed (library : List (List ℕ)) (given : List File) (goal : Optio
   pub same_goal : named.goal ≡ goal
 
 -- why files and the goal of a query aren't linked
-abbrev pub IsUnlinked : (library : List (List ℕ)) → (given : List File) → Option Term → CompileFault → Type 0
-IsUnlinked library given goal (C.Rejected bs) = (modules : List Reading) × IsLibrary library modules × (bs ≡ linking_rules_of given (library_behind given modules) goal) × (bs ≢ [])
+abbrev pub IsUnlinked :
+    (library : List (List ℕ)) → (given : List File) → Option Term → CompileFault → Type 0
+IsUnlinked library given goal (C.Rejected bs) =
+    (modules : List Reading)
+    × IsLibrary library modules
+    × (bs ≡ linking_rules_of given (library_behind given modules) goal)
+    × (bs ≢ [])
 IsUnlinked library given goal C.NotBuilt = ⊥
 IsUnlinked library given goal C.Memory = Unit {0}
 
 -- The sources are legal, and these are their names, with the library's.
 pub record IsLegal (library texts : List (List ℕ)) (query : Option (List ℕ)) (named : Named) : Type 0 where
   pub legal : AreLegal library texts query
-  pub all_files : plain_files named.files ≡ items_from 0 legal.sources.files ++ items_from (length texts + 1) legal.modules
-  pub all_names : plain_names named.names ≡ linked (items_from 0 legal.sources.files ++ items_from (length texts + 1) legal.modules)
+  pub all_files :
+      plain_files named.files
+      ≡ items_from 0 legal.sources.files ++ items_from (length texts + 1) legal.modules
+  pub all_names :
+      plain_names named.names
+      ≡ linked (items_from 0 legal.sources.files ++ items_from (length texts + 1) legal.modules)
   pub same_goal : named.goal ≡ legal.sources.goal
 
 -- why sources aren't legal

@@ -1,4 +1,5 @@
--- How it is decided that files are of the form of facts: in passes over their items, each of which asks one definition.
+-- How it is decided that files are of the form of facts: in passes over their items, each of which
+-- asks one definition.
 use Rattle.std.specs.Prelude.{◌≡◌, ℕ, ◌+◌, Bool, true, false, not, ◌&&◌, List, [], ◌∷◌, ◌++◌, map, length, take, slice_get, slice_set, slice_index_or, Option, Some, None}
 use Rattle.std.specs.Option.{is_some, option_map}
 use Rattle.mc_program.specs.declared.program.TypeDef.{TypeDef}
@@ -53,7 +54,8 @@ imports_given P i = true
 abbrev pub all_import_given : LinkedFiles → Bool
 all_import_given P = everywhere (λ own i. imports_given P i) 0 P.given
 
--- the numbers of each type's constants, the constants, and the names, of types without parameters that are built
+-- the numbers of each type's constants, the constants, and the names, of types without parameters
+-- that are built
 pub record AreEnums (ds : List Defined) (enums : Enums) : Type 0 where
   pub besides : map beside_type enums.types ≡ map no_parameters ds
   pub groups : map (λ (t : TypeDef). t.symbols) enums.types ≡ groups_from 0 ds
@@ -71,7 +73,8 @@ IsCounted s = s.types ≡ length (given_types (linked_of s))
 abbrev pub behind : List ℕ → Option (List ℕ) → Option (List ℕ)
 behind found more = option_map (λ ks. found ++ ks) more
 
--- the types of the arguments that a file's items declare of predicates, and those of files that are numbered from one on
+-- the types of the arguments that a file's items declare of predicates, and those of files that are
+-- numbered from one on
 abbrev pub signatures_over : LinkedFiles → (own : ℕ) → File → List (Option (List ℕ))
 signatures_over P own [] = []
 signatures_over P own (e ∷ es) = signature_by P own e.0 ++ signatures_over P own es
@@ -126,14 +129,19 @@ abbrev pub onward : {A B : Type 0} → Option A → (A → Option B) → Option 
 onward None next = None
 onward (Some x) next = next x
 
--- clauses by predicate, with the facts of a file behind them, and of files that are numbered from one on
-abbrev pub table_over : LinkedFiles → (own : ℕ) → List (List ClauseForm) → File → Option (List (List ClauseForm))
+-- clauses by predicate, with the facts of a file behind them, and of files that are numbered from
+-- one on
+abbrev pub table_over :
+    LinkedFiles → (own : ℕ) → List (List ClauseForm) → File → Option (List (List ClauseForm))
 table_over P own table [] = Some table
-table_over P own table (e ∷ es) = onward (put_all table (facts_of_clause P own e.0)) (λ next. table_over P own next es)
+table_over P own table (e ∷ es) =
+    onward (put_all table (facts_of_clause P own e.0)) (λ next. table_over P own next es)
 
-abbrev pub table_through : LinkedFiles → (own : ℕ) → List (List ClauseForm) → List File → Option (List (List ClauseForm))
+abbrev pub table_through :
+    LinkedFiles → (own : ℕ) → List (List ClauseForm) → List File → Option (List (List ClauseForm))
 table_through P own table [] = Some table
-table_through P own table (f ∷ fs) = onward (table_over P own table f) (λ next. table_through P (own + 1) next fs)
+table_through P own table (f ∷ fs) =
+    onward (table_over P own table f) (λ next. table_through P (own + 1) next fs)
 
 abbrev pub plain_table : List (List ClauseItem) → List (List ClauseForm)
 plain_table table = map (map plain_clause) table
@@ -142,11 +150,13 @@ plain_table table = map (map plain_clause) table
 abbrev pub put_places : List (ℕ × Place) → List (List (ℕ × Place)) → List (List (ℕ × Place))
 put_places xs table = put_each beside_fact xs table
 
-abbrev pub places_over : LinkedFiles → (own : ℕ) → List (List (ℕ × Place)) → File → List (List (ℕ × Place))
+abbrev pub places_over :
+    LinkedFiles → (own : ℕ) → List (List (ℕ × Place)) → File → List (List (ℕ × Place))
 places_over P own table [] = table
 places_over P own table (e ∷ es) = places_over P own (put_places (places_by P own e.0 e.1) table) es
 
-abbrev pub places_through : LinkedFiles → (own : ℕ) → List (List (ℕ × Place)) → List File → List (List (ℕ × Place))
+abbrev pub places_through :
+    LinkedFiles → (own : ℕ) → List (List (ℕ × Place)) → List File → List (List (ℕ × Place))
 places_through P own table [] = table
 places_through P own table (f ∷ fs) = places_through P (own + 1) (places_over P own table f) fs
 
@@ -170,7 +180,8 @@ are_of_types cs _ _ = false
 
 -- the constructors are those of the constants, and each predicate has its arguments' types
 pub record IsKnown (k : Known) : Type 0 where
-  pub constructors : map plain_symbol k.symbols.now ≡ map constructor_of (constants (linked_of k.sources))
+  pub constructors :
+      map plain_symbol k.symbols.now ≡ map constructor_of (constants (linked_of k.sources))
   pub types : map (λ us. Some us) k.signatures.now ≡ signatures (linked_of k.sources)
   pub predicates : length k.signatures.now ≡ length (given_preds (linked_of k.sources))
 
@@ -214,7 +225,8 @@ predicates_over (d ∷ ds) (us ∷ uss) (cs ∷ css) = predicate_over d us cs �
 predicates_over _ _ _ = []
 
 -- what is kept of predicates that are numbered from p on
-abbrev pub tables_from : {A B : Type 0} → (A → B) → (p : ℕ) → List (List ℕ) → List (ℕ × A) → List (List B)
+abbrev pub tables_from :
+    {A B : Type 0} → (A → B) → (p : ℕ) → List (List ℕ) → List (ℕ × A) → List (List B)
 tables_from kept p uss xs = map (map kept) (by_predicate p uss xs)
 
 -- Linked files whose items are of the form as far as their own text and their imports tell.
@@ -222,5 +234,9 @@ pub record IsFormed (s : Sources) : Type 0 where
   pub counted : s.types ≡ length (given_types (linked_of s))
   pub plain : all_plain (linked_of s).given ≡ true
   pub imports : all_import_given (linked_of s) ≡ true
-  pub types : take (length (given_types (linked_of s))) (linked_of s).names.types ≡ given_types (linked_of s)
-  pub preds : take (length (given_preds (linked_of s))) (linked_of s).names.preds ≡ given_preds (linked_of s)
+  pub types :
+      take (length (given_types (linked_of s))) (linked_of s).names.types
+      ≡ given_types (linked_of s)
+  pub preds :
+      take (length (given_preds (linked_of s))) (linked_of s).names.preds
+      ≡ given_preds (linked_of s)

@@ -34,7 +34,10 @@ pub record IsOneMore (text : List ℕ) (old new : Reader) : Type 0 where
   pub number : new.number ≡ old.number + 1
   pub bytes : new.bytes ≡ old.bytes + counted text
   pub broken : new.broken.items ≡ old.broken.items ++ rules_of old.number reading
-  pub files : rules_of old.number reading ≡ [] → plain_files new.files.items ≡ plain_files old.files.items ++ items_of old.number reading ∷ []
+  pub files :
+      rules_of old.number reading ≡ []
+      → plain_files new.files.items
+      ≡ plain_files old.files.items ++ items_of old.number reading ∷ []
 
 -- The query is read, behind the files.
 pub record IsQueryRead (query : Option (List ℕ)) (goal : Option Term) (old new : Reader) : Type 0 where
@@ -58,6 +61,7 @@ pub record HasRead (texts : List (List ℕ)) (query : Option (List ℕ)) (read :
 
 -- why sources aren't read
 abbrev pub IsUnread : (texts : List (List ℕ)) → Option (List ℕ) → CompileFault → Type 0
-IsUnread texts query (C.Rejected bs) = (r : AreRead texts query) × (bs ≡ reading_rules r) × (bs ≢ [])
+IsUnread texts query (C.Rejected bs) =
+    (r : AreRead texts query) × (bs ≡ reading_rules r) × (bs ≢ [])
 IsUnread texts query C.NotBuilt = ⊥
 IsUnread texts query C.Memory = Unit {0}

@@ -1,4 +1,5 @@
--- What the given files, the query and the library read as, and the rules of reading that they break (this project's rules; the Mercury manual: Syntax).
+-- What the given files, the query and the library read as, and the rules of reading that they break
+-- (this project's rules; the Mercury manual: Syntax).
 use Rattle.std.specs.Prelude.{◌≡◌, ℕ, ◌+◌, ◌≤◌, ◌<◌, ◌⊎◌, min, List, [], ◌∷◌, ◌++◌, length, Option, Some, None}
 use Rattle.mc_term_data.specs.declared.term.Term.{Term}
 use Rattle.mc_source.specs.declared.rule.Broken.{Broken}
@@ -20,10 +21,12 @@ counted text = min (length text) (greatest_text + 1)
 abbrev pub Reading : Type 0
 Reading = Option (List (PlainVerdict × ℕ))
 
--- A file, behind others of so many bytes, is too long by itself or together with them, or its items are these.
+-- A file, behind others of so many bytes, is too long by itself or together with them, or its items
+-- are these.
 abbrev pub FileReads : (bytes_before : ℕ) → List ℕ → Reading → Type 0
 FileReads n text None = (greatest_text < length text) ⊎ (greatest_sources < n + counted text)
-FileReads n text (Some vs) = (length text ≤ greatest_text) × ((n + counted text ≤ greatest_sources) × Items text 0 vs)
+FileReads n text (Some vs) =
+    (length text ≤ greatest_text) × ((n + counted text ≤ greatest_sources) × Items text 0 vs)
 
 -- the same of files one after another
 abbrev pub FilesRead : (bytes_before : ℕ) → List (List ℕ) → List Reading → Type 0
@@ -49,7 +52,8 @@ abbrev pub items_from : (k : ℕ) → List Reading → List File
 items_from k [] = []
 items_from k (r ∷ rs) = items_of k r ∷ items_from (k + 1) rs
 
--- A query, which has a number as files have, is this goal, or it is none and breaks one rule. Where there is no query there is no goal.
+-- A query, which has a number as files have, is this goal, or it is none and breaks one rule. Where
+-- there is no query there is no goal.
 abbrev pub QueryReads : (number : ℕ) → Option (List ℕ) → Option Term → List Broken → Type 0
 QueryReads k None None broken = broken ≡ []
 QueryReads k None (Some goal) broken = ⊥

@@ -23,9 +23,12 @@ pub fn compile(
     query: Option<&Query>,
     want_main: bool,
 ) -> Result<Compiled, CompileFault>
-    ensures compiled { IfOk result (IsCompiled library_texts (texts_of files.now) (text_of (option_copied query.entry))) }
+    ensures compiled { IfOk result
+        (IsCompiled library_texts (texts_of files.now) (text_of (option_copied query.entry))) }
     ensures built { OnOk result ((want_main || is_first (option_copied query.entry)) ≡ false) }
-    ensures fault { IfErr result (IsFault library_texts (texts_of files.now) (text_of (option_copied query.entry)) (want_main || is_first (option_copied query.entry))) }
+    ensures fault { IfErr result
+        (IsFault library_texts (texts_of files.now) (text_of (option_copied query.entry))
+        (want_main || is_first (option_copied query.entry))) }
 {
     let named = named(alloc, files, query)?;
     if want_main || is_first(query) {

@@ -21,8 +21,10 @@ pub fn named(
     files: &Row<Given>,
     query: Option<&Query>,
 ) -> Result<Named, CompileFault>
-    ensures legal { IfOk result (IsLegal library_texts (texts_of files.now) (text_of (option_copied query.entry))) }
-    ensures refusal { IfErr result (IsIllegal library_texts (texts_of files.now) (text_of (option_copied query.entry))) }
+    ensures legal { IfOk result
+        (IsLegal library_texts (texts_of files.now) (text_of (option_copied query.entry))) }
+    ensures refusal { IfErr result
+        (IsIllegal library_texts (texts_of files.now) (text_of (option_copied query.entry))) }
 {
     Read::of(alloc, files, query)?.named(alloc)
 }

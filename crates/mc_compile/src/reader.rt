@@ -74,7 +74,8 @@ impl Reader {
         alloc: Global,
         query: Option<&Query>,
     ) -> Result<Option<Term>, Memory>
-        ensures { IfOk result (λ goal. IsQueryRead (text_of (option_copied query.entry)) goal self.old self.new) }
+        ensures { IfOk result
+            (λ goal. IsQueryRead (text_of (option_copied query.entry)) goal self.old self.new) }
     {
         let Some(query) = query else {
             return Ok(None);

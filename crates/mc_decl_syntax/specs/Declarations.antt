@@ -1,5 +1,5 @@
 -- The forms of declarations (the Mercury manual: Declarations; The module system; Pragmas).
-use Rattle.std.specs.Prelude.{ℕ, Bool, true, false, cond, not, ◌&&◌, ◌||◌, List, [], ◌∷◌, Option, Some, None, codes}
+use Rattle.std.specs.Prelude.{ℕ, Bool, true, false, not, ◌&&◌, ◌||◌, List, [], ◌∷◌, Option, Some, None, codes, if◌then◌else◌}
 use Rattle.std.specs.Option.{is_some, option_map, option_or}
 use Rattle.mc_term_data.specs.Plain.{PlainTerm, PlainTerms, at, no_term, more_terms, App}
 use Rattle.mc_term_data.specs.Names.{Row, row, found, count}
@@ -12,7 +12,8 @@ use Rattle.mc_decl_syntax.specs.Types.{is_type, type_item}
 use Rattle.mc_decl_syntax.specs.Insts.{is_mode, are_modes, inst_item, mode_definition}
 
 unfoldable pub section_words : List (Row Keyword)
-section_words = row (codes "interface") 0 K.Interface ∷ row (codes "implementation") 0 K.Implementation ∷ []
+section_words =
+    row (codes "interface") 0 K.Interface ∷ row (codes "implementation") 0 K.Implementation ∷ []
 
 unfoldable pub module_words : List (Row Keyword)
 module_words =
@@ -34,7 +35,9 @@ declaring_words =
 
 -- the words that declarations begin with
 abbrev pub keyword_over : List ℕ → ℕ → Option Keyword
-keyword_over w n = option_or (found section_words w n) (option_or (found module_words w n) (found declaring_words w n))
+keyword_over w n =
+    option_or (found section_words w n)
+    (option_or (found module_words w n) (found declaring_words w n))
 
 abbrev pub moded_as : Option (PlainTerm × PlainTerm) → Bool
 moded_as None = false
@@ -60,14 +63,16 @@ abbrev pub are_plain : PlainTerms → Bool
 are_plain no_term = true
 are_plain (more_terms t ts) = is_plain t && are_plain ts
 
--- All arguments of a predicate have a mode, or none has, and then no determinism stands behind it (`d`: whether one does).
+-- All arguments of a predicate have a mode, or none has, and then no determinism stands behind it
+-- (`d`: whether one does).
 abbrev pub is_pred : PlainTerm → Bool → Bool
 is_pred (at (App w ts) l) d = is_word w && (are_moded ts || not d && are_plain ts)
 is_pred _ d = false
 
 -- the same of a function's arguments and its result
 abbrev pub is_func_over : PlainTerm → PlainTerm → Bool → Bool
-is_func_over (at (App w ts) l) r d = is_word w && (are_moded ts && is_moded r || not d && are_plain ts && is_plain r)
+is_func_over (at (App w ts) l) r d =
+    is_word w && (are_moded ts && is_moded r || not d && are_plain ts && is_plain r)
 is_func_over _ r d = false
 
 abbrev pub is_func : Option (PlainTerm × PlainTerm) → Bool → Bool
@@ -85,15 +90,16 @@ is_further t (Some p) = has_modes p.0 && is_mode [] p.1
 
 abbrev pub pred_item : Option (PlainTerm × Option Det) → Option PlainDecl
 pred_item None = None
-pred_item (Some p) = cond (is_pred p.0 (is_some p.1)) (Some (Pred p.0 p.1)) None
+pred_item (Some p) = if is_pred p.0 (is_some p.1) then Some (Pred p.0 p.1) else None
 
 abbrev pub func_item : Option (PlainTerm × Option Det) → Option PlainDecl
 func_item None = None
-func_item (Some p) = cond (is_func (pair (codes "=") p.0) (is_some p.1)) (Some (Func p.0 p.1)) None
+func_item (Some p) =
+    if is_func (pair (codes "=") p.0) (is_some p.1) then Some (Func p.0 p.1) else None
 
 abbrev pub further_mode : Option (PlainTerm × Option Det) → Option PlainDecl
 further_mode None = None
-further_mode (Some p) = cond (is_further p.0 (pair (codes "=") p.0)) (Some (Mode p.0 p.1)) None
+further_mode (Some p) = if is_further p.0 (pair (codes "=") p.0) then Some (Mode p.0 p.1) else None
 
 abbrev pub definition_or : PlainTerm → Option (PlainTerm × PlainTerm) → Option PlainDecl
 definition_or t (Some p) = mode_definition p
@@ -105,7 +111,8 @@ mode_item t = definition_or t (pair (codes "==") t)
 
 -- a pragma without effect: `inline(..)` or `no_inline(..)`
 abbrev pub is_pragma : PlainTerm → Bool
-is_pragma (at (App w ts) l) = (is_the_word (codes "inline") w || is_the_word (codes "no_inline") w) && not (has_none ts)
+is_pragma (at (App w ts) l) =
+    (is_the_word (codes "inline") w || is_the_word (codes "no_inline") w) && not (has_none ts)
 is_pragma _ = false
 
 abbrev pub keyword_of : Option (List ℕ) → ℕ → Option Keyword
@@ -130,7 +137,7 @@ declared (Some K.Inst) (Some t) = inst_item t
 declared (Some K.Mode) (Some t) = mode_item t
 declared (Some K.Pred) (Some t) = pred_item (declared_as t)
 declared (Some K.Func) (Some t) = func_item (declared_as t)
-declared (Some K.Pragma) (Some t) = cond (is_pragma t) (Some Pragma) None
+declared (Some K.Pragma) (Some t) = if is_pragma t then Some Pragma else None
 declared _ t = None
 
 -- what a declaration declares, by the term behind `:-`; none where it has no form

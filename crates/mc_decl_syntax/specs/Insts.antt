@@ -1,5 +1,5 @@
 -- The forms of insts and modes and of their definitions (the Mercury manual: Modes).
-use Rattle.std.specs.Prelude.{ℕ, Bool, true, false, cond, ◌&&◌, List, [], Option, Some, None, codes}
+use Rattle.std.specs.Prelude.{ℕ, Bool, true, false, ◌&&◌, List, [], Option, Some, None, codes, if◌then◌else◌}
 use Rattle.std.specs.Str.{bytes_eq}
 use Rattle.std.specs.Set.{is_member}
 use Rattle.mc_term_data.specs.Plain.{PlainTerm, PlainTerms, at, no_term, more_terms, Var, App, Items, Tailed, Disj}
@@ -13,11 +13,14 @@ abbrev mutual
   is_inst ps (at (App w ts) l) = is_inst_over ps (is_the_word (codes "bound") w) ts
   is_inst ps _ = false
 
-  -- an inst over these terms: the one is what `bound` lists, where that is the name, and else each is an inst
+  -- an inst over these terms: the one is what `bound` lists, where that is the name, and else each
+  -- is an inst
   pub is_inst_over : List (List ℕ) → Bool → PlainTerms → Bool
   is_inst_over ps is_bound no_term = true
-  is_inst_over ps is_bound (more_terms t no_term) = cond is_bound (are_bound ps t) (is_inst ps t)
-  is_inst_over ps is_bound (more_terms t (more_terms u ts)) = is_inst ps t && (is_inst ps u && are_insts ps ts)
+  is_inst_over ps is_bound (more_terms t no_term) =
+      if is_bound then are_bound ps t else is_inst ps t
+  is_inst_over ps is_bound (more_terms t (more_terms u ts)) =
+      is_inst ps t && (is_inst ps u && are_insts ps ts)
 
   pub are_insts : List (List ℕ) → PlainTerms → Bool
   are_insts ps no_term = true
@@ -51,7 +54,8 @@ abbrev pub are_modes : PlainTerms → Bool
 are_modes no_term = true
 are_modes (more_terms t ts) = is_mode [] t && are_modes ts
 
--- the right side of a definition over these parameters, where the head has any: an inst, symbols, a mode
+-- the right side of a definition over these parameters, where the head has any: an inst, symbols, a
+-- mode
 abbrev pub is_inst_body : Option (List (List ℕ)) → PlainTerm → Bool
 is_inst_body None t = false
 is_inst_body (Some ps) t = is_inst ps t
@@ -65,10 +69,11 @@ is_mode_body None t = false
 is_mode_body (Some ps) t = is_mode ps t
 
 abbrev pub bound_inst : PlainTerm × PlainTerm → Option PlainDecl
-bound_inst p = cond (is_bound_body (parameters p.0) p.1) (Some (BoundInst p.0 (alternatives p.1))) None
+bound_inst p =
+    if is_bound_body (parameters p.0) p.1 then Some (BoundInst p.0 (alternatives p.1)) else None
 
 abbrev pub same_inst : PlainTerm × PlainTerm → Option PlainDecl
-same_inst p = cond (is_inst_body (parameters p.0) p.1) (Some (SameInst p.0 p.1)) None
+same_inst p = if is_inst_body (parameters p.0) p.1 then Some (SameInst p.0 p.1) else None
 
 abbrev pub same_or_none : Option (PlainTerm × PlainTerm) → Option PlainDecl
 same_or_none (Some p) = same_inst p
@@ -84,4 +89,4 @@ inst_item t = bound_or t (pair (codes "--->") t)
 
 -- the definition of a mode, by the two sides of `==`
 abbrev pub mode_definition : PlainTerm × PlainTerm → Option PlainDecl
-mode_definition p = cond (is_mode_body (parameters p.0) p.1) (Some (ModeDef p.0 p.1)) None
+mode_definition p = if is_mode_body (parameters p.0) p.1 then Some (ModeDef p.0 p.1) else None

@@ -1,5 +1,6 @@
--- What the forms of declarations ask of terms: names, pairs, heads of definitions (the Mercury manual: Declarations).
-use Rattle.std.specs.Prelude.{ℕ, Bool, true, false, cond, not, ◌&&◌, List, [], ◌∷◌, Option, Some, None, codes}
+-- What the forms of declarations ask of terms: names, pairs, heads of definitions (the Mercury
+-- manual: Declarations).
+use Rattle.std.specs.Prelude.{ℕ, Bool, true, false, not, ◌&&◌, List, [], ◌∷◌, Option, Some, None, codes, if◌then◌else◌}
 use Rattle.std.specs.Option.{is_some, option_or}
 use Rattle.std.specs.Str.{bytes_eq}
 use Rattle.std.specs.Set.{is_member}
@@ -45,22 +46,22 @@ two _ = None
 
 -- a name without arguments, by its parts
 abbrev pub path : PlainTerm → Option Path
-path (at (App w ts) l) = cond (has_none ts) (Some w) None
+path (at (App w ts) l) = if has_none ts then Some w else None
 path _ = None
 
 -- a name without qualifiers and arguments
 abbrev pub constant : PlainTerm → Option (List ℕ)
-constant (at (App w ts) l) = cond (has_none ts) (word w) None
+constant (at (App w ts) l) = if has_none ts then word w else None
 constant _ = None
 
 -- what stands behind the `:-` of a declaration
 abbrev pub declared_part : PlainTerm → Option PlainTerm
-declared_part (at (App w ts) l) = cond (is_the_word (codes ":-") w) (one ts) None
+declared_part (at (App w ts) l) = if is_the_word (codes ":-") w then one ts else None
 declared_part _ = None
 
 -- the two parts of this name, which has no qualifiers
 abbrev pub pair : List ℕ → PlainTerm → Option (PlainTerm × PlainTerm)
-pair name (at (App w ts) l) = cond (is_the_word name w) (two ts) None
+pair name (at (App w ts) l) = if is_the_word name w then two ts else None
 pair name _ = None
 
 -- the one part of a name
@@ -99,7 +100,7 @@ are_variables (more_terms t ts) = is_some (variable t) && are_variables ts
 -- names with one more in front; each `_` is a variable of its own, which has no name
 abbrev pub with_name : Option (List ℕ) → List (List ℕ) → List (List ℕ)
 with_name None xs = xs
-with_name (Some x) xs = cond (bytes_eq x (codes "_")) xs (x ∷ xs)
+with_name (Some x) xs = if bytes_eq x (codes "_") then xs else x ∷ xs
 
 -- the names of variables among terms
 abbrev pub names_in : PlainTerms → List (List ℕ)
@@ -113,11 +114,12 @@ is_distinct (x ∷ xs) = not (is_member bytes_eq xs x) && is_distinct xs
 
 -- the names of distinct variables
 abbrev pub parameters_in : PlainTerms → Option (List (List ℕ))
-parameters_in ts = cond (are_variables ts && is_distinct (names_in ts)) (Some (names_in ts)) None
+parameters_in ts =
+    if are_variables ts && is_distinct (names_in ts) then Some (names_in ts) else None
 
 -- The parameters of a definition, by its head: a name without qualifiers over distinct variables.
 abbrev pub parameters : PlainTerm → Option (List (List ℕ))
-parameters (at (App w ts) l) = cond (is_word w) (parameters_in ts) None
+parameters (at (App w ts) l) = if is_word w then parameters_in ts else None
 parameters _ = None
 
 -- a determinism that commits to its first answer
@@ -157,6 +159,7 @@ abbrev pub split_is : PlainTerm → Option (PlainTerm × PlainTerm) → Option (
 split_is t None = Some (t, None)
 split_is t (Some p) = with_determinism p.0 (determinism p.1)
 
--- A declaration, and its determinism where `is D` stands behind it; none where what stands behind `is` is no determinism.
+-- A declaration, and its determinism where `is D` stands behind it; none where what stands behind
+-- `is` is no determinism.
 abbrev pub declared_as : PlainTerm → Option (PlainTerm × Option Det)
 declared_as t = split_is t (pair (codes "is") t)

@@ -1,5 +1,5 @@
 -- The forms of types and of type definitions (the Mercury manual: Types).
-use Rattle.std.specs.Prelude.{Bool, true, false, cond, ◌&&◌, Option, Some, None, codes}
+use Rattle.std.specs.Prelude.{Bool, true, false, ◌&&◌, Option, Some, None, codes, if◌then◌else◌}
 use Rattle.std.specs.Option.{is_some}
 use Rattle.mc_term_data.specs.Plain.{PlainTerm, PlainTerms, at, no_term, more_terms, Var, App, Items, Tailed}
 use Rattle.mc_decl_syntax.specs.Plain.{PlainDecl, AbstractType, UnionType, SameType}
@@ -45,13 +45,16 @@ are_constructors no_term = true
 are_constructors (more_terms t ts) = is_constructor t && are_constructors ts
 
 abbrev pub union_type : PlainTerm × PlainTerm → Option PlainDecl
-union_type p = cond (is_some (parameters p.0) && are_constructors (alternatives p.1)) (Some (UnionType p.0 (alternatives p.1))) None
+union_type p =
+    if is_some (parameters p.0) && are_constructors (alternatives p.1)
+    then Some (UnionType p.0 (alternatives p.1))
+    else None
 
 abbrev pub same_type : PlainTerm × PlainTerm → Option PlainDecl
-same_type p = cond (is_some (parameters p.0) && is_type p.1) (Some (SameType p.0 p.1)) None
+same_type p = if is_some (parameters p.0) && is_type p.1 then Some (SameType p.0 p.1) else None
 
 abbrev pub abstract_type : PlainTerm → Option PlainDecl
-abstract_type t = cond (is_some (parameters t)) (Some (AbstractType t)) None
+abstract_type t = if is_some (parameters t) then Some (AbstractType t) else None
 
 abbrev pub same_or_abstract : PlainTerm → Option (PlainTerm × PlainTerm) → Option PlainDecl
 same_or_abstract t (Some p) = same_type p

@@ -31,7 +31,8 @@ pub fn declaration(alloc: Global, term: Term) -> Result<Option<Decl>, Memory>
 
 /// What a word declares by its part.
 fn declared(alloc: Global, keyword: Keyword, part: Term) -> Result<Option<Decl>, Memory>
-    ensures { IfOk result (λ item. option_map plain_item item ≡ declared (Some keyword) (Some (plain_term part))) }
+    ensures { IfOk result
+        (λ item. option_map plain_item item ≡ declared (Some keyword) (Some (plain_term part))) }
 {
     match keyword {
         Keyword::Module => Ok(into_path(part).map(Decl::ModuleStart)),

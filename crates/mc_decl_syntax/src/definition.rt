@@ -29,7 +29,8 @@ pub fn type_item(alloc: Global, term: Term) -> Result<Option<Decl>, Memory>
 }
 
 fn union_type(alloc: Global, head: Term, body: Term) -> Result<Option<Decl>, Memory>
-    ensures { IfOk result (λ item. option_map plain_item item ≡ union_type (plain_term head, plain_term body)) }
+    ensures { IfOk result
+        (λ item. option_map plain_item item ≡ union_type (plain_term head, plain_term body)) }
 {
     if parameters(alloc, &head)?.is_some() && has_constructors(&body) {
         let constructors = into_alternatives(alloc, body)?;
@@ -40,7 +41,8 @@ fn union_type(alloc: Global, head: Term, body: Term) -> Result<Option<Decl>, Mem
 }
 
 fn same_type(alloc: Global, head: Term, body: Term) -> Result<Option<Decl>, Memory>
-    ensures { IfOk result (λ item. option_map plain_item item ≡ same_type (plain_term head, plain_term body)) }
+    ensures { IfOk result
+        (λ item. option_map plain_item item ≡ same_type (plain_term head, plain_term body)) }
 {
     if parameters(alloc, &head)?.is_some() && is_type(&body) {
         Ok(Some(Decl::SameType(head, body)))
@@ -73,7 +75,8 @@ pub fn inst_item(alloc: Global, term: Term) -> Result<Option<Decl>, Memory>
 }
 
 fn bound_inst(alloc: Global, head: Term, body: Term) -> Result<Option<Decl>, Memory>
-    ensures { IfOk result (λ item. option_map plain_item item ≡ bound_inst (plain_term head, plain_term body)) }
+    ensures { IfOk result
+        (λ item. option_map plain_item item ≡ bound_inst (plain_term head, plain_term body)) }
 {
     if is_bound_body(alloc, &head, &body)? {
         let symbols = into_alternatives(alloc, body)?;
@@ -84,7 +87,8 @@ fn bound_inst(alloc: Global, head: Term, body: Term) -> Result<Option<Decl>, Mem
 }
 
 fn same_inst(alloc: Global, head: Term, body: Term) -> Result<Option<Decl>, Memory>
-    ensures { IfOk result (λ item. option_map plain_item item ≡ same_inst (plain_term head, plain_term body)) }
+    ensures { IfOk result
+        (λ item. option_map plain_item item ≡ same_inst (plain_term head, plain_term body)) }
 {
     if is_inst_body(alloc, &head, &body)? {
         Ok(Some(Decl::SameInst(head, body)))
@@ -95,7 +99,8 @@ fn same_inst(alloc: Global, head: Term, body: Term) -> Result<Option<Decl>, Memo
 
 /// The definition of a mode, by the two sides of `==`; None where it has no form.
 pub fn mode_definition(alloc: Global, head: Term, body: Term) -> Result<Option<Decl>, Memory>
-    ensures { IfOk result (λ item. option_map plain_item item ≡ mode_definition (plain_term head, plain_term body)) }
+    ensures { IfOk result
+        (λ item. option_map plain_item item ≡ mode_definition (plain_term head, plain_term body)) }
 {
     if is_mode_body(alloc, &head, &body)? {
         Ok(Some(Decl::ModeDef(head, body)))
@@ -106,7 +111,8 @@ pub fn mode_definition(alloc: Global, head: Term, body: Term) -> Result<Option<D
 
 /// Whether a head has parameters, and the body is an inst over them.
 fn is_inst_body(alloc: Global, head: &Term, body: &Term) -> Result<bool, Memory>
-    ensures { IfOk result (λ is. is ≡ is_inst_body (parameters (plain_term head.now)) (plain_term body.now)) }
+    ensures { IfOk result
+        (λ is. is ≡ is_inst_body (parameters (plain_term head.now)) (plain_term body.now)) }
 {
     match parameters(alloc, head)? {
         Some(parameters) => Ok(is_inst(&parameters, body)),
@@ -116,7 +122,8 @@ fn is_inst_body(alloc: Global, head: &Term, body: &Term) -> Result<bool, Memory>
 
 /// Whether a head has parameters, and the body lists symbols over them.
 fn is_bound_body(alloc: Global, head: &Term, body: &Term) -> Result<bool, Memory>
-    ensures { IfOk result (λ is. is ≡ is_bound_body (parameters (plain_term head.now)) (plain_term body.now)) }
+    ensures { IfOk result
+        (λ is. is ≡ is_bound_body (parameters (plain_term head.now)) (plain_term body.now)) }
 {
     match parameters(alloc, head)? {
         Some(parameters) => Ok(has_symbols(&parameters, body)),
@@ -126,7 +133,8 @@ fn is_bound_body(alloc: Global, head: &Term, body: &Term) -> Result<bool, Memory
 
 /// Whether a head has parameters, and the body is a mode over them.
 fn is_mode_body(alloc: Global, head: &Term, body: &Term) -> Result<bool, Memory>
-    ensures { IfOk result (λ is. is ≡ is_mode_body (parameters (plain_term head.now)) (plain_term body.now)) }
+    ensures { IfOk result
+        (λ is. is ≡ is_mode_body (parameters (plain_term head.now)) (plain_term body.now)) }
 {
     match parameters(alloc, head)? {
         Some(parameters) => Ok(is_mode(&parameters, body)),

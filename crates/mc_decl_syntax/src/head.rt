@@ -42,7 +42,8 @@ fn parameters_in<'a>(alloc: Global, terms: &'a [Term]) -> Result<Option<NameSet<
 #[tactic(auto, using(crate::proofs::Distinct::fresh, crate::proofs::Distinct::with_unnamed, crate::proofs::Distinct::with_new, crate::proofs::Distinct::with_old, crate::proofs::Distinct::with_other))]
 fn insert<'a>(names: &mut NameSet<'a>, term: &'a Term) -> Result<bool, Memory>
     ensures rest { IfOk result (λ new. (ts : PlainTerms) → parameters_with names.old (more_terms (plain_term term.now) ts) ≡ cond new (parameters_with names.new ts) None) }
-    ensures distinct { IfOk result (λ new. IsTrue new → is_distinct names.old ≡ true → is_distinct names.new ≡ true) }
+    ensures distinct { IfOk result
+        (λ new. IsTrue new → is_distinct names.old ≡ true → is_distinct names.new ≡ true) }
 {
     match variable(term) {
         Some(name) => {

@@ -52,7 +52,8 @@ pub fn has_one(terms: &Row<Term>) -> bool
 /// The two terms that these are.
 #[tactic(auto, using(crate::proofs::Views::less_than_two, crate::proofs::Views::more_than_two))]
 pub fn two(terms: &Row<Term>) -> Option<(&Term, &Term)>
-    ensures { option_map (λ p. (plain_term p.0.now, plain_term p.1.now)) result ≡ two (tms (map plain_term terms.now)) }
+    ensures { option_map (λ p. (plain_term p.0.now, plain_term p.1.now)) result
+        ≡ two (tms (map plain_term terms.now)) }
 {
     match terms.as_slice() {
         [first, second] => Some((first, second)),
@@ -88,7 +89,8 @@ pub fn constant(term: &Term) -> Option<&[u8]>
 
 /// The two parts of a name that has no qualifiers.
 pub fn pair<'a>(name: &[u8], term: &'a Term) -> Option<(&'a Term, &'a Term)>
-    ensures { option_map (λ p. (plain_term p.0.now, plain_term p.1.now)) result ≡ pair name.now (plain_term term.now) }
+    ensures { option_map (λ p. (plain_term p.0.now, plain_term p.1.now)) result
+        ≡ pair name.now (plain_term term.now) }
 {
     match &term.node {
         Node::App(found, parts) => {

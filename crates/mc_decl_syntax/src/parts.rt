@@ -10,7 +10,9 @@ use std::alloc::Global;
 
 /// The two parts of a name that has no qualifiers, or else the term as it was. PlainDecl takes no memory.
 pub fn into_pair(name: &[u8], term: Term) -> Result<(Term, Term), Term>
-    ensures { MatchResult result (λ p. Some (plain_term p.0, plain_term p.1) ≡ pair name.now (plain_term term)) (λ t. (t ≡ term) × (None ≡ pair name.now (plain_term term))) }
+    ensures { MatchResult result
+        (λ p. Some (plain_term p.0, plain_term p.1) ≡ pair name.now (plain_term term))
+        (λ t. (t ≡ term) × (None ≡ pair name.now (plain_term term))) }
 {
     if pair(name, &term).is_none() {
         return Err(term);

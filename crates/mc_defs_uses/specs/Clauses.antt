@@ -1,5 +1,6 @@
--- What clauses and further modes are of, and which predicates are declared without a mode (the Mercury manual: Clauses; Different clauses for different modes; Modes).
-use Rattle.std.specs.Prelude.{Bool, true, false, cond, not, ◌&&◌, ◌||◌, [], ◌∷◌, Option, Some, None, codes}
+-- What clauses and further modes are of, and which predicates are declared without a mode (the
+-- Mercury manual: Clauses; Different clauses for different modes; Modes).
+use Rattle.std.specs.Prelude.{Bool, true, false, not, ◌&&◌, ◌||◌, [], ◌∷◌, Option, Some, None, codes, if◌then◌else◌}
 use Rattle.std.specs.Option.{is_some}
 use Rattle.mc_term_data.specs.Plain.{PlainTerm, at, App}
 use Rattle.mc_clause_syntax.specs.Limits.{argument_count}
@@ -41,10 +42,11 @@ mode_of i = None
 
 -- whether the declaration of a predicate is a mode of it too
 abbrev pub is_mode_too : PlainTerm → (has_determinism : Bool) → Bool
-is_mode_too (at (App w ts) l) has_determinism = are_moded ts && (not (has_none ts) || has_determinism)
+is_mode_too (at (App w ts) l) has_determinism =
+    are_moded ts && (not (has_none ts) || has_determinism)
 is_mode_too _ has_determinism = false
 
 -- the predicate that an item declares without a mode
 abbrev pub without_mode : PlainDecl → Option PlainNameArity
-without_mode (Pred t d) = cond (is_mode_too t (is_some d)) None (Some (head_name t))
+without_mode (Pred t d) = if is_mode_too t (is_some d) then None else Some (head_name t)
 without_mode i = None

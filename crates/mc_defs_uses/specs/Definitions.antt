@@ -1,4 +1,5 @@
--- What items declare and define: types, insts, modes, predicates, functions and constructors (the Mercury manual: Declarations).
+-- What items declare and define: types, insts, modes, predicates, functions and constructors (the
+-- Mercury manual: Declarations).
 use Rattle.std.specs.Prelude.{List, [], ◌∷◌, Option, Some, None, codes}
 use Rattle.mc_term_data.specs.Plain.{PlainTerm, PlainTerms, at, no_term, more_terms, App, Items, Tailed}
 use Rattle.mc_term_data.specs.Names.{count}

@@ -1,5 +1,6 @@
--- The names that an item uses, in the order of its text (the Mercury manual: Types; Modes; Clauses; Goals).
-use Rattle.std.specs.Prelude.{ℕ, Bool, true, false, cond, nat_eq, ◌&&◌, ◌||◌, List, [], ◌∷◌, ◌++◌, Option, Some, None, codes}
+-- The names that an item uses, in the order of its text (the Mercury manual: Types; Modes; Clauses;
+-- Goals).
+use Rattle.std.specs.Prelude.{ℕ, Bool, true, false, nat_eq, ◌&&◌, ◌||◌, List, [], ◌∷◌, ◌++◌, Option, Some, None, codes, if◌then◌else◌}
 use Rattle.std.specs.Option.{is_some}
 use Rattle.mc_term_data.specs.Plain.{PlainTerm, PlainTerms, at, no_term, more_terms, App, Items, Tailed, Conj, Disj}
 use Rattle.mc_term_data.specs.Names.{count}
@@ -24,7 +25,9 @@ abbrev pub is_infix : Path → Bool
 is_infix (w ∷ []) = is_some (infix_row w)
 is_infix _ = false
 
-abbrev pub in_order : (between_parts : Bool) → List PlainOccurrence → (first others : List PlainOccurrence) → List PlainOccurrence
+abbrev pub in_order :
+    (between_parts : Bool)
+    → List PlainOccurrence → (first others : List PlainOccurrence) → List PlainOccurrence
 in_order true name first others = first ++ (name ++ others)
 in_order false name first others = name ++ (first ++ others)
 
@@ -36,7 +39,8 @@ abbrev mutual
 
   pub types_over : Path → Bool → ℕ → PlainTerms → List PlainOccurrence
   types_over w between_parts n no_term = used K.DefinedType w n
-  types_over w between_parts n (more_terms t ts) = in_order between_parts (used K.DefinedType w n) (types_in t) (all_types ts)
+  types_over w between_parts n (more_terms t ts) =
+      in_order between_parts (used K.DefinedType w n) (types_in t) (all_types ts)
 
   pub all_types : PlainTerms → List PlainOccurrence
   all_types no_term = []
@@ -45,12 +49,16 @@ abbrev mutual
 abbrev mutual
   -- the insts in an inst; the symbols that `bound` lists aren't looked up
   pub insts_in : PlainTerm → List PlainOccurrence
-  insts_in (at (App w ts) l) = insts_over w (is_the_word (codes "bound") w && nat_eq (count ts) 1) (nat_eq (count ts) 2 && is_infix w) (count ts) ts
+  insts_in (at (App w ts) l) =
+      insts_over w (is_the_word (codes "bound") w && nat_eq (count ts) 1)
+      (nat_eq (count ts) 2 && is_infix w) (count ts) ts
   insts_in _ = []
 
   pub insts_over : Path → (is_bound between_parts : Bool) → ℕ → PlainTerms → List PlainOccurrence
   insts_over w is_bound between_parts n no_term = used K.Inst w n
-  insts_over w is_bound between_parts n (more_terms t ts) = cond is_bound (symbols_in t) (in_order between_parts (used K.Inst w n) (insts_in t) (all_insts ts))
+  insts_over w is_bound between_parts n (more_terms t ts) =
+      if is_bound then symbols_in t
+      else in_order between_parts (used K.Inst w n) (insts_in t) (all_insts ts)
 
   pub all_insts : PlainTerms → List PlainOccurrence
   all_insts no_term = []
@@ -68,7 +76,9 @@ abbrev mutual
 
 -- the modes and insts in a mode, `I >> J` or a name over insts
 abbrev pub modes_in : PlainTerm → List PlainOccurrence
-modes_in (at (App w ts) l) = cond (is_the_word (codes ">>") w && nat_eq (count ts) 2) [] (used K.Mode w (count ts)) ++ all_insts ts
+modes_in (at (App w ts) l) =
+    (if is_the_word (codes ">>") w && nat_eq (count ts) 2 then [] else used K.Mode w (count ts))
+    ++ all_insts ts
 modes_in _ = []
 
 abbrev pub all_modes : PlainTerms → List PlainOccurrence
@@ -134,10 +144,12 @@ abbrev pub nil_path : Path
 nil_path = codes "[]" ∷ []
 
 abbrev mutual
-  -- The constructors, functions and characters in a term. A state variable is none; a list is `[|]` over each element and
-  -- what follows, and `[]` at its end.
+  -- The constructors, functions and characters in a term. A state variable is none; a list is `[|]`
+  -- over each element and what follows, and `[]` at its end.
   pub terms_in : PlainTerm → List PlainOccurrence
-  terms_in (at (App w ts) l) = cond (is_state w ts) [] (terms_over w (nat_eq (count ts) 2 && is_infix w) (argument_count true ts) ts)
+  terms_in (at (App w ts) l) =
+      if is_state w ts then []
+      else terms_over w (nat_eq (count ts) 2 && is_infix w) (argument_count true ts) ts
   terms_in (at (Items ts) l) = elements_in ts
   terms_in (at (Tailed ts t) l) = cells_in ts ++ terms_in t
   terms_in (at (Conj ts) l) = between comma ts
@@ -146,7 +158,8 @@ abbrev mutual
 
   pub terms_over : Path → Bool → ℕ → PlainTerms → List PlainOccurrence
   terms_over w between_parts n no_term = used K.Symbol w n
-  terms_over w between_parts n (more_terms t ts) = in_order between_parts (used K.Symbol w n) (terms_in t) (all_terms ts)
+  terms_over w between_parts n (more_terms t ts) =
+      in_order between_parts (used K.Symbol w n) (terms_in t) (all_terms ts)
 
   pub all_terms : PlainTerms → List PlainOccurrence
   all_terms no_term = []
@@ -163,16 +176,20 @@ abbrev mutual
   pub between : Path → PlainTerms → List PlainOccurrence
   between w no_term = []
   between w (more_terms t no_term) = terms_in t
-  between w (more_terms t (more_terms u us)) = terms_in t ++ (used K.Symbol w 2 ++ between w (more_terms u us))
+  between w (more_terms t (more_terms u us)) =
+      terms_in t ++ (used K.Symbol w 2 ++ between w (more_terms u us))
 
 -- the arguments of a call with its name
-abbrev pub call_by : (between_parts : Bool) → List PlainOccurrence → PlainTerms → List PlainOccurrence
+abbrev pub call_by :
+    (between_parts : Bool) → List PlainOccurrence → PlainTerms → List PlainOccurrence
 call_by between_parts name no_term = name
-call_by between_parts name (more_terms t ts) = in_order between_parts name (terms_in t) (all_terms ts)
+call_by between_parts name (more_terms t ts) =
+    in_order between_parts name (terms_in t) (all_terms ts)
 
 -- `true`, `fail` and `false` are goals of the language
 abbrev pub is_truth : Path → PlainTerms → Bool
-is_truth w no_term = is_the_word (codes "true") w || (is_the_word (codes "fail") w || is_the_word (codes "false") w)
+is_truth w no_term =
+    is_the_word (codes "true") w || (is_the_word (codes "fail") w || is_the_word (codes "false") w)
 is_truth w _ = false
 
 abbrev mutual
@@ -185,7 +202,9 @@ abbrev mutual
 
   pub goal_by : Path → Parts → PlainTerms → List PlainOccurrence
   goal_by w Sides ts = all_terms ts
-  goal_by w Arguments ts = cond (is_truth w ts) [] (call_by (nat_eq (count ts) 2 && is_infix w) (used K.Pred w (argument_count true ts)) ts)
+  goal_by w Arguments ts =
+      if is_truth w ts then []
+      else call_by (nat_eq (count ts) 2 && is_infix w) (used K.Pred w (argument_count true ts)) ts
   goal_by w (Goals a b) no_term = []
   goal_by w (Goals a b) (more_terms t ts) = goals_in t ++ all_goals ts
   goal_by w Quantified no_term = []

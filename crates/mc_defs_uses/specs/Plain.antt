@@ -8,8 +8,8 @@ use Rattle.mc_defs_uses.specs.declared.definition.NameArity.{NameArity}
 use Rattle.mc_defs_uses.specs.declared.definition.Definition.{Definition}
 use Rattle.mc_defs_uses.specs.declared.occurrence.Occurrence.{Occurrence}
 
--- A name without qualifiers, with the number of its arguments, which manuals write `name/arity`; a function's result is
--- no argument.
+-- A name without qualifiers, with the number of its arguments, which manuals write `name/arity`; a
+-- function's result is no argument.
 pub record PlainNameArity : Type 0 where
   pub name : List ℕ
   pub arity : ℕ
@@ -21,7 +21,8 @@ id w n = record { name = w; arity = n }
 abbrev pub is_name_arity : PlainNameArity → PlainNameArity → Bool
 is_name_arity x y = nat_eq x.arity y.arity && bytes_eq x.name y.name
 
--- A definition that an item declares or defines: what it is, as a type or a predicate, and its name.
+-- A definition that an item declares or defines: what it is, as a type or a predicate, and its
+-- name.
 pub record PlainDefinition : Type 0 where
   pub kind : Kind
   pub id : PlainNameArity
@@ -44,8 +45,9 @@ is_kind _ _ = false
 abbrev pub is_definition : PlainDefinition → PlainDefinition → Bool
 is_definition t u = is_kind t.kind u.kind && is_name_arity t.id u.id
 
--- A use of a name: what it is to mean, the parts before its last, and its last part with the number of its arguments. To
--- mean a `DefinedType` is to mean a type of either kind; a `Symbol` is a constructor, a function or a character.
+-- A use of a name: what it is to mean, the parts before its last, and its last part with the number
+-- of its arguments. To mean a `DefinedType` is to mean a type of either kind; a `Symbol` is a
+-- constructor, a function or a character.
 pub record PlainOccurrence : Type 0 where
   pub kind : Kind
   pub qualifiers : Path
@@ -70,4 +72,5 @@ abbrev pub plain_definition : Definition → PlainDefinition
 plain_definition t = record { kind = t.kind; id = plain_name_arity t.id }
 
 abbrev pub plain_occurrence : Occurrence → PlainOccurrence
-plain_occurrence u = record { kind = u.kind; qualifiers = u.qualifiers.now; id = plain_name_arity u.id }
+plain_occurrence u =
+    record { kind = u.kind; qualifiers = u.qualifiers.now; id = plain_name_arity u.id }

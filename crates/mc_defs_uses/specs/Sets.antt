@@ -1,11 +1,11 @@
 -- Lists of definitions without repetition.
-use Rattle.std.specs.Prelude.{cond, List, [], ◌∷◌, ◌++◌}
+use Rattle.std.specs.Prelude.{List, [], ◌∷◌, ◌++◌, if◌then◌else◌}
 use Rattle.std.specs.Set.{is_member}
 use Rattle.mc_defs_uses.specs.Plain.{PlainDefinition, is_definition}
 
 -- The definitions with one more put in. A definition that is there stays where it came first.
 abbrev pub put : List PlainDefinition → PlainDefinition → List PlainDefinition
-put ts t = cond (is_member is_definition ts t) ts (ts ++ t ∷ [])
+put ts t = if is_member is_definition ts t then ts else ts ++ t ∷ []
 
 -- the definitions with others put in, one after another
 abbrev pub put_all : List PlainDefinition → List PlainDefinition → List PlainDefinition

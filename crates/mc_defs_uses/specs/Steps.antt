@@ -1,5 +1,5 @@
 -- What a step of a walk over an item adds.
-use Rattle.std.specs.Prelude.{cond, List, [], ◌∷◌, ◌++◌}
+use Rattle.std.specs.Prelude.{List, [], ◌∷◌, ◌++◌, if◌then◌else◌}
 use Rattle.std.specs.Set.{is_member}
 use Rattle.mc_term_data.specs.Plain.{PlainTerms, no_term, more_terms}
 use Rattle.mc_decl_syntax.specs.Plain.{Path}
@@ -14,4 +14,4 @@ behind w (more_terms t ts) = used K.Symbol w 2 ++ (terms_in t ++ behind w ts)
 
 -- the names with one more put in
 abbrev pub put_id : List PlainNameArity → PlainNameArity → List PlainNameArity
-put_id xs x = cond (is_member is_name_arity xs x) xs (xs ++ x ∷ [])
+put_id xs x = if is_member is_name_arity xs x then xs else xs ++ x ∷ []

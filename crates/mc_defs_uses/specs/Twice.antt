@@ -1,5 +1,5 @@
 -- Names that stand twice in one union or in one bound inst (the Mercury manual: Types; Modes).
-use Rattle.std.specs.Prelude.{Bool, cond, nat_eq, ◌&&◌, List, [], ◌∷◌, ◌++◌, Option, Some, None, codes}
+use Rattle.std.specs.Prelude.{Bool, nat_eq, ◌&&◌, List, [], ◌∷◌, ◌++◌, Option, Some, None, codes, if◌then◌else◌}
 use Rattle.std.specs.Option.{option_or}
 use Rattle.std.specs.Set.{is_member}
 use Rattle.mc_term_data.specs.Plain.{PlainTerm, PlainTerms, at, no_term, more_terms, App, Tailed, Disj}
@@ -9,20 +9,25 @@ use Rattle.mc_decl_syntax.specs.Terms.{pair, is_the_word}
 use Rattle.mc_defs_uses.specs.Plain.{PlainNameArity, is_name_arity}
 use Rattle.mc_defs_uses.specs.Definitions.{symbol_name}
 
--- the first constructor of a union whose name stands before it too, in the union or among these names
+-- the first constructor of a union whose name stands before it too, in the union or among these
+-- names
 abbrev pub again_among : List PlainNameArity → PlainTerms → Option PlainNameArity
 again_among before no_term = None
-again_among before (more_terms t ts) = cond (is_member is_name_arity before (symbol_name t)) (Some (symbol_name t)) (again_among (before ++ symbol_name t ∷ []) ts)
+again_among before (more_terms t ts) =
+    if is_member is_name_arity before (symbol_name t) then Some (symbol_name t)
+    else again_among (before ++ symbol_name t ∷ []) ts
 
 abbrev mutual
-  -- the first symbol of a bound inst in an inst whose name stands before it too, in the same bound inst
+  -- the first symbol of a bound inst in an inst whose name stands before it too, in the same bound
+  -- inst
   pub again_in : PlainTerm → Option PlainNameArity
   again_in (at (App w ts) l) = again_over (is_the_word (codes "bound") w && nat_eq (count ts) 1) ts
   again_in _ = None
 
   pub again_over : (is_bound : Bool) → PlainTerms → Option PlainNameArity
   again_over is_bound no_term = None
-  again_over is_bound (more_terms t ts) = cond is_bound (again_bound t) (option_or (again_in t) (again_in_all ts))
+  again_over is_bound (more_terms t ts) =
+      if is_bound then again_bound t else option_or (again_in t) (again_in_all ts)
 
   pub again_in_all : PlainTerms → Option PlainNameArity
   again_in_all no_term = None
@@ -39,7 +44,8 @@ abbrev mutual
   pub again_symbols : (before : List PlainNameArity) → PlainTerms → Option PlainNameArity
   again_symbols before no_term = None
   again_symbols before (more_terms t ts) =
-      cond (is_member is_name_arity before (symbol_name t)) (Some (symbol_name t)) (option_or (again_bound t) (again_symbols (before ++ symbol_name t ∷ []) ts))
+      if is_member is_name_arity before (symbol_name t) then Some (symbol_name t)
+      else option_or (again_bound t) (again_symbols (before ++ symbol_name t ∷ []) ts)
 
 -- the insts of a mode that an argument or a result has
 abbrev pub again_in_mode : Option (PlainTerm × PlainTerm) → Option PlainNameArity
@@ -48,7 +54,8 @@ again_in_mode (Some p) = again_in p.1
 
 abbrev pub again_in_parameters : PlainTerms → Option PlainNameArity
 again_in_parameters no_term = None
-again_in_parameters (more_terms t ts) = option_or (again_in_mode (pair (codes "::") t)) (again_in_parameters ts)
+again_in_parameters (more_terms t ts) =
+    option_or (again_in_mode (pair (codes "::") t)) (again_in_parameters ts)
 
 abbrev pub again_in_signature : PlainTerm → Option PlainNameArity
 again_in_signature (at (App w ts) l) = again_in_parameters ts

@@ -15,7 +15,10 @@ pub fn add_all_constructors<'a>(
     uses: &mut Vec<Occurrence<'a>>,
     terms: &'a [Term],
 ) -> Result<(), Memory>
-    ensures { OnOk result (map plain_occurrence uses.new.items ≡ map plain_occurrence uses.old.items ++ all_constructors (tms (map plain_term terms.now))) }
+    ensures { OnOk result
+        (map plain_occurrence uses.new.items
+        ≡ map plain_occurrence uses.old.items
+        ++ all_constructors (tms (map plain_term terms.now))) }
 {
     for term in terms {
         add_constructor(uses, term)?;
@@ -24,7 +27,9 @@ pub fn add_all_constructors<'a>(
 }
 
 fn add_constructor<'a>(uses: &mut Vec<Occurrence<'a>>, term: &'a Term) -> Result<(), Memory>
-    ensures { OnOk result (map plain_occurrence uses.new.items ≡ map plain_occurrence uses.old.items ++ constructor_in (plain_term term.now)) }
+    ensures { OnOk result
+        (map plain_occurrence uses.new.items
+        ≡ map plain_occurrence uses.old.items ++ constructor_in (plain_term term.now)) }
 {
     match &term.node {
         Node::App(_, fields) => add_all_fields(uses, fields.as_slice()),
@@ -38,14 +43,20 @@ fn add_fields_and<'a>(
     fields: &'a [Term],
     last: &'a Term,
 ) -> Result<(), Memory>
-    ensures { OnOk result (map plain_occurrence uses.new.items ≡ map plain_occurrence uses.old.items ++ (all_fields (tms (map plain_term fields.now)) ++ field_by (plain_term last.now) (pair (codes "::") (plain_term last.now)))) }
+    ensures { OnOk result
+        (map plain_occurrence uses.new.items
+        ≡ map plain_occurrence uses.old.items
+        ++ (all_fields (tms (map plain_term fields.now))
+        ++ field_by (plain_term last.now) (pair (codes "::") (plain_term last.now)))) }
 {
     add_all_fields(uses, fields)?;
     add_field(uses, last)
 }
 
 fn add_all_fields<'a>(uses: &mut Vec<Occurrence<'a>>, terms: &'a [Term]) -> Result<(), Memory>
-    ensures { OnOk result (map plain_occurrence uses.new.items ≡ map plain_occurrence uses.old.items ++ all_fields (tms (map plain_term terms.now))) }
+    ensures { OnOk result
+        (map plain_occurrence uses.new.items
+        ≡ map plain_occurrence uses.old.items ++ all_fields (tms (map plain_term terms.now))) }
 {
     for term in terms {
         add_field(uses, term)?;
@@ -55,7 +66,10 @@ fn add_all_fields<'a>(uses: &mut Vec<Occurrence<'a>>, terms: &'a [Term]) -> Resu
 
 // An argument of a constructor is a type, with the name of a field or without.
 fn add_field<'a>(uses: &mut Vec<Occurrence<'a>>, term: &'a Term) -> Result<(), Memory>
-    ensures { OnOk result (map plain_occurrence uses.new.items ≡ map plain_occurrence uses.old.items ++ field_by (plain_term term.now) (pair (codes "::") (plain_term term.now))) }
+    ensures { OnOk result
+        (map plain_occurrence uses.new.items
+        ≡ map plain_occurrence uses.old.items
+        ++ field_by (plain_term term.now) (pair (codes "::") (plain_term term.now))) }
 {
     match pair(b"::", term) {
         Some((_, of_type)) => add_types(uses, of_type),

@@ -23,7 +23,9 @@ pub fn definitions<'a>(alloc: Global, decl: &'a Decl) -> Result<Vec<Definition<'
 
 #[tactic(auto, using(crate::proofs::Views::no_more_definitions, crate::proofs::Views::appended_definitions))]
 fn add_definitions<'a>(definitions: &mut Vec<Definition<'a>>, decl: &'a Decl) -> Result<(), Memory>
-    ensures { OnOk result (map plain_definition definitions.new.items ≡ map plain_definition definitions.old.items ++ T.definitions (plain_item decl.now)) }
+    ensures { OnOk result
+        (map plain_definition definitions.new.items
+        ≡ map plain_definition definitions.old.items ++ T.definitions (plain_item decl.now)) }
 {
     match decl {
         Decl::AbstractType(head) => add(definitions, Kind::AbstractType, head_name(head)),
@@ -53,7 +55,10 @@ fn func_name(term: &Term) -> NameArity<'_>
 
 #[tactic(auto, using(crate::proofs::Views::no_more_definitions, crate::proofs::Views::appended_definitions))]
 fn add_symbols<'a>(definitions: &mut Vec<Definition<'a>>, terms: &'a [Term]) -> Result<(), Memory>
-    ensures { OnOk result (map plain_definition definitions.new.items ≡ map plain_definition definitions.old.items ++ T.symbols (tms (map plain_term terms.now))) }
+    ensures { OnOk result
+        (map plain_definition definitions.new.items
+        ≡ map plain_definition definitions.old.items
+        ++ T.symbols (tms (map plain_term terms.now))) }
 {
     for term in terms {
         add(definitions, Kind::Symbol, symbol_name(term))?;
@@ -67,7 +72,10 @@ fn add<'a>(
     kind: Kind,
     id: NameArity<'a>,
 ) -> Result<(), Memory>
-    ensures { OnOk result (map plain_definition definitions.new.items ≡ map plain_definition definitions.old.items ++ definition kind (plain_name_arity id.entry) ∷ []) }
+    ensures { OnOk result
+        (map plain_definition definitions.new.items
+        ≡ map plain_definition definitions.old.items
+        ++ definition kind (plain_name_arity id.entry) ∷ []) }
 {
     definitions.push(Definition { kind, id })?;
     Ok(())

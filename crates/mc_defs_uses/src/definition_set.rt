@@ -37,10 +37,13 @@ impl<'a> DefinitionSet<'a> {
     /// Puts a definition in, where the set doesn't have it yet, and answers whether it was new. After want of memory the
     /// set is as it was; a definition that is there wants none.
     pub fn insert(&mut self, definition: Definition<'a>) -> Result<bool, Memory>
-        ensures added { IfOk result (λ added. added ≡ not (is_member is_definition self.old (plain_definition definition.entry))) }
+        ensures added { IfOk result
+            (λ added.
+            added ≡ not (is_member is_definition self.old (plain_definition definition.entry))) }
         ensures ok { OnOk result (self.new ≡ put self.old (plain_definition definition.entry)) }
         ensures err { OnErr result (self.new ≡ self.old) }
-        ensures absent { OnErr result (is_member is_definition self.old (plain_definition definition.entry) ≡ false) }
+        ensures absent { OnErr result
+            (is_member is_definition self.old (plain_definition definition.entry) ≡ false) }
     {
         let added = self.definitions.insert(definition)?;
         Ok(added)

@@ -16,7 +16,9 @@ use mc_term_data::{Node, Term, arity};
 /// Adds the predicates in a goal, and what its terms use.
 #[cycle(goals)]
 pub fn add_goals<'a>(uses: &mut Vec<Occurrence<'a>>, goal: &'a Term) -> Result<(), Memory>
-    ensures { OnOk result (map plain_occurrence uses.new.items ≡ map plain_occurrence uses.old.items ++ goals_in (plain_term goal.now)) }
+    ensures { OnOk result
+        (map plain_occurrence uses.new.items
+        ≡ map plain_occurrence uses.old.items ++ goals_in (plain_term goal.now)) }
 {
     match &goal.node {
         Node::Conj(goals) | Node::Disj(goals) => add_all_goals(uses, goals.as_slice()),
@@ -37,7 +39,10 @@ fn add_parts<'a>(
     form: Parts,
     parts: &'a Row<Term>,
 ) -> Result<(), Memory>
-    ensures { OnOk result (map plain_occurrence uses.new.items ≡ map plain_occurrence uses.old.items ++ goal_by name.now form (tms (map plain_term parts.now))) }
+    ensures { OnOk result
+        (map plain_occurrence uses.new.items
+        ≡ map plain_occurrence uses.old.items
+        ++ goal_by name.now form (tms (map plain_term parts.now))) }
 {
     match form {
         Parts::Goals(_, _) => add_all_goals(uses, parts.as_slice()),
@@ -52,7 +57,9 @@ fn add_parts<'a>(
 
 #[cycle(goals)]
 fn add_all_goals<'a>(uses: &mut Vec<Occurrence<'a>>, goals: &'a [Term]) -> Result<(), Memory>
-    ensures { OnOk result (map plain_occurrence uses.new.items ≡ map plain_occurrence uses.old.items ++ all_goals (tms (map plain_term goals.now))) }
+    ensures { OnOk result
+        (map plain_occurrence uses.new.items
+        ≡ map plain_occurrence uses.old.items ++ all_goals (tms (map plain_term goals.now))) }
 {
     for goal in goals {
         add_goals(uses, goal)?;
@@ -65,7 +72,10 @@ fn add_call<'a>(
     name: &'a Row<Text>,
     arguments: &'a Row<Term>,
 ) -> Result<(), Memory>
-    ensures { OnOk result (map plain_occurrence uses.new.items ≡ map plain_occurrence uses.old.items ++ goal_by name.now Parts.Arguments (tms (map plain_term arguments.now))) }
+    ensures { OnOk result
+        (map plain_occurrence uses.new.items
+        ≡ map plain_occurrence uses.old.items
+        ++ goal_by name.now Parts.Arguments (tms (map plain_term arguments.now))) }
 {
     if is_truth(name, arguments) {
         Ok(())

@@ -14,7 +14,9 @@ use mc_term_data::{Node, Term, arity};
 /// Adds the insts in an inst; the symbols that `bound` lists aren't looked up.
 #[cycle(insts)]
 pub fn add_insts<'a>(uses: &mut Vec<Occurrence<'a>>, term: &'a Term) -> Result<(), Memory>
-    ensures { OnOk result (map plain_occurrence uses.new.items ≡ map plain_occurrence uses.old.items ++ insts_in (plain_term term.now)) }
+    ensures { OnOk result
+        (map plain_occurrence uses.new.items
+        ≡ map plain_occurrence uses.old.items ++ insts_in (plain_term term.now)) }
 {
     match &term.node {
         Node::App(name, arguments) => add_insts_over(uses, name, arguments.as_slice()),
@@ -28,7 +30,15 @@ fn add_insts_over<'a>(
     name: &'a Row<Text>,
     arguments: &'a [Term],
 ) -> Result<(), Memory>
-    ensures { OnOk result (map plain_occurrence uses.new.items ≡ map plain_occurrence uses.old.items ++ insts_over name.now (is_the_word (codes "bound") name.now && nat_eq (count (tms (map plain_term arguments.now))) 1) (nat_eq (count (tms (map plain_term arguments.now))) 2 && is_infix name.now) (count (tms (map plain_term arguments.now))) (tms (map plain_term arguments.now))) }
+    ensures { OnOk result
+        (map plain_occurrence uses.new.items
+        ≡ map plain_occurrence uses.old.items
+        ++ insts_over name.now
+        (is_the_word (codes "bound") name.now
+        && nat_eq (count (tms (map plain_term arguments.now))) 1)
+        (nat_eq (count (tms (map plain_term arguments.now))) 2 && is_infix name.now)
+        (count (tms (map plain_term arguments.now)))
+        (tms (map plain_term arguments.now))) }
 {
     match arguments {
         [symbols, ..] if is_bound(name, arguments) => add_symbols(uses, symbols),
@@ -38,7 +48,9 @@ fn add_insts_over<'a>(
 
 /// Whether a name over arguments is `bound` over the symbols that it lists.
 pub fn is_bound(name: &Row<Text>, arguments: &[Term]) -> bool
-    ensures { result ≡ (is_the_word (codes "bound") name.now && nat_eq (count (tms (map plain_term arguments.now))) 1) }
+    ensures { result
+        ≡ (is_the_word (codes "bound") name.now
+        && nat_eq (count (tms (map plain_term arguments.now))) 1) }
 {
     is_the_word(b"bound", name) && arity(arguments) == 1
 }
@@ -49,7 +61,13 @@ fn add_named_inst<'a>(
     name: &'a [Text],
     arguments: &'a [Term],
 ) -> Result<(), Memory>
-    ensures { OnOk result (map plain_occurrence uses.new.items ≡ map plain_occurrence uses.old.items ++ insts_over name.now false (nat_eq (count (tms (map plain_term arguments.now))) 2 && is_infix name.now) (count (tms (map plain_term arguments.now))) (tms (map plain_term arguments.now))) }
+    ensures { OnOk result
+        (map plain_occurrence uses.new.items
+        ≡ map plain_occurrence uses.old.items
+        ++ insts_over name.now false
+        (nat_eq (count (tms (map plain_term arguments.now))) 2 && is_infix name.now)
+        (count (tms (map plain_term arguments.now)))
+        (tms (map plain_term arguments.now))) }
 {
     let used = Occurrence::of(Kind::Inst, name, arity(arguments));
     match arguments {
@@ -67,7 +85,9 @@ fn add_named_inst<'a>(
 
 #[cycle(insts)]
 fn add_all_insts<'a>(uses: &mut Vec<Occurrence<'a>>, terms: &'a [Term]) -> Result<(), Memory>
-    ensures { OnOk result (map plain_occurrence uses.new.items ≡ map plain_occurrence uses.old.items ++ all_insts (tms (map plain_term terms.now))) }
+    ensures { OnOk result
+        (map plain_occurrence uses.new.items
+        ≡ map plain_occurrence uses.old.items ++ all_insts (tms (map plain_term terms.now))) }
 {
     for term in terms {
         add_insts(uses, term)?;
@@ -78,7 +98,9 @@ fn add_all_insts<'a>(uses: &mut Vec<Occurrence<'a>>, terms: &'a [Term]) -> Resul
 // Adds the insts in the symbols that `bound` lists, or in the only one.
 #[cycle(insts)]
 fn add_symbols<'a>(uses: &mut Vec<Occurrence<'a>>, term: &'a Term) -> Result<(), Memory>
-    ensures { OnOk result (map plain_occurrence uses.new.items ≡ map plain_occurrence uses.old.items ++ symbols_in (plain_term term.now)) }
+    ensures { OnOk result
+        (map plain_occurrence uses.new.items
+        ≡ map plain_occurrence uses.old.items ++ symbols_in (plain_term term.now)) }
 {
     match &term.node {
         Node::App(_, insts) => add_all_insts(uses, insts.as_slice()),
@@ -94,7 +116,10 @@ fn add_insts_and<'a>(
     insts: &'a [Term],
     tail: &'a Term,
 ) -> Result<(), Memory>
-    ensures { OnOk result (map plain_occurrence uses.new.items ≡ map plain_occurrence uses.old.items ++ (all_insts (tms (map plain_term insts.now)) ++ insts_in (plain_term tail.now))) }
+    ensures { OnOk result
+        (map plain_occurrence uses.new.items
+        ≡ map plain_occurrence uses.old.items
+        ++ (all_insts (tms (map plain_term insts.now)) ++ insts_in (plain_term tail.now))) }
 {
     add_all_insts(uses, insts)?;
     add_insts(uses, tail)
@@ -103,7 +128,9 @@ fn add_insts_and<'a>(
 /// Adds the insts in symbols of an inst.
 #[cycle(insts)]
 pub fn add_all_symbols<'a>(uses: &mut Vec<Occurrence<'a>>, terms: &'a [Term]) -> Result<(), Memory>
-    ensures { OnOk result (map plain_occurrence uses.new.items ≡ map plain_occurrence uses.old.items ++ all_symbols (tms (map plain_term terms.now))) }
+    ensures { OnOk result
+        (map plain_occurrence uses.new.items
+        ≡ map plain_occurrence uses.old.items ++ all_symbols (tms (map plain_term terms.now))) }
 {
     for term in terms {
         add_symbols(uses, term)?;
@@ -113,7 +140,9 @@ pub fn add_all_symbols<'a>(uses: &mut Vec<Occurrence<'a>>, terms: &'a [Term]) ->
 
 /// Adds the modes and insts in a mode, `I >> J` or a name over insts.
 pub fn add_modes<'a>(uses: &mut Vec<Occurrence<'a>>, term: &'a Term) -> Result<(), Memory>
-    ensures { OnOk result (map plain_occurrence uses.new.items ≡ map plain_occurrence uses.old.items ++ modes_in (plain_term term.now)) }
+    ensures { OnOk result
+        (map plain_occurrence uses.new.items
+        ≡ map plain_occurrence uses.old.items ++ modes_in (plain_term term.now)) }
 {
     match &term.node {
         Node::App(name, insts) => {
@@ -129,7 +158,11 @@ fn add_mode_name<'a>(
     name: &'a Row<Text>,
     arity: usize,
 ) -> Result<(), Memory>
-    ensures { OnOk result (map plain_occurrence uses.new.items ≡ map plain_occurrence uses.old.items ++ cond (is_the_word (codes ">>") name.now && nat_eq arity 2) [] (used Kind.Mode name.now arity)) }
+    ensures { OnOk result
+        (map plain_occurrence uses.new.items
+        ≡ map plain_occurrence uses.old.items
+        ++ cond (is_the_word (codes ">>") name.now && nat_eq arity 2) []
+        (used Kind.Mode name.now arity)) }
 {
     if is_the_word(b">>", name) && arity == 2 {
         return Ok(());
@@ -140,7 +173,9 @@ fn add_mode_name<'a>(
 
 /// Adds what these modes use.
 pub fn add_all_modes<'a>(uses: &mut Vec<Occurrence<'a>>, terms: &'a [Term]) -> Result<(), Memory>
-    ensures { OnOk result (map plain_occurrence uses.new.items ≡ map plain_occurrence uses.old.items ++ all_modes (tms (map plain_term terms.now))) }
+    ensures { OnOk result
+        (map plain_occurrence uses.new.items
+        ≡ map plain_occurrence uses.old.items ++ all_modes (tms (map plain_term terms.now))) }
 {
     for term in terms {
         add_modes(uses, term)?;

@@ -36,7 +36,9 @@ impl<'a> NameAritySet<'a> {
 
     /// Puts a name in, where the set doesn't have it yet, and answers whether it was new.
     pub fn insert(&mut self, name: NameArity<'a>) -> Result<bool, Memory>
-        ensures added { IfOk result (λ added. added ≡ not (is_member is_name_arity self.old (plain_name_arity name.entry))) }
+        ensures added { IfOk result
+            (λ added.
+            added ≡ not (is_member is_name_arity self.old (plain_name_arity name.entry))) }
         ensures ok { OnOk result (self.new ≡ put_id self.old (plain_name_arity name.entry)) }
     {
         let added = self.names.insert(name)?;

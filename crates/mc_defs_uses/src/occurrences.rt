@@ -38,7 +38,9 @@ pub fn goal_uses<'a>(alloc: Global, goal: &'a Term) -> Result<Vec<Occurrence<'a>
 }
 
 fn add_uses<'a>(uses: &mut Vec<Occurrence<'a>>, decl: &'a Decl) -> Result<(), Memory>
-    ensures { OnOk result (map plain_occurrence uses.new.items ≡ map plain_occurrence uses.old.items ++ O.uses (plain_item decl.now)) }
+    ensures { OnOk result
+        (map plain_occurrence uses.new.items
+        ≡ map plain_occurrence uses.old.items ++ O.uses (plain_item decl.now)) }
 {
     match decl {
         Decl::UnionType(_, constructors) => add_all_constructors(uses, constructors.as_slice()),
@@ -55,7 +57,10 @@ fn add_uses<'a>(uses: &mut Vec<Occurrence<'a>>, decl: &'a Decl) -> Result<(), Me
 }
 
 fn add_clause<'a>(uses: &mut Vec<Occurrence<'a>>, term: &'a Term) -> Result<(), Memory>
-    ensures { OnOk result (map plain_occurrence uses.new.items ≡ map plain_occurrence uses.old.items ++ clause_by (plain_term term.now) (operands (codes ":-") (plain_term term.now))) }
+    ensures { OnOk result
+        (map plain_occurrence uses.new.items
+        ≡ map plain_occurrence uses.old.items
+        ++ clause_by (plain_term term.now) (operands (codes ":-") (plain_term term.now))) }
 {
     match operands(b":-", term) {
         Some((head, body)) => {
@@ -68,7 +73,9 @@ fn add_clause<'a>(uses: &mut Vec<Occurrence<'a>>, term: &'a Term) -> Result<(), 
 
 // Adds the terms in a head; its own name is looked up as a declaration is.
 fn add_head<'a>(uses: &mut Vec<Occurrence<'a>>, head: &'a Term) -> Result<(), Memory>
-    ensures { OnOk result (map plain_occurrence uses.new.items ≡ map plain_occurrence uses.old.items ++ head_in (plain_term head.now)) }
+    ensures { OnOk result
+        (map plain_occurrence uses.new.items
+        ≡ map plain_occurrence uses.old.items ++ head_in (plain_term head.now)) }
 {
     match operands(b"=", head) {
         Some((function, value)) => {
@@ -80,7 +87,9 @@ fn add_head<'a>(uses: &mut Vec<Occurrence<'a>>, head: &'a Term) -> Result<(), Me
 }
 
 fn add_arguments_of<'a>(uses: &mut Vec<Occurrence<'a>>, head: &'a Term) -> Result<(), Memory>
-    ensures { OnOk result (map plain_occurrence uses.new.items ≡ map plain_occurrence uses.old.items ++ arguments_of (plain_term head.now)) }
+    ensures { OnOk result
+        (map plain_occurrence uses.new.items
+        ≡ map plain_occurrence uses.old.items ++ arguments_of (plain_term head.now)) }
 {
     match &head.node {
         Node::App(_, arguments) => add_all_terms(uses, arguments.as_slice()),

@@ -13,7 +13,9 @@ use mc_term_data::{Node, Term};
 
 /// Adds the types and modes of a predicate's or a function's arguments.
 pub fn add_parameters_of<'a>(uses: &mut Vec<Occurrence<'a>>, term: &'a Term) -> Result<(), Memory>
-    ensures { OnOk result (map plain_occurrence uses.new.items ≡ map plain_occurrence uses.old.items ++ parameters_of (plain_term term.now)) }
+    ensures { OnOk result
+        (map plain_occurrence uses.new.items
+        ≡ map plain_occurrence uses.old.items ++ parameters_of (plain_term term.now)) }
 {
     match &term.node {
         Node::App(_, arguments) => add_all_parameters(uses, arguments.as_slice()),
@@ -22,7 +24,10 @@ pub fn add_parameters_of<'a>(uses: &mut Vec<Occurrence<'a>>, term: &'a Term) -> 
 }
 
 fn add_all_parameters<'a>(uses: &mut Vec<Occurrence<'a>>, terms: &'a [Term]) -> Result<(), Memory>
-    ensures { OnOk result (map plain_occurrence uses.new.items ≡ map plain_occurrence uses.old.items ++ all_parameters (tms (map plain_term terms.now))) }
+    ensures { OnOk result
+        (map plain_occurrence uses.new.items
+        ≡ map plain_occurrence uses.old.items
+        ++ all_parameters (tms (map plain_term terms.now))) }
 {
     for term in terms {
         add_parameter(uses, term)?;
@@ -32,7 +37,9 @@ fn add_all_parameters<'a>(uses: &mut Vec<Occurrence<'a>>, terms: &'a [Term]) -> 
 
 // An argument or a result is a type, with a mode or without.
 fn add_parameter<'a>(uses: &mut Vec<Occurrence<'a>>, term: &'a Term) -> Result<(), Memory>
-    ensures { OnOk result (map plain_occurrence uses.new.items ≡ map plain_occurrence uses.old.items ++ parameter_in (plain_term term.now)) }
+    ensures { OnOk result
+        (map plain_occurrence uses.new.items
+        ≡ map plain_occurrence uses.old.items ++ parameter_in (plain_term term.now)) }
 {
     match pair(b"::", term) {
         Some((of_type, mode)) => {
@@ -45,7 +52,10 @@ fn add_parameter<'a>(uses: &mut Vec<Occurrence<'a>>, term: &'a Term) -> Result<(
 
 /// Adds the types and modes of a function's arguments and of its result.
 pub fn add_func<'a>(uses: &mut Vec<Occurrence<'a>>, term: &'a Term) -> Result<(), Memory>
-    ensures { OnOk result (map plain_occurrence uses.new.items ≡ map plain_occurrence uses.old.items ++ func_by (pair (codes "=") (plain_term term.now))) }
+    ensures { OnOk result
+        (map plain_occurrence uses.new.items
+        ≡ map plain_occurrence uses.old.items
+        ++ func_by (pair (codes "=") (plain_term term.now))) }
 {
     match pair(b"=", term) {
         Some((function, answer)) => {
@@ -58,7 +68,10 @@ pub fn add_func<'a>(uses: &mut Vec<Occurrence<'a>>, term: &'a Term) -> Result<()
 
 /// Adds the modes of a further mode.
 pub fn add_further<'a>(uses: &mut Vec<Occurrence<'a>>, term: &'a Term) -> Result<(), Memory>
-    ensures { OnOk result (map plain_occurrence uses.new.items ≡ map plain_occurrence uses.old.items ++ further_by (plain_term term.now) (pair (codes "=") (plain_term term.now))) }
+    ensures { OnOk result
+        (map plain_occurrence uses.new.items
+        ≡ map plain_occurrence uses.old.items
+        ++ further_by (plain_term term.now) (pair (codes "=") (plain_term term.now))) }
 {
     match pair(b"=", term) {
         Some((function, mode)) => {
@@ -70,7 +83,9 @@ pub fn add_further<'a>(uses: &mut Vec<Occurrence<'a>>, term: &'a Term) -> Result
 }
 
 fn add_modes_of<'a>(uses: &mut Vec<Occurrence<'a>>, term: &'a Term) -> Result<(), Memory>
-    ensures { OnOk result (map plain_occurrence uses.new.items ≡ map plain_occurrence uses.old.items ++ modes_of (plain_term term.now)) }
+    ensures { OnOk result
+        (map plain_occurrence uses.new.items
+        ≡ map plain_occurrence uses.old.items ++ modes_of (plain_term term.now)) }
 {
     match &term.node {
         Node::App(_, modes) => add_all_modes(uses, modes.as_slice()),

@@ -25,7 +25,8 @@ pub fn clause_of<'a>(decl: &'a Decl) -> Option<Definition<'a>>
 }
 
 fn of_rule(term: &Term) -> Definition<'_>
-    ensures { plain_definition result ≡ of_rule (plain_term term.now) (operands (codes ":-") (plain_term term.now)) }
+    ensures { plain_definition result
+        ≡ of_rule (plain_term term.now) (operands (codes ":-") (plain_term term.now)) }
 {
     match operands(b":-", term) {
         Some((head, _)) => of_head(head),
@@ -35,7 +36,8 @@ fn of_rule(term: &Term) -> Definition<'_>
 
 // The predicate or function that a head is of.
 fn of_head(head: &Term) -> Definition<'_>
-    ensures { plain_definition result ≡ of_head (plain_term head.now) (operands (codes "=") (plain_term head.now)) }
+    ensures { plain_definition result
+        ≡ of_head (plain_term head.now) (operands (codes "=") (plain_term head.now)) }
 {
     match operands(b"=", head) {
         Some((function, _)) => Definition {
@@ -76,7 +78,8 @@ pub fn mode_of<'a>(decl: &'a Decl) -> Option<Definition<'a>>
 }
 
 fn of_mode(term: &Term) -> Definition<'_>
-    ensures { plain_definition result ≡ of_mode (plain_term term.now) (pair (codes "=") (plain_term term.now)) }
+    ensures { plain_definition result
+        ≡ of_mode (plain_term term.now) (pair (codes "=") (plain_term term.now)) }
 {
     match pair(b"=", term) {
         Some((function, _)) => Definition {

@@ -16,7 +16,9 @@ use mc_term_data::{Node, Term, arity};
 #[cycle(terms)]
 #[tactic(auto, using(crate::proofs::Steps::adding, crate::proofs::Steps::over_is))]
 pub fn add_terms<'a>(uses: &mut Vec<Occurrence<'a>>, term: &'a Term) -> Result<(), Memory>
-    ensures { OnOk result (map plain_occurrence uses.new.items ≡ map plain_occurrence uses.old.items ++ terms_in (plain_term term.now)) }
+    ensures { OnOk result
+        (map plain_occurrence uses.new.items
+        ≡ map plain_occurrence uses.old.items ++ terms_in (plain_term term.now)) }
 {
     match &term.node {
         Node::App(name, arguments) => {
@@ -42,7 +44,14 @@ pub fn add_over<'a>(
     name: &'a Row<Text>,
     arguments: &'a Row<Term>,
 ) -> Result<(), Memory>
-    ensures { OnOk result (map plain_occurrence uses.new.items ≡ map plain_occurrence uses.old.items ++ call_by (nat_eq (count (tms (map plain_term arguments.now))) 2 && is_infix name.now) (used kind name.now (argument_count true (tms (map plain_term arguments.now)))) (tms (map plain_term arguments.now))) }
+    ensures { OnOk result
+        (map plain_occurrence uses.new.items
+        ≡ map plain_occurrence uses.old.items
+        ++ call_by
+        (nat_eq (count (tms (map plain_term arguments.now))) 2 && is_infix name.now)
+        (used kind name.now
+        (argument_count true (tms (map plain_term arguments.now))))
+        (tms (map plain_term arguments.now))) }
 {
     let name = name.as_slice();
     let arguments = arguments.as_slice();
@@ -63,7 +72,9 @@ pub fn add_over<'a>(
 /// Adds what these terms use.
 #[cycle(terms)]
 pub fn add_all_terms<'a>(uses: &mut Vec<Occurrence<'a>>, terms: &'a [Term]) -> Result<(), Memory>
-    ensures { OnOk result (map plain_occurrence uses.new.items ≡ map plain_occurrence uses.old.items ++ all_terms (tms (map plain_term terms.now))) }
+    ensures { OnOk result
+        (map plain_occurrence uses.new.items
+        ≡ map plain_occurrence uses.old.items ++ all_terms (tms (map plain_term terms.now))) }
 {
     for term in terms {
         add_terms(uses, term)?;
@@ -75,7 +86,10 @@ pub fn add_all_terms<'a>(uses: &mut Vec<Occurrence<'a>>, terms: &'a [Term]) -> R
 #[cycle(terms)]
 #[tactic(auto, using(crate::proofs::Steps::adding, crate::proofs::Steps::elements_are))]
 fn add_list<'a>(uses: &mut Vec<Occurrence<'a>>, elements: &'a [Term]) -> Result<(), Memory>
-    ensures { OnOk result (map plain_occurrence uses.new.items ≡ map plain_occurrence uses.old.items ++ elements_in (tms (map plain_term elements.now))) }
+    ensures { OnOk result
+        (map plain_occurrence uses.new.items
+        ≡ map plain_occurrence uses.old.items
+        ++ elements_in (tms (map plain_term elements.now))) }
 {
     add_behind(uses, b"[|]", elements)?;
     uses.push(Occurrence::of_symbol(b"[]", 0))?;
@@ -89,7 +103,11 @@ fn add_list_before<'a>(
     elements: &'a [Term],
     tail: &'a Term,
 ) -> Result<(), Memory>
-    ensures { OnOk result (map plain_occurrence uses.new.items ≡ map plain_occurrence uses.old.items ++ (cells_in (tms (map plain_term elements.now)) ++ terms_in (plain_term tail.now))) }
+    ensures { OnOk result
+        (map plain_occurrence uses.new.items
+        ≡ map plain_occurrence uses.old.items
+        ++ (cells_in (tms (map plain_term elements.now))
+        ++ terms_in (plain_term tail.now))) }
 {
     add_behind(uses, b"[|]", elements)?;
     add_terms(uses, tail)
@@ -102,7 +120,10 @@ fn add_between<'a>(
     name: &'a [u8],
     parts: &'a [Term],
 ) -> Result<(), Memory>
-    ensures { OnOk result (map plain_occurrence uses.new.items ≡ map plain_occurrence uses.old.items ++ between (name.now ∷ []) (tms (map plain_term parts.now))) }
+    ensures { OnOk result
+        (map plain_occurrence uses.new.items
+        ≡ map plain_occurrence uses.old.items
+        ++ between (name.now ∷ []) (tms (map plain_term parts.now))) }
 {
     match parts {
         [first, others @ ..] => {
@@ -120,7 +141,10 @@ fn add_behind<'a>(
     name: &'a [u8],
     terms: &'a [Term],
 ) -> Result<(), Memory>
-    ensures { OnOk result (map plain_occurrence uses.new.items ≡ map plain_occurrence uses.old.items ++ behind (name.now ∷ []) (tms (map plain_term terms.now))) }
+    ensures { OnOk result
+        (map plain_occurrence uses.new.items
+        ≡ map plain_occurrence uses.old.items
+        ++ behind (name.now ∷ []) (tms (map plain_term terms.now))) }
 {
     for term in terms {
         uses.push(Occurrence::of_symbol(name, 2))?;

@@ -35,7 +35,9 @@ pub fn twice_in<'a>(alloc: Global, decl: &'a Decl) -> Result<Option<NameArity<'a
 
 // The first of these constructors whose name stands before it too.
 fn again_among<'a>(alloc: Global, terms: &'a [Term]) -> Result<Option<NameArity<'a>>, Memory>
-    ensures { IfOk result (λ found. option_map plain_name_arity found ≡ T.again_among [] (tms (map plain_term terms.now))) }
+    ensures { IfOk result
+        (λ found.
+        option_map plain_name_arity found ≡ T.again_among [] (tms (map plain_term terms.now))) }
 {
     let mut names = NameAritySet::new(alloc);
     for term in terms {
@@ -64,7 +66,13 @@ fn again_over<'a>(
     name: &'a Row<Text>,
     arguments: &'a [Term],
 ) -> Result<Option<NameArity<'a>>, Memory>
-    ensures { IfOk result (λ found. option_map plain_name_arity found ≡ T.again_over (is_the_word (codes "bound") name.now && nat_eq (count (tms (map plain_term arguments.now))) 1) (tms (map plain_term arguments.now))) }
+    ensures { IfOk result
+        (λ found.
+        option_map plain_name_arity found
+        ≡ T.again_over
+        (is_the_word (codes "bound") name.now
+        && nat_eq (count (tms (map plain_term arguments.now))) 1)
+        (tms (map plain_term arguments.now))) }
 {
     match arguments {
         [symbols, ..] if is_bound(name, arguments) => again_bound(alloc, symbols),
@@ -74,7 +82,9 @@ fn again_over<'a>(
 
 #[cycle(again)]
 fn again_in_all<'a>(alloc: Global, terms: &'a [Term]) -> Result<Option<NameArity<'a>>, Memory>
-    ensures { IfOk result (λ found. option_map plain_name_arity found ≡ T.again_in_all (tms (map plain_term terms.now))) }
+    ensures { IfOk result
+        (λ found.
+        option_map plain_name_arity found ≡ T.again_in_all (tms (map plain_term terms.now))) }
 {
     for term in terms {
         if let Some(found) = again_in(alloc, term)? {
@@ -87,7 +97,8 @@ fn again_in_all<'a>(alloc: Global, terms: &'a [Term]) -> Result<Option<NameArity
 // The same of the symbols that `bound` lists, or of the only one.
 #[cycle(again)]
 fn again_bound<'a>(alloc: Global, term: &'a Term) -> Result<Option<NameArity<'a>>, Memory>
-    ensures { IfOk result (λ found. option_map plain_name_arity found ≡ T.again_bound (plain_term term.now)) }
+    ensures { IfOk result
+        (λ found. option_map plain_name_arity found ≡ T.again_bound (plain_term term.now)) }
 {
     match &term.node {
         Node::Disj(symbols) => again_symbols(alloc, symbols.as_slice()),
@@ -103,7 +114,11 @@ fn again_tailed<'a>(
     insts: &'a [Term],
     tail: &'a Term,
 ) -> Result<Option<NameArity<'a>>, Memory>
-    ensures { IfOk result (λ found. option_map plain_name_arity found ≡ option_or (T.again_in_all (tms (map plain_term insts.now))) (T.again_in (plain_term tail.now))) }
+    ensures { IfOk result
+        (λ found.
+        option_map plain_name_arity found
+        ≡ option_or (T.again_in_all (tms (map plain_term insts.now)))
+        (T.again_in (plain_term tail.now))) }
 {
     match again_in_all(alloc, insts)? {
         Some(found) => Ok(Some(found)),
@@ -113,7 +128,10 @@ fn again_tailed<'a>(
 
 #[cycle(again)]
 fn again_symbols<'a>(alloc: Global, terms: &'a [Term]) -> Result<Option<NameArity<'a>>, Memory>
-    ensures { IfOk result (λ found. option_map plain_name_arity found ≡ T.again_symbols [] (tms (map plain_term terms.now))) }
+    ensures { IfOk result
+        (λ found.
+        option_map plain_name_arity found
+        ≡ T.again_symbols [] (tms (map plain_term terms.now))) }
 {
     let mut names = NameAritySet::new(alloc);
     for term in terms {
@@ -129,7 +147,8 @@ fn again_symbols<'a>(alloc: Global, terms: &'a [Term]) -> Result<Option<NameArit
 }
 
 fn again_in_signature<'a>(alloc: Global, term: &'a Term) -> Result<Option<NameArity<'a>>, Memory>
-    ensures { IfOk result (λ found. option_map plain_name_arity found ≡ T.again_in_signature (plain_term term.now)) }
+    ensures { IfOk result
+        (λ found. option_map plain_name_arity found ≡ T.again_in_signature (plain_term term.now)) }
 {
     match &term.node {
         Node::App(_, arguments) => again_in_parameters(alloc, arguments.as_slice()),
@@ -141,7 +160,10 @@ fn again_in_parameters<'a>(
     alloc: Global,
     terms: &'a [Term],
 ) -> Result<Option<NameArity<'a>>, Memory>
-    ensures { IfOk result (λ found. option_map plain_name_arity found ≡ T.again_in_parameters (tms (map plain_term terms.now))) }
+    ensures { IfOk result
+        (λ found.
+        option_map plain_name_arity found
+        ≡ T.again_in_parameters (tms (map plain_term terms.now))) }
 {
     for term in terms {
         if let Some(found) = again_in_mode(alloc, term)? {
@@ -153,7 +175,10 @@ fn again_in_parameters<'a>(
 
 // The same of the mode that an argument or a result has.
 fn again_in_mode<'a>(alloc: Global, term: &'a Term) -> Result<Option<NameArity<'a>>, Memory>
-    ensures { IfOk result (λ found. option_map plain_name_arity found ≡ T.again_in_mode (pair (codes "::") (plain_term term.now))) }
+    ensures { IfOk result
+        (λ found.
+        option_map plain_name_arity found
+        ≡ T.again_in_mode (pair (codes "::") (plain_term term.now))) }
 {
     match pair(b"::", term) {
         Some((_, mode)) => again_in(alloc, mode),
@@ -162,7 +187,10 @@ fn again_in_mode<'a>(alloc: Global, term: &'a Term) -> Result<Option<NameArity<'
 }
 
 fn again_in_func<'a>(alloc: Global, term: &'a Term) -> Result<Option<NameArity<'a>>, Memory>
-    ensures { IfOk result (λ found. option_map plain_name_arity found ≡ T.again_in_func (pair (codes "=") (plain_term term.now))) }
+    ensures { IfOk result
+        (λ found.
+        option_map plain_name_arity found
+        ≡ T.again_in_func (pair (codes "=") (plain_term term.now))) }
 {
     match pair(b"=", term) {
         Some((function, answer)) => match again_in_signature(alloc, function)? {
@@ -174,7 +202,10 @@ fn again_in_func<'a>(alloc: Global, term: &'a Term) -> Result<Option<NameArity<'
 }
 
 fn again_in_modes<'a>(alloc: Global, term: &'a Term) -> Result<Option<NameArity<'a>>, Memory>
-    ensures { IfOk result (λ found. option_map plain_name_arity found ≡ T.again_in_modes (plain_term term.now) (pair (codes "=") (plain_term term.now))) }
+    ensures { IfOk result
+        (λ found.
+        option_map plain_name_arity found
+        ≡ T.again_in_modes (plain_term term.now) (pair (codes "=") (plain_term term.now))) }
 {
     match pair(b"=", term) {
         Some((function, mode)) => match again_in(alloc, function)? {

@@ -12,7 +12,9 @@ use mc_term_data::{Node, Term, arity};
 /// Adds the types in a type.
 #[cycle(types)]
 pub fn add_types<'a>(uses: &mut Vec<Occurrence<'a>>, term: &'a Term) -> Result<(), Memory>
-    ensures { OnOk result (map plain_occurrence uses.new.items ≡ map plain_occurrence uses.old.items ++ types_in (plain_term term.now)) }
+    ensures { OnOk result
+        (map plain_occurrence uses.new.items
+        ≡ map plain_occurrence uses.old.items ++ types_in (plain_term term.now)) }
 {
     match &term.node {
         Node::App(name, arguments) => {
@@ -28,7 +30,13 @@ fn add_types_over<'a>(
     name: &'a [Text],
     arguments: &'a [Term],
 ) -> Result<(), Memory>
-    ensures { OnOk result (map plain_occurrence uses.new.items ≡ map plain_occurrence uses.old.items ++ types_over name.now (nat_eq (count (tms (map plain_term arguments.now))) 2 && is_infix name.now) (count (tms (map plain_term arguments.now))) (tms (map plain_term arguments.now))) }
+    ensures { OnOk result
+        (map plain_occurrence uses.new.items
+        ≡ map plain_occurrence uses.old.items
+        ++ types_over name.now
+        (nat_eq (count (tms (map plain_term arguments.now))) 2 && is_infix name.now)
+        (count (tms (map plain_term arguments.now)))
+        (tms (map plain_term arguments.now))) }
 {
     let used = Occurrence::of(Kind::DefinedType, name, arity(arguments));
     match arguments {
@@ -46,7 +54,9 @@ fn add_types_over<'a>(
 
 #[cycle(types)]
 fn add_all_types<'a>(uses: &mut Vec<Occurrence<'a>>, terms: &'a [Term]) -> Result<(), Memory>
-    ensures { OnOk result (map plain_occurrence uses.new.items ≡ map plain_occurrence uses.old.items ++ all_types (tms (map plain_term terms.now))) }
+    ensures { OnOk result
+        (map plain_occurrence uses.new.items
+        ≡ map plain_occurrence uses.old.items ++ all_types (tms (map plain_term terms.now))) }
 {
     for term in terms {
         add_types(uses, term)?;

@@ -1,5 +1,6 @@
--- A program of ground facts over enumeration types, in the terms of the language: its clauses, its procedures and a
--- query over it. (Mercury Language Reference Manual: Syntax, facts; Types, enumerations; Modes, `out`.)
+-- A program of ground facts over enumeration types, in the terms of the language: its clauses, its
+-- procedures and a query over it. (Mercury Language Reference Manual: Syntax, facts; Types,
+-- enumerations; Modes, `out`.)
 use Rattle.std.specs.Prelude.{ℕ, zero, suc, List, [], ◌∷◌, ◌++◌, map, length, get_or, Option, Some, None, true, false}
 use Rattle.mc_program.specs.Values.{Val, con, no_vals}
 use Rattle.mc_program.specs.Programs.{TypeTerm, union_type, no_types, Expression, variable, made, no_expressions, expressions, Call, And, no_formulas, Constructor, ClauseForm, Predicate, Source}
@@ -21,14 +22,16 @@ pub record Constant : Type 0 where
   pub name : List ℕ
   pub of_type : ℕ
 
--- a predicate whose clauses are facts: its module, its name, the numbers of its arguments' types, and for each fact the numbers of its constants
+-- a predicate whose clauses are facts: its module, its name, the numbers of its arguments' types,
+-- and for each fact the numbers of its constants
 pub record Relation : Type 0 where
   pub module_name : List ℕ
   pub name : List ℕ
   pub types : List ℕ
   pub rows : List (List ℕ)
 
--- modules of facts: the numbers of each type's constants, in order, the constants, and the predicates
+-- modules of facts: the numbers of each type's constants, in order, the constants, and the
+-- predicates
 pub record Database : Type 0 where
   pub types : List (List ℕ)
   pub constants : List Constant
@@ -152,7 +155,8 @@ procedure_at d k = all_out k (relation_at d k).types (body_of (relation_at d k).
 -- the query's procedure calls the predicate's one procedure with its variables
 abbrev pub query_procedure : Database → Question → Procedure
 query_procedure d q =
-    all_out (length d.relations) (asked_types d q) (plain (S.Call q.relation (from 0 (length (asked_types d q))) [] false))
+    all_out (length d.relations) (asked_types d q)
+    (plain (S.Call q.relation (from 0 (length (asked_types d q))) [] false))
 
 -- the four nodes that stand for the builtin insts
 abbrev pub builtin_insts : ℕ → InstNode
@@ -176,4 +180,6 @@ system_of d q =
 
 -- the run of a query with a budget, at a height
 abbrev pub query_run : Database → Question → (n h : ℕ) → Items (List (Option Val))
-query_run d q n h = run_query (system_of d (Some q)).world.outcome (system_of d (Some q)).procs n h (query_procedure d q)
+query_run d q n h =
+    run_query (system_of d (Some q)).world.outcome (system_of d (Some q)).procs n h
+    (query_procedure d q)

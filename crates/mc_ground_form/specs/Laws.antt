@@ -8,7 +8,8 @@ use Rattle.mc_ground_form.specs.Database.{Relation, Database, Question, constant
 -- a fact has a constant of each argument's type
 abbrev pub RowFits : Database → (types row : List ℕ) → Type 0
 RowFits d [] [] = Unit {0}
-RowFits d (u ∷ us) (s ∷ row) = (s < length d.constants) × (((constant_at d s).of_type ≡ u) × RowFits d us row)
+RowFits d (u ∷ us) (s ∷ row) =
+    (s < length d.constants) × (((constant_at d s).of_type ≡ u) × RowFits d us row)
 RowFits d _ _ = ⊥
 
 abbrev pub RowsFit : Database → (types : List ℕ) → List (List ℕ) → Type 0
@@ -40,18 +41,27 @@ rows_of d q = (relation_at d q.relation).rows
 
 -- every run of a program of ground facts is good, with a query beside it or without one
 abbrev pub FactsAreGood : Type 0
-FactsAreGood = (d : Database) (q : Option Question) → Fits d d.relations → GoodProcedures (system_of d q)
+FactsAreGood =
+    (d : Database) (q : Option Question) → Fits d d.relations → GoodProcedures (system_of d q)
 
 -- every run of a query over ground facts is good
 abbrev pub QueriesAreGood : Type 0
-QueriesAreGood = (d : Database) (q : Question) → Fits d d.relations → Asks d q → (n h : ℕ) → GoodQuery (system_of d (Some q)) n h (query_procedure d q)
+QueriesAreGood =
+    (d : Database) (q : Question)
+    → Fits d d.relations → Asks d q → (n h : ℕ)
+    → GoodQuery (system_of d (Some q)) n h (query_procedure d q)
 
--- with a budget and a height a query makes its one call, and answers each fact of its predicate in order
+-- with a budget and a height a query makes its one call, and answers each fact of its predicate in
+-- order
 abbrev pub FactsAreAnswered : Type 0
 FactsAreAnswered =
     (d : Database) (q : Question) → Fits d d.relations → Asks d q → (n h : ℕ) →
-    query_run d q (suc n) (suc h) ≡ Called (record { proc = q.relation; args = map (λ v. None) q.variables }) (answers_of (map answer_of (rows_of d q)))
+    query_run d q (suc n) (suc h)
+    ≡ Called (record { proc = q.relation; args = map (λ v. None) q.variables })
+    (answers_of (map answer_of (rows_of d q)))
 
 -- so such a run ends
 abbrev pub QueriesEnd : Type 0
-QueriesEnd = (d : Database) (q : Question) → Fits d d.relations → Asks d q → (n h : ℕ) → Ends (query_run d q (suc n) (suc h))
+QueriesEnd =
+    (d : Database) (q : Question)
+    → Fits d d.relations → Asks d q → (n h : ℕ) → Ends (query_run d q (suc n) (suc h))

@@ -26,12 +26,18 @@ abbrev pub fact_lines : (variables : List (List ℕ)) → List (List (List ℕ))
 fact_lines variables [] = codes "false.\n"
 fact_lines variables (fact ∷ facts) = flat_map (answer_text variables) (fact ∷ facts)
 
--- a query puts out one line for each fact of its predicate, in order, with the constants as they are printed
+-- a query puts out one line for each fact of its predicate, in order, with the constants as they
+-- are printed
 abbrev pub AnswersAreLines : Type 0
-AnswersAreLines = (d : Database) (q : Question) → Fits d d.relations → Asks d q → (n h : ℕ) → asked_bytes d q n h ≡ fact_lines q.variables (map (map (text_of d)) (rows_of d q))
+AnswersAreLines =
+    (d : Database) (q : Question)
+    → Fits d d.relations → Asks d q → (n h : ℕ)
+    → asked_bytes d q n h ≡ fact_lines q.variables (map (map (text_of d)) (rows_of d q))
 
 -- where each name is bare, these are the constants' names
 abbrev pub BareAnswersAreLines : Type 0
 BareAnswersAreLines =
-    (d : Database) (q : Question) → Fits d d.relations → Asks d q → All (λ name. is_bare name ≡ true) (names_of d) → (n h : ℕ) →
+    (d : Database) (q : Question)
+    → Fits d d.relations → Asks d q → All (λ name. is_bare name ≡ true) (names_of d) → (n h : ℕ)
+    →
     asked_bytes d q n h ≡ fact_lines q.variables (map (map (name_of d)) (rows_of d q))

@@ -18,7 +18,8 @@ use Rattle.mc_items.specs.Words as W
 abbrev pub greatest_text : ℕ
 greatest_text = 4194304
 
--- The item from a place on reads as a term, and this is what it is; it begins on a line, and `next` is the place behind its end.
+-- The item from a place on reads as a term, and this is what it is; it begins on a line, and `next`
+-- is the place behind its end.
 pub record IsRead (text : List ℕ) (from : ℕ) (verdict : PlainVerdict) (line next : ℕ) : Type 0 where
   pub tree : Tree
   pub reads : ItemReads text from tree next
@@ -38,12 +39,15 @@ pub record IsUnread (text : List ℕ) (from : ℕ) (verdict : PlainVerdict) (lin
 
 -- what the item from a place on is, with its line and the place behind it
 abbrev pub IsItem : List ℕ → ℕ → PlainVerdict → ℕ → ℕ → Type 0
-IsItem text from verdict line next = IsRead text from verdict line next ⊎ IsUnread text from verdict line next
+IsItem text from verdict line next =
+    IsRead text from verdict line next ⊎ IsUnread text from verdict line next
 
 -- the items of a text from a place on: what each is, with its line
 pub data Items : List ℕ → ℕ → List (PlainVerdict × ℕ) → Type 0 where
   over : {text : List ℕ} {from : ℕ} → IsOver text from → Items text from []
-  item : {text : List ℕ} {from line next : ℕ} {v : PlainVerdict} {vs : List (PlainVerdict × ℕ)} → IsItem text from v line next → Items text next vs → Items text from ((v, line) ∷ vs)
+  item :
+      {text : List ℕ} {from line next : ℕ} {v : PlainVerdict} {vs : List (PlainVerdict × ℕ)}
+      → IsItem text from v line next → Items text next vs → Items text from ((v, line) ∷ vs)
 
 abbrev pub place : ℕ → ℕ → Place
 place file line = record { file = file; line = line }
@@ -58,7 +62,8 @@ kept_in file ((breaks r w, line) ∷ vs) = kept_in file vs
 abbrev pub broken_in : ℕ → List (PlainVerdict × ℕ) → List Broken
 broken_in file [] = []
 broken_in file ((kept i, line) ∷ vs) = broken_in file vs
-broken_in file ((breaks r w, line) ∷ vs) = record { rule = r; at = place file line; what = w } ∷ broken_in file vs
+broken_in file ((breaks r w, line) ∷ vs) =
+    record { rule = r; at = place file line; what = w } ∷ broken_in file vs
 
 -- an entry as plain data
 abbrev pub plain_entry : Entry → PlainDecl × Place

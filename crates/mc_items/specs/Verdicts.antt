@@ -1,5 +1,6 @@
--- What an item is: an item of a form, or the first rule that it breaks (the Mercury manual: Items; this project's rules).
-use Rattle.std.specs.Prelude.{ℕ, Bool, true, false, cond, List, Option, Some, None}
+-- What an item is: an item of a form, or the first rule that it breaks (the Mercury manual: Items;
+-- this project's rules).
+use Rattle.std.specs.Prelude.{ℕ, Bool, true, false, List, Option, Some, None, if◌then◌else◌}
 use Rattle.mc_term_data.specs.Plain.{PlainTerm}
 use Rattle.mc_source.specs.declared.rule.Rule.{Rule}
 use Rattle.mc_source.specs.declared.rule.Rule.TheVariants as R
@@ -24,15 +25,16 @@ pub data PlainVerdict : Type 0 where
 -- a declaration that has this form or none, and a name with too many arguments or not
 abbrev pub declaration_verdict : (too_many : Bool) → Option PlainDecl → PlainVerdict
 declaration_verdict too_many None = breaks R.S6 W.not_an_item
-declaration_verdict too_many (Some i) = cond too_many (breaks R.L3 W.too_many_arguments) (kept i)
+declaration_verdict too_many (Some i) =
+    if too_many then breaks R.L3 W.too_many_arguments else kept i
 
 abbrev pub clause_verdict : PlainTerm → PlainVerdict
 clause_verdict t =
-    cond (is_clause t)
-    (cond (too_many_arguments true t) (breaks R.L3 W.too_many_arguments)
-    (cond (too_many_variables t) (breaks R.L4 W.too_many_variables)
-    (kept (Clause t))))
-    (breaks R.S6 W.not_an_item)
+    if is_clause t
+    then (if too_many_arguments true t then breaks R.L3 W.too_many_arguments
+    else if too_many_variables t then breaks R.L4 W.too_many_variables
+    else kept (Clause t))
+    else breaks R.S6 W.not_an_item
 
 -- A declaration stands behind `:-`, and anything else is a clause.
 abbrev pub form_verdict : PlainTerm → Option PlainTerm → PlainVerdict
@@ -43,7 +45,8 @@ abbrev pub unless_left_out : PlainTerm → Option LeftOut → PlainVerdict
 unless_left_out t (Some form) = breaks R.X1 (W.left_out form)
 unless_left_out t None = form_verdict t (declared_part t)
 
--- What an item is that is read as a term: what is left out comes first, then the form, then the limits.
+-- What an item is that is read as a term: what is left out comes first, then the form, then the
+-- limits.
 abbrev pub judged : PlainTerm → PlainVerdict
 judged t = unless_left_out t (item_left_out t)
 

@@ -39,7 +39,9 @@ fn declaration_judged(
     too_many_arguments: bool,
     declared: Option<Decl>,
 ) -> Result<Verdict, Memory>
-    ensures { IfOk result (λ j. verdict j ≡ V.declaration_verdict too_many_arguments (option_map plain_item declared)) }
+    ensures { IfOk result
+        (λ j.
+        verdict j ≡ V.declaration_verdict too_many_arguments (option_map plain_item declared)) }
 {
     match declared {
         None => breaks(alloc, Rule::S6, b"not an item"),
@@ -66,7 +68,9 @@ fn clause_judged(alloc: Global, term: Term) -> Result<Verdict, Memory>
 
 // What a term is behind `:-`.
 fn declared_judged(alloc: Global, too_many_arguments: bool, term: Term) -> Result<Verdict, Memory>
-    ensures { IfOk result (λ j. verdict j ≡ V.declaration_verdict too_many_arguments (D.declaration (plain_term term))) }
+    ensures { IfOk result
+        (λ j.
+        verdict j ≡ V.declaration_verdict too_many_arguments (D.declaration (plain_term term))) }
 {
     let declared = declaration(alloc, term)?;
     declaration_judged(alloc, too_many_arguments, declared)
@@ -74,7 +78,8 @@ fn declared_judged(alloc: Global, too_many_arguments: bool, term: Term) -> Resul
 
 // What an item is in which nothing is left out.
 fn form_judged(alloc: Global, term: Term) -> Result<Verdict, Memory>
-    ensures { IfOk result (λ j. verdict j ≡ V.form_verdict (plain_term term) (T.declared_part (plain_term term))) }
+    ensures { IfOk result
+        (λ j. verdict j ≡ V.form_verdict (plain_term term) (T.declared_part (plain_term term))) }
 {
     if !is_declaration(&term) {
         return clause_judged(alloc, term);

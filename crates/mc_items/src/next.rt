@@ -27,7 +27,11 @@ fn refused(alloc: Global, walk: &mut Walk, from: Position, fault: ItemFault) -> 
     requires stands { StandsAt walk.old from.at fault.fault.kind fault.at }
     requires onward { IsOnward walk.old from.at fault.fault.kind fault.fault.next }
     ensures item { IfOk result (λ n. IsUnread walk.old from.at (verdict n.verdict) n.line n.end.at) }
-    ensures place { IfOk result (λ n. (n.end.line ≡ line_at walk.old n.end.at) × (from.at < n.end.at) × (n.end.at ≤ length walk.old)) }
+    ensures place { IfOk result
+        (λ n.
+        (n.end.line ≡ line_at walk.old n.end.at)
+        × (from.at < n.end.at)
+        × (n.end.at ≤ length walk.old)) }
     ensures same { walk.new ≡ walk.old }
 {
     let (rule, what) = fault_rule(alloc, walk.text(), fault)?;
@@ -45,8 +49,16 @@ pub fn next_item(alloc: Global, walk: &mut Walk, from: Position) -> Result<Optio
     requires line { from.line ≡ line_at walk.old from.at }
     requires small { length walk.old < 2 ^ 32 - 1 }
     ensures over { IfOk result (λ answer. IfNone answer (IsOver walk.old from.at)) }
-    ensures item { IfOk result (λ answer. IfSome answer (λ n. IsItem walk.old from.at (verdict n.verdict) n.line n.end.at)) }
-    ensures place { IfOk result (λ answer. IfSome answer (λ n. (n.end.line ≡ line_at walk.old n.end.at) × (from.at < n.end.at) × (n.end.at ≤ length walk.old))) }
+    ensures item { IfOk result
+        (λ answer.
+        IfSome answer (λ n. IsItem walk.old from.at (verdict n.verdict) n.line n.end.at)) }
+    ensures place { IfOk result
+        (λ answer.
+        IfSome answer
+        (λ n.
+        (n.end.line ≡ line_at walk.old n.end.at)
+        × (from.at < n.end.at)
+        × (n.end.at ≤ length walk.old))) }
     ensures same { walk.new ≡ walk.old }
 {
     match read_next(alloc, walk, from) {

@@ -35,8 +35,13 @@ impl Found {
 
     // Puts what an item is, with its place, behind the others.
     fn put(&mut self, verdict: Verdict, at: Place) -> Result<(), Memory>
-        ensures entries { OnOk result (map plain_entry self.new.entries.items ≡ map plain_entry self.old.entries.items ++ kept_in at.file ((verdict verdict, at.line) ∷ [])) }
-        ensures broken { OnOk result (self.new.broken.items ≡ self.old.broken.items ++ broken_in at.file ((verdict verdict, at.line) ∷ [])) }
+        ensures entries { OnOk result
+            (map plain_entry self.new.entries.items
+            ≡ map plain_entry self.old.entries.items
+            ++ kept_in at.file ((verdict verdict, at.line) ∷ [])) }
+        ensures broken { OnOk result
+            (self.new.broken.items
+            ≡ self.old.broken.items ++ broken_in at.file ((verdict verdict, at.line) ∷ [])) }
     {
         match verdict {
             Verdict::Kept(decl) => self.entries.push(Entry { decl, at })?,

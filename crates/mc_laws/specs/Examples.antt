@@ -63,7 +63,8 @@ free_inst = 0
 abbrev pub ground_inst : ℕ
 ground_inst = 1
 
--- a procedure with its head's variables, their insts at the call and at an answer, its determinism and its body
+-- a procedure with its head's variables, their insts at the call and at an answer, its determinism
+-- and its body
 abbrev pub procedure : (head first last : List ℕ) → Det → Node → Procedure
 procedure head first last d body = record { pred = 0; head = head; first = first; last = last; body = body; det = d; var_types = [] }
 
@@ -160,8 +161,10 @@ abbrev pub asked : List Procedure → (budget depth : ℕ) → Procedure → Ite
 asked program budget depth q = run_query (outcome library []) (numbered program) budget depth q
 
 -- the run of a call
-abbrev pub started : List Procedure → (budget depth proc : ℕ) → List (Option Val) → Items (List (Option Val))
-started program budget depth k vs = run_call (outcome library []) (numbered program) budget depth k vs
+abbrev pub started :
+    List Procedure → (budget depth proc : ℕ) → List (Option Val) → Items (List (Option Val))
+started program budget depth k vs =
+    run_call (outcome library []) (numbered program) budget depth k vs
 
 -- enough of both for the examples that name none
 abbrev pub plenty : ℕ

@@ -1,4 +1,5 @@
--- Examples of procedures with an if-then-else and with a negation that are accepted, and of two that are not.
+-- Examples of procedures with an if-then-else and with a negation that are accepted, and of two
+-- that are not.
 use Rattle.std.specs.Prelude.{ℕ, zero, suc, List, [], ◌∷◌, None, true, false, codes}
 use Rattle.mc_program.specs.Programs.{TypeTerm, variable, Formula, Equal, And, If, Not, Exists, ClauseForm, Predicate, Source}
 use Rattle.mc_program.specs.PlainPrograms.{formulas, no_pred}
@@ -23,7 +24,9 @@ nothing = And (formulas [])
 
 -- `first_or(L, D, Y) :- ( if L = [X | Xs] then Y = X else Y = D ).`
 abbrev pub first_or_clauses : List ClauseForm
-first_or_clauses = only (variable 0 ∷ variable 1 ∷ variable 2 ∷ []) (If (3 ∷ 4 ∷ []) (is_cell 0 3 4) (equal 2 3) (equal 2 1))
+first_or_clauses =
+    only (variable 0 ∷ variable 1 ∷ variable 2 ∷ [])
+    (If (3 ∷ 4 ∷ []) (is_cell 0 3 4) (equal 2 3) (equal 2 1))
 
 -- `is_empty(L) :- not L = [X | Xs].`
 abbrev pub is_empty_clauses : List ClauseForm
@@ -31,11 +34,14 @@ is_empty_clauses = only (variable 0 ∷ []) (Not (Exists (1 ∷ 2 ∷ []) (is_ce
 
 -- `binding(L, D, Y) :- ( if L = [Y | Xs] then true else Y = D ).`
 abbrev pub binding_clauses : List ClauseForm
-binding_clauses = only (variable 0 ∷ variable 1 ∷ variable 2 ∷ []) (If (3 ∷ []) (is_cell 0 2 3) nothing (equal 2 1))
+binding_clauses =
+    only (variable 0 ∷ variable 1 ∷ variable 2 ∷ [])
+    (If (3 ∷ []) (is_cell 0 2 3) nothing (equal 2 1))
 
 -- `missing(L, Y) :- ( if L = [X | Xs] then Y = X else true ).`
 abbrev pub missing_clauses : List ClauseForm
-missing_clauses = only (variable 0 ∷ variable 1 ∷ []) (If (2 ∷ 3 ∷ []) (is_cell 0 2 3) (equal 1 2) nothing)
+missing_clauses =
+    only (variable 0 ∷ variable 1 ∷ []) (If (2 ∷ 3 ∷ []) (is_cell 0 2 3) (equal 1 2) nothing)
 
 abbrev pub list_pred : (name : List ℕ) → (arity : ℕ) → List TypeTerm → List ClauseForm → Predicate
 list_pred name arity types clauses =
@@ -47,10 +53,13 @@ list_pred name arity types clauses =
     }
 
 abbrev pub branch_preds : ℕ → Predicate
-branch_preds zero = list_pred (codes "first_or") 3 (list_type ∷ item_type ∷ item_type ∷ []) first_or_clauses
+branch_preds zero =
+    list_pred (codes "first_or") 3 (list_type ∷ item_type ∷ item_type ∷ []) first_or_clauses
 branch_preds (suc zero) = list_pred (codes "is_empty") 1 (list_type ∷ []) is_empty_clauses
-branch_preds (suc (suc zero)) = list_pred (codes "binding") 3 (list_type ∷ item_type ∷ item_type ∷ []) binding_clauses
-branch_preds (suc (suc (suc zero))) = list_pred (codes "missing") 2 (list_type ∷ item_type ∷ []) missing_clauses
+branch_preds (suc (suc zero)) =
+    list_pred (codes "binding") 3 (list_type ∷ item_type ∷ item_type ∷ []) binding_clauses
+branch_preds (suc (suc (suc zero))) =
+    list_pred (codes "missing") 2 (list_type ∷ item_type ∷ []) missing_clauses
 branch_preds (suc (suc (suc (suc k)))) = no_pred
 
 -- `first_or(in, in, out) is det`: the condition takes the list apart, and both branches bind Y
@@ -135,8 +144,8 @@ branch_system =
       insts = list_insts;
     }
 
--- first_or and is_empty are accepted; no body is where the condition binds a variable that occurs outside it, or where
--- one branch binds such a variable and the other doesn't
+-- first_or and is_empty are accepted; no body is where the condition binds a variable that occurs
+-- outside it, or where one branch binds such a variable and the other doesn't
 abbrev pub BranchesAreAccepted : Type 0
 BranchesAreAccepted =
     Accepted branch_system

@@ -126,7 +126,8 @@ abbrev pub CharactersInTexts : Type 0
 CharactersInTexts =
     (at_text B.StringLength accented ≡ number (pos 2))
     × (at_text B.StringCodePoints accented ≡ number (pos 1))
-    × (at_text B.ToCharList accented ≡ gives (con 1 (val_then (char accented_code) (val_then (con 0 no_vals) no_vals)) ∷ []))
+    × (at_text B.ToCharList accented
+    ≡ gives (con 1 (val_then (char accented_code) (val_then (con 0 no_vals) no_vals)) ∷ []))
     × (does B.CharToString (char accented_code ∷ []) ≡ gives (str accented ∷ []))
     × (does B.CharToInt (char accented_code ∷ []) ≡ number (pos 233))
     × (at_int B.CharFromInt (pos 233) ≡ gives (char accented_code ∷ []))
@@ -142,10 +143,14 @@ CharactersInTexts =
 -- what is written is gained by the state
 abbrev pub Writing : Type 0
 Writing =
-    (does B.WriteString (str (codes "b") ∷ state (codes "a") 4 ∷ []) ≡ writes (codes "b") (state (codes "ab") 4 ∷ []))
-    × (does B.WriteChar (char accented_code ∷ state [] 0 ∷ []) ≡ writes accented (state accented 0 ∷ []))
-    × (does B.WriteInt (int (minus 3) ∷ state [] 0 ∷ []) ≡ writes (codes "-3") (state (codes "-3") 0 ∷ []))
-    × (does B.Write (con 5 no_vals ∷ state [] 0 ∷ []) ≡ writes (codes "v") (state (codes "v") 0 ∷ []))
+    (does B.WriteString (str (codes "b") ∷ state (codes "a") 4 ∷ [])
+    ≡ writes (codes "b") (state (codes "ab") 4 ∷ []))
+    × (does B.WriteChar (char accented_code ∷ state [] 0 ∷ [])
+    ≡ writes accented (state accented 0 ∷ []))
+    × (does B.WriteInt (int (minus 3) ∷ state [] 0 ∷ [])
+    ≡ writes (codes "-3") (state (codes "-3") 0 ∷ []))
+    × (does B.Write (con 5 no_vals ∷ state [] 0 ∷ [])
+    ≡ writes (codes "v") (state (codes "v") 0 ∷ []))
     × (does B.Nl (state [] 0 ∷ []) ≡ writes (10 ∷ []) (state (10 ∷ []) 0 ∷ []))
     × (at_text B.Error (codes "bad") ≡ throws (error (codes "bad")))
     × (does B.Nl (state [] 0 ∷ []) ≢ writes (10 ∷ []) (state [] 0 ∷ []))
@@ -167,13 +172,16 @@ Reading =
     × (reading_at 3 ≡ reads 3 (a_line (99 ∷ 100 ∷ []) ∷ state [] 5 ∷ []))
     × (reading_at 5 ≡ reads 5 (con 3 no_vals ∷ state [] 5 ∷ []))
     × (read_from library 3 0 [] two_lines ≡ reads 0 (a_line (97 ∷ 98 ∷ 10 ∷ []) ∷ state [] 3 ∷ []))
-    × (read_from library 2 0 [] two_lines ≡ reads_and_throws 0 (error (codes "input line is too long")))
-    × (outcome library (255 ∷ []) B.ReadLine (state [] 0 ∷ []) ≡ reads_and_throws 0 (error (codes "input is not UTF-8")))
+    × (read_from library 2 0 [] two_lines
+    ≡ reads_and_throws 0 (error (codes "input line is too long")))
+    × (outcome library (255 ∷ []) B.ReadLine (state [] 0 ∷ [])
+    ≡ reads_and_throws 0 (error (codes "input is not UTF-8")))
     × (reading_at 0 ≢ reading_at 3)
 
 -- a program's symbol without argument types, which no builtin reads
 abbrev pub symbol_named : (module_name bytes : List ℕ) → ℕ → Symbol
-symbol_named m n a = record { name = record { «module» = m; name = n; arity = a }; of_type = 0; args = [] }
+symbol_named m n a =
+    record { name = record { «module» = m; name = n; arity = a }; of_type = 0; args = [] }
 
 -- a program with a constructor of its own before those of lists and those that lines are read as
 abbrev pub a_program : Program
@@ -196,9 +204,12 @@ in_program = (world_of a_program (codes "x\n")).outcome
 -- in a program lists are made of its symbols, and a value is written by their names: `['a b', 7]`
 abbrev pub InPrograms : Type 0
 InPrograms =
-    (in_program B.ToCharList (str (codes "z") ∷ []) ≡ gives (con 2 (val_then (char 122) (val_then (con 1 no_vals) no_vals)) ∷ []))
+    (in_program B.ToCharList (str (codes "z") ∷ [])
+    ≡ gives (con 2 (val_then (char 122) (val_then (con 1 no_vals) no_vals)) ∷ []))
     × (in_program B.Write (con 2 (val_then (con 0 no_vals) (val_then (con 2 (val_then (int (pos 7)) (val_then (con 1 no_vals) no_vals))) no_vals)) ∷ state [] 0 ∷ [])
     ≡ writes (codes "['a b', 7]") (state (codes "['a b', 7]") 0 ∷ []))
-    × (in_program B.ReadLine (state [] 0 ∷ []) ≡ reads 0 (con 3 (val_then (str (codes "x\n")) no_vals) ∷ state [] 2 ∷ []))
+    × (in_program B.ReadLine (state [] 0 ∷ [])
+    ≡ reads 0 (con 3 (val_then (str (codes "x\n")) no_vals) ∷ state [] 2 ∷ []))
     × (in_program B.ReadLine (state [] 2 ∷ []) ≡ reads 2 (con 4 no_vals ∷ state [] 2 ∷ []))
-    × (in_program B.Write (con 0 no_vals ∷ state [] 0 ∷ []) ≢ writes (codes "a b") (state (codes "a b") 0 ∷ []))
+    × (in_program B.Write (con 0 no_vals ∷ state [] 0 ∷ [])
+    ≢ writes (codes "a b") (state (codes "a b") 0 ∷ []))

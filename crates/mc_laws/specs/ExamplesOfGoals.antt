@@ -33,28 +33,36 @@ both g h = And (formulas (g ∷ h ∷ []))
 abbrev pub either : Formula → Formula → Formula
 either g h = Or (formulas (g ∷ h ∷ []))
 
--- In `not p(X)` X is quantified inside, unless it occurs outside: in the head, or in a goal that isn't parallel. In
--- `( not p(X) ; q(X) )` the other occurrence is parallel.
+-- In `not p(X)` X is quantified inside, unless it occurs outside: in the head, or in a goal that
+-- isn't parallel. In `( not p(X) ; q(X) )` the other occurrence is parallel.
 abbrev pub NegationsQuantify : Type 0
 NegationsQuantify =
     (scoped [] (Not (p (0 ∷ []))) ≡ Not (Exists (0 ∷ []) (p (0 ∷ []))))
     × (scoped (0 ∷ []) (Not (p (0 ∷ []))) ≡ Not (p (0 ∷ [])))
-    × (scoped [] (both (q (0 ∷ [])) (Not (p (0 ∷ 1 ∷ [])))) ≡ both (q (0 ∷ [])) (Not (Exists (1 ∷ []) (p (0 ∷ 1 ∷ [])))))
-    × (scoped [] (either (Not (p (0 ∷ []))) (q (0 ∷ []))) ≡ either (Not (Exists (0 ∷ []) (p (0 ∷ [])))) (q (0 ∷ [])))
+    × (scoped [] (both (q (0 ∷ [])) (Not (p (0 ∷ 1 ∷ []))))
+    ≡ both (q (0 ∷ [])) (Not (Exists (1 ∷ []) (p (0 ∷ 1 ∷ [])))))
+    × (scoped [] (either (Not (p (0 ∷ []))) (q (0 ∷ [])))
+    ≡ either (Not (Exists (0 ∷ []) (p (0 ∷ [])))) (q (0 ∷ [])))
     × (scoped [] (Not (p (0 ∷ []))) ≢ Not (p (0 ∷ [])))
 
--- In `( if p(X) then q(X) else q(Y) )` X is quantified over condition and then part, and Y is not; an X in the else part
--- is parallel. A negation inside a condition takes no variable of the then part.
+-- In `( if p(X) then q(X) else q(Y) )` X is quantified over condition and then part, and Y is not;
+-- an X in the else part is parallel. A negation inside a condition takes no variable of the then
+-- part.
 abbrev pub ConditionsQuantify : Type 0
 ConditionsQuantify =
-    (scoped [] (If [] (p (0 ∷ [])) (q (0 ∷ [])) (q (1 ∷ []))) ≡ If (0 ∷ []) (p (0 ∷ [])) (q (0 ∷ [])) (q (1 ∷ [])))
-    × (scoped [] (If [] (p (0 ∷ [])) (q (1 ∷ [])) (q (0 ∷ []))) ≡ If (0 ∷ []) (p (0 ∷ [])) (q (1 ∷ [])) (q (0 ∷ [])))
-    × (scoped (0 ∷ []) (If [] (p (0 ∷ [])) (q (0 ∷ [])) (q (1 ∷ []))) ≡ If [] (p (0 ∷ [])) (q (0 ∷ [])) (q (1 ∷ [])))
-    × (scoped [] (If [] (Not (p (0 ∷ []))) (q (0 ∷ [])) (q (1 ∷ []))) ≡ If (0 ∷ []) (Not (p (0 ∷ []))) (q (0 ∷ [])) (q (1 ∷ [])))
-    × (scoped [] (If [] (p (0 ∷ [])) (q (1 ∷ [])) (q (1 ∷ []))) ≢ If (0 ∷ 1 ∷ []) (p (0 ∷ [])) (q (1 ∷ [])) (q (1 ∷ [])))
+    (scoped [] (If [] (p (0 ∷ [])) (q (0 ∷ [])) (q (1 ∷ [])))
+    ≡ If (0 ∷ []) (p (0 ∷ [])) (q (0 ∷ [])) (q (1 ∷ [])))
+    × (scoped [] (If [] (p (0 ∷ [])) (q (1 ∷ [])) (q (0 ∷ [])))
+    ≡ If (0 ∷ []) (p (0 ∷ [])) (q (1 ∷ [])) (q (0 ∷ [])))
+    × (scoped (0 ∷ []) (If [] (p (0 ∷ [])) (q (0 ∷ [])) (q (1 ∷ [])))
+    ≡ If [] (p (0 ∷ [])) (q (0 ∷ [])) (q (1 ∷ [])))
+    × (scoped [] (If [] (Not (p (0 ∷ []))) (q (0 ∷ [])) (q (1 ∷ [])))
+    ≡ If (0 ∷ []) (Not (p (0 ∷ []))) (q (0 ∷ [])) (q (1 ∷ [])))
+    × (scoped [] (If [] (p (0 ∷ [])) (q (1 ∷ [])) (q (1 ∷ [])))
+    ≢ If (0 ∷ 1 ∷ []) (p (0 ∷ [])) (q (1 ∷ [])) (q (1 ∷ [])))
 
--- Scopes that are written out, and scopes that are not: a variable that is free in a negation or a condition occurs
--- outside it, and a quantified one does not, but in parallel goals.
+-- Scopes that are written out, and scopes that are not: a variable that is free in a negation or a
+-- condition occurs outside it, and a quantified one does not, but in parallel goals.
 abbrev pub ScopesAreWritten : Type 0
 ScopesAreWritten =
     HasScopes [] (Not (Exists (0 ∷ []) (p (0 ∷ []))))
@@ -77,17 +85,23 @@ append_clauses =
       body = And (formulas []);
     }
     ∷ record {
-      head = list_cell (variable 0) (variable 1) ∷ variable 2 ∷ list_cell (variable 0) (variable 3) ∷ [];
+      head =
+          list_cell (variable 0) (variable 1) ∷ variable 2 ∷ list_cell (variable 0) (variable 3)
+          ∷ [];
       body = call_of append (1 ∷ 2 ∷ 3 ∷ []);
     }
     ∷ []
 
--- The head variables are 0, 1 and 2. Ys is 1 itself in both clauses, and X, Xs and Zs are 3, 4 and 5.
+-- The head variables are 0, 1 and 2. Ys is 1 itself in both clauses, and X, Xs and Zs are 3, 4 and
+-- 5.
 abbrev pub append_goal : F.Flat_goal
 append_goal =
     F.Or (flats (
     F.And (flats (F.Made 0 nil [] ∷ F.Same 2 1 ∷ []))
-    ∷ F.And (flats (F.Made 0 cell (3 ∷ 4 ∷ []) ∷ F.Made 2 cell (3 ∷ 5 ∷ []) ∷ F.Call append (4 ∷ 1 ∷ 5 ∷ []) ∷ []))
+    ∷ F.And
+    (flats
+    (F.Made 0 cell (3 ∷ 4 ∷ []) ∷ F.Made 2 cell (3 ∷ 5 ∷ []) ∷ F.Call append (4 ∷ 1 ∷ 5 ∷ [])
+    ∷ []))
     ∷ []
     ))
 
@@ -110,19 +124,26 @@ NormalGoals =
     -- `r(X, Y) :- Y = X + X * 2.`: the parts come before the atom, inner first
     × (normal_goal 2 (only (variable 0 ∷ variable 1 ∷ []) (Equal (variable 1) (sum (variable 0) (product (variable 0) (number 2)))))
     ≡ record { arity = 2; variables = 4; body = F.And (flats (F.Is 2 (int (pos 2)) ∷ F.Call times (0 ∷ 2 ∷ 3 ∷ []) ∷ F.Call plus (0 ∷ 3 ∷ 1 ∷ []) ∷ [])) })
-    -- `r(X) :- not p(X + 1), ( q(X) ; fail ).`: made variables are quantified around the conjunction that they stand in
+    -- `r(X) :- not p(X + 1), ( q(X) ; fail ).`: made variables are quantified around the
+    -- conjunction that they stand in
     × (normal_goal 1 (only (variable 0 ∷ []) (both (Not (Call 0 (expressions (sum (variable 0) (number 1) ∷ [])))) (either (q (0 ∷ [])) (Or (formulas [])))))
     ≡ record {
       arity = 1;
       variables = 3;
       body =
           F.And (flats (
-          F.Not (F.Exists (1 ∷ 2 ∷ []) (F.And (flats (F.Is 1 (int (pos 1)) ∷ F.Call plus (0 ∷ 1 ∷ 2 ∷ []) ∷ F.Call 0 (2 ∷ []) ∷ []))))
+          F.Not
+          (F.Exists (1 ∷ 2 ∷ [])
+          (F.And
+          (flats
+          (F.Is 1 (int (pos 1)) ∷ F.Call plus (0 ∷ 1 ∷ 2 ∷ []) ∷ F.Call 0 (2 ∷ [])
+          ∷ []))))
           ∷ F.Or (flats (F.Call 1 (0 ∷ []) ∷ []))
           ∷ []
           ));
     })
-    -- `r(X, X) :- true, ( if p(Y) then q(Y) else true ).`: a second X in the head is an equation, and `true` vanishes
+    -- `r(X, X) :- true, ( if p(Y) then q(Y) else true ).`: a second X in the head is an equation,
+    -- and `true` vanishes
     × (normal_goal 2 (only (variable 0 ∷ variable 0 ∷ []) (both (And (formulas [])) (If (1 ∷ []) (p (1 ∷ [])) (q (1 ∷ [])) (And (formulas [])))))
     ≡ record {
       arity = 2;

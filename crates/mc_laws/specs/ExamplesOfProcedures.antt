@@ -1,5 +1,5 @@
 -- Examples of procedures that are accepted, and of some that are not.
-use Rattle.std.specs.Prelude.{ℕ, zero, suc, List, [], ◌∷◌, cond, nat_eq, true, false, None, codes}
+use Rattle.std.specs.Prelude.{ℕ, zero, suc, List, [], ◌∷◌, nat_eq, true, false, None, codes, if◌then◌else◌}
 use Rattle.mc_program.specs.Values.{Val}
 use Rattle.mc_program.specs.Programs.{TypeTerm, variable_type, union_type, no_types, type_then, Constructor, Predicate, Source}
 use Rattle.mc_program.specs.PlainPrograms.{no_symbol, no_pred}
@@ -39,11 +39,12 @@ abbrev pub list_source : Source
 list_source =
     record {
       symbols = list_symbols;
-      symbols_of = λ u. cond (nat_eq u 0) (nil ∷ cell ∷ []) [];
-      preds = λ k. cond (nat_eq k append) append_pred no_pred;
+      symbols_of = λ u. if nat_eq u 0 then nil ∷ cell ∷ [] else [];
+      preds = λ k. if nat_eq k append then append_pred else no_pred;
     }
 
--- the insts: `bound([])`, `bound([ground | ground])` and `bound([] ; [ground | ground])` are 4, 5 and 6
+-- the insts: `bound([])`, `bound([ground | ground])` and `bound([] ; [ground | ground])` are 4, 5
+-- and 6
 abbrev pub nil_listed : Listed
 nil_listed = record { name = codes "[]"; arity = 0; args = [] }
 
@@ -59,8 +60,8 @@ list_insts (suc (suc (suc (suc zero)))) = bound (nil_listed ∷ [])
 list_insts (suc (suc (suc (suc (suc zero))))) = bound (cell_listed ∷ [])
 list_insts (suc (suc (suc (suc (suc (suc i)))))) = bound (nil_listed ∷ cell_listed ∷ [])
 
--- `append(in, in, out) is det`: in the first arm the list is empty, and in the second the call stands before the
--- construction that needs its result
+-- `append(in, in, out) is det`: in the first arm the list is empty, and in the second the call
+-- stands before the construction that needs its result
 abbrev pub empty_arm : Node
 empty_arm =
     node
@@ -88,7 +89,10 @@ cell_arm =
 
 -- the switch, with the determinism that is kept of it
 abbrev pub append_body : Det → Node
-append_body kept = node (Switch 0 (arm_then (for_symbol nil) empty_arm (arm_then (for_symbol cell) cell_arm no_arms))) ((0, 6) ∷ (2, 1) ∷ []) kept false
+append_body kept =
+    node
+    (Switch 0 (arm_then (for_symbol nil) empty_arm (arm_then (for_symbol cell) cell_arm no_arms)))
+    ((0, 6) ∷ (2, 1) ∷ []) kept false
 
 -- the procedure, with its declared determinism and the one that is kept of its body
 abbrev pub append_procedure : (declared kept : Det) → Procedure
@@ -118,8 +122,8 @@ append_system =
 abbrev pub failure : Det
 failure = record { can_fail = true; most = Zero; committed = false }
 
--- append is accepted; not so a procedure whose kept determinism isn't that of the table, or whose declared one doesn't
--- allow it
+-- append is accepted; not so a procedure whose kept determinism isn't that of the table, or whose
+-- declared one doesn't allow it
 abbrev pub AppendIsAccepted : Type 0
 AppendIsAccepted =
     Accepted append_system

@@ -78,9 +78,17 @@ constant n = for_constant (int (pos n))
 -- In p the call of r waits for Y, so q runs before it.
 abbrev order : List Procedure
 order =
-    procedure (first ∷ second ∷ []) (ground_inst ∷ free_inst ∷ []) (ground_inst ∷ ground_inst ∷ []) nondet (goal (Exists (y ∷ []) (goal (all_of (call 1 (first ∷ y ∷ []) ∷ call 2 (y ∷ second ∷ []) ∷ [])))))
-    ∷ procedure (first ∷ second ∷ []) (ground_inst ∷ free_inst ∷ []) (ground_inst ∷ ground_inst ∷ []) nondet (goal (switch_on first ((constant 1, goal (one_of (row 1 3 ∷ row 1 2 ∷ []))) ∷ [])))
-    ∷ procedure (first ∷ second ∷ []) (ground_inst ∷ free_inst ∷ []) (ground_inst ∷ ground_inst ∷ []) semidet (goal (switch_on first ((constant 2, row 2 20) ∷ (constant 3, row 3 30) ∷ [])))
+    procedure (first ∷ second ∷ []) (ground_inst ∷ free_inst ∷ []) (ground_inst ∷ ground_inst ∷ [])
+    nondet
+    (goal
+    (Exists (y ∷ [])
+    (goal (all_of (call 1 (first ∷ y ∷ []) ∷ call 2 (y ∷ second ∷ []) ∷ [])))))
+    ∷ procedure (first ∷ second ∷ []) (ground_inst ∷ free_inst ∷ [])
+    (ground_inst ∷ ground_inst ∷ []) nondet
+    (goal (switch_on first ((constant 1, goal (one_of (row 1 3 ∷ row 1 2 ∷ []))) ∷ [])))
+    ∷ procedure (first ∷ second ∷ []) (ground_inst ∷ free_inst ∷ [])
+    (ground_inst ∷ ground_inst ∷ []) semidet
+    (goal (switch_on first ((constant 2, row 2 20) ∷ (constant 3, row 3 30) ∷ [])))
     ∷ []
 
 -- p(1, Z)
@@ -89,15 +97,19 @@ p_of_one = query (first ∷ []) nondet (goal (all_of (number x 1 ∷ call 0 (x �
 
 abbrev pub Order : Type 0
 Order =
-    Shows (asked order plenty plenty p_of_one) (called 0 ∷ called 1 ∷ called 2 ∷ int_is 30 ∷ called 2 ∷ int_is 20 ∷ []) at_end
-    × Shows (asked order 4 plenty p_of_one) (called 0 ∷ called 1 ∷ called 2 ∷ int_is 30 ∷ called 2 ∷ int_is 20 ∷ []) at_end
-    × Shows (asked order 3 plenty p_of_one) (called 0 ∷ called 1 ∷ called 2 ∷ int_is 30 ∷ []) (at_stop budget)
+    Shows (asked order plenty plenty p_of_one)
+    (called 0 ∷ called 1 ∷ called 2 ∷ int_is 30 ∷ called 2 ∷ int_is 20 ∷ []) at_end
+    × Shows (asked order 4 plenty p_of_one)
+    (called 0 ∷ called 1 ∷ called 2 ∷ int_is 30 ∷ called 2 ∷ int_is 20 ∷ []) at_end
+    × Shows (asked order 3 plenty p_of_one) (called 0 ∷ called 1 ∷ called 2 ∷ int_is 30 ∷ [])
+    (at_stop budget)
     × (answers_of (asked order 3 plenty p_of_one) ≢ answers_of (asked order 4 plenty p_of_one))
 
 -- depth(N, D) :- ( if N = 0 then D = 0 else depth(N - 1, D0), D = D0 + 1 ).  loop :- loop.
 abbrev deep : List Procedure
 deep =
-    procedure (first ∷ second ∷ []) (ground_inst ∷ free_inst ∷ []) (ground_inst ∷ ground_inst ∷ []) det
+    procedure (first ∷ second ∷ []) (ground_inst ∷ free_inst ∷ []) (ground_inst ∷ ground_inst ∷ [])
+    det
     (goal (Ite [] (once (TestConst first (int (pos 0)))) (number second 0)
     (goal (Exists (x ∷ []) (goal (all_of
     (number t1 1 ∷ apply B.IntMinus (first ∷ t1 ∷ []) (t2 ∷ []) ∷ call 0 (t2 ∷ x ∷ [])
@@ -107,7 +119,8 @@ deep =
 
 -- depth(5, D)
 abbrev depth_of_five : Procedure
-depth_of_five = query (first ∷ []) nondet (goal (all_of (number x 5 ∷ call 0 (x ∷ first ∷ []) ∷ [])))
+depth_of_five =
+    query (first ∷ []) nondet (goal (all_of (number x 5 ∷ call 0 (x ∷ first ∷ []) ∷ [])))
 
 abbrev loops : Procedure
 loops = query [] nondet (once (all_of (call 1 [] ∷ [])))
@@ -117,14 +130,16 @@ five_calls k = called k ∷ called k ∷ called k ∷ called k ∷ called k ∷ 
 
 abbrev pub Budgets : Type 0
 Budgets =
-    Shows (asked deep 6 plenty depth_of_five) (called 0 ∷ called 0 ∷ called 0 ∷ called 0 ∷ called 0 ∷ called 0 ∷ int_is 5 ∷ []) at_end
+    Shows (asked deep 6 plenty depth_of_five)
+    (called 0 ∷ called 0 ∷ called 0 ∷ called 0 ∷ called 0 ∷ called 0 ∷ int_is 5 ∷ []) at_end
     × Shows (asked deep 5 plenty depth_of_five) (five_calls 0) (at_stop budget)
     × Shows (asked deep 5 plenty loops) (five_calls 1) (at_stop budget)
     × (ending (asked deep 5 plenty depth_of_five) ≢ at_end)
 
 abbrev pub Depths : Type 0
 Depths =
-    Shows (asked deep plenty 6 depth_of_five) (called 0 ∷ called 0 ∷ called 0 ∷ called 0 ∷ called 0 ∷ called 0 ∷ int_is 5 ∷ []) at_end
+    Shows (asked deep plenty 6 depth_of_five)
+    (called 0 ∷ called 0 ∷ called 0 ∷ called 0 ∷ called 0 ∷ called 0 ∷ int_is 5 ∷ []) at_end
     × Shows (asked deep plenty 5 depth_of_five) (five_calls 0) (at_stop too_deep)
     × (ending (asked deep plenty 5 depth_of_five) ≢ at_stop budget)
 
@@ -132,7 +147,13 @@ Depths =
 abbrev throwing : List Procedure
 throwing =
     procedure (first ∷ []) (free_inst ∷ []) (ground_inst ∷ []) multi
-    (goal (one_of (number first 7 ∷ goal (all_of (number t1 1 ∷ number t2 0 ∷ apply B.IntQuotient (t1 ∷ t2 ∷ []) (first ∷ []) ∷ [])) ∷ [])))
+    (goal
+    (one_of
+    (number first 7
+    ∷ goal
+    (all_of
+    (number t1 1 ∷ number t2 0 ∷ apply B.IntQuotient (t1 ∷ t2 ∷ []) (first ∷ [])
+    ∷ [])) ∷ [])))
     ∷ []
 
 abbrev all_t : Procedure
@@ -140,27 +161,34 @@ all_t = query (first ∷ []) nondet (call 0 (first ∷ []))
 
 abbrev pub Throws : Type 0
 Throws =
-    Shows (asked throwing plenty plenty all_t) (called 0 ∷ int_is 7 ∷ []) (at_stop (thrown zero_divide))
+    Shows (asked throwing plenty plenty all_t) (called 0 ∷ int_is 7 ∷ [])
+    (at_stop (thrown zero_divide))
     × (ending (asked throwing plenty plenty all_t) ≢ at_end)
 
 abbrev text : ℕ → List ℕ → Node
 text v s = goal (Const v (str s))
 
--- main(!IO) :- sum([3, 4, 5], 0, S), io.write_string("Total: " ++ int_to_string(S) ++ "\n", !IO), squares(1, !IO).
+-- main(!IO) :- sum([3, 4, 5], 0, S), io.write_string("Total: " ++ int_to_string(S) ++ "\n", !IO),
+-- squares(1, !IO).
 abbrev main : Procedure
 main =
-    procedure (first ∷ second ∷ []) (ground_inst ∷ free_inst ∷ []) (ground_inst ∷ ground_inst ∷ []) det
+    procedure (first ∷ second ∷ []) (ground_inst ∷ free_inst ∷ []) (ground_inst ∷ ground_inst ∷ [])
+    det
     (goal (all_of
     (number t1 3 ∷ number t2 4 ∷ number t3 5 ∷ goal (Build t4 nil []) ∷ goal (Build t5 cell (t3 ∷ t4 ∷ [])) ∷ goal (Build t6 cell (t2 ∷ t5 ∷ [])) ∷ goal (Build xs cell (t1 ∷ t6 ∷ []))
     ∷ number z 0 ∷ call 1 (xs ∷ z ∷ x ∷ [])
-    ∷ text total_text (codes "Total: ") ∷ apply B.IntToString (x ∷ []) (sum_text ∷ []) ∷ text line_end_text (10 ∷ []) ∷ apply B.StringJoin (sum_text ∷ line_end_text ∷ []) (sum_line ∷ []) ∷ apply B.StringJoin (total_text ∷ sum_line ∷ []) (whole_line ∷ [])
+    ∷ text total_text (codes "Total: ") ∷ apply B.IntToString (x ∷ []) (sum_text ∷ [])
+    ∷ text line_end_text (10 ∷ [])
+    ∷ apply B.StringJoin (sum_text ∷ line_end_text ∷ []) (sum_line ∷ [])
+    ∷ apply B.StringJoin (total_text ∷ sum_line ∷ []) (whole_line ∷ [])
     ∷ apply B.WriteString (whole_line ∷ first ∷ []) (y ∷ [])
     ∷ number one 1 ∷ call 2 (one ∷ y ∷ second ∷ []) ∷ [])))
 
 -- sum([], S, S).  sum([X | Xs], S0, S) :- sum(Xs, S0 + X, S).
 abbrev sum : Procedure
 sum =
-    procedure (first ∷ second ∷ third ∷ []) (ground_inst ∷ ground_inst ∷ free_inst ∷ []) (ground_inst ∷ ground_inst ∷ ground_inst ∷ []) det
+    procedure (first ∷ second ∷ third ∷ []) (ground_inst ∷ ground_inst ∷ free_inst ∷ [])
+    (ground_inst ∷ ground_inst ∷ ground_inst ∷ []) det
     (goal (switch_on first
     ((for_symbol nil, goal (all_of (goal (Take first nil []) ∷ goal (Assign third second) ∷ [])))
     ∷ (
@@ -174,7 +202,8 @@ sum =
 --     ( if N > 3 then true else io.write_int(N * N, !IO), io.nl(!IO), squares(N + 1, !IO) ).
 abbrev squares : Procedure
 squares =
-    procedure (first ∷ second ∷ third ∷ []) (ground_inst ∷ ground_inst ∷ free_inst ∷ []) (ground_inst ∷ ground_inst ∷ ground_inst ∷ []) det
+    procedure (first ∷ second ∷ third ∷ []) (ground_inst ∷ ground_inst ∷ free_inst ∷ [])
+    (ground_inst ∷ ground_inst ∷ ground_inst ∷ []) det
     (goal (Ite []
     (once (all_of (number t1 3 ∷ apply B.IntGreater (first ∷ t1 ∷ []) [] ∷ [])))
     (goal (all_of (goal (Assign third second) ∷ [])))
@@ -199,7 +228,8 @@ line_end = wrote (10 ∷ [])
 abbrev calls_and_texts : List Shown
 calls_and_texts =
     called 0 ∷ called 1 ∷ called 1 ∷ called 1 ∷ called 1 ∷ wrote (codes "Total: 12" ++ (10 ∷ []))
-    ∷ called 2 ∷ wrote (codes "1") ∷ line_end ∷ called 2 ∷ wrote (codes "4") ∷ line_end ∷ called 2 ∷ wrote (codes "9") ∷ line_end ∷ []
+    ∷ called 2 ∷ wrote (codes "1") ∷ line_end ∷ called 2 ∷ wrote (codes "4") ∷ line_end ∷ called 2
+    ∷ wrote (codes "9") ∷ line_end ∷ []
 
 abbrev and_then : List Shown → List Shown → List Shown
 and_then [] us = us
@@ -208,8 +238,11 @@ and_then (s ∷ ss) us = s ∷ and_then ss us
 -- nine calls are made, and with one less the same is written
 abbrev pub Output : Type 0
 Output =
-    Shows (started total plenty plenty 0 main_arguments) (and_then calls_and_texts (called 2 ∷ answered (state [] 0 ∷ state lines 0 ∷ []) ∷ [])) at_end
-    × Shows (started total 9 plenty 0 main_arguments) (and_then calls_and_texts (called 2 ∷ answered (state [] 0 ∷ state lines 0 ∷ []) ∷ [])) at_end
+    Shows (started total plenty plenty 0 main_arguments)
+    (and_then calls_and_texts (called 2 ∷ answered (state [] 0 ∷ state lines 0 ∷ []) ∷ [])) at_end
+    × Shows (started total 9 plenty 0 main_arguments)
+    (and_then calls_and_texts (called 2 ∷ answered (state [] 0 ∷ state lines 0 ∷ []) ∷ []))
+    at_end
     × Shows (started total 8 plenty 0 main_arguments) calls_and_texts (at_stop budget)
     × (calls_of (started total plenty plenty 0 main_arguments) ≡ 9)
     × (written (started total plenty plenty 0 main_arguments) ≡ lines)

@@ -38,8 +38,8 @@ over p = head p (term_then some_nil no_terms) ∷ []
 abbrev pub amb : List Judged
 amb = head 0 no_terms ∷ equation (variable 0) some_nil ∷ equation (variable 0) some_nil ∷ []
 
--- `pa(nil).` is well typed. `amb` is not, since two resolutions type it; nor is `any(nil).`, whose argument is of every
--- type: no resolution types it.
+-- `pa(nil).` is well typed. `amb` is not, since two resolutions type it; nor is `any(nil).`, whose
+-- argument is of every type: no resolution types it.
 abbrev pub Typings : Type 0
 Typings =
     WellTyped two_types (over 1)

@@ -1,5 +1,5 @@
--- The law that flat truth implies nested truth. (Mercury Language Reference Manual: Semantics; this project's normal
--- form.)
+-- The law that flat truth implies nested truth. (Mercury Language Reference Manual: Semantics; this
+-- project's normal form.)
 use Rattle.std.specs.Prelude.{◌≡◌, ℕ, ◌<◌, List, ◌++◌}
 use Rattle.mc_program.specs.Programs.{Formula, Equal, Call, And, Or, If, Not, Exists, Formulas, no_formulas, formula_then}
 use Rattle.mc_model.specs.Truth.{Assignment, In, Facts, World, Yes, No, stage}
@@ -27,9 +27,11 @@ pub record Numbers (names : ℕ → ℕ) (xs : List ℕ) (n : ℕ) : Type 0 wher
   pub apart : (x y : ℕ) → In x xs → In y xs → names x ≡ names y → x ≡ y
   pub below : (x : ℕ) → In x xs → names x < n
 
--- a goal's own flat goal, by the numbers of its variables, where those that are made are numbered from n on
+-- a goal's own flat goal, by the numbers of its variables, where those that are made are numbered
+-- from n on
 abbrev pub flat_goal : (names : ℕ → ℕ) → ℕ → Formula → Flat_goal
-flat_goal names n g = around (conjuncts_of names n g).made_variables (conjunction (conjuncts_of names n g).goals)
+flat_goal names n g =
+    around (conjuncts_of names n g).made_variables (conjunction (conjuncts_of names n g).goals)
 
 -- the goal is true where its flat goal is, and false where that is
 pub record Carries (C : Facts) (names : ℕ → ℕ) (n : ℕ) (g : Formula) (u : Assignment) : Type 0 where
@@ -39,5 +41,6 @@ pub record Carries (C : Facts) (names : ℕ → ℕ) (n : ℕ) (g : Formula) (u 
 -- at every stage
 abbrev pub FlatGoalsCarry : Type 0
 FlatGoalsCarry =
-    (P : World) (m : ℕ) (names : ℕ → ℕ) (xs : List ℕ) (n : ℕ) (g : Formula) → Numbers names xs n → Uses xs g →
+    (P : World) (m : ℕ) (names : ℕ → ℕ) (xs : List ℕ) (n : ℕ) (g : Formula)
+    → Numbers names xs n → Uses xs g →
     (u : Assignment) → Carries (stage P m) names n g u

@@ -1,5 +1,6 @@
--- The law that a predicate's one normal goal says of its head variables what its clauses say of arguments. (Mercury
--- Language Reference Manual: Semantics, the completion of a predicate's clauses; this project's normal form.)
+-- The law that a predicate's one normal goal says of its head variables what its clauses say of
+-- arguments. (Mercury Language Reference Manual: Semantics, the completion of a predicate's
+-- clauses; this project's normal form.)
 use Rattle.std.specs.Prelude.{◌≡◌, ℕ, List, [], ◌∷◌, map, length}
 use Rattle.mc_program.specs.Values.{Val}
 use Rattle.mc_program.specs.Programs.{ClauseForm}
@@ -17,11 +18,15 @@ abbrev pub HeadsHave : ℕ → List ClauseForm → Type 0
 HeadsHave arity [] = Unit {0}
 HeadsHave arity (c ∷ cs) = (length c.head ≡ arity) × HeadsHave arity cs
 
--- An answer of the normal goal at these arguments makes a clause true of them; and where the goal is false for all values
--- of its other variables, each clause is false of them. (The goal quantifies none of its variables at its top.)
+-- An answer of the normal goal at these arguments makes a clause true of them; and where the goal
+-- is false for all values of its other variables, each clause is false of them. (The goal
+-- quantifies none of its variables at its top.)
 pub record PredicateCarries (C : Facts) (arity : ℕ) (cls : List ClauseForm) (ws : List Val) : Type 0 where
-  pub yes : (u : Assignment) → AtHead ws u → FlatYes C (normal_goal arity cls).body u → SomeClause C cls ws
-  pub no : ((u : Assignment) → AtHead ws u → FlatNo C (normal_goal arity cls).body u) → NoClause C cls ws
+  pub yes :
+      (u : Assignment)
+      → AtHead ws u → FlatYes C (normal_goal arity cls).body u → SomeClause C cls ws
+  pub no :
+      ((u : Assignment) → AtHead ws u → FlatNo C (normal_goal arity cls).body u) → NoClause C cls ws
 
 -- at every stage, of as many arguments as the clauses have
 abbrev pub PredicatesCarry : Type 0

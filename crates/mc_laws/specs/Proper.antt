@@ -1,5 +1,5 @@
--- Graphs of insts that are well formed, and what inclusion says of values. (Mercury Language Reference Manual: Modes,
--- insts.)
+-- Graphs of insts that are well formed, and what inclusion says of values. (Mercury Language
+-- Reference Manual: Modes, insts.)
 use Rattle.std.specs.Prelude.{◌≡◌, ℕ, List, [], ◌∷◌, length}
 use Rattle.mc_program.specs.Values.{Val}
 use Rattle.mc_program.specs.Programs.{TypeTerm, Source}

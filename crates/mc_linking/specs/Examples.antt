@@ -1,4 +1,5 @@
--- Files and the rules that they break, computed by the definition: for each rule of the phase a file that breaks it, and one beside it that doesn't.
+-- Files and the rules that they break, computed by the definition: for each rule of the phase a
+-- file that breaks it, and one beside it that doesn't.
 use Rattle.std.specs.Prelude.{◌≡◌, ◌≢◌, ℕ, ◌+◌, List, [], ◌∷◌, ◌++◌, codes, Some, None}
 use Rattle.mc_term_data.specs.Plain.{PlainTerm, PlainTerms, at, no_term, more_terms, App}
 use Rattle.mc_source.specs.Determinism.{inferred, det}
@@ -24,8 +25,10 @@ library_module w = on_lines 9 1 (ModuleStart (w ∷ []) ∷ Interface ∷ [])
 
 abbrev pub library : List File
 library =
-    library_module (codes "list") ∷ library_module (codes "bool") ∷ library_module (codes "maybe") ∷ library_module (codes "pair") ∷ library_module (codes "int")
-    ∷ library_module (codes "string") ∷ library_module (codes "char") ∷ library_module (codes "io") ∷ library_module (codes "require") ∷ []
+    library_module (codes "list") ∷ library_module (codes "bool") ∷ library_module (codes "maybe")
+    ∷ library_module (codes "pair") ∷ library_module (codes "int")
+    ∷ library_module (codes "string") ∷ library_module (codes "char") ∷ library_module (codes "io")
+    ∷ library_module (codes "require") ∷ []
 
 -- the faults of one file, and of two
 abbrev pub alone : List PlainDecl → List Broken
@@ -60,22 +63,30 @@ declared = Pred (atom (codes "p")) (Some (inferred det))
 abbrev pub clause : PlainDecl
 clause = Clause (atom (codes "p"))
 
--- a file without items; a clause before any section; `:- end_module` of another name, and of its own
+-- a file without items; a clause before any section; `:- end_module` of another name, and of its
+-- own
 abbrev pub Structure : Type 0
 Structure =
     (link_faults ([] ∷ library) ≡ one R.N1 0 1 (codes "module structure"))
     × (alone (start ∷ clause ∷ []) ≡ one R.N1 0 2 (codes "module structure"))
-    × (alone (start ∷ Interface ∷ ModuleEnd (codes "b" ∷ []) ∷ []) ≡ one R.N1 0 3 (codes "module structure"))
+    × (alone (start ∷ Interface ∷ ModuleEnd (codes "b" ∷ []) ∷ [])
+    ≡ one R.N1 0 3 (codes "module structure"))
     × (alone (start ∷ Interface ∷ ModuleEnd (codes "a" ∷ []) ∷ []) ≡ [])
     × (alone (start ∷ Interface ∷ declared ∷ clause ∷ []) ≢ [])
 
--- a module that is given twice, or that has a library module's name; an import of a module that isn't there; modules that import each other and themselves
+-- a module that is given twice, or that has a library module's name; an import of a module that
+-- isn't there; modules that import each other and themselves
 abbrev pub Modules : Type 0
 Modules =
-    (beside (start ∷ Interface ∷ []) (start ∷ Interface ∷ []) ≡ one R.N2 1 1 (codes "module a is given twice"))
-    × (alone (ModuleStart (codes "list" ∷ []) ∷ Interface ∷ []) ≡ one R.N2 0 1 (codes "module list is given twice"))
-    × (alone (start ∷ Interface ∷ Imports ((codes "nowhere" ∷ []) ∷ []) ∷ []) ≡ one R.N3 0 3 (codes "module nowhere is not found"))
-    × (beside (start ∷ Interface ∷ Imports ((codes "b" ∷ []) ∷ (codes "a" ∷ []) ∷ []) ∷ []) (ModuleStart (codes "b" ∷ []) ∷ Interface ∷ UseOnly ((codes "a" ∷ []) ∷ []) ∷ []) ≡ [])
+    (beside (start ∷ Interface ∷ []) (start ∷ Interface ∷ [])
+    ≡ one R.N2 1 1 (codes "module a is given twice"))
+    × (alone (ModuleStart (codes "list" ∷ []) ∷ Interface ∷ [])
+    ≡ one R.N2 0 1 (codes "module list is given twice"))
+    × (alone (start ∷ Interface ∷ Imports ((codes "nowhere" ∷ []) ∷ []) ∷ [])
+    ≡ one R.N3 0 3 (codes "module nowhere is not found"))
+    × (beside (start ∷ Interface ∷ Imports ((codes "b" ∷ []) ∷ (codes "a" ∷ []) ∷ []) ∷ [])
+    (ModuleStart (codes "b" ∷ []) ∷ Interface ∷ UseOnly ((codes "a" ∷ []) ∷ []) ∷ [])
+    ≡ [])
 
 -- a type `t` over one constructor of a type `u`
 abbrev pub uses_u : PlainDecl
@@ -84,27 +95,48 @@ uses_u = UnionType (atom (codes "t")) (just (over (codes "c") (just (atom (codes
 abbrev pub defines_u : PlainDecl
 defines_u = UnionType (atom (codes "u")) (just (atom (codes "d")))
 
--- a name that nothing visible has; that an imported module's interface has; that it has and doesn't show; that a module has which is only used
+-- a name that nothing visible has; that an imported module's interface has; that it has and doesn't
+-- show; that a module has which is only used
 abbrev pub Names : Type 0
 Names =
-    (alone (start ∷ Interface ∷ uses_u ∷ []) ≡ one R.N4 0 3 (shown (id (codes "u") 0) ++ codes " is not visible"))
-    × (beside (start ∷ Interface ∷ Imports ((codes "b" ∷ []) ∷ []) ∷ uses_u ∷ []) (ModuleStart (codes "b" ∷ []) ∷ Interface ∷ defines_u ∷ []) ≡ [])
-    × (beside (start ∷ Interface ∷ Imports ((codes "b" ∷ []) ∷ []) ∷ uses_u ∷ []) (ModuleStart (codes "b" ∷ []) ∷ Implementation ∷ defines_u ∷ []) ≡ one R.N4 0 4 (shown (id (codes "u") 0) ++ codes " is not visible"))
-    × (beside (start ∷ Interface ∷ UseOnly ((codes "b" ∷ []) ∷ []) ∷ uses_u ∷ []) (ModuleStart (codes "b" ∷ []) ∷ Interface ∷ defines_u ∷ []) ≡ one R.N4 0 4 (shown (id (codes "u") 0) ++ codes " is not visible"))
+    (alone (start ∷ Interface ∷ uses_u ∷ [])
+    ≡ one R.N4 0 3 (shown (id (codes "u") 0) ++ codes " is not visible"))
+    × (beside (start ∷ Interface ∷ Imports ((codes "b" ∷ []) ∷ []) ∷ uses_u ∷ [])
+    (ModuleStart (codes "b" ∷ []) ∷ Interface ∷ defines_u ∷ [])
+    ≡ [])
+    × (beside (start ∷ Interface ∷ Imports ((codes "b" ∷ []) ∷ []) ∷ uses_u ∷ [])
+    (ModuleStart (codes "b" ∷ []) ∷ Implementation ∷ defines_u ∷ [])
+    ≡ one R.N4 0 4 (shown (id (codes "u") 0) ++ codes " is not visible"))
+    × (beside (start ∷ Interface ∷ UseOnly ((codes "b" ∷ []) ∷ []) ∷ uses_u ∷ [])
+    (ModuleStart (codes "b" ∷ []) ∷ Interface ∷ defines_u ∷ [])
+    ≡ one R.N4 0 4 (shown (id (codes "u") 0) ++ codes " is not visible"))
 
--- a type that is defined twice, a constructor that stands twice in one union; an abstract type and its definition; an abstract type alone; an own type `int`
+-- a type that is defined twice, a constructor that stands twice in one union; an abstract type and
+-- its definition; an abstract type alone; an own type `int`
 abbrev pub Definitions : Type 0
 Definitions =
-    (alone (start ∷ Interface ∷ defines_u ∷ defines_u ∷ []) ≡ one R.N5 0 4 (shown (id (codes "u") 0) ++ codes " is defined twice"))
-    × (alone (start ∷ Interface ∷ UnionType (atom (codes "u")) (two (atom (codes "d")) (atom (codes "d"))) ∷ []) ≡ one R.N5 0 3 (shown (id (codes "d") 0) ++ codes " is defined twice"))
-    × (alone (start ∷ Interface ∷ AbstractType (atom (codes "u")) ∷ Implementation ∷ defines_u ∷ []) ≡ [])
-    × (alone (start ∷ Interface ∷ AbstractType (atom (codes "u")) ∷ []) ≡ one R.N6 0 3 (shown (id (codes "u") 0) ++ codes " has no definition"))
-    × (alone (start ∷ Interface ∷ UnionType (atom (codes "int")) (just (atom (codes "d"))) ∷ SameType (atom (codes "t")) (atom (codes "int")) ∷ []) ≡ one R.N8 0 4 (shown (id (codes "int") 0) ++ codes " has two meanings"))
+    (alone (start ∷ Interface ∷ defines_u ∷ defines_u ∷ [])
+    ≡ one R.N5 0 4 (shown (id (codes "u") 0) ++ codes " is defined twice"))
+    × (alone
+    (start ∷ Interface
+    ∷ UnionType (atom (codes "u")) (two (atom (codes "d")) (atom (codes "d"))) ∷ [])
+    ≡ one R.N5 0 3 (shown (id (codes "d") 0) ++ codes " is defined twice"))
+    × (alone (start ∷ Interface ∷ AbstractType (atom (codes "u")) ∷ Implementation ∷ defines_u ∷ [])
+    ≡ [])
+    × (alone (start ∷ Interface ∷ AbstractType (atom (codes "u")) ∷ [])
+    ≡ one R.N6 0 3 (shown (id (codes "u") 0) ++ codes " has no definition"))
+    × (alone
+    (start ∷ Interface ∷ UnionType (atom (codes "int")) (just (atom (codes "d")))
+    ∷ SameType (atom (codes "t")) (atom (codes "int")) ∷ [])
+    ≡ one R.N8 0 4 (shown (id (codes "int") 0) ++ codes " has two meanings"))
 
 -- a clause of what isn't declared; a declaration without clauses; one without modes; one with both
 abbrev pub Predicates : Type 0
 Predicates =
-    (alone (start ∷ Implementation ∷ clause ∷ []) ≡ one R.N7 0 3 (shown (id (codes "p") 0) ++ codes " is not declared"))
-    × (alone (start ∷ Interface ∷ declared ∷ []) ≡ one R.N6 0 3 (shown (id (codes "p") 0) ++ codes " has no definition"))
-    × (alone (start ∷ Interface ∷ Pred (atom (codes "p")) None ∷ Implementation ∷ clause ∷ []) ≡ one R.M5 0 3 (shown (id (codes "p") 0) ++ codes " has no mode"))
+    (alone (start ∷ Implementation ∷ clause ∷ [])
+    ≡ one R.N7 0 3 (shown (id (codes "p") 0) ++ codes " is not declared"))
+    × (alone (start ∷ Interface ∷ declared ∷ [])
+    ≡ one R.N6 0 3 (shown (id (codes "p") 0) ++ codes " has no definition"))
+    × (alone (start ∷ Interface ∷ Pred (atom (codes "p")) None ∷ Implementation ∷ clause ∷ [])
+    ≡ one R.M5 0 3 (shown (id (codes "p") 0) ++ codes " has no mode"))
     × (alone (start ∷ Interface ∷ declared ∷ Implementation ∷ clause ∷ []) ≡ [])

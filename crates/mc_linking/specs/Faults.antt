@@ -1,5 +1,6 @@
--- The rules of the phase that links, item by item (the Mercury manual: The module system; this project's rules and texts).
-use Rattle.std.specs.Prelude.{ℕ, ◌+◌, Bool, true, false, cond, not, nat_eq, nat_lt, ◌&&◌, ◌||◌, List, [], ◌∷◌, ◌++◌, Option, Some, None, codes, decimal}
+-- The rules of the phase that links, item by item (the Mercury manual: The module system; this
+-- project's rules and texts).
+use Rattle.std.specs.Prelude.{ℕ, ◌+◌, Bool, true, false, not, nat_eq, nat_lt, ◌&&◌, ◌||◌, List, [], ◌∷◌, ◌++◌, Option, Some, None, codes, decimal, if◌then◌else◌}
 use Rattle.std.specs.Option.{option_or, option_map}
 use Rattle.std.specs.Str.{bytes_eq}
 use Rattle.std.specs.Set.{is_member}
@@ -39,17 +40,20 @@ abbrev pub is_module_of : Option (List ℕ) → Path → Bool
 is_module_of None w = false
 is_module_of (Some v) w = bytes_eq v (joined w)
 
--- Whether an item stands where it must not: a module begins with its name and may end with it; items stand in sections, and clauses not in an interface.
+-- Whether an item stands where it must not: a module begins with its name and may end with it;
+-- items stand in sections, and clauses not in an interface.
 abbrev pub is_misplaced : Option (List ℕ) → PlainItemInFile → PlainDecl → Bool
 is_misplaced m s (ModuleStart w) = not s.is_first
-is_misplaced m s (ModuleEnd w) = s.is_first || (is_nowhere s.section || (not s.is_last || not (is_module_of m w)))
+is_misplaced m s (ModuleEnd w) =
+    s.is_first || (is_nowhere s.section || (not s.is_last || not (is_module_of m w)))
 is_misplaced m s Interface = s.is_first
 is_misplaced m s Implementation = s.is_first
 is_misplaced m s (Clause t) = s.is_first || not (is_implementation s.section)
 is_misplaced m s i = s.is_first || is_nowhere s.section
 
 abbrev pub structure_fault : Option (List ℕ) → PlainItemInFile → Option Fault
-structure_fault m s = cond (is_misplaced m s s.item) (Some (R.N1, codes "module structure")) None
+structure_fault m s =
+    if is_misplaced m s s.item then Some (R.N1, codes "module structure") else None
 
 abbrev pub is_number : Option ℕ → ℕ → Bool
 is_number None k = false
@@ -57,7 +61,9 @@ is_number (Some j) k = nat_eq j k
 
 -- a module whose name means another one: one before it, or one of the library's
 abbrev pub twice_given : List File → (own : ℕ) → PlainDecl → Option Fault
-twice_given files own (ModuleStart w) = cond (is_number (module_of files (joined w)) own) None (Some (R.N2, codes "module " ++ (joined w ++ codes " is given twice")))
+twice_given files own (ModuleStart w) =
+    if is_number (module_of files (joined w)) own then None
+    else Some (R.N2, codes "module " ++ (joined w ++ codes " is given twice"))
 twice_given files own i = None
 
 abbrev pub not_found : Path → Option ℕ → Option Fault
@@ -77,19 +83,25 @@ import_fault files i = None
 -- the first name that nothing visible has
 abbrev pub invisible : List File → (own : ℕ) → List PlainOccurrence → Option Fault
 invisible files own [] = None
-invisible files own (u ∷ us) = cond (nat_eq (meanings files own u) 0) (Some (R.N4, shown u.id ++ codes " is not visible")) (invisible files own us)
+invisible files own (u ∷ us) =
+    if nat_eq (meanings files own u) 0 then Some (R.N4, shown u.id ++ codes " is not visible")
+    else invisible files own us
 
 -- a definition that the items before declare or define too
 abbrev pub again : (before : List PlainDefinition) → List PlainDefinition → Option PlainNameArity
 again before [] = None
-again before (t ∷ ts) = cond (is_member is_definition before t) (Some t.id) None
+again before (t ∷ ts) = if is_member is_definition before t then Some t.id else None
 
 abbrev pub double_fault : (before : List PlainDefinition) → PlainDecl → Option Fault
-double_fault before i = option_map (λ x. (R.N5, shown x ++ codes " is defined twice")) (option_or (again before (definitions i)) (twice_in i))
+double_fault before i =
+    option_map (λ x. (R.N5, shown x ++ codes " is defined twice"))
+    (option_or (again before (definitions i)) (twice_in i))
 
--- whether a definition of a file lacks what is to stand there too: the definition of an abstract type, the clauses of a predicate or a function
+-- whether a definition of a file lacks what is to stand there too: the definition of an abstract
+-- type, the clauses of a predicate or a function
 abbrev pub is_undefined : (all : List PlainItemInFile) → Kind → PlainNameArity → Bool
-is_undefined all K.AbstractType x = not (is_member is_definition (definitions_of all) (definition K.DefinedType x))
+is_undefined all K.AbstractType x =
+    not (is_member is_definition (definitions_of all) (definition K.DefinedType x))
 is_undefined all K.Pred x = not (is_member is_definition (clauses_of all) (definition K.Pred x))
 is_undefined all K.Func x = not (is_member is_definition (clauses_of all) (definition K.Func x))
 is_undefined all _ x = false
@@ -97,12 +109,16 @@ is_undefined all _ x = false
 -- the first definition that an item declares, where it lacks its definition
 abbrev pub undefined_fault : (all : List PlainItemInFile) → List PlainDefinition → Option Fault
 undefined_fault all [] = None
-undefined_fault all (t ∷ ts) = cond (is_undefined all t.kind t.id) (Some (R.N6, shown t.id ++ codes " has no definition")) None
+undefined_fault all (t ∷ ts) =
+    if is_undefined all t.kind t.id then Some (R.N6, shown t.id ++ codes " has no definition")
+    else None
 
 -- a clause or a mode of what isn't declared
 abbrev pub undeclared : (all : List PlainItemInFile) → Option PlainDefinition → Option Fault
 undeclared all None = None
-undeclared all (Some t) = cond (is_member is_definition (definitions_of all) t) None (Some (R.N7, shown t.id ++ codes " is not declared"))
+undeclared all (Some t) =
+    if is_member is_definition (definitions_of all) t then None
+    else Some (R.N7, shown t.id ++ codes " is not declared")
 
 -- a type, an inst or a mode
 abbrev pub is_single : Kind → Bool
@@ -115,15 +131,22 @@ is_single _ = false
 abbrev pub ambiguous : List File → (own : ℕ) → List PlainOccurrence → Option Fault
 ambiguous files own [] = None
 ambiguous files own (u ∷ us) =
-    cond (is_single u.kind && (not (is_qualified u.qualifiers) && nat_lt 1 (meanings files own u))) (Some (R.N8, shown u.id ++ codes " has two meanings")) (ambiguous files own us)
+    if is_single u.kind && (not (is_qualified u.qualifiers) && nat_lt 1 (meanings files own u))
+    then Some (R.N8, shown u.id ++ codes " has two meanings")
+    else ambiguous files own us
 
 -- a predicate that is declared without a mode, and has no further one
 abbrev pub mode_fault : (all : List PlainItemInFile) → Option PlainNameArity → Option Fault
 mode_fault all None = None
-mode_fault all (Some x) = cond (is_member is_definition (modes_of all) (definition K.Pred x)) None (Some (R.M5, shown x ++ codes " has no mode"))
+mode_fault all (Some x) =
+    if is_member is_definition (modes_of all) (definition K.Pred x) then None
+    else Some (R.M5, shown x ++ codes " has no mode")
 
--- The first rule that an item of a file breaks, behind those that declare or define `before`, and among all of them.
-abbrev pub fault : List File → (own : ℕ) → (all : List PlainItemInFile) → (before : List PlainDefinition) → PlainItemInFile → Option Fault
+-- The first rule that an item of a file breaks, behind those that declare or define `before`, and
+-- among all of them.
+abbrev pub fault :
+    List File → (own : ℕ) → (all : List PlainItemInFile) → (before : List PlainDefinition)
+    → PlainItemInFile → Option Fault
 fault files own all before s =
     option_or (structure_fault (module_name (file_at files own)) s)
     (option_or (twice_given files own s.item)
@@ -139,18 +162,26 @@ abbrev pub broken_by : Place → Option Fault → List Broken
 broken_by place None = []
 broken_by place (Some f) = record { rule = f.0; at = place; what = f.1 } ∷ []
 
-abbrev pub faults_behind : List File → (own : ℕ) → (all : List PlainItemInFile) → (before : List PlainDefinition) → List PlainItemInFile → List Broken
+abbrev pub faults_behind :
+    List File → (own : ℕ) → (all : List PlainItemInFile) → (before : List PlainDefinition)
+    → List PlainItemInFile → List Broken
 faults_behind files own all before [] = []
-faults_behind files own all before (s ∷ ss) = broken_by s.at (fault files own all before s) ++ faults_behind files own all (before ++ definitions s.item) ss
+faults_behind files own all before (s ∷ ss) =
+    broken_by s.at (fault files own all before s)
+    ++ faults_behind files own all (before ++ definitions s.item) ss
 
 -- the faulty items of a file; a file without items is faulty on its first line
 abbrev pub faults_of : List File → (own : ℕ) → File → List Broken
-faults_of files own [] = record { rule = R.N1; at = record { file = own; line = 1 }; what = codes "module structure" } ∷ []
-faults_of files own (e ∷ es) = faults_behind files own (items_in_file (e ∷ es)) [] (items_in_file (e ∷ es))
+faults_of files own [] =
+    record { rule = R.N1; at = record { file = own; line = 1 }; what = codes "module structure" }
+    ∷ []
+faults_of files own (e ∷ es) =
+    faults_behind files own (items_in_file (e ∷ es)) [] (items_in_file (e ∷ es))
 
 abbrev pub faults_from : List File → (own : ℕ) → List File → List Broken
 faults_from files own [] = []
-faults_from files own (f ∷ fs) = cond (is_library files own) [] (faults_of files own f ++ faults_from files (own + 1) fs)
+faults_from files own (f ∷ fs) =
+    if is_library files own then [] else faults_of files own f ++ faults_from files (own + 1) fs
 
 -- the rules that the given files break, in their order; the library's breaks none
 abbrev pub link_faults : List File → List Broken

@@ -1,5 +1,6 @@
--- The files that are linked, where the items of a file stand, and what they declare (the Mercury manual: The module system).
-use Rattle.std.specs.Prelude.{ℕ, Bool, true, false, cond, ◌||◌, List, [], ◌∷◌, ◌++◌, map, Option, Some, None}
+-- The files that are linked, where the items of a file stand, and what they declare (the Mercury
+-- manual: The module system).
+use Rattle.std.specs.Prelude.{ℕ, Bool, true, false, ◌||◌, List, [], ◌∷◌, ◌++◌, map, Option, Some, None, if◌then◌else◌}
 use Rattle.std.specs.Set.{is_member}
 use Rattle.mc_source.specs.declared.place.Place.{Place}
 use Rattle.mc_decl_syntax.specs.Plain.{Path, PlainDecl, ModuleStart, Interface, Implementation}
@@ -27,7 +28,8 @@ section_after s Interface = InInterface
 section_after s Implementation = InImplementation
 section_after s i = s
 
--- an item with its place, the section in which it stands, and whether it is the file's first or last
+-- an item with its place, the section in which it stands, and whether it is the file's first or
+-- last
 pub record PlainItemInFile : Type 0 where
   pub item : PlainDecl
   pub at : Place
@@ -41,7 +43,9 @@ is_empty _ = false
 
 abbrev pub items_in_file_from : (is_first : Bool) → Section → File → List PlainItemInFile
 items_in_file_from is_first s [] = []
-items_in_file_from is_first s (e ∷ es) = record { item = e.0; at = e.1; section = s; is_first = is_first; is_last = is_empty es } ∷ items_in_file_from false (section_after s e.0) es
+items_in_file_from is_first s (e ∷ es) =
+    record { item = e.0; at = e.1; section = s; is_first = is_first; is_last = is_empty es }
+    ∷ items_in_file_from false (section_after s e.0) es
 
 -- the items of a file, each as it stands there
 abbrev pub items_in_file : File → List PlainItemInFile
@@ -75,7 +79,7 @@ is_shown _ = false
 -- what the items of interfaces declare and define, in order
 abbrev pub shown_of : List PlainItemInFile → List PlainDefinition
 shown_of [] = []
-shown_of (s ∷ ss) = cond (is_shown s.section) (definitions s.item) [] ++ shown_of ss
+shown_of (s ∷ ss) = (if is_shown s.section then definitions s.item else []) ++ shown_of ss
 
 abbrev pub as_list : Option PlainDefinition → List PlainDefinition
 as_list None = []
@@ -92,7 +96,9 @@ modes_of (s ∷ ss) = as_list (mode_of s.item) ++ modes_of ss
 
 -- Whether definitions have one that a name of a kind may mean. An abstract type is a type.
 abbrev pub has : Kind → PlainNameArity → List PlainDefinition → Bool
-has K.DefinedType x ts = is_member is_definition ts (definition K.DefinedType x) || is_member is_definition ts (definition K.AbstractType x)
+has K.DefinedType x ts =
+    is_member is_definition ts (definition K.DefinedType x)
+    || is_member is_definition ts (definition K.AbstractType x)
 has k x ts = is_member is_definition ts (definition k x)
 
 -- files as they were read

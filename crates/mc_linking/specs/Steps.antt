@@ -11,7 +11,9 @@ use Rattle.mc_linking.specs.Files.{File, PlainItemInFile}
 use Rattle.mc_linking.specs.Faults.{Fault, double_fault, undefined_fault, undeclared, ambiguous, mode_fault, fault, broken_by}
 
 -- the rules of what an item declares, defines, and is of, and of the modes of predicates
-abbrev pub definition_fault : List File → (own : ℕ) → (all : List PlainItemInFile) → (before : List PlainDefinition) → PlainItemInFile → Option Fault
+abbrev pub definition_fault :
+    List File → (own : ℕ) → (all : List PlainItemInFile) → (before : List PlainDefinition)
+    → PlainItemInFile → Option Fault
 definition_fault files own all before s =
     option_or (double_fault before s.item)
     (option_or (undefined_fault all (definitions s.item))
@@ -20,6 +22,10 @@ definition_fault files own all before s =
     (mode_fault all (without_mode s.item)))))
 
 -- the same where what stands before is a set
-abbrev pub faults_with : List File → (own : ℕ) → (all : List PlainItemInFile) → (before : List PlainDefinition) → List PlainItemInFile → List Broken
+abbrev pub faults_with :
+    List File → (own : ℕ) → (all : List PlainItemInFile) → (before : List PlainDefinition)
+    → List PlainItemInFile → List Broken
 faults_with files own all before [] = []
-faults_with files own all before (s ∷ ss) = broken_by s.at (fault files own all before s) ++ faults_with files own all (put_all before (definitions s.item)) ss
+faults_with files own all before (s ∷ ss) =
+    broken_by s.at (fault files own all before s)
+    ++ faults_with files own all (put_all before (definitions s.item)) ss

@@ -40,7 +40,12 @@ impl<'a> Linking<'a> {
     ) -> Result<Fault, Memory>
         requires linking { IsLinking self.now }
         requires own { own < length self.now.files.now }
-        ensures { IfOk result (λ f. f ≡ fault (plain_files self.now.files.now) own (standing_of (file_at (plain_files self.now.files.now) own)) before.now (plain_item_in_file item.now)) }
+        ensures { IfOk result
+            (λ f.
+            f
+            ≡ fault (plain_files self.now.files.now) own
+            (standing_of (file_at (plain_files self.now.files.now) own)) before.now
+            (plain_item_in_file item.now)) }
     {
         let decl = &item.entry.decl;
         if let Some(fault) = structure_fault(alloc, self.files[own as usize].as_slice(), item)? {
@@ -71,7 +76,12 @@ impl<'a> Linking<'a> {
         requires linking { IsLinking self.now }
         requires own { own < length self.now.files.now }
         requires uses { map plain_occurrence uses.now ≡ uses_of (plain_item item.now.entry.now.decl) }
-        ensures { IfOk result (λ f. f ≡ definition_fault (plain_files self.now.files.now) own (standing_of (file_at (plain_files self.now.files.now) own)) before.now (plain_item_in_file item.now)) }
+        ensures { IfOk result
+            (λ f.
+            f
+            ≡ definition_fault (plain_files self.now.files.now) own
+            (standing_of (file_at (plain_files self.now.files.now) own)) before.now
+            (plain_item_in_file item.now)) }
     {
         let decl = &item.entry.decl;
         let definitions = definitions(alloc, decl)?;
@@ -93,7 +103,8 @@ impl<'a> Linking<'a> {
     // The rule N2: the name of a module means another one.
     fn twice_given(&self, alloc: Global, own: u32, decl: &Decl) -> Result<Fault, Memory>
         requires linking { IsLinking self.now }
-        ensures { IfOk result (λ f. f ≡ twice_given (plain_files self.now.files.now) own (plain_item decl.now)) }
+        ensures { IfOk result
+            (λ f. f ≡ twice_given (plain_files self.now.files.now) own (plain_item decl.now)) }
     {
         match decl {
             Decl::ModuleStart(name) => {
@@ -110,7 +121,9 @@ impl<'a> Linking<'a> {
     // Whether a name means a module.
     fn is_number(&self, alloc: Global, own: u32, name: &[Text]) -> Result<bool, Memory>
         requires linking { IsLinking self.now }
-        ensures { IfOk result (λ is. is ≡ is_number (module_of (plain_files self.now.files.now) (joined name.now)) own) }
+        ensures { IfOk result
+            (λ is.
+            is ≡ is_number (module_of (plain_files self.now.files.now) (joined name.now)) own) }
     {
         match self.number(alloc, name)? {
             Some(number) => Ok(number == own),
@@ -121,7 +134,8 @@ impl<'a> Linking<'a> {
     // The rule N3: a module that is imported or used isn't there.
     fn import_fault(&self, alloc: Global, decl: &Decl) -> Result<Fault, Memory>
         requires linking { IsLinking self.now }
-        ensures { IfOk result (λ f. f ≡ import_fault (plain_files self.now.files.now) (plain_item decl.now)) }
+        ensures { IfOk result
+            (λ f. f ≡ import_fault (plain_files self.now.files.now) (plain_item decl.now)) }
     {
         match decl {
             Decl::Imports(names) | Decl::UseOnly(names) => self.missing(alloc, names.as_slice()),
@@ -143,7 +157,11 @@ impl<'a> Linking<'a> {
 
     fn not_found(&self, alloc: Global, name: &[Text]) -> Result<Fault, Memory>
         requires linking { IsLinking self.now }
-        ensures { IfOk result (λ f. f ≡ not_found name.now (module_of (plain_files self.now.files.now) (joined name.now))) }
+        ensures { IfOk result
+            (λ f.
+            f
+            ≡ not_found name.now
+            (module_of (plain_files self.now.files.now) (joined name.now))) }
     {
         match self.number(alloc, name)? {
             Some(_) => Ok(None),
@@ -163,7 +181,9 @@ impl<'a> Linking<'a> {
     ) -> Result<Fault, Memory>
         requires linking { IsLinking self.now }
         requires own { own < length self.now.files.now }
-        ensures { IfOk result (λ f. f ≡ invisible (plain_files self.now.files.now) own (map plain_occurrence uses.now)) }
+        ensures { IfOk result
+            (λ f.
+            f ≡ invisible (plain_files self.now.files.now) own (map plain_occurrence uses.now)) }
     {
         for used in uses {
             if !self.has_meaning(alloc, own, used)? {
@@ -183,7 +203,11 @@ impl<'a> Linking<'a> {
     ) -> Result<Fault, Memory>
         requires linking { IsLinking self.now }
         requires own { own < length self.now.files.now }
-        ensures { IfOk result (λ f. f ≡ undefined_fault (standing_of (file_at (plain_files self.now.files.now) own)) (map plain_definition definitions.now)) }
+        ensures { IfOk result
+            (λ f.
+            f
+            ≡ undefined_fault (standing_of (file_at (plain_files self.now.files.now) own))
+            (map plain_definition definitions.now)) }
     {
         match definitions {
             [definition, ..] if self.is_undefined(own, definition) => {
@@ -198,7 +222,9 @@ impl<'a> Linking<'a> {
     fn is_undefined(&self, own: u32, definition: &Definition<'a>) -> bool
         requires linking { IsLinking self.now }
         requires own { own < length self.now.files.now }
-        ensures { result ≡ is_undefined (standing_of (file_at (plain_files self.now.files.now) own)) (plain_definition definition.now).kind (plain_definition definition.now).id }
+        ensures { result
+            ≡ is_undefined (standing_of (file_at (plain_files self.now.files.now) own))
+            (plain_definition definition.now).kind (plain_definition definition.now).id }
     {
         let table = self.table(own);
         let id = definition.id;
@@ -221,7 +247,11 @@ impl<'a> Linking<'a> {
     ) -> Result<Fault, Memory>
         requires linking { IsLinking self.now }
         requires own { own < length self.now.files.now }
-        ensures { IfOk result (λ f. f ≡ undeclared (standing_of (file_at (plain_files self.now.files.now) own)) (option_map plain_definition subject.entry)) }
+        ensures { IfOk result
+            (λ f.
+            f
+            ≡ undeclared (standing_of (file_at (plain_files self.now.files.now) own))
+            (option_map plain_definition subject.entry)) }
     {
         match subject {
             Some(definition) => {
@@ -239,7 +269,10 @@ impl<'a> Linking<'a> {
     fn is_declared(&self, own: u32, definition: Definition<'a>) -> bool
         requires linking { IsLinking self.now }
         requires own { own < length self.now.files.now }
-        ensures { result ≡ is_member is_definition (definitions_in (standing_of (file_at (plain_files self.now.files.now) own))) (plain_definition definition.entry) }
+        ensures { result
+            ≡ is_member is_definition
+            (definitions_in (standing_of (file_at (plain_files self.now.files.now) own)))
+            (plain_definition definition.entry) }
     {
         self.table(own).definitions.contains(definition)
     }
@@ -248,7 +281,9 @@ impl<'a> Linking<'a> {
     fn ambiguous(&self, alloc: Global, own: u32, uses: &[Occurrence<'a>]) -> Result<Fault, Memory>
         requires linking { IsLinking self.now }
         requires own { own < length self.now.files.now }
-        ensures { IfOk result (λ f. f ≡ ambiguous (plain_files self.now.files.now) own (map plain_occurrence uses.now)) }
+        ensures { IfOk result
+            (λ f.
+            f ≡ ambiguous (plain_files self.now.files.now) own (map plain_occurrence uses.now)) }
     {
         for used in uses {
             if self.is_ambiguous(own, used) {
@@ -268,7 +303,11 @@ impl<'a> Linking<'a> {
     ) -> Result<Fault, Memory>
         requires linking { IsLinking self.now }
         requires own { own < length self.now.files.now }
-        ensures { IfOk result (λ f. f ≡ mode_fault (standing_of (file_at (plain_files self.now.files.now) own)) (option_map plain_name_arity pred.entry)) }
+        ensures { IfOk result
+            (λ f.
+            f
+            ≡ mode_fault (standing_of (file_at (plain_files self.now.files.now) own))
+            (option_map plain_name_arity pred.entry)) }
     {
         match pred {
             Some(id) => {
@@ -286,7 +325,10 @@ impl<'a> Linking<'a> {
     fn has_mode(&self, own: u32, id: NameArity<'a>) -> bool
         requires linking { IsLinking self.now }
         requires own { own < length self.now.files.now }
-        ensures { result ≡ is_member is_definition (modes_of (standing_of (file_at (plain_files self.now.files.now) own))) (definition_of Kind.Pred (plain_name_arity id.entry)) }
+        ensures { result
+            ≡ is_member is_definition
+            (modes_of (standing_of (file_at (plain_files self.now.files.now) own)))
+            (definition_of Kind.Pred (plain_name_arity id.entry)) }
     {
         self.table(own).modes.contains(Definition {
             kind: Kind::Pred,
@@ -320,7 +362,11 @@ fn doubled<'a>(
     decl: &'a Decl,
     definitions: &[Definition<'a>],
 ) -> Result<Option<NameArity<'a>>, Memory>
-    ensures { IfOk result (λ id. option_map plain_name_arity id ≡ option_or (again before.now (map plain_definition definitions.now)) (twice_in (plain_item decl.now))) }
+    ensures { IfOk result
+        (λ id.
+        option_map plain_name_arity id
+        ≡ option_or (again before.now (map plain_definition definitions.now))
+        (twice_in (plain_item decl.now))) }
 {
     match definitions {
         [definition, ..] if before.contains(*definition) => Ok(Some(definition.id)),
@@ -330,7 +376,8 @@ fn doubled<'a>(
 
 // The predicate or function that a clause or a further mode is of.
 fn subject_of(decl: &Decl) -> Option<Definition<'_>>
-    ensures { option_map plain_definition result ≡ option_or (clause_of (plain_item decl.now)) (mode_of (plain_item decl.now)) }
+    ensures { option_map plain_definition result
+        ≡ option_or (clause_of (plain_item decl.now)) (mode_of (plain_item decl.now)) }
 {
     match clause_of(decl) {
         Some(definition) => Some(definition),

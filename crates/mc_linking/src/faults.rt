@@ -37,7 +37,11 @@ impl<'a> Linking<'a> {
     fn file_faults(&self, alloc: Global, own: u32, broken: &mut Vec<Broken>) -> Result<(), Memory>
         requires linking { IsLinking self.now }
         requires own { own < length self.now.files.now }
-        ensures { OnOk result (broken.new.items ≡ broken.old.items ++ faults_of (plain_files self.now.files.now) own (file_at (plain_files self.now.files.now) own)) }
+        ensures { OnOk result
+            (broken.new.items
+            ≡ broken.old.items
+            ++ faults_of (plain_files self.now.files.now) own
+            (file_at (plain_files self.now.files.now) own)) }
     {
         let file = self.files[own as usize].as_slice();
         if file.is_empty() {
@@ -58,7 +62,12 @@ impl<'a> Linking<'a> {
     ) -> Result<(), Memory>
         requires linking { IsLinking self.now }
         requires own { own < length self.now.files.now }
-        ensures { OnOk result (broken.new.items ≡ broken.old.items ++ faults_with (plain_files self.now.files.now) own (standing_of (file_at (plain_files self.now.files.now) own)) [] (map plain_item_in_file items.now)) }
+        ensures { OnOk result
+            (broken.new.items
+            ≡ broken.old.items
+            ++ faults_with (plain_files self.now.files.now) own
+            (standing_of (file_at (plain_files self.now.files.now) own)) []
+            (map plain_item_in_file items.now)) }
     {
         let mut before = DefinitionSet::new(alloc);
         for item in items {
@@ -79,7 +88,13 @@ impl<'a> Linking<'a> {
     ) -> Result<(), Memory>
         requires linking { IsLinking self.now }
         requires own { own < length self.now.files.now }
-        ensures { OnOk result (broken.new.items ≡ broken.old.items ++ broken_by (plain_item_in_file item.now).at (fault (plain_files self.now.files.now) own (standing_of (file_at (plain_files self.now.files.now) own)) before.now (plain_item_in_file item.now))) }
+        ensures { OnOk result
+            (broken.new.items
+            ≡ broken.old.items
+            ++ broken_by (plain_item_in_file item.now).at
+            (fault (plain_files self.now.files.now) own
+            (standing_of (file_at (plain_files self.now.files.now) own)) before.now
+            (plain_item_in_file item.now))) }
     {
         if let Some((rule, what)) = self.fault(alloc, own, before, item)? {
             let at = item.entry.at;
@@ -91,7 +106,8 @@ impl<'a> Linking<'a> {
 
 // A file without items is no module.
 fn add_empty(alloc: Global, own: u32, broken: &mut Vec<Broken>) -> Result<(), Memory>
-    ensures { OnOk result ((files : List File) → broken.new.items ≡ broken.old.items ++ faults_of files own []) }
+    ensures { OnOk result
+        ((files : List File) → broken.new.items ≡ broken.old.items ++ faults_of files own []) }
 {
     let rule = Rule::N1;
     let at = Place { file: own, line: 1 };

@@ -19,7 +19,8 @@ pub struct ItemInFile<'a> {
 
 /// The items of a file, each as it stands there.
 pub fn items_in_file<'a>(alloc: Global, file: &'a [Entry]) -> Result<Vec<ItemInFile<'a>>, Memory>
-    ensures { IfOk result (λ all. map plain_item_in_file all.items ≡ items_in_file (map plain_entry file.now)) }
+    ensures { IfOk result
+        (λ all. map plain_item_in_file all.items ≡ items_in_file (map plain_entry file.now)) }
 {
     let mut all = Vec::new(alloc);
     let mut section = Section::Nowhere;

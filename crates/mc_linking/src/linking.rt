@@ -5,7 +5,7 @@ ghost use Rattle.mc_linking.specs.Files.{joined, items_in_file, plain_files};
 ghost use Rattle.mc_linking.specs.Visible.{module_of, unqualified, seen, file_at, has_definition};
 ghost use Rattle.mc_linking.specs.Tables.{table, tables, IsLinking};
 
-use crate::item_in_file::items;
+use crate::item_in_file::items_in_file;
 use crate::module_names::ModuleNames;
 use crate::table::Table;
 use crate::visibility::{Visibility, visibilities};
@@ -43,7 +43,8 @@ impl<'a> Linking<'a> {
     /// The number of the module that a name means.
     pub fn number(&self, alloc: Global, name: &[Text]) -> Result<Option<u32>, Memory>
         requires linking { IsLinking self.now }
-        ensures { IfOk result (λ number. number ≡ module_of (plain_files self.now.files.now) (joined name.now)) }
+        ensures { IfOk result
+            (λ number. number ≡ module_of (plain_files self.now.files.now) (joined name.now)) }
     {
         let number = self.names.number(alloc, name)?;
         Ok(number)
@@ -90,7 +91,9 @@ impl<'a> Linking<'a> {
     /// Whether a module has a definition, for itself or for another.
     pub fn has_definition(&self, own: u32, number: u32, kind: Kind, id: NameArity<'a>) -> bool
         requires linking { IsLinking self.now }
-        ensures { result ≡ has_definition (plain_files self.now.files.now) own kind (plain_name_arity id.entry) number }
+        ensures { result
+            ≡ has_definition (plain_files self.now.files.now) own kind (plain_name_arity id.entry)
+            number }
     {
         if number as usize >= self.tables.len() {
             return false;

@@ -23,7 +23,13 @@ impl<'a> Linking<'a> {
     ) -> Result<bool, Memory>
         requires linking { IsLinking self.now }
         requires own { own < length self.now.files.now }
-        ensures { IfOk result (λ is. is ≡ not (nat_eq (meanings (plain_files self.now.files.now) own (plain_occurrence used.now)) 0)) }
+        ensures { IfOk result
+            (λ is.
+            is
+            ≡ not
+            (nat_eq
+            (meanings (plain_files self.now.files.now) own
+            (plain_occurrence used.now)) 0)) }
     {
         match used.kind {
             Kind::Symbol => Ok(
@@ -46,7 +52,13 @@ impl<'a> Linking<'a> {
     ) -> Result<bool, Memory>
         requires linking { IsLinking self.now }
         requires own { own < length self.now.files.now }
-        ensures { IfOk result (λ is. is ≡ not (nat_eq (meanings_as (plain_files self.now.files.now) own kind (plain_occurrence used.now)) 0)) }
+        ensures { IfOk result
+            (λ is.
+            is
+            ≡ not
+            (nat_eq
+            (meanings_as (plain_files self.now.files.now) own kind
+            (plain_occurrence used.now)) 0)) }
     {
         if used.qualifiers.is_empty() {
             return Ok(self.is_found_unqualified(own, kind, used));
@@ -65,7 +77,11 @@ impl<'a> Linking<'a> {
         requires linking { IsLinking self.now }
         requires own { own < length self.now.files.now }
         requires unqualified { (plain_occurrence used.now).qualifiers ≡ [] }
-        ensures { result ≡ not (nat_eq (meanings_as (plain_files self.now.files.now) own kind (plain_occurrence used.now)) 0) }
+        ensures { result
+            ≡ not
+            (nat_eq
+            (meanings_as (plain_files self.now.files.now) own kind
+            (plain_occurrence used.now)) 0) }
     {
         is_builtin(kind, &used.id) || self.is_in_any(own, self.unqualified(own), kind, used.id)
     }
@@ -74,7 +90,11 @@ impl<'a> Linking<'a> {
     #[tactic(auto, using(crate::proofs::Counts::some_more))]
     fn is_in_any(&self, own: u32, numbers: &[u32], kind: Kind, id: NameArity<'a>) -> bool
         requires linking { IsLinking self.now }
-        ensures { result ≡ not (nat_eq (how_many (plain_files self.now.files.now) own kind (plain_name_arity id.entry) numbers.now) 0) }
+        ensures { result
+            ≡ not
+            (nat_eq
+            (how_many (plain_files self.now.files.now) own kind (plain_name_arity id.entry)
+            numbers.now) 0) }
     {
         for number in numbers {
             if self.has_definition(own, *number, kind, id) {
@@ -88,7 +108,9 @@ impl<'a> Linking<'a> {
     fn how_many(&self, own: u32, numbers: &[u32], kind: Kind, id: NameArity<'a>) -> usize
         requires linking { IsLinking self.now }
         requires few { length numbers.now < 2 ^ 32 }
-        ensures count { result ≡ how_many (plain_files self.now.files.now) own kind (plain_name_arity id.entry) numbers.now }
+        ensures count { result
+            ≡ how_many (plain_files self.now.files.now) own kind (plain_name_arity id.entry)
+            numbers.now }
         ensures few { result ≤ length numbers.now }
     {
         let mut count = 0;
@@ -105,7 +127,12 @@ impl<'a> Linking<'a> {
     pub fn is_ambiguous(&self, own: u32, used: &Occurrence<'a>) -> bool
         requires linking { IsLinking self.now }
         requires own { own < length self.now.files.now }
-        ensures { result ≡ (is_single (plain_occurrence used.now).kind && (not (is_qualified (plain_occurrence used.now).qualifiers) && nat_lt 1 (meanings (plain_files self.now.files.now) own (plain_occurrence used.now)))) }
+        ensures { result
+            ≡ (is_single (plain_occurrence used.now).kind
+            && (not (is_qualified (plain_occurrence used.now).qualifiers)
+            && nat_lt 1
+            (meanings (plain_files self.now.files.now) own
+            (plain_occurrence used.now)))) }
     {
         if !is_single(used.kind) || !used.qualifiers.is_empty() {
             return false;
@@ -127,7 +154,9 @@ fn is_single(kind: Kind) -> bool
 
 // Whether a name without qualifiers and arguments is a character.
 fn is_character(used: &Occurrence<'_>) -> bool
-    ensures { result ≡ is_some (character (plain_occurrence used.now).qualifiers (plain_occurrence used.now).id) }
+    ensures { result
+        ≡ is_some
+        (character (plain_occurrence used.now).qualifiers (plain_occurrence used.now).id) }
 {
     used.qualifiers.is_empty() && used.id.arity == 0 && sole_character(used.id.name).is_some()
 }

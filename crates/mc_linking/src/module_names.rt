@@ -75,7 +75,10 @@ impl ModuleNames {
     // Puts in the names of the files from one on, the first last: it wins.
     fn put_from(&mut self, alloc: Global, files: &[Row<Entry>], from: usize) -> Result<(), Memory>
         requires { from ≤ length files.now }
-        ensures { OnOk result (number_of self.new ≡ named_behind from (drop from (module_names (plain_files files.now))) (number_of self.old)) }
+        ensures { OnOk result
+            (number_of self.new
+            ≡ named_behind from (drop from (module_names (plain_files files.now)))
+            (number_of self.old)) }
     {
         if files.len() > u32::MAX as usize {
             return Err(Memory);
@@ -90,7 +93,9 @@ impl ModuleNames {
 
     // Puts in the name of a file, in the place of one that is the same.
     fn put_file(&mut self, alloc: Global, file: &[Entry], number: u32) -> Result<(), Memory>
-        ensures { OnOk result (number_of self.new ≡ put_name (module_name (map plain_entry file.now)) number (number_of self.old)) }
+        ensures { OnOk result
+            (number_of self.new
+            ≡ put_name (module_name (map plain_entry file.now)) number (number_of self.old)) }
     {
         match module_name(file) {
             Some(name) => self.put(joined(alloc, name)?, number),

@@ -19,7 +19,11 @@ pub fn structure_fault(
     file: &[Entry],
     item: &ItemInFile<'_>,
 ) -> Result<Option<(Rule, Text)>, Memory>
-    ensures { IfOk result (λ fault. fault ≡ structure_fault (module_name (map plain_entry file.now)) (plain_item_in_file item.now)) }
+    ensures { IfOk result
+        (λ fault.
+        fault
+        ≡ structure_fault (module_name (map plain_entry file.now))
+        (plain_item_in_file item.now)) }
 {
     if !is_misplaced(alloc, file, item)? {
         return Ok(None);
@@ -29,7 +33,11 @@ pub fn structure_fault(
 
 // A module begins with its name and may end with it; items stand in sections, and clauses not in an interface.
 fn is_misplaced(alloc: Global, file: &[Entry], item: &ItemInFile<'_>) -> Result<bool, Memory>
-    ensures { IfOk result (λ is. is ≡ is_misplaced (module_name (map plain_entry file.now)) (plain_item_in_file item.now) (plain_item_in_file item.now).item) }
+    ensures { IfOk result
+        (λ is.
+        is
+        ≡ is_misplaced (module_name (map plain_entry file.now)) (plain_item_in_file item.now)
+        (plain_item_in_file item.now).item) }
 {
     let is_nowhere = matches!(item.section, Section::Nowhere);
     match &item.entry.decl {

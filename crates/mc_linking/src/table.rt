@@ -51,7 +51,9 @@ impl<'a> Table<'a> {
 
     /// Whether the file has a definition that a name of a kind may mean, for itself or for another.
     pub fn has(&self, is_own: bool, kind: Kind, id: NameArity<'a>) -> bool
-        ensures { result ≡ has kind (plain_name_arity id.entry) (cond is_own self.now.definitions self.now.shown) }
+        ensures { result
+            ≡ has kind (plain_name_arity id.entry)
+            (cond is_own self.now.definitions self.now.shown) }
     {
         let definitions = if is_own {
             &self.definitions
@@ -88,7 +90,8 @@ fn put_one<'a>(
     set: &mut DefinitionSet<'a>,
     definition: Option<Definition<'a>>,
 ) -> Result<(), Memory>
-    ensures { OnOk result (set.new ≡ put_all set.old (as_list (option_map plain_definition definition.entry))) }
+    ensures { OnOk result
+        (set.new ≡ put_all set.old (as_list (option_map plain_definition definition.entry))) }
 {
     if let Some(definition) = definition {
         set.insert(definition)?;

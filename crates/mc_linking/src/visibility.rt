@@ -26,7 +26,8 @@ pub fn visibilities(
     names: &ModuleNames,
 ) -> Result<Vec<Visibility>, Memory>
     requires { number_of names.now ≡ module_of (plain_files files.now) }
-    ensures { IfOk result (λ all. all.items ≡ visibilities_from (plain_files files.now) 0 (plain_files files.now)) }
+    ensures { IfOk result
+        (λ all. all.items ≡ visibilities_from (plain_files files.now) 0 (plain_files files.now)) }
 {
     if files.len() > u32::MAX as usize {
         return Err(Memory);
@@ -64,7 +65,9 @@ fn add_imported(
     file: &[Entry],
     modules: &mut Row<u32>,
 ) -> Result<(), Memory>
-    ensures { OnOk result (modules.new ≡ with_named_in imports (number_of names.now) (map plain_entry file.now) modules.old) }
+    ensures { OnOk result
+        (modules.new
+        ≡ with_named_in imports (number_of names.now) (map plain_entry file.now) modules.old) }
 {
     for entry in file {
         add_all(alloc, names, imports(&entry.decl), modules)?;
@@ -79,7 +82,9 @@ fn add_only_used(
     file: &[Entry],
     modules: &mut Row<u32>,
 ) -> Result<(), Memory>
-    ensures { OnOk result (modules.new ≡ with_named_in only_uses (number_of names.now) (map plain_entry file.now) modules.old) }
+    ensures { OnOk result
+        (modules.new
+        ≡ with_named_in only_uses (number_of names.now) (map plain_entry file.now) modules.old) }
 {
     for entry in file {
         add_all(alloc, names, only_uses(&entry.decl), modules)?;

@@ -1,6 +1,6 @@
--- What each builtin does at its inputs. (Mercury Language Reference Manual: the library; this project's profile of
--- numbers, which wrap at 64 bits, and of reading lines.)
-use Rattle.std.specs.Prelude.{ℕ, suc, ◌+◌, ◌^◌, Bool, true, cond, ◌&&◌, nat_eq, nat_lt, nat_le, List, [], ◌∷◌, ◌++◌, length, drop, ℤ, pos, negsuc, neg_ℤ, ◌+ℤ◌, ◌-ℤ◌, ◌*ℤ◌, int_lt, int_le, codes, encode_utf8}
+-- What each builtin does at its inputs. (Mercury Language Reference Manual: the library; this
+-- project's profile of numbers, which wrap at 64 bits, and of reading lines.)
+use Rattle.std.specs.Prelude.{ℕ, suc, ◌+◌, ◌^◌, Bool, true, ◌&&◌, nat_eq, nat_lt, nat_le, List, [], ◌∷◌, ◌++◌, length, drop, ℤ, pos, negsuc, neg_ℤ, ◌+ℤ◌, ◌-ℤ◌, ◌*ℤ◌, int_lt, int_le, codes, encode_utf8, if◌then◌else◌}
 use Rattle.std.specs.Int.{w64, int_wrap, int_div_euclid}
 use Rattle.std.specs.Int.RustNames.{int_div, int_rem}
 use Rattle.std.specs.Ordering.{int_eq}
@@ -13,8 +13,8 @@ use Rattle.mc_model.specs.Outcomes.{Outcome, fails, gives, throws, writes, reads
 use Rattle.mc_program.specs.declared.builtin.Builtin.{Builtin}
 use Rattle.mc_program.specs.declared.builtin.Builtin.TheVariants as B
 
--- What builtins need to know of a program: the symbols of `[]`, `[|]` and io's `ok` and `eof`, and the printed text of
--- values.
+-- What builtins need to know of a program: the symbols of `[]`, `[|]` and io's `ok` and `eof`, and
+-- the printed text of values.
 pub record Library : Type 0 where
   pub nil : ℕ
   pub cons : ℕ
@@ -22,7 +22,8 @@ pub record Library : Type 0 where
   pub eof : ℕ
   pub text_of : Val → List ℕ
 
--- the first input is of a kind, and f says what follows at the others; no builtin does anything at inputs of other kinds
+-- the first input is of a kind, and f says what follows at the others; no builtin does anything at
+-- inputs of other kinds
 abbrev pub on_int : (ℤ → List Val → Outcome) → List Val → Outcome
 on_int f (int n ∷ vs) = f n vs
 on_int f _ = fails
@@ -59,7 +60,7 @@ gives_char c = gives (char c ∷ [])
 
 -- a test, which gives nothing
 abbrev pub succeeds_if : Bool → Outcome
-succeeds_if t = cond t (gives []) fails
+succeeds_if t = if t then gives [] else fails
 
 -- a function, and a test, of two integers
 abbrev pub on_two_ints : (ℤ → ℤ → Outcome) → List Val → Outcome
@@ -67,7 +68,7 @@ on_two_ints f = on_int (λ a. on_int (λ b. at_end (f a b)))
 
 -- division by zero throws
 abbrev pub divided : (ℤ → ℤ → ℤ) → List Val → Outcome
-divided f = on_two_ints (λ a b. cond (int_eq b (pos 0)) (throws zero_divide) (gives_int (f a b)))
+divided f = on_two_ints (λ a b. if int_eq b (pos 0) then throws zero_divide else gives_int (f a b))
 
 -- the quotient, rounded down, and what it leaves
 abbrev pub int_floor : ℤ → ℤ → ℤ
@@ -85,10 +86,11 @@ fits_64 (negsuc n) = nat_lt n (2 ^ 63)
 -- the number that a text writes: a sign, or none, and decimal digits
 abbrev pub number_of : List ℕ → Outcome
 number_of s =
-    cond
-    (nat_lt 0 (length (without_leading_sign s)) && all_ascii_digits (without_leading_sign s) && fits_64 (signed_digits_value 10 s))
-    (gives (int (signed_digits_value 10 s) ∷ []))
-    fails
+    if nat_lt 0 (length (without_leading_sign s))
+    && all_ascii_digits (without_leading_sign s)
+    && fits_64 (signed_digits_value 10 s)
+    then gives (int (signed_digits_value 10 s) ∷ [])
+    else fails
 
 -- the list of the characters
 abbrev pub char_list : Library → List ℕ → Val
@@ -97,10 +99,10 @@ char_list L (c ∷ cs) = con L.cons (val_then (char c) (val_then (char_list L cs
 
 -- the character of a code, which is a Unicode scalar value
 abbrev pub is_scalar : ℕ → Bool
-is_scalar n = cond (nat_lt n 0xD800) true (nat_le 0xE000 n && nat_lt n 0x11_0000)
+is_scalar n = if nat_lt n 0xD800 then true else nat_le 0xE000 n && nat_lt n 0x11_0000
 
 abbrev pub char_of_code : ℤ → Outcome
-char_of_code (pos n) = cond (is_scalar n) (gives_char n) fails
+char_of_code (pos n) = if is_scalar n then gives_char n else fails
 char_of_code (negsuc n) = fails
 
 -- a text is written: the state gains its bytes
@@ -110,15 +112,17 @@ write_at t = on_state (λ written taken. at_end (writes t (state (written ++ t) 
 -- what there is up to and with the first byte 10, or all of it
 abbrev pub line_of : List ℕ → List ℕ
 line_of [] = []
-line_of (b ∷ bs) = b ∷ cond (nat_eq b 10) [] (line_of bs)
+line_of (b ∷ bs) = b ∷ (if nat_eq b 10 then [] else line_of bs)
 
 -- a line of at most so many bytes is read, or what is there is no such line
 abbrev pub line_outcome : Library → (limit taken : ℕ) → (written line : List ℕ) → Outcome
 line_outcome L limit taken written line =
-    cond (nat_lt limit (length line)) (reads_and_throws taken (error (codes "input line is too long")))
-    (cond (is_utf8 line)
-    (reads taken (con L.ok (val_then (str line) no_vals) ∷ state written (taken + length line) ∷ []))
-    (reads_and_throws taken (error (codes "input is not UTF-8"))))
+    if nat_lt limit (length line)
+    then reads_and_throws taken (error (codes "input line is too long"))
+    else if is_utf8 line
+    then reads taken
+    (con L.ok (val_then (str line) no_vals) ∷ state written (taken + length line) ∷ [])
+    else reads_and_throws taken (error (codes "input is not UTF-8"))
 
 -- a line is read from what is left of the input; where nothing is left, `eof`
 abbrev pub read_from : Library → (limit taken : ℕ) → (written left : List ℕ) → Outcome
@@ -158,5 +162,6 @@ outcome L input B.WriteChar = on_char (λ c. write_at (encode_utf8 c))
 outcome L input B.WriteInt = on_int (λ a. write_at (signed_decimal a))
 outcome L input B.Write = on_any (λ v. write_at (L.text_of v))
 outcome L input B.Nl = write_at (10 ∷ [])
-outcome L input B.ReadLine = on_state (λ written taken. at_end (read_from L line_limit taken written (drop taken input)))
+outcome L input B.ReadLine =
+    on_state (λ written taken. at_end (read_from L line_limit taken written (drop taken input)))
 outcome L input B.Error = on_str (λ s. at_end (throws (error s)))

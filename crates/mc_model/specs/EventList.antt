@@ -1,5 +1,5 @@
--- Event lists: what a run does, in order, and how it ends. (Mercury Language Reference Manual: Semantics, operational
--- semantics; this project's profile of it, strict sequential execution.)
+-- Event lists: what a run does, in order, and how it ends. (Mercury Language Reference Manual:
+-- Semantics, operational semantics; this project's profile of it, strict sequential execution.)
 use Rattle.std.specs.Prelude.{◌⊎◌, ℕ, zero, suc, ◌≤◌, ◌≡◌, Option, Some, None, List, [], ◌++◌}
 use Rattle.mc_program.specs.Values.{Val}
 use Rattle.mc_source.specs.declared.det.Most.{Most}
@@ -21,8 +21,8 @@ pub record Made_call : Type 0 where
   pub proc : ℕ
   pub args : List (Option Val)
 
--- The items of a run with answers of a type. A list ends by End, by a stop, or by Stuck, where an unbound variable
--- would be read.
+-- The items of a run with answers of a type. A list ends by End, by a stop, or by Stuck, where an
+-- unbound variable would be read.
 pub data Items (A : Type 0) : Type 0 where
   End : Items A
   Stuck : Items A
@@ -52,8 +52,8 @@ bind (Called c xs) f = Called c (bind xs f)
 bind (Wrote t xs) f = Wrote t (bind xs f)
 bind (Read k xs) f = Read k (bind xs f)
 
--- each answer of a condition is replaced by the then part's list; where there is none and the condition ends, the
--- else part's list follows
+-- each answer of a condition is replaced by the then part's list; where there is none and the
+-- condition ends, the else part's list follows
 abbrev pub choose : {A B : Type 0} → Items A → (A → Items B) → Items B → Items B
 choose End f ys = ys
 choose Stuck f ys = Stuck
@@ -73,7 +73,8 @@ first (Called c xs) = Called c (first xs)
 first (Wrote t xs) = Wrote t (first xs)
 first (Read k xs) = Read k (first xs)
 
--- the list to its first answer, without it, and then its end; where it has none and ends, the one answer that is given
+-- the list to its first answer, without it, and then its end; where it has none and ends, the one
+-- answer that is given
 abbrev pub negate : {A B : Type 0} → B → Items A → Items B
 negate b End = Answer b End
 negate b Stuck = Stuck
@@ -83,7 +84,8 @@ negate b (Called c xs) = Called c (negate b xs)
 negate b (Wrote t xs) = Wrote t (negate b xs)
 negate b (Read k xs) = Read k (negate b xs)
 
--- the list up to its call number n + 1, without it, and then the stop at the budget; or the whole list
+-- the list up to its call number n + 1, without it, and then the stop at the budget; or the whole
+-- list
 abbrev pub cut : {A : Type 0} → ℕ → Items A → Items A
 cut n End = End
 cut n Stuck = Stuck

@@ -1,12 +1,13 @@
--- The items of an event list as a program keeps them: without the arguments of its calls. (This project's profile of
--- strict sequential execution.)
+-- The items of an event list as a program keeps them: without the arguments of its calls. (This
+-- project's profile of strict sequential execution.)
 use Rattle.std.specs.Prelude.{ℕ, List, [], ◌∷◌, map, Option, Some, None}
 use Rattle.mc_program.specs.Values.{Val, plain_value}
 use Rattle.mc_model.specs.EventList.{Items, End, Stuck, Stopped, Answer, Called, Wrote, Read}
 use Rattle.mc_model.specs.declared.run.Item.{Item}
 use Rattle.mc_model.specs.declared.run.Item.TheVariants as I
 
--- a call of a procedure, a text that is written, an answer, or a reading of the input from a byte on
+-- a call of a procedure, a text that is written, an answer, or a reading of the input from a byte
+-- on
 pub data Event : Type 0 where
   called : (proc : ℕ) → Event
   wrote : (text : List ℕ) → Event

@@ -1,5 +1,5 @@
--- What the program writes of a run: the bytes on its output, the line on its error output and the status. (This
--- project's profile.)
+-- What the program writes of a run: the bytes on its output, the line on its error output and the
+-- status. (This project's profile.)
 use Rattle.std.specs.Prelude.{ℕ, List, [], ◌∷◌, ◌++◌, codes, decimal, Option, Some, None}
 use Rattle.mc_program.specs.Values.{Val}
 use Rattle.mc_model.specs.EventList.{zero_divide, error, Halt, budget, too_deep, thrown, Items, End, Stuck, Stopped, Answer, Called, Wrote, Read}
@@ -12,7 +12,8 @@ texts_of text (None ∷ os) = [] ∷ texts_of text os
 texts_of text (Some v ∷ os) = text v ∷ texts_of text os
 
 -- the bytes of the items: each text that is written, and each answer's line by the variables' names
-abbrev pub bytes_of : (text : Val → List ℕ) → (names : List (List ℕ)) → Items (List (Option Val)) → List ℕ
+abbrev pub bytes_of :
+    (text : Val → List ℕ) → (names : List (List ℕ)) → Items (List (Option Val)) → List ℕ
 bytes_of text names End = []
 bytes_of text names Stuck = []
 bytes_of text names (Stopped h) = []
@@ -31,7 +32,8 @@ no_answer (Called c xs) = no_answer xs
 no_answer (Wrote t xs) = no_answer xs
 no_answer (Read k xs) = no_answer xs
 
-abbrev pub query_bytes : (text : Val → List ℕ) → (names : List (List ℕ)) → Items (List (Option Val)) → List ℕ
+abbrev pub query_bytes :
+    (text : Val → List ℕ) → (names : List (List ℕ)) → Items (List (Option Val)) → List ℕ
 query_bytes text names xs = bytes_of text names xs ++ no_answer xs
 
 -- the line of a stop

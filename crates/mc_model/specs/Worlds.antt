@@ -1,6 +1,6 @@
--- A program's world: its clauses, and what its builtins do over an input. (Mercury Language Reference Manual: the
--- library; this project's profile.)
-use Rattle.std.specs.Prelude.{ℕ, zero, suc, List, [], ◌∷◌, map, Bool, ◌&&◌, cond, nat_eq, codes}
+-- A program's world: its clauses, and what its builtins do over an input. (Mercury Language
+-- Reference Manual: the library; this project's profile.)
+use Rattle.std.specs.Prelude.{ℕ, zero, suc, List, [], ◌∷◌, map, Bool, ◌&&◌, nat_eq, codes, if◌then◌else◌}
 use Rattle.std.specs.Cmp.Lexicographic.{pointwise}
 use Rattle.mc_program.specs.Programs.{FullName}
 use Rattle.mc_program.specs.PlainPrograms.{plain_name, plain_program}
@@ -15,18 +15,20 @@ abbrev pub library_name : (module_name bytes : List ℕ) → (arity : ℕ) → F
 library_name m n a = record { module_name = m; bytes = n; arity = a }
 
 abbrev pub same_name : FullName → FullName → Bool
-same_name a b = pointwise nat_eq a.module_name b.module_name && (pointwise nat_eq a.bytes b.bytes && nat_eq a.arity b.arity)
+same_name a b =
+    pointwise nat_eq a.module_name b.module_name
+    && (pointwise nat_eq a.bytes b.bytes && nat_eq a.arity b.arity)
 
 -- the number of the first symbol of that name, and where there is none that of symbols
 abbrev pub number_of : FullName → List FullName → ℕ
 number_of n [] = zero
-number_of n (m ∷ ms) = cond (same_name n m) zero (suc (number_of n ms))
+number_of n (m ∷ ms) = if same_name n m then zero else suc (number_of n ms)
 
 abbrev pub full_names : Program → List FullName
 full_names P = map (λ (s : Symbol). plain_name s.name) P.symbols
 
--- what builtins need to know of a program: its symbols `list.[]`, `list.[|]`, `io.ok` and `io.eof`, and the text that a
--- value is printed as, by the names of its symbols
+-- what builtins need to know of a program: its symbols `list.[]`, `list.[|]`, `io.ok` and `io.eof`,
+-- and the text that a value is printed as, by the names of its symbols
 abbrev pub library_of : Program → Library
 library_of P =
     record {

@@ -1,5 +1,6 @@
--- What a name in a term or a goal, and that of a type, may mean (the Mercury manual: Overload resolution; the order is this project's).
-use Rattle.std.specs.Prelude.{ℕ, Bool, false, cond, nat_eq, ◌&&◌, ◌||◌, List, [], ◌∷◌, ◌++◌, Option, Some, None, slice_get, slice_index_or}
+-- What a name in a term or a goal, and that of a type, may mean (the Mercury manual: Overload
+-- resolution; the order is this project's).
+use Rattle.std.specs.Prelude.{ℕ, Bool, false, nat_eq, ◌&&◌, ◌||◌, List, [], ◌∷◌, ◌++◌, Option, Some, None, slice_get, slice_index_or, if◌then◌else◌}
 use Rattle.std.specs.Str.{bytes_eq}
 use Rattle.mc_decl_syntax.specs.Plain.{Path}
 use Rattle.mc_defs_uses.specs.Plain.{PlainNameArity, is_name_arity, id}
@@ -26,11 +27,13 @@ fits own x (Some d) = (own || d.exported) && is_name_arity (id d.name.name d.nam
 -- those that fit, in order
 abbrev pub fitting : Linked → (own : Bool) → PlainNameArity → List Candidate → List Candidate
 fitting l own x [] = []
-fitting l own x (c ∷ cs) = cond (fits own x (defined_by l c)) (c ∷ fitting l own x cs) (fitting l own x cs)
+fitting l own x (c ∷ cs) =
+    if fits own x (defined_by l c) then c ∷ fitting l own x cs else fitting l own x cs
 
 abbrev pub fitting_in : Linked → (own : ℕ) → PlainNameArity → List ℕ → List Candidate
 fitting_in l own x [] = []
-fitting_in l own x (j ∷ js) = fitting l (nat_eq own j) x (slice_index_or l.declared j []) ++ fitting_in l own x js
+fitting_in l own x (j ∷ js) =
+    fitting l (nat_eq own j) x (slice_index_or l.declared j []) ++ fitting_in l own x js
 
 abbrev pub is_module : List ℕ → Option Scope → Bool
 is_module w None = false
@@ -39,7 +42,8 @@ is_module w (Some s) = bytes_eq s.«module» w
 -- those of these modules that have a name
 abbrev pub named_so : Linked → List ℕ → List ℕ → List ℕ
 named_so l w [] = []
-named_so l w (j ∷ js) = cond (is_module w (slice_get l.scopes j)) (j ∷ named_so l w js) (named_so l w js)
+named_so l w (j ∷ js) =
+    if is_module w (slice_get l.scopes j) then j ∷ named_so l w js else named_so l w js
 
 -- the modules in which a name with these qualifiers is looked up
 abbrev pub looked_in : Linked → Option Scope → (qualifiers : Path) → List ℕ
@@ -51,19 +55,26 @@ abbrev pub as_character : Option ℕ → List Candidate
 as_character None = []
 as_character (Some c) = C.Char c ∷ []
 
--- The candidates for a name in a module: those of the module itself first, then those of the modules that it imports, in the order of first import; in a module in the order of declaration; last the character.
+-- The candidates for a name in a module: those of the module itself first, then those of the
+-- modules that it imports, in the order of first import; in a module in the order of declaration;
+-- last the character.
 abbrev pub candidates : Linked → (own : ℕ) → (qualifiers : Path) → PlainNameArity → List Candidate
-candidates l own qs x = fitting_in l own x (looked_in l (slice_get l.scopes own) qs) ++ as_character (character qs x)
+candidates l own qs x =
+    fitting_in l own x (looked_in l (slice_get l.scopes own) qs) ++ as_character (character qs x)
 
--- whether a type stands in the module of this number and has the name, and the module of the number `own` sees it
+-- whether a type stands in the module of this number and has the name, and the module of the number
+-- `own` sees it
 abbrev pub type_fits : Linked → (own : ℕ) → PlainNameArity → ℕ → Defined → Bool
-type_fits l own x j d = is_module d.name.module (slice_get l.scopes j) && fits (nat_eq own j) x (Some d)
+type_fits l own x j d =
+    is_module d.name.module (slice_get l.scopes j) && fits (nat_eq own j) x (Some d)
 
 -- the types of these modules that fit
 abbrev pub type_numbers : Linked → (own : ℕ) → PlainNameArity → List ℕ → List ℕ
 type_numbers l own x [] = []
-type_numbers l own x (j ∷ js) = numbers_where (type_fits l own x j) 0 l.types ++ type_numbers l own x js
+type_numbers l own x (j ∷ js) =
+    numbers_where (type_fits l own x j) 0 l.types ++ type_numbers l own x js
 
--- The types that a name may mean in a module, by their numbers, in the same order. The built-in types are not among them.
+-- The types that a name may mean in a module, by their numbers, in the same order. The built-in
+-- types are not among them.
 abbrev pub type_candidates : Linked → (own : ℕ) → (qualifiers : Path) → PlainNameArity → List ℕ
 type_candidates l own qs x = type_numbers l own x (looked_in l (slice_get l.scopes own) qs)

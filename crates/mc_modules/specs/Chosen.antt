@@ -1,5 +1,6 @@
--- Types as they are looked up: those of a name, then those of them that have its arity, then those that a module has and another sees.
-use Rattle.std.specs.Prelude.{ℕ, Bool, false, cond, nat_eq, ◌&&◌, ◌||◌, List, [], ◌∷◌, ◌++◌, Option, Some, None, slice_get}
+-- Types as they are looked up: those of a name, then those of them that have its arity, then those
+-- that a module has and another sees.
+use Rattle.std.specs.Prelude.{ℕ, Bool, false, nat_eq, ◌&&◌, ◌||◌, List, [], ◌∷◌, ◌++◌, Option, Some, None, slice_get, if◌then◌else◌}
 use Rattle.mc_defs_uses.specs.Plain.{PlainNameArity, id, is_name_arity}
 use Rattle.mc_modules.specs.Linked.{Defined, Linked}
 use Rattle.mc_modules.specs.Candidates.{is_module}
@@ -11,7 +12,7 @@ passes p (Some x) = p x
 -- those of these numbers whose definitions pass a test
 abbrev pub chosen : {A : Type 0} → (A → Bool) → List A → List ℕ → List ℕ
 chosen p xs [] = []
-chosen p xs (k ∷ ks) = cond (passes p (slice_get xs k)) (k ∷ chosen p xs ks) (chosen p xs ks)
+chosen p xs (k ∷ ks) = if passes p (slice_get xs k) then k ∷ chosen p xs ks else chosen p xs ks
 
 -- whether a type has the name
 abbrev pub has_id : PlainNameArity → Defined → Bool

@@ -1,5 +1,5 @@
 -- What a program and each of its modules has by name: as much of it as a look-up needs.
-use Rattle.std.specs.Prelude.{◌≡◌, ℕ, ◌+◌, Bool, false, cond, List, [], ◌∷◌, Option, Some, None, slice_get, slice_index_or}
+use Rattle.std.specs.Prelude.{◌≡◌, ℕ, ◌+◌, Bool, false, List, [], ◌∷◌, Option, Some, None, slice_get, slice_index_or, if◌then◌else◌}
 use Rattle.std.specs.Option.{option_map}
 use Rattle.std.specs.Str.{bytes_eq}
 use Rattle.mc_source.specs.declared.name.Candidate.{Candidate}
@@ -13,12 +13,13 @@ Index A = List (List ℕ × List A)
 -- those of a name
 abbrev pub listed : {A : Type 0} → Index A → List ℕ → List A
 listed [] w = []
-listed (e ∷ es) w = cond (bytes_eq w e.0) e.1 (listed es w)
+listed (e ∷ es) w = if bytes_eq w e.0 then e.1 else listed es w
 
 abbrev pub its_name : Named → List ℕ
 its_name n = n.name.name
 
--- the name that a candidate has, where these are the constructors and those the functions and predicates
+-- the name that a candidate has, where these are the constructors and those the functions and
+-- predicates
 abbrev pub name_at : (symbols preds : List Named) → Candidate → Option (List ℕ)
 name_at ss ps (C.Con k) = option_map its_name (slice_get ss k)
 name_at ss ps (C.Func k) = option_map its_name (slice_get ps k)
@@ -32,16 +33,22 @@ is_called w (Some v) = bytes_eq w v
 -- those candidates that have a name, in order
 abbrev pub called : (symbols preds : List Named) → List ℕ → List Candidate → List Candidate
 called ss ps w [] = []
-called ss ps w (c ∷ cs) = cond (is_called w (name_at ss ps c)) (c ∷ called ss ps w cs) (called ss ps w cs)
+called ss ps w (c ∷ cs) =
+    if is_called w (name_at ss ps c) then c ∷ called ss ps w cs else called ss ps w cs
 
 -- Each module's index lists just those that it declares.
-abbrev pub IsIndex : (symbols preds : List Named) → List (Index Candidate) → (declared : List (List Candidate)) → Type 0
-IsIndex ss ps index declared = (j : ℕ) (w : List ℕ) → listed (slice_index_or index j []) w ≡ called ss ps w (slice_index_or declared j [])
+abbrev pub IsIndex :
+    (symbols preds : List Named)
+    → List (Index Candidate) → (declared : List (List Candidate)) → Type 0
+IsIndex ss ps index declared =
+    (j : ℕ) (w : List ℕ)
+    → listed (slice_index_or index j []) w ≡ called ss ps w (slice_index_or declared j [])
 
 -- the numbers of those definitions that pass a test, where the first has the number n
 abbrev pub numbers_where : {A : Type 0} → (A → Bool) → (n : ℕ) → List A → List ℕ
 numbers_where p n [] = []
-numbers_where p n (x ∷ xs) = cond (p x) (n ∷ numbers_where p (n + 1) xs) (numbers_where p (n + 1) xs)
+numbers_where p n (x ∷ xs) =
+    if p x then n ∷ numbers_where p (n + 1) xs else numbers_where p (n + 1) xs
 
 -- the numbers of those definitions that have a name
 abbrev pub numbers_called : List ℕ → (n : ℕ) → List Named → List ℕ

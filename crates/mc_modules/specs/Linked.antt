@@ -1,5 +1,5 @@
 -- The names of a program (the Mercury manual: The module system).
-use Rattle.std.specs.Prelude.{ℕ, ◌+◌, Bool, true, false, cond, nat_eq, ◌||◌, List, [], ◌∷◌, ◌++◌, map, length, take, slice_index_or, Option, Some, None}
+use Rattle.std.specs.Prelude.{ℕ, ◌+◌, Bool, true, false, nat_eq, ◌||◌, List, [], ◌∷◌, ◌++◌, map, length, take, slice_index_or, Option, Some, None, if◌then◌else◌}
 use Rattle.std.specs.Set.{is_member}
 use Rattle.mc_term_data.specs.Plain.{PlainTerm, PlainTerms, at, no_term, more_terms, App}
 use Rattle.mc_source.specs.declared.name.Name.{Name}
@@ -17,7 +17,8 @@ use Rattle.mc_modules.specs.declared.names.Names.{Names}
 use Rattle.mc_linking.specs.Files.{File, PlainItemInFile, items_in_file, module_name, definitions_of, shown_of, is_shown, has}
 use Rattle.mc_linking.specs.Visible.{unqualified, seen, file_at}
 
--- what is declared or defined: its name, its item, where that stands, and whether other modules see it
+-- what is declared or defined: its name, its item, where that stands, and whether other modules see
+-- it
 pub record Defined : Type 0 where
   pub name : Name
   pub item : PlainDecl
@@ -32,14 +33,21 @@ name_or_none (Some w) = w
 abbrev pub name_in : (home : List ℕ) → PlainNameArity → Name
 name_in m x = record { «module» = m; name = x.name; arity = x.arity }
 
-abbrev pub defined : (home : List ℕ) → PlainItemInFile → (exported : Bool) → PlainDecl → PlainNameArity → Defined
+abbrev pub defined :
+    (home : List ℕ) → PlainItemInFile → (exported : Bool) → PlainDecl → PlainNameArity → Defined
 defined m s e i x = record { name = name_in m x; item = i; at = s.at; exported = e }
 
--- A type, at its definition, or where it has none at its declaration. Others see it where an interface declares or defines it.
-abbrev pub types_by : (home : List ℕ) → (all : List PlainItemInFile) → PlainItemInFile → PlainDecl → List Defined
-types_by m all s (AbstractType h) = cond (is_member is_definition (definitions_of all) (definition K.DefinedType (head_name h))) [] (defined m s (has K.DefinedType (head_name h) (shown_of all)) s.item (head_name h) ∷ [])
-types_by m all s (UnionType h ts) = defined m s (has K.DefinedType (head_name h) (shown_of all)) s.item (head_name h) ∷ []
-types_by m all s (SameType h t) = defined m s (has K.DefinedType (head_name h) (shown_of all)) s.item (head_name h) ∷ []
+-- A type, at its definition, or where it has none at its declaration. Others see it where an
+-- interface declares or defines it.
+abbrev pub types_by :
+    (home : List ℕ) → (all : List PlainItemInFile) → PlainItemInFile → PlainDecl → List Defined
+types_by m all s (AbstractType h) =
+    if is_member is_definition (definitions_of all) (definition K.DefinedType (head_name h)) then []
+    else defined m s (has K.DefinedType (head_name h) (shown_of all)) s.item (head_name h) ∷ []
+types_by m all s (UnionType h ts) =
+    defined m s (has K.DefinedType (head_name h) (shown_of all)) s.item (head_name h) ∷ []
+types_by m all s (SameType h t) =
+    defined m s (has K.DefinedType (head_name h) (shown_of all)) s.item (head_name h) ∷ []
 types_by m all s i = []
 
 -- the head of a type without its parameters
@@ -48,18 +56,24 @@ bare_head (at (App w ts) l) = at (App w no_term) l
 bare_head t = t
 
 -- the constructors of a union, each as a union of it alone
-abbrev pub constructors : (home : List ℕ) → PlainItemInFile → (head : PlainTerm) → PlainTerms → List Defined
+abbrev pub constructors :
+    (home : List ℕ) → PlainItemInFile → (head : PlainTerm) → PlainTerms → List Defined
 constructors m s h no_term = []
-constructors m s h (more_terms t ts) = defined m s (is_shown s.section) (UnionType (bare_head h) (more_terms t no_term)) (symbol_name t) ∷ constructors m s h ts
+constructors m s h (more_terms t ts) =
+    defined m s (is_shown s.section) (UnionType (bare_head h) (more_terms t no_term))
+    (symbol_name t)
+    ∷ constructors m s h ts
 
 abbrev pub symbols_by : (home : List ℕ) → PlainItemInFile → PlainDecl → List Defined
 symbols_by m s (UnionType h ts) = constructors m s h ts
 symbols_by m s i = []
 
 -- those of an item's definitions that are of a kind, each with the whole item
-abbrev pub of_kind : (home : List ℕ) → PlainItemInFile → (wanted : Bool) → List PlainDefinition → List Defined
+abbrev pub of_kind :
+    (home : List ℕ) → PlainItemInFile → (wanted : Bool) → List PlainDefinition → List Defined
 of_kind m s wanted [] = []
-of_kind m s wanted (t ∷ ts) = cond wanted (defined m s (is_shown s.section) s.item t.id ∷ []) []
+of_kind m s wanted (t ∷ ts) =
+    if wanted then defined m s (is_shown s.section) s.item t.id ∷ [] else []
 
 abbrev pub is_pred : PlainDecl → Bool
 is_pred (Pred t d) = true
@@ -84,9 +98,11 @@ abbrev pub symbols_in : (home : List ℕ) → List PlainItemInFile → List Defi
 symbols_in m [] = []
 symbols_in m (s ∷ ss) = symbols_by m s s.item ++ symbols_in m ss
 
-abbrev pub sorted_in : (is_sort : PlainDecl → Bool) → (home : List ℕ) → List PlainItemInFile → List Defined
+abbrev pub sorted_in :
+    (is_sort : PlainDecl → Bool) → (home : List ℕ) → List PlainItemInFile → List Defined
 sorted_in is_sort m [] = []
-sorted_in is_sort m (s ∷ ss) = of_kind m s (is_sort s.item) (definitions s.item) ++ sorted_in is_sort m ss
+sorted_in is_sort m (s ∷ ss) =
+    of_kind m s (is_sort s.item) (definitions s.item) ++ sorted_in is_sort m ss
 
 abbrev pub name_of : File → List ℕ
 name_of f = name_or_none (module_name f)
@@ -115,10 +131,12 @@ abbrev pub flat : List (List Defined) → List Defined
 flat [] = []
 flat (ds ∷ dss) = ds ++ flat dss
 
--- The numbers of definitions from one on that another module sees, or that the module has for itself.
+-- The numbers of definitions from one on that another module sees, or that the module has for
+-- itself.
 abbrev pub numbers : (own : Bool) → (from : ℕ) → List Defined → List ℕ
 numbers own n [] = []
-numbers own n (d ∷ ds) = cond (own || d.exported) (n ∷ numbers own (n + 1) ds) (numbers own (n + 1) ds)
+numbers own n (d ∷ ds) =
+    if own || d.exported then n ∷ numbers own (n + 1) ds else numbers own (n + 1) ds
 
 -- how many definitions the files before this one have
 abbrev pub before : (file : ℕ) → List (List Defined) → ℕ
@@ -127,10 +145,12 @@ before k dss = length (flat (take k dss))
 abbrev pub has_of : (file : ℕ) → List (List Defined) → List Defined
 has_of k dss = slice_index_or dss k []
 
--- the numbers of what a module sees among what each file has, in the order of the modules that it sees
+-- the numbers of what a module sees among what each file has, in the order of the modules that it
+-- sees
 abbrev pub visible : (own : ℕ) → List ℕ → List (List Defined) → List ℕ
 visible own [] dss = []
-visible own (j ∷ js) dss = numbers (nat_eq own j) (before j dss) (has_of j dss) ++ visible own js dss
+visible own (j ∷ js) dss =
+    numbers (nat_eq own j) (before j dss) (has_of j dss) ++ visible own js dss
 
 abbrev pub scope : List File → (own : ℕ) → Scope
 scope files own =
@@ -149,7 +169,8 @@ abbrev pub scopes_from : List File → (own : ℕ) → List File → List Scope
 scopes_from files own [] = []
 scopes_from files own (f ∷ fs) = scope files own ∷ scopes_from files (own + 1) fs
 
--- what a definition is by its number, where constructors go on from `c`, and functions and predicates from `p`
+-- what a definition is by its number, where constructors go on from `c`, and functions and
+-- predicates from `p`
 abbrev pub as_numbered : Kind → (c p : ℕ) → List Candidate
 as_numbered K.Symbol c p = C.Con c ∷ []
 as_numbered K.Func c p = C.Func p ∷ []
@@ -166,17 +187,23 @@ next_pred K.Func p = p + 1
 next_pred K.Pred p = p + 1
 next_pred _ p = p
 
--- Constructors, functions and predicates in the order of their declarations, each by its number: constructors are numbered from `c` on, functions and predicates from `p` on.
+-- Constructors, functions and predicates in the order of their declarations, each by its number:
+-- constructors are numbered from `c` on, functions and predicates from `p` on.
 abbrev pub numbered : (c p : ℕ) → List PlainDefinition → List Candidate
 numbered c p [] = []
-numbered c p (t ∷ ts) = as_numbered t.kind c p ++ numbered (next_con t.kind c) (next_pred t.kind p) ts
+numbered c p (t ∷ ts) =
+    as_numbered t.kind c p ++ numbered (next_con t.kind c) (next_pred t.kind p) ts
 
 -- what each module has that a name in a term or a goal may mean
 abbrev pub declared_from : List File → (own : ℕ) → List File → List (List Candidate)
 declared_from files own [] = []
-declared_from files own (f ∷ fs) = numbered (before own (each symbols_of files)) (before own (each preds_of files)) (definitions_of (items_in_file f)) ∷ declared_from files (own + 1) fs
+declared_from files own (f ∷ fs) =
+    numbered (before own (each symbols_of files)) (before own (each preds_of files))
+    (definitions_of (items_in_file f))
+    ∷ declared_from files (own + 1) fs
 
--- The names of a program: what is defined, in the order of the files and their items; what each module sees; and what each has that a name in a term or a goal may mean.
+-- The names of a program: what is defined, in the order of the files and their items; what each
+-- module sees; and what each has that a name in a term or a goal may mean.
 pub record Linked : Type 0 where
   pub types : List Defined
   pub symbols : List Defined

@@ -23,7 +23,11 @@ impl Names {
         name: &Row<Text>,
         arity: u32,
     ) -> Result<Row<Candidate>, Memory>
-        ensures { IfOk result (λ all. all ≡ candidates (plain_names self.now) own (qualifiers name.now) (id (last_part name.now) arity)) }
+        ensures { IfOk result
+            (λ all.
+            all
+            ≡ candidates (plain_names self.now) own (qualifiers name.now)
+            (id (last_part name.now) arity)) }
     {
         let used = Occurrence::of(Kind::Symbol, name.as_slice(), arity as usize);
         let mut all = Vec::new(alloc);
@@ -42,7 +46,11 @@ impl Names {
         name: &[u8],
         arity: usize,
     ) -> Result<Row<Candidate>, Memory>
-        ensures { IfOk result (λ all. all ≡ fitting (plain_names self.now) true (id name.now arity) (slice_index_or self.now.declared own [])) }
+        ensures { IfOk result
+            (λ all.
+            all
+            ≡ fitting (plain_names self.now) true (id name.now arity)
+            (slice_index_or self.now.declared own [])) }
     {
         let mut all = Vec::new(alloc);
         self.put_of_module(true, own, NameArity { name, arity }, &mut all)?;
@@ -56,7 +64,11 @@ impl Names {
         own: u32,
         qualifiers: &[Text],
     ) -> Result<Row<u32>, Memory>
-        ensures { IfOk result (λ all. all ≡ looked_in (plain_names self.now) (slice_get self.now.scopes own) qualifiers.now) }
+        ensures { IfOk result
+            (λ all.
+            all
+            ≡ looked_in (plain_names self.now) (slice_get self.now.scopes own)
+            qualifiers.now) }
     {
         if own >= self.scopes.len() {
             return Ok(Row::new(alloc));
@@ -95,7 +107,11 @@ impl Names {
         id: NameArity,
         all: &mut Vec<Candidate>,
     ) -> Result<(), Memory>
-        ensures { OnOk result (all.new.items ≡ all.old.items ++ fitting_in (plain_names self.now) own (plain_name_arity id.entry) modules.now) }
+        ensures { OnOk result
+            (all.new.items
+            ≡ all.old.items
+            ++ fitting_in (plain_names self.now) own (plain_name_arity id.entry)
+            modules.now) }
     {
         for module in modules {
             self.put_of_module(own == *module, *module, id, all)?;
@@ -111,7 +127,11 @@ impl Names {
         id: NameArity,
         all: &mut Vec<Candidate>,
     ) -> Result<(), Memory>
-        ensures { OnOk result (all.new.items ≡ all.old.items ++ fitting (plain_names self.now) own (plain_name_arity id.entry) (slice_index_or self.now.declared number [])) }
+        ensures { OnOk result
+            (all.new.items
+            ≡ all.old.items
+            ++ fitting (plain_names self.now) own (plain_name_arity id.entry)
+            (slice_index_or self.now.declared number [])) }
     {
         self.put_fitting(own, id, self.called(number, id.name), all)
     }
@@ -123,7 +143,11 @@ impl Names {
         candidates: &[Candidate],
         all: &mut Vec<Candidate>,
     ) -> Result<(), Memory>
-        ensures { OnOk result (all.new.items ≡ all.old.items ++ fitting (plain_names self.now) own (plain_name_arity id.entry) candidates.now) }
+        ensures { OnOk result
+            (all.new.items
+            ≡ all.old.items
+            ++ fitting (plain_names self.now) own (plain_name_arity id.entry)
+            candidates.now) }
     {
         for candidate in candidates {
             put_where(self.fits(own, id, *candidate), *candidate, all)?;
@@ -133,7 +157,8 @@ impl Names {
 
     // Whether a candidate has the name, and is seen.
     fn fits(&self, own: bool, id: NameArity, candidate: Candidate) -> bool
-        ensures { result ≡ fits own (plain_name_arity id.entry) (defined_by (plain_names self.now) candidate) }
+        ensures { result
+            ≡ fits own (plain_name_arity id.entry) (defined_by (plain_names self.now) candidate) }
     {
         match candidate {
             Candidate::Con(k) => fits_at(own, id, &self.symbols, k),
@@ -158,7 +183,9 @@ fn fits_named(own: bool, id: NameArity, named: &Named) -> bool
 }
 
 fn put_character(qualifiers: &[Text], id: NameArity, all: &mut Vec<Candidate>) -> Result<(), Memory>
-    ensures { OnOk result (all.new.items ≡ all.old.items ++ as_character (character qualifiers.now (plain_name_arity id.entry))) }
+    ensures { OnOk result
+        (all.new.items
+        ≡ all.old.items ++ as_character (character qualifiers.now (plain_name_arity id.entry))) }
 {
     if !qualifiers.is_empty() || id.arity != 0 {
         return Ok(());

@@ -33,7 +33,8 @@ impl Column {
 
     /// The numbers of what a module sees, in the order of the modules that it sees.
     pub fn visible(&self, alloc: Global, own: u32, seen: &Row<u32>) -> Result<Row<u32>, Memory>
-        ensures { IfOk result (λ all. all ≡ visible own seen.now (map (map plain_named) self.now.has.items)) }
+        ensures { IfOk result
+            (λ all. all ≡ visible own seen.now (map (map plain_named) self.now.has.items)) }
     {
         let mut all = Vec::new(alloc);
         for module in seen.as_slice() {
@@ -44,7 +45,12 @@ impl Column {
 
     #[tactic(auto, using(crate::proofs::Starts::has_past, crate::proofs::Starts::has_there))]
     fn put_visible(&self, own: u32, file: u32, all: &mut Vec<u32>) -> Result<(), Memory>
-        ensures { OnOk result (all.new.items ≡ all.old.items ++ numbers (nat_eq own file) (before file (map (map plain_named) self.now.has.items)) (has_of file (map (map plain_named) self.now.has.items))) }
+        ensures { OnOk result
+            (all.new.items
+            ≡ all.old.items
+            ++ numbers (nat_eq own file)
+            (before file (map (map plain_named) self.now.has.items))
+            (has_of file (map (map plain_named) self.now.has.items))) }
     {
         let k = file as usize;
         if k < self.has.len() {

@@ -61,11 +61,26 @@ impl Parts {
     }
 
     fn put(&mut self, alloc: Global, file: &[Entry]) -> Result<(), Memory>
-        ensures types { OnOk result (map (map plain_named) self.new.types.items ≡ map (map plain_named) self.old.types.items ++ types_of (map plain_entry file.now) ∷ []) }
-        ensures symbols { OnOk result (map (map plain_named) self.new.symbols.items ≡ map (map plain_named) self.old.symbols.items ++ symbols_of (map plain_entry file.now) ∷ []) }
-        ensures preds { OnOk result (map (map plain_named) self.new.preds.items ≡ map (map plain_named) self.old.preds.items ++ preds_of (map plain_entry file.now) ∷ []) }
-        ensures insts { OnOk result (map (map plain_named) self.new.insts.items ≡ map (map plain_named) self.old.insts.items ++ insts_of (map plain_entry file.now) ∷ []) }
-        ensures modes { OnOk result (map (map plain_named) self.new.modes.items ≡ map (map plain_named) self.old.modes.items ++ modes_defined (map plain_entry file.now) ∷ []) }
+        ensures types { OnOk result
+            (map (map plain_named) self.new.types.items
+            ≡ map (map plain_named) self.old.types.items ++ types_of (map plain_entry file.now)
+            ∷ []) }
+        ensures symbols { OnOk result
+            (map (map plain_named) self.new.symbols.items
+            ≡ map (map plain_named) self.old.symbols.items
+            ++ symbols_of (map plain_entry file.now) ∷ []) }
+        ensures preds { OnOk result
+            (map (map plain_named) self.new.preds.items
+            ≡ map (map plain_named) self.old.preds.items ++ preds_of (map plain_entry file.now)
+            ∷ []) }
+        ensures insts { OnOk result
+            (map (map plain_named) self.new.insts.items
+            ≡ map (map plain_named) self.old.insts.items ++ insts_of (map plain_entry file.now)
+            ∷ []) }
+        ensures modes { OnOk result
+            (map (map plain_named) self.new.modes.items
+            ≡ map (map plain_named) self.old.modes.items
+            ++ modes_defined (map plain_entry file.now) ∷ []) }
     {
         let Part {
             types,
@@ -83,11 +98,17 @@ impl Parts {
 
     /// What the files have.
     fn of(alloc: Global, files: &[Row<Entry>]) -> Result<Parts, Memory>
-        ensures types { IfOk result (λ c. map (map plain_named) c.types.items ≡ each types_of (plain_files files.now)) }
-        ensures symbols { IfOk result (λ c. map (map plain_named) c.symbols.items ≡ each symbols_of (plain_files files.now)) }
-        ensures preds { IfOk result (λ c. map (map plain_named) c.preds.items ≡ each preds_of (plain_files files.now)) }
-        ensures insts { IfOk result (λ c. map (map plain_named) c.insts.items ≡ each insts_of (plain_files files.now)) }
-        ensures modes { IfOk result (λ c. map (map plain_named) c.modes.items ≡ each modes_defined (plain_files files.now)) }
+        ensures types { IfOk result
+            (λ c. map (map plain_named) c.types.items ≡ each types_of (plain_files files.now)) }
+        ensures symbols { IfOk result
+            (λ c. map (map plain_named) c.symbols.items ≡ each symbols_of (plain_files files.now)) }
+        ensures preds { IfOk result
+            (λ c. map (map plain_named) c.preds.items ≡ each preds_of (plain_files files.now)) }
+        ensures insts { IfOk result
+            (λ c. map (map plain_named) c.insts.items ≡ each insts_of (plain_files files.now)) }
+        ensures modes { IfOk result
+            (λ c.
+            map (map plain_named) c.modes.items ≡ each modes_defined (plain_files files.now)) }
     {
         let mut parts = Parts::nothing(alloc);
         for file in files {
@@ -98,7 +119,9 @@ impl Parts {
 }
 
 fn put_part(all: &mut Vec<Row<Named>>, part: Vec<Named>) -> Result<(), Memory>
-    ensures { OnOk result (map (map plain_named) all.new.items ≡ map (map plain_named) all.old.items ++ map plain_named part.items ∷ []) }
+    ensures { OnOk result
+        (map (map plain_named) all.new.items
+        ≡ map (map plain_named) all.old.items ++ map plain_named part.items ∷ []) }
 {
     all.push(Row::of(part)?)?;
     Ok(())
@@ -117,11 +140,20 @@ pub struct Columns {
 impl Columns {
     /// What the files have.
     pub fn of(alloc: Global, files: &[Row<Entry>]) -> Result<Columns, Memory>
-        ensures types { IfOk result (λ c. map (map plain_named) c.types.has.items ≡ each types_of (plain_files files.now)) }
-        ensures symbols { IfOk result (λ c. map (map plain_named) c.symbols.has.items ≡ each symbols_of (plain_files files.now)) }
-        ensures preds { IfOk result (λ c. map (map plain_named) c.preds.has.items ≡ each preds_of (plain_files files.now)) }
-        ensures insts { IfOk result (λ c. map (map plain_named) c.insts.has.items ≡ each insts_of (plain_files files.now)) }
-        ensures modes { IfOk result (λ c. map (map plain_named) c.modes.has.items ≡ each modes_defined (plain_files files.now)) }
+        ensures types { IfOk result
+            (λ c. map (map plain_named) c.types.has.items ≡ each types_of (plain_files files.now)) }
+        ensures symbols { IfOk result
+            (λ c.
+            map (map plain_named) c.symbols.has.items
+            ≡ each symbols_of (plain_files files.now)) }
+        ensures preds { IfOk result
+            (λ c. map (map plain_named) c.preds.has.items ≡ each preds_of (plain_files files.now)) }
+        ensures insts { IfOk result
+            (λ c. map (map plain_named) c.insts.has.items ≡ each insts_of (plain_files files.now)) }
+        ensures modes { IfOk result
+            (λ c.
+            map (map plain_named) c.modes.has.items
+            ≡ each modes_defined (plain_files files.now)) }
     {
         let Parts {
             types,

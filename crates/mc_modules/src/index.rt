@@ -81,7 +81,8 @@ fn candidates_by_name(
     preds: &Row<Named>,
     candidates: &[Candidate],
 ) -> Result<Index<Candidate>, Memory>
-    ensures { IfOk result (λ index. (w : List ℕ) → listed index w ≡ called symbols.now preds.now w candidates.now) }
+    ensures { IfOk result
+        (λ index. (w : List ℕ) → listed index w ≡ called symbols.now preds.now w candidates.now) }
 {
     let mut index = Index::new(alloc);
     for candidate in candidates {

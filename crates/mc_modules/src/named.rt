@@ -36,7 +36,11 @@ fn named(
     decl: Decl,
     id: NameArity,
 ) -> Result<Named, Memory>
-    ensures { IfOk result (λ n. plain_named n ≡ defined home.now (stands (plain_item decl) at NoSection) exported (plain_item decl) (plain_name_arity id.entry)) }
+    ensures { IfOk result
+        (λ n.
+        plain_named n
+        ≡ defined home.now (stands (plain_item decl) at NoSection) exported (plain_item decl)
+        (plain_name_arity id.entry)) }
 {
     let name = Name {
         module: home.copied(alloc)?,
@@ -60,7 +64,11 @@ pub fn put_whole(
     id: NameArity,
     all: &mut Vec<Named>,
 ) -> Result<(), Memory>
-    ensures { OnOk result (map plain_named all.new.items ≡ map plain_named all.old.items ++ defined home.now (stands (plain_item entry.now.decl) entry.now.at NoSection) exported (plain_item entry.now.decl) (plain_name_arity id.entry) ∷ []) }
+    ensures { OnOk result
+        (map plain_named all.new.items
+        ≡ map plain_named all.old.items
+        ++ defined home.now (stands (plain_item entry.now.decl) entry.now.at NoSection)
+        exported (plain_item entry.now.decl) (plain_name_arity id.entry) ∷ []) }
 {
     let decl = entry.decl.copied(alloc)?;
     all.push(named(alloc, home, entry.at, exported, decl, id)?)?;
@@ -77,7 +85,12 @@ pub fn put_sorted(
     definitions: &[Definition],
     all: &mut Vec<Named>,
 ) -> Result<(), Memory>
-    ensures { OnOk result (map plain_named all.new.items ≡ map plain_named all.old.items ++ of_kind home.now (stands (plain_item entry.now.decl) entry.now.at (plain_section section)) wanted (map plain_definition definitions.now)) }
+    ensures { OnOk result
+        (map plain_named all.new.items
+        ≡ map plain_named all.old.items
+        ++ of_kind home.now
+        (stands (plain_item entry.now.decl) entry.now.at (plain_section section))
+        wanted (map plain_definition definitions.now)) }
 {
     match definitions {
         [first, ..] if wanted => put_whole(alloc, home, entry, section.is_shown(), first.id, all),
@@ -93,7 +106,12 @@ pub fn put_symbols(
     section: Section,
     symbols: &mut Vec<Named>,
 ) -> Result<(), Memory>
-    ensures { OnOk result (map plain_named symbols.new.items ≡ map plain_named symbols.old.items ++ symbols_by home.now (stands (plain_item entry.now.decl) entry.now.at (plain_section section)) (plain_item entry.now.decl)) }
+    ensures { OnOk result
+        (map plain_named symbols.new.items
+        ≡ map plain_named symbols.old.items
+        ++ symbols_by home.now
+        (stands (plain_item entry.now.decl) entry.now.at (plain_section section))
+        (plain_item entry.now.decl)) }
 {
     match &entry.decl {
         Decl::UnionType(head, constructors) => {
@@ -120,7 +138,12 @@ fn put_constructors(
     terms: &[Term],
     symbols: &mut Vec<Named>,
 ) -> Result<(), Memory>
-    ensures { OnOk result (map plain_named symbols.new.items ≡ map plain_named symbols.old.items ++ constructors home.now (stands (plain_item entry.now.decl) entry.now.at (plain_section section)) (plain_term head.now) (tms (map plain_term terms.now))) }
+    ensures { OnOk result
+        (map plain_named symbols.new.items
+        ≡ map plain_named symbols.old.items
+        ++ constructors home.now
+        (stands (plain_item entry.now.decl) entry.now.at (plain_section section))
+        (plain_term head.now) (tms (map plain_term terms.now))) }
 {
     for term in terms {
         symbols.push(constructor(alloc, home, entry.at, section, head, term)?)?;
@@ -137,7 +160,11 @@ fn constructor(
     head: &Term,
     term: &Term,
 ) -> Result<Named, Memory>
-    ensures { IfOk result (λ n. plain_named n ∷ [] ≡ constructors home.now (stands (plain_item n.decl) at (plain_section section)) (plain_term head.now) (tms (plain_term term.now ∷ []))) }
+    ensures { IfOk result
+        (λ n.
+        plain_named n ∷ []
+        ≡ constructors home.now (stands (plain_item n.decl) at (plain_section section))
+        (plain_term head.now) (tms (plain_term term.now ∷ []))) }
 {
     let alone = Row::one(alloc, term.copied(alloc)?)?;
     let union = Decl::UnionType(bare_head(alloc, head)?, alone);

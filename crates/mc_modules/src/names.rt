@@ -112,7 +112,9 @@ impl Names {
 
     /// What a module, which has a number, has of a name, in the order of declaration. PlainDecl takes the time of one hash.
     pub(crate) fn called(&self, number: u32, name: &[u8]) -> &[Candidate]
-        ensures { result.now ≡ called self.now.symbols self.now.preds name.now (slice_index_or self.now.declared number []) }
+        ensures { result.now
+            ≡ called self.now.symbols self.now.preds name.now
+            (slice_index_or self.now.declared number []) }
     {
         match self.index.get(number as usize) {
             Some(index) => index.get(name),

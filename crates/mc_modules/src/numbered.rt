@@ -32,7 +32,9 @@ fn next(number: u32) -> Result<u32, Memory>
 
 impl Numbered {
     fn put(&mut self, kind: Kind) -> Result<(), Memory>
-        ensures all { OnOk result (self.new.all.items ≡ self.old.all.items ++ as_numbered kind self.old.con self.old.pred) }
+        ensures all { OnOk result
+            (self.new.all.items
+            ≡ self.old.all.items ++ as_numbered kind self.old.con self.old.pred) }
         ensures con { OnOk result (self.new.con ≡ next_con kind self.old.con) }
         ensures pred { OnOk result (self.new.pred ≡ next_pred kind self.old.pred) }
     {

@@ -28,7 +28,8 @@ pub struct Declared<'a> {
 impl<'a> Declared<'a> {
     pub fn of(alloc: Global, file: &'a [Entry]) -> Result<Declared<'a>, Memory>
         ensures all { IfOk result (λ d. d.all ≡ put_all [] (definitions_pass (map plain_entry file.now))) }
-        ensures shown { IfOk result (λ d. d.shown ≡ put_all [] (shown_pass NoSection (map plain_entry file.now))) }
+        ensures shown { IfOk result
+            (λ d. d.shown ≡ put_all [] (shown_pass NoSection (map plain_entry file.now))) }
     {
         let mut all = DefinitionSet::new(alloc);
         let mut shown = DefinitionSet::new(alloc);
@@ -49,7 +50,11 @@ fn put_shown<'a>(
     section: Section,
     definitions: &[Definition<'a>],
 ) -> Result<(), Memory>
-    ensures { OnOk result (set.new ≡ put_all set.old (cond (is_shown (plain_section section)) (map plain_definition definitions.now) [])) }
+    ensures { OnOk result
+        (set.new
+        ≡ put_all set.old
+        (cond (is_shown (plain_section section)) (map plain_definition definitions.now)
+        [])) }
 {
     if section.is_shown() {
         put_all(set, definitions)
@@ -81,7 +86,12 @@ fn put_type<'a>(
     entry: &'a Entry,
     types: &mut Vec<Named>,
 ) -> Result<(), Memory>
-    ensures { OnOk result (map plain_named types.new.items ≡ map plain_named types.old.items ++ types_with home.now declared.now.all declared.now.shown (stands (plain_item entry.now.decl) entry.now.at NoSection) (plain_item entry.now.decl)) }
+    ensures { OnOk result
+        (map plain_named types.new.items
+        ≡ map plain_named types.old.items
+        ++ types_with home.now declared.now.all declared.now.shown
+        (stands (plain_item entry.now.decl) entry.now.at NoSection)
+        (plain_item entry.now.decl)) }
 {
     match &entry.decl {
         Decl::AbstractType(head) => {
@@ -157,11 +167,39 @@ impl Part {
         entry: &'a Entry,
         section: Section,
     ) -> Result<(), Memory>
-        ensures types { OnOk result (map plain_named self.new.types.items ≡ map plain_named self.old.types.items ++ types_with home.now declared.now.all declared.now.shown (stands (plain_item entry.now.decl) entry.now.at (plain_section section)) (plain_item entry.now.decl)) }
-        ensures symbols { OnOk result (map plain_named self.new.symbols.items ≡ map plain_named self.old.symbols.items ++ symbols_by home.now (stands (plain_item entry.now.decl) entry.now.at (plain_section section)) (plain_item entry.now.decl)) }
-        ensures preds { OnOk result (map plain_named self.new.preds.items ≡ map plain_named self.old.preds.items ++ of_kind home.now (stands (plain_item entry.now.decl) entry.now.at (plain_section section)) (is_pred (plain_item entry.now.decl)) (definitions (plain_item entry.now.decl))) }
-        ensures insts { OnOk result (map plain_named self.new.insts.items ≡ map plain_named self.old.insts.items ++ of_kind home.now (stands (plain_item entry.now.decl) entry.now.at (plain_section section)) (is_inst (plain_item entry.now.decl)) (definitions (plain_item entry.now.decl))) }
-        ensures modes { OnOk result (map plain_named self.new.modes.items ≡ map plain_named self.old.modes.items ++ of_kind home.now (stands (plain_item entry.now.decl) entry.now.at (plain_section section)) (is_mode (plain_item entry.now.decl)) (definitions (plain_item entry.now.decl))) }
+        ensures types { OnOk result
+            (map plain_named self.new.types.items
+            ≡ map plain_named self.old.types.items
+            ++ types_with home.now declared.now.all declared.now.shown
+            (stands (plain_item entry.now.decl) entry.now.at (plain_section section))
+            (plain_item entry.now.decl)) }
+        ensures symbols { OnOk result
+            (map plain_named self.new.symbols.items
+            ≡ map plain_named self.old.symbols.items
+            ++ symbols_by home.now
+            (stands (plain_item entry.now.decl) entry.now.at (plain_section section))
+            (plain_item entry.now.decl)) }
+        ensures preds { OnOk result
+            (map plain_named self.new.preds.items
+            ≡ map plain_named self.old.preds.items
+            ++ of_kind home.now
+            (stands (plain_item entry.now.decl) entry.now.at (plain_section section))
+            (is_pred (plain_item entry.now.decl))
+            (definitions (plain_item entry.now.decl))) }
+        ensures insts { OnOk result
+            (map plain_named self.new.insts.items
+            ≡ map plain_named self.old.insts.items
+            ++ of_kind home.now
+            (stands (plain_item entry.now.decl) entry.now.at (plain_section section))
+            (is_inst (plain_item entry.now.decl))
+            (definitions (plain_item entry.now.decl))) }
+        ensures modes { OnOk result
+            (map plain_named self.new.modes.items
+            ≡ map plain_named self.old.modes.items
+            ++ of_kind home.now
+            (stands (plain_item entry.now.decl) entry.now.at (plain_section section))
+            (is_mode (plain_item entry.now.decl))
+            (definitions (plain_item entry.now.decl))) }
     {
         let decl = &entry.decl;
         let definitions = definitions(alloc, decl)?;
@@ -199,11 +237,28 @@ impl Part {
 
     /// What the items of a file have, whose module's name this is.
     pub fn of(alloc: Global, home: &Text, file: &[Entry]) -> Result<Part, Memory>
-        ensures types { IfOk result (λ p. map plain_named p.types.items ≡ types_pass home.now (put_all [] (definitions_pass (map plain_entry file.now))) (put_all [] (shown_pass NoSection (map plain_entry file.now))) NoSection (map plain_entry file.now)) }
-        ensures symbols { IfOk result (λ p. map plain_named p.symbols.items ≡ symbols_pass home.now NoSection (map plain_entry file.now)) }
-        ensures preds { IfOk result (λ p. map plain_named p.preds.items ≡ sorted_pass is_pred home.now NoSection (map plain_entry file.now)) }
-        ensures insts { IfOk result (λ p. map plain_named p.insts.items ≡ sorted_pass is_inst home.now NoSection (map plain_entry file.now)) }
-        ensures modes { IfOk result (λ p. map plain_named p.modes.items ≡ sorted_pass is_mode home.now NoSection (map plain_entry file.now)) }
+        ensures types { IfOk result
+            (λ p.
+            map plain_named p.types.items
+            ≡ types_pass home.now (put_all [] (definitions_pass (map plain_entry file.now)))
+            (put_all [] (shown_pass NoSection (map plain_entry file.now))) NoSection
+            (map plain_entry file.now)) }
+        ensures symbols { IfOk result
+            (λ p.
+            map plain_named p.symbols.items
+            ≡ symbols_pass home.now NoSection (map plain_entry file.now)) }
+        ensures preds { IfOk result
+            (λ p.
+            map plain_named p.preds.items
+            ≡ sorted_pass is_pred home.now NoSection (map plain_entry file.now)) }
+        ensures insts { IfOk result
+            (λ p.
+            map plain_named p.insts.items
+            ≡ sorted_pass is_inst home.now NoSection (map plain_entry file.now)) }
+        ensures modes { IfOk result
+            (λ p.
+            map plain_named p.modes.items
+            ≡ sorted_pass is_mode home.now NoSection (map plain_entry file.now)) }
     {
         let declared = Declared::of(alloc, file)?;
         let mut part = Part::nothing(alloc);

@@ -20,7 +20,14 @@ fn scope(
     visibility: Visibility,
     columns: &Columns,
 ) -> Result<Scope, Memory>
-    ensures { IfOk result (λ s. s ≡ scope_over name visibility own (map (map plain_named) columns.now.types.has.items) (map (map plain_named) columns.now.symbols.has.items) (map (map plain_named) columns.now.preds.has.items) (map (map plain_named) columns.now.insts.has.items) (map (map plain_named) columns.now.modes.has.items)) }
+    ensures { IfOk result
+        (λ s.
+        s
+        ≡ scope_over name visibility own (map (map plain_named) columns.now.types.has.items)
+        (map (map plain_named) columns.now.symbols.has.items)
+        (map (map plain_named) columns.now.preds.has.items)
+        (map (map plain_named) columns.now.insts.has.items)
+        (map (map plain_named) columns.now.modes.has.items)) }
 {
     let Visibility { unqualified, seen } = visibility;
     let types = columns.types.visible(alloc, own, &seen)?;
@@ -51,10 +58,12 @@ fn scope_of(
     requires own { own < length files.now }
     requires visibility { seen ≡ visibility (plain_files files.now) own }
     requires types { map (map plain_named) columns.now.types.has.items ≡ each types_of (plain_files files.now) }
-    requires symbols { map (map plain_named) columns.now.symbols.has.items ≡ each symbols_of (plain_files files.now) }
+    requires symbols { map (map plain_named) columns.now.symbols.has.items
+        ≡ each symbols_of (plain_files files.now) }
     requires preds { map (map plain_named) columns.now.preds.has.items ≡ each preds_of (plain_files files.now) }
     requires insts { map (map plain_named) columns.now.insts.has.items ≡ each insts_of (plain_files files.now) }
-    requires modes { map (map plain_named) columns.now.modes.has.items ≡ each modes_defined (plain_files files.now) }
+    requires modes { map (map plain_named) columns.now.modes.has.items
+        ≡ each modes_defined (plain_files files.now) }
     ensures { IfOk result (λ s. s ≡ scope (plain_files files.now) own) }
 {
     let name = name_of(alloc, files[own].as_slice())?;
@@ -70,10 +79,12 @@ pub fn scopes(
 ) -> Result<Row<Scope>, Memory>
     requires visibilities { visibilities.items ≡ visibilities_from (plain_files files.now) 0 (plain_files files.now) }
     requires types { map (map plain_named) columns.now.types.has.items ≡ each types_of (plain_files files.now) }
-    requires symbols { map (map plain_named) columns.now.symbols.has.items ≡ each symbols_of (plain_files files.now) }
+    requires symbols { map (map plain_named) columns.now.symbols.has.items
+        ≡ each symbols_of (plain_files files.now) }
     requires preds { map (map plain_named) columns.now.preds.has.items ≡ each preds_of (plain_files files.now) }
     requires insts { map (map plain_named) columns.now.insts.has.items ≡ each insts_of (plain_files files.now) }
-    requires modes { map (map plain_named) columns.now.modes.has.items ≡ each modes_defined (plain_files files.now) }
+    requires modes { map (map plain_named) columns.now.modes.has.items
+        ≡ each modes_defined (plain_files files.now) }
     ensures { IfOk result (λ all. all ≡ scopes_from (plain_files files.now) 0 (plain_files files.now)) }
 {
     let mut all = Vec::new(alloc);

@@ -23,7 +23,11 @@ impl Names {
         name: &Row<Text>,
         arity: u32,
     ) -> Result<Row<u32>, Memory>
-        ensures { IfOk result (λ all. all ≡ type_candidates (plain_names self.now) own (qualifiers name.now) (id (last_part name.now) arity)) }
+        ensures { IfOk result
+            (λ all.
+            all
+            ≡ type_candidates (plain_names self.now) own (qualifiers name.now)
+            (id (last_part name.now) arity)) }
     {
         let used = Occurrence::of(Kind::DefinedType, name.as_slice(), arity as usize);
         let modules = self.looked_in(alloc, own, used.qualifiers)?;
@@ -35,13 +39,18 @@ impl Names {
     // The types of a name over so many arguments, whatever module they stand in: in legal sources one for each module at
     // most.
     fn types_of(&self, alloc: Global, id: NameArity) -> Result<Vec<u32>, Memory>
-        ensures { IfOk result (λ all. all.items ≡ numbers_where (has_id (plain_name_arity id.entry)) 0 (plain_names self.now).types) }
+        ensures { IfOk result
+            (λ all.
+            all.items
+            ≡ numbers_where (has_id (plain_name_arity id.entry)) 0
+            (plain_names self.now).types) }
     {
         self.with_arity(alloc, self.types_called(id.name), id.arity)
     }
 
     fn with_arity(&self, alloc: Global, types: &[u32], arity: usize) -> Result<Vec<u32>, Memory>
-        ensures { IfOk result (λ all. all.items ≡ chosen (λ d. nat_eq d.name.arity arity) self.now.types types.now) }
+        ensures { IfOk result
+            (λ all. all.items ≡ chosen (λ d. nat_eq d.name.arity arity) self.now.types types.now) }
     {
         let mut all = Vec::new(alloc);
         for found in types {
@@ -64,7 +73,8 @@ impl Names {
         modules: &[u32],
         types: &[u32],
     ) -> Result<Vec<u32>, Memory>
-        ensures { IfOk result (λ all. all.items ≡ types_seen (plain_names self.now) own types.now modules.now) }
+        ensures { IfOk result
+            (λ all. all.items ≡ types_seen (plain_names self.now) own types.now modules.now) }
     {
         let mut all = Vec::new(alloc);
         for module in modules {
@@ -80,7 +90,11 @@ impl Names {
         types: &[u32],
         all: &mut Vec<u32>,
     ) -> Result<(), Memory>
-        ensures { OnOk result (all.new.items ≡ all.old.items ++ chosen (type_seen (plain_names self.now) own number) (plain_names self.now).types types.now) }
+        ensures { OnOk result
+            (all.new.items
+            ≡ all.old.items
+            ++ chosen (type_seen (plain_names self.now) own number)
+            (plain_names self.now).types types.now) }
     {
         for found in types {
             put_where(self.is_type_seen(own, number, *found), *found, all)?;
@@ -89,13 +103,17 @@ impl Names {
     }
 
     fn is_type_seen(&self, own: u32, number: u32, found: u32) -> bool
-        ensures { result ≡ passes (type_seen (plain_names self.now) own number) (slice_get (plain_names self.now).types found) }
+        ensures { result
+            ≡ passes (type_seen (plain_names self.now) own number)
+            (slice_get (plain_names self.now).types found) }
     {
         found < self.types.len() && self.is_seen_in(own, number, self.types.get(found))
     }
 
     fn is_seen_in(&self, own: u32, number: u32, named: &Named) -> bool
-        ensures { result ≡ (is_module named.now.name.«module» (slice_get self.now.scopes number) && (nat_eq own number || named.now.exported)) }
+        ensures { result
+            ≡ (is_module named.now.name.«module» (slice_get self.now.scopes number)
+            && (nat_eq own number || named.now.exported)) }
     {
         self.is_named(number, &named.name.module) && (own == number || named.exported)
     }

@@ -20,14 +20,16 @@ ReadFaults (Err file.Absent) before now = now ≡ before
 ReadFaults (Err file.Failed) before now = Rose before now
 ReadFaults (Err file.Memory) before now = now ≡ before
 
--- the count of absent answers in a read of a file: it rose where there was none, and else is as it was
+-- the count of absent answers in a read of a file: it rose where there was none, and else is as it
+-- was
 abbrev pub ReadAbsents : {T : Type 0} → Result T FileAnswer → ℕ → ℕ → Type 0
 ReadAbsents (Ok bytes) before now = now ≡ before
 ReadAbsents (Err file.Absent) before now = Rose before now
 ReadAbsents (Err file.Failed) before now = now ≡ before
 ReadAbsents (Err file.Memory) before now = now ≡ before
 
--- the count of faults in a taking from a source: it rose where the source failed, and else is as it was
+-- the count of faults in a taking from a source: it rose where the source failed, and else is as it
+-- was
 abbrev pub TakeFaults : {T E : Type 0} → Result T E → ℕ → ℕ → Type 0
 TakeFaults (Ok count) before now = now ≡ before
 TakeFaults (Err e) before now = Rose before now

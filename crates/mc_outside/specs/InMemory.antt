@@ -1,4 +1,5 @@
--- The files, the source and the sink in memory, as contracts see them. Source: this project's profile.
+-- The files, the source and the sink in memory, as contracts see them. Source: this project's
+-- profile.
 use Rattle.std.specs.Prelude.{◌≡◌, ℕ, List, ◌++◌, drop, Contains, Result, Ok, Err, refl}
 use Rattle.std.specs.FinMap as map
 use Rattle.std.specs.Coded.{Coded, code_by, coded×, coded_ℕ, coded_list}
@@ -9,8 +10,8 @@ use Rattle.mc_outside.specs.declared.traits.PutFault.TheVariants as put
 use Rattle.mc_outside.specs.Counts.{raised}
 use Rattle.mc_outside.specs.Meaning.{Held}
 
--- how often a form in memory was called, how many of these calls failed, and the numbers of the calls that fail,
--- counted from 1
+-- how often a form in memory was called, how many of these calls failed, and the numbers of the
+-- calls that fail, counted from 1
 pub record CallsState : Type 0 where
   pub fail : List ℕ
   pub made : ℕ
@@ -51,29 +52,35 @@ pub record SinkState : Type 0 where
 -- calls are stored as the tuple of their parts
 abbrev pub calls_code : Coded CallsState
 calls_code =
-    code_by (List ℕ × (ℕ × ℕ)) (coded× (coded_list coded_ℕ) (coded× coded_ℕ coded_ℕ)) (λ c. (c.fail, (c.made, c.faults)))
+    code_by (List ℕ × (ℕ × ℕ)) (coded× (coded_list coded_ℕ) (coded× coded_ℕ coded_ℕ))
+    (λ c. (c.fail, (c.made, c.faults)))
     (λ p. record { fail = p.0; made = p.1.0; faults = p.1.1 }) (λ _. refl)
 
 -- files in memory are stored as the tuple of their parts
 abbrev pub files_code : Coded FilesState
 files_code =
-    code_by (Held × (CallsState × ℕ)) (coded× (map.code (coded_list coded_ℕ) (coded_list coded_ℕ)) (coded× calls_code coded_ℕ)) (λ s. (s.held, (s.calls, s.absents)))
+    code_by (Held × (CallsState × ℕ))
+    (coded× (map.code (coded_list coded_ℕ) (coded_list coded_ℕ)) (coded× calls_code coded_ℕ))
+    (λ s. (s.held, (s.calls, s.absents)))
     (λ p. record { held = p.0; calls = p.1.0; absents = p.1.1 }) (λ _. refl)
 
 -- after a read of files in memory: nothing but the counts has changed
 abbrev pub FilesRead : {T : Type 0} → FilesState → FilesState → Result T FileAnswer → Type 0
 FilesRead old new (Ok bytes) = new ≡ record old { calls = passed old.calls }
-FilesRead old new (Err file.Absent) = new ≡ record old { calls = passed old.calls; absents = raised old.absents }
+FilesRead old new (Err file.Absent) =
+    new ≡ record old { calls = passed old.calls; absents = raised old.absents }
 FilesRead old new (Err file.Failed) = new ≡ record old { calls = failed old.calls }
 FilesRead old new (Err file.Memory) = new ≡ record old { calls = passed old.calls }
 
 -- after a taking from a source in memory: a call that fails changes nothing but the counts
 abbrev pub SourceTakes : {E : Type 0} → SourceState → SourceState → Result ℕ E → Type 0
-SourceTakes old new (Ok count) = new ≡ record { left = drop count old.left; calls = passed old.calls }
+SourceTakes old new (Ok count) =
+    new ≡ record { left = drop count old.left; calls = passed old.calls }
 SourceTakes old new (Err e) = new ≡ record old { calls = failed old.calls }
 
 -- after a put into a sink in memory: a call that fails changes nothing but the counts
 abbrev pub SinkPuts : {T : Type 0} → SinkState → SinkState → Result T PutFault → List ℕ → Type 0
-SinkPuts old new (Ok u) piece = new ≡ record { written = old.written ++ piece; calls = passed old.calls }
+SinkPuts old new (Ok u) piece =
+    new ≡ record { written = old.written ++ piece; calls = passed old.calls }
 SinkPuts old new (Err put.Failed) piece = new ≡ record old { calls = failed old.calls }
 SinkPuts old new (Err put.Memory) piece = new ≡ record old { calls = passed old.calls }

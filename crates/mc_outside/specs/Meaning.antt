@@ -1,4 +1,5 @@
--- What files hold, what a source has left and what was put into a sink. Source: this project's profile.
+-- What files hold, what a source has left and what was put into a sink. Source: this project's
+-- profile.
 use Rattle.std.specs.Prelude.{◌≡◌, ℕ, ◌≤◌, List, [], ◌++◌, take, drop, length, Option, Some, None, Result, Ok, Err, ⊤}
 use Rattle.std.specs.Ordering.{nat_cmp}
 use Rattle.std.specs.Cmp.Lexicographic.{slice_cmp}
@@ -22,8 +23,8 @@ read_limit = 4194305
 abbrev pub first_part : List ℕ → List ℕ
 first_part bytes = take read_limit bytes
 
--- the answer of a read of a name under which these bytes, or none, are held: a held file is never absent, and
--- what isn't held is never read
+-- the answer of a read of a name under which these bytes, or none, are held: a held file is never
+-- absent, and what isn't held is never read
 abbrev pub ReadsEntry : Option (List ℕ) → Result (Vec ℕ Global) FileAnswer → Type 0
 ReadsEntry (Some bytes) (Ok read) = read.items ≡ first_part bytes
 ReadsEntry (Some bytes) (Err file.Absent) = ⊥
@@ -42,23 +43,28 @@ abbrev pub StaysTold : Option (List ℕ) → Type 0
 StaysTold (Some after) = ⊤
 StaysTold None = ⊥
 
--- what is left after a taking into a buffer: the bytes at the buffer's front are taken from the front of what
--- was left, and none are taken only where nothing was left
+-- what is left after a taking into a buffer: the bytes at the buffer's front are taken from the
+-- front of what was left, and none are taken only where nothing was left
 abbrev pub Takes : {E : Type 0} → Option (List ℕ) → Option (List ℕ) → Result ℕ E → List ℕ → Type 0
 Takes (Some before) after (Ok count) buf =
-    (after ≡ Some (drop count before)) × (take count buf ≡ take count before) × (count ≤ length before) × (count ≡ 0 → before ≡ [])
+    (after ≡ Some (drop count before))
+    × (take count buf ≡ take count before)
+    × (count ≤ length before)
+    × (count ≡ 0 → before ≡ [])
 Takes (Some before) after (Err e) buf = StaysTold after
 Takes None after result buf = after ≡ None
 
--- what was put is what was there before and some part of the front of a text, be it nothing or all of it; it stays
--- untold where it was
+-- what was put is what was there before and some part of the front of a text, be it nothing or all
+-- of it; it stays untold where it was
 abbrev pub PutsFront : Option (List ℕ) → Option (List ℕ) → List ℕ → Type 0
-PutsFront (Some before) after text = (count : ℕ) × (count ≤ length text) × (after ≡ Some (before ++ take count text))
+PutsFront (Some before) after text =
+    (count : ℕ) × (count ≤ length text) × (after ≡ Some (before ++ take count text))
 PutsFront None after text = after ≡ None
 
--- what was put after a put of a piece: the whole piece at the end, some part of its front where the sink failed,
--- and nothing at want of memory
-abbrev pub Puts : {T : Type 0} → Option (List ℕ) → Option (List ℕ) → Result T PutFault → List ℕ → Type 0
+-- what was put after a put of a piece: the whole piece at the end, some part of its front where the
+-- sink failed, and nothing at want of memory
+abbrev pub Puts :
+    {T : Type 0} → Option (List ℕ) → Option (List ℕ) → Result T PutFault → List ℕ → Type 0
 Puts (Some before) after (Ok u) piece = after ≡ Some (before ++ piece)
 Puts (Some before) after (Err put.Failed) piece = PutsFront (Some before) after piece
 Puts (Some before) after (Err put.Memory) piece = after ≡ Some before

@@ -18,7 +18,8 @@ by_name files = finmap.from_entries (map (λ file. (string_bytes file.0, file.1.
 -- no two files have one name
 abbrev pub HaveDistinctNames : List File → Type 0
 HaveDistinctNames [] = Unit {0}
-HaveDistinctNames (file ∷ files) = All (λ other. string_bytes file.0 ≢ string_bytes other.0) files × HaveDistinctNames files
+HaveDistinctNames (file ∷ files) =
+    All (λ other. string_bytes file.0 ≢ string_bytes other.0) files × HaveDistinctNames files
 
 -- the bytes of a file that was found
 abbrev pub found_bytes : Option (Bor (Vec ℕ Global)) → Option (List ℕ)

@@ -28,7 +28,10 @@ fn show<F: Files, K: Sink>(alloc: Global, files: &mut F, name: &str, out: &mut K
     ensures write { result ≡ Status.WriteFault → Rose (K.faults out.old) (K.faults out.new) }
     ensures read_seen { F.faults files.old < F.faults files.new → result ≡ Status.ReadFault }
     ensures write_seen { K.faults out.old < K.faults out.new → result ≡ Status.WriteFault }
-    ensures held { IfSome (F.held files.old) (λ held. finmap.get held name.now ≡ None → (result ≡ Status.Absent) ⊎ (result ≡ Status.ReadFault) ⊎ (result ≡ Status.Memory)) }
+    ensures held { IfSome (F.held files.old)
+        (λ held.
+        finmap.get held name.now ≡ None
+        → (result ≡ Status.Absent) ⊎ (result ≡ Status.ReadFault) ⊎ (result ≡ Status.Memory)) }
     ensures untold { K.written out.old ≡ None → K.written out.new ≡ None }
 {
     let bytes = match files.read(alloc, name) {
@@ -51,7 +54,9 @@ fn show<F: Files, K: Sink>(alloc: Global, files: &mut F, name: &str, out: &mut K
 
 /// Puts two pieces in turn, up to the first that is refused.
 fn put_both<K: Sink>(out: &mut K, first: &[u8], second: &[u8]) -> Result<(), PutFault>
-    ensures ok { OnOk result (IfSome (K.written out.old) (λ before. K.written out.new ≡ Some (before ++ (first.now ++ second.now)))) }
+    ensures ok { OnOk result
+        (IfSome (K.written out.old)
+        (λ before. K.written out.new ≡ Some (before ++ (first.now ++ second.now)))) }
     ensures part { PutsFront (K.written out.old) (K.written out.new) (first.now ++ second.now) }
     ensures failed { IsErrOf result PutFault.Failed → Rose (K.faults out.old) (K.faults out.new) }
     ensures seen { K.faults out.old < K.faults out.new → IsErrOf result PutFault.Failed }

@@ -1,5 +1,5 @@
--- How a value is written from its front: what stands before its first argument, after each argument but the last, and
--- after the last one.
+-- How a value is written from its front: what stands before its first argument, after each argument
+-- but the last, and after the last one.
 use Rattle.std.specs.Prelude.{ℕ, List, [], ◌∷◌, ◌++◌, Bool, true, false, nat_eq, codes, if◌then◌else◌, ⊤}
 use Rattle.std.specs.Cmp.Lexicographic.{pointwise}
 use Rattle.mc_program.specs.Values.{Val, con, val_then}
@@ -31,7 +31,8 @@ separator false = codes ", "
 -- the arguments before the last one
 abbrev pub fronts_text : List (List ℕ) → Bool → List Val → List ℕ
 fronts_text names in_cell [] = []
-fronts_text names in_cell (v ∷ vs) = printed names v ++ (separator in_cell ++ fronts_text names in_cell vs)
+fronts_text names in_cell (v ∷ vs) =
+    printed names v ++ (separator in_cell ++ fronts_text names in_cell vs)
 
 -- where the last argument stands
 abbrev pub last_place : Bool → Place

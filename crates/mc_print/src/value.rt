@@ -76,7 +76,9 @@ fn write_fronts(
     program: &Program,
 ) -> Result<(), Memory>
     requires { AllSymbolsBelow (length program.now.symbols) (vals (map plain_value front.now)) }
-    ensures { OnOk result (out.new ≡ out.old ++ fronts_text (names_of program.now) is_list (map plain_value front.now)) }
+    ensures { OnOk result
+        (out.new
+        ≡ out.old ++ fronts_text (names_of program.now) is_list (map plain_value front.now)) }
 {
     for v in front {
         write_value(alloc, out, v, program)?;

@@ -26,7 +26,10 @@ open_list = con 0 (vals (int (pos 1) ∷ con 0 (vals (int (negsuc 1) ∷ con 2 n
 abbrev pub OpenList : Type 0
 OpenList =
     (written open_list ≡ codes "[1, -2 | end]")
-    × (read open_list ≡ at (Tailed (tms (at (Int (pos 1)) 1 ∷ at (Int (negsuc 1)) 1 ∷ [])) (over (codes "end") [])) 1)
+    × (read open_list
+    ≡ at
+    (Tailed (tms (at (Int (pos 1)) 1 ∷ at (Int (negsuc 1)) 1 ∷ []))
+    (over (codes "end") [])) 1)
     × (depth_of (read open_list) ≡ 2)
 
 -- the operator `-` over a name in quotes, a character, a string and the empty list
@@ -36,9 +39,14 @@ quotes = con 3 (vals (con 4 no_vals ∷ char 97 ∷ str (codes "\"") ∷ con 1 n
 abbrev pub Quotes : Type 0
 Quotes =
     (written quotes ≡ codes "'-'('it\\'s', 'a', \"\\\"\", [])")
-    × (read quotes ≡ over (codes "-") (over (codes "it's") [] ∷ over (codes "a") [] ∷ at (Str (codes "\"")) 1 ∷ at (Items no_term) 1 ∷ []))
+    × (read quotes
+    ≡ over (codes "-")
+    (over (codes "it's") [] ∷ over (codes "a") [] ∷ at (Str (codes "\"")) 1
+    ∷ at (Items no_term) 1 ∷ []))
     × (depth_of (read quotes) ≡ 2)
 
 -- an operator over a number is no negative number, and `[]` alone is no name
 abbrev pub NoOthers : Type 0
-NoOthers = (read (con 3 (vals (int (pos 1) ∷ []))) ≢ read (int (negsuc 0))) × (read (con 1 no_vals) ≢ over (codes "[]") [])
+NoOthers =
+    (read (con 3 (vals (int (pos 1) ∷ []))) ≢ read (int (negsuc 0)))
+    × (read (con 1 no_vals) ≢ over (codes "[]") [])

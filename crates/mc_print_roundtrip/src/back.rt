@@ -20,8 +20,15 @@ use std::alloc::Global;
 pub fn read_back(alloc: Global, v: &Value, program: &Program) -> Result<Option<Term>, Memory>
     requires { Names program.now (plain_value v.now) }
     ensures item { IfOk result (λ answer. IfSome answer (λ term. (next : ℕ) × IsItem (item_text (names_of program.now) (plain_value v.now)) 0 term next)) }
-    ensures refused { IfOk result (λ answer. IfNone answer (IsUnread (item_text (names_of program.now) (plain_value v.now)))) }
-    ensures back { HasText (names_of program.now) (plain_value v.now) → depth_of (term_of (names_of program.now) 1 (plain_value v.now)) ≤ 256 → IfOk result (λ answer. IsSomeAnd answer (λ term. plain_term term ≡ term_of (names_of program.now) 1 (plain_value v.now))) }
+    ensures refused { IfOk result
+        (λ answer.
+        IfNone answer (IsUnread (item_text (names_of program.now) (plain_value v.now)))) }
+    ensures back { HasText (names_of program.now) (plain_value v.now)
+        → depth_of (term_of (names_of program.now) 1 (plain_value v.now)) ≤ 256
+        → IfOk result
+        (λ answer.
+        IsSomeAnd answer
+        (λ term. plain_term term ≡ term_of (names_of program.now) 1 (plain_value v.now))) }
 {
     printed_values_read_back();
     let mut text = printed(alloc, v, program)?;

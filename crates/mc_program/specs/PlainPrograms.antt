@@ -1,4 +1,5 @@
--- The plain data that types, terms, goals of clauses and programs stand for, without their rows and boxes.
+-- The plain data that types, terms, goals of clauses and programs stand for, without their rows and
+-- boxes.
 use Rattle.std.specs.Prelude.{List, [], ◌∷◌, map, get_or, None}
 use Rattle.mc_program.specs.Values.{int, char, str}
 use Rattle.mc_program.specs.Programs.{TypeTerm, int_type, char_type, string_type, state_type, variable_type, union_type, TypeTerms, no_types, type_then, Expression, variable, constant, made, applied, expressions, Formula, Equal, Call, And, Or, If, Not, Exists, Formulas, no_formulas, formula_then, FullName, Constructor, ClauseForm, Predicate, Source}
@@ -67,7 +68,8 @@ abbrev pub plain_name : Name → FullName
 plain_name n = record { module_name = n.module; bytes = n.name; arity = n.arity }
 
 abbrev pub plain_symbol : Symbol → Constructor
-plain_symbol s = record { name = plain_name s.name; of_type = s.of_type; args = map plain_type s.args }
+plain_symbol s =
+    record { name = plain_name s.name; of_type = s.of_type; args = map plain_type s.args }
 
 abbrev pub plain_clause : Clause → ClauseForm
 plain_clause c = record { head = map plain_expression c.head; body = plain_goal c.body }

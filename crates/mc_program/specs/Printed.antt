@@ -1,5 +1,5 @@
--- The text that values, answers and broken rules are printed as. (This project's profile, after the Mercury Language
--- Reference Manual, chapter Syntax: a printed value reads back as a term.)
+-- The text that values, answers and broken rules are printed as. (This project's profile, after the
+-- Mercury Language Reference Manual, chapter Syntax: a printed value reads back as a term.)
 use Rattle.std.specs.Prelude.{ℕ, ◌+◌, ◌<◌, ◌/◌, ◌%◌, List, [], ◌∷◌, ◌++◌, map, length, slice_index_or, Bool, false, ◌||◌, ◌&&◌, if◌then◌else◌, nat_eq, nat_lt, nat_le, codes, decimal, encode_utf8, ⊤}
 use Rattle.std.specs.Fmt.{signed_decimal}
 use Rattle.std.specs.List.{flat_map, list_all}
@@ -35,13 +35,16 @@ Names program v = SymbolsBelow (length program.symbols) v
 abbrev pub hex_digit : ℕ → ℕ
 hex_digit d = if nat_lt d 10 then 48 + d else 87 + d
 
--- a byte as it stands between these quotes: the quote in use, backslashes and control characters are escaped
+-- a byte as it stands between these quotes: the quote in use, backslashes and control characters
+-- are escaped
 abbrev pub escaped : ℕ → ℕ → List ℕ
 escaped quote byte =
     if nat_eq byte 92 || nat_eq byte quote then 92 ∷ byte ∷ [] else
     if nat_eq byte 10 then codes "\\n" else
     if nat_eq byte 9 then codes "\\t" else
-    if nat_lt byte 32 || nat_eq byte 127 then codes "\\x" ++ (hex_digit (byte / 16) ∷ hex_digit (byte % 16) ∷ codes "\\") else
+    if nat_lt byte 32 || nat_eq byte 127
+    then codes "\\x" ++ (hex_digit (byte / 16) ∷ hex_digit (byte % 16) ∷ codes "\\")
+    else
     byte ∷ []
 
 abbrev pub in_quotes : ℕ → List ℕ → List ℕ
@@ -59,7 +62,11 @@ is_lower byte = nat_le 97 byte && nat_le byte 122
 
 -- a letter, a digit or an underscore
 abbrev pub is_word_byte : ℕ → Bool
-is_word_byte byte = is_lower byte || (nat_le 65 byte && nat_le byte 90) || (nat_le 48 byte && nat_le byte 57) || nat_eq byte 95
+is_word_byte byte =
+    is_lower byte
+    || (nat_le 65 byte && nat_le byte 90)
+    || (nat_le 48 byte && nat_le byte 57)
+    || nat_eq byte 95
 
 -- a name that begins with a letter in lower case and goes on with letters, digits and underscores
 abbrev pub is_bare : List ℕ → Bool
@@ -93,7 +100,8 @@ abbrev mutual
   printed names (con symbol no_vals) = constant_text (name_at names symbol)
   printed names (con symbol (val_then v vs)) =
       if is_cell (name_at names symbol) vs then codes "[" ++ (printed names v ++ (printed_tails names vs ++ codes "]"))
-      else name_text (name_at names symbol) ++ (codes "(" ++ (printed names v ++ (printed_more names vs ++ codes ")")))
+      else name_text (name_at names symbol)
+      ++ (codes "(" ++ (printed names v ++ (printed_more names vs ++ codes ")")))
 
   -- the text of the arguments after the first
   pub printed_more : List (List ℕ) → Vals → List ℕ
@@ -106,10 +114,14 @@ abbrev mutual
   printed_tail names (char c) = codes " | " ++ in_quotes single_quote (encode_utf8 c)
   printed_tail names (str bytes) = codes " | " ++ in_quotes double_quote bytes
   printed_tail names (state written taken) = codes " | " ++ codes "state"
-  printed_tail names (con symbol no_vals) = if is_nil (name_at names symbol) then [] else codes " | " ++ constant_text (name_at names symbol)
+  printed_tail names (con symbol no_vals) =
+      if is_nil (name_at names symbol) then []
+      else codes " | " ++ constant_text (name_at names symbol)
   printed_tail names (con symbol (val_then v vs)) =
       if is_cell (name_at names symbol) vs then codes ", " ++ (printed names v ++ printed_tails names vs)
-      else codes " | " ++ (name_text (name_at names symbol) ++ (codes "(" ++ (printed names v ++ (printed_more names vs ++ codes ")"))))
+      else codes " | "
+      ++ (name_text (name_at names symbol)
+      ++ (codes "(" ++ (printed names v ++ (printed_more names vs ++ codes ")"))))
 
   pub printed_tails : List (List ℕ) → Vals → List ℕ
   printed_tails names no_vals = []
@@ -121,12 +133,14 @@ binding_text name value = name ++ (codes " = " ++ value)
 
 -- the bindings after the first
 abbrev pub more_bindings : List (List ℕ) → List (List ℕ) → List ℕ
-more_bindings (name ∷ names) (value ∷ values) = codes ", " ++ (binding_text name value ++ more_bindings names values)
+more_bindings (name ∷ names) (value ∷ values) =
+    codes ", " ++ (binding_text name value ++ more_bindings names values)
 more_bindings _ _ = []
 
 -- the line of an answer, by the variables' names and the values' texts
 abbrev pub answer_text : List (List ℕ) → List (List ℕ) → List ℕ
-answer_text (name ∷ names) (value ∷ values) = binding_text name value ++ (more_bindings names values ++ codes ".\n")
+answer_text (name ∷ names) (value ∷ values) =
+    binding_text name value ++ (more_bindings names values ++ codes ".\n")
 answer_text _ _ = codes "true.\n"
 
 -- the name of a rule
@@ -180,4 +194,7 @@ rule_name R.C3 = codes "C3"
 -- the line of a broken rule: the file, the line, the rule and what is said of it
 abbrev pub broken_text : List ℕ → ℕ → Rule → List ℕ → List ℕ
 broken_text file line rule what =
-    file ++ (codes ":" ++ (decimal line ++ (codes ": " ++ (rule_name rule ++ (codes " " ++ (what ++ codes "\n"))))))
+    file
+    ++ (codes ":"
+    ++ (decimal line
+    ++ (codes ": " ++ (rule_name rule ++ (codes " " ++ (what ++ codes "\n"))))))

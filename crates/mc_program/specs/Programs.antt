@@ -1,5 +1,5 @@
--- Types, terms, goals, clauses and programs as plain data, without rows and boxes. (Mercury Language Reference Manual:
--- Syntax; Types.)
+-- Types, terms, goals, clauses and programs as plain data, without rows and boxes. (Mercury
+-- Language Reference Manual: Syntax; Types.)
 use Rattle.std.specs.Prelude.{ℕ, List, [], ◌∷◌, Option}
 use Rattle.mc_program.specs.Values.{Val}
 use Rattle.mc_program.specs.declared.builtin.Builtin.{Builtin}
@@ -56,7 +56,8 @@ pub record FullName : Type 0 where
   pub bytes : List ℕ
   pub arity : ℕ
 
--- a constructor: the union type that it belongs to, and its arguments' types over that type's parameters
+-- a constructor: the union type that it belongs to, and its arguments' types over that type's
+-- parameters
 pub record Constructor : Type 0 where
   pub name : FullName
   pub of_type : ℕ
@@ -67,14 +68,16 @@ pub record ClauseForm : Type 0 where
   pub head : List Expression
   pub body : Formula
 
--- a predicate, or a function, whose last type is its result's: its arguments' types, and its clauses or its builtin
+-- a predicate, or a function, whose last type is its result's: its arguments' types, and its
+-- clauses or its builtin
 pub record Predicate : Type 0 where
   pub name : FullName
   pub types : List TypeTerm
   pub clauses : List ClauseForm
   pub builtin : Option Builtin
 
--- a program: its constructors, those of each union type in order, and its predicates, each named by its number
+-- a program: its constructors, those of each union type in order, and its predicates, each named by
+-- its number
 pub record Source : Type 0 where
   pub symbols : ℕ → Constructor
   pub symbols_of : ℕ → List ℕ

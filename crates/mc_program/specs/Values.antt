@@ -7,8 +7,8 @@ use Rattle.mc_program.specs.declared.value.Value.TheOpen as V
 use Rattle.mc_program.specs.declared.value.Value.TheFolds.{fold-Value}
 
 mutual
-  -- a value: an integer, a character, a string, a constructor over its arguments, or a state of io, which is the bytes
-  -- written so far and the number of input bytes taken so far
+  -- a value: an integer, a character, a string, a constructor over its arguments, or a state of io,
+  -- which is the bytes written so far and the number of input bytes taken so far
   pub data Val : Type 0 where
     int : (n : ℤ) → Val
     char : (code : ℕ) → Val

@@ -206,7 +206,9 @@ pub fn same_expr(a: &Expr, b: &Expr) -> bool
 /// Whether two rows are of one length and are the same but for their last terms.
 #[cycle(same)]
 fn same_but_last(xs: &Row<Expr>, ys: &Row<Expr>) -> bool
-    ensures { IsTrue result ↔ ((length xs.now ≡ length ys.now) × (take (length xs.now - 1) xs.now ≡ take (length ys.now - 1) ys.now)) }
+    ensures { IsTrue result
+        ↔ ((length xs.now ≡ length ys.now)
+        × (take (length xs.now - 1) xs.now ≡ take (length ys.now - 1) ys.now)) }
 {
     let n = xs.len();
     if ys.len() != n {

@@ -1,6 +1,6 @@
--- Determinisms: whether a goal can fail and at most how many answers it has, from those of its parts, row by row.
--- (Mercury Language Reference Manual: Determinism.)
-use Rattle.std.specs.Prelude.{ℕ, ◌≤◌, ◌≡◌, Bool, true, false, cond, not, ◌&&◌, ◌||◌, IsTrue}
+-- Determinisms: whether a goal can fail and at most how many answers it has, from those of its
+-- parts, row by row. (Mercury Language Reference Manual: Determinism.)
+use Rattle.std.specs.Prelude.{ℕ, ◌≤◌, ◌≡◌, Bool, true, false, not, ◌&&◌, ◌||◌, IsTrue, if◌then◌else◌}
 use Rattle.mc_source.specs.declared.det.Det.{Det}
 use Rattle.mc_source.specs.declared.det.Most.{Most}
 use Rattle.mc_source.specs.declared.det.Most.TheVariants.{Zero, One, Many}
@@ -30,7 +30,7 @@ nondet = record { can_fail = true; most = Many }
 
 -- the row of a determinism in the tables: one that is committed has many answers
 abbrev pub row_of : Det → Determinism
-row_of d = record { can_fail = d.can_fail; most = cond d.committed Many d.most }
+row_of d = record { can_fail = d.can_fail; most = (if d.committed then Many else d.most) }
 
 -- a determinism that is not committed, as inferred ones are
 abbrev pub inferred : Determinism → Det
@@ -48,42 +48,45 @@ is_many Many = true
 
 abbrev pub greater : Most → Most → Most
 greater Zero n = n
-greater One n = cond (is_many n) Many One
+greater One n = if is_many n then Many else One
 greater Many n = Many
 
--- `A, B`: it can fail where A can, or where A has an answer and B can; no answer where one has none, else the greater
+-- `A, B`: it can fail where A can, or where A has an answer and B can; no answer where one has
+-- none, else the greater
 abbrev pub conj : Determinism → Determinism → Determinism
 conj a b =
     record {
       can_fail = a.can_fail || not (is_zero a.most) && b.can_fail;
-      most = cond (is_zero a.most || is_zero b.most) Zero (greater a.most b.most);
+      most = if is_zero a.most || is_zero b.most then Zero else greater a.most b.most;
     }
 
--- `A ; B`: it can fail where both can; no answer where both have none; many where one has many or both have some; else
--- one
+-- `A ; B`: it can fail where both can; no answer where both have none; many where one has many or
+-- both have some; else one
 abbrev pub disj : Determinism → Determinism → Determinism
 disj a b =
     record {
       can_fail = a.can_fail && b.can_fail;
       most =
-          cond (is_zero a.most && is_zero b.most) Zero
-          (cond (is_many a.most || is_many b.most || not (is_zero a.most) && not (is_zero b.most)) Many One);
+          if is_zero a.most && is_zero b.most then Zero
+          else if is_many a.most || is_many b.most || not (is_zero a.most) && not (is_zero b.most)
+          then Many
+          else One;
     }
 
--- `if C then T else E`: as `C, T` where C cannot fail. Otherwise it can fail where T or E can; no answer where E has none
--- and C or T has none; many where one of the three has many; else one
+-- `if C then T else E`: as `C, T` where C cannot fail. Otherwise it can fail where T or E can; no
+-- answer where E has none and C or T has none; many where one of the three has many; else one
 abbrev pub ite : Determinism → Determinism → Determinism → Determinism
 ite c t e =
-    cond c.can_fail
-    (record {
+    if c.can_fail then record {
       can_fail = t.can_fail || e.can_fail;
       most =
-          cond (is_zero e.most && (is_zero c.most || is_zero t.most)) Zero
-          (cond (is_many c.most || is_many t.most || is_many e.most) Many One);
-    })
-    (conj c t)
+          if is_zero e.most && (is_zero c.most || is_zero t.most) then Zero
+          else if is_many c.most || is_many t.most || is_many e.most then Many
+          else One;
+    } else conj c t
 
--- `not A`: erroneous where A is; it succeeds where A fails always, and fails where A succeeds always; else either
+-- `not A`: erroneous where A is; it succeeds where A fails always, and fails where A succeeds
+-- always; else either
 abbrev pub negated_row : Bool → Most → Determinism
 negated_row false Zero = erroneous
 negated_row true Zero = det
@@ -110,7 +113,8 @@ rank Zero = 0
 rank One = 1
 rank Many = 2
 
--- A declared determinism D allows an inferred one I: D can fail where I can, and I has at most as many answers as D.
+-- A declared determinism D allows an inferred one I: D can fail where I can, and I has at most as
+-- many answers as D.
 abbrev pub Allows : (declared inferred : Determinism) → Type 0
 Allows d i = (IsTrue i.can_fail → IsTrue d.can_fail) × (rank i.most ≤ rank d.most)
 
@@ -122,7 +126,9 @@ abbrev pub DisjIsMonotone : Type 0
 DisjIsMonotone = (a b c d : Determinism) → Allows c a → Allows d b → Allows (disj c d) (disj a b)
 
 abbrev pub IteIsMonotone : Type 0
-IteIsMonotone = (a b c d e f : Determinism) → Allows d a → Allows e b → Allows f c → Allows (ite d e f) (ite a b c)
+IteIsMonotone =
+    (a b c d e f : Determinism)
+    → Allows d a → Allows e b → Allows f c → Allows (ite d e f) (ite a b c)
 
 abbrev pub NegatedIsMonotone : Type 0
 NegatedIsMonotone = (a b : Determinism) → Allows b a → Allows (negated b) (negated a)

@@ -1,5 +1,5 @@
 -- Look-ups by a name and the number of its parts.
-use Rattle.std.specs.Prelude.{ℕ, cond, nat_eq, ◌&&◌, ◌+◌, List, [], ◌∷◌, Option, Some, None, bytes_eq}
+use Rattle.std.specs.Prelude.{ℕ, nat_eq, ◌&&◌, ◌+◌, List, [], ◌∷◌, Option, Some, None, bytes_eq, if◌then◌else◌}
 use Rattle.mc_term_data.specs.Plain.{PlainTerms, no_term, more_terms}
 
 -- how many terms these are
@@ -19,4 +19,4 @@ row w n x = record { name = w; arity = n; entry = x }
 -- what a table says of a name over a number of parts
 abbrev pub found : {A : Type 0} → List (Row A) → List ℕ → ℕ → Option A
 found [] w n = None
-found (r ∷ rs) w n = cond (nat_eq n r.arity && bytes_eq r.name w) (Some r.entry) (found rs w n)
+found (r ∷ rs) w n = if nat_eq n r.arity && bytes_eq r.name w then Some r.entry else found rs w n

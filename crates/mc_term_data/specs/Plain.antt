@@ -60,8 +60,8 @@ abbrev pub plain_terms : List Term → PlainTerms
 plain_terms ts = tms (map plain_term ts)
 
 abbrev mutual
-  -- How deep a term is: a leaf has 1, and any other term one more than its deepest part; a whole conjunction and
-  -- a whole disjunction are one term. (Brackets are no part of a term.)
+  -- How deep a term is: a leaf has 1, and any other term one more than its deepest part; a whole
+  -- conjunction and a whole disjunction are one term. (Brackets are no part of a term.)
   pub depth : PlainTerm → ℕ
   depth (at n l) = node_depth n
 
@@ -98,6 +98,7 @@ last_of_node (Tailed ts t) = Some t
 last_of_node (Conj ts) = last_term ts
 last_of_node (Disj ts) = last_term ts
 
--- The last part of a term, where it has parts: what follows a list's bar, else the last of its terms.
+-- The last part of a term, where it has parts: what follows a list's bar, else the last of its
+-- terms.
 abbrev pub last_part : PlainTerm → Option PlainTerm
 last_part (at n l) = last_of_node n

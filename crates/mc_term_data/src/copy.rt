@@ -27,7 +27,10 @@ impl Term {
     // A copy, by a copy of the last part where there is one.
     #[cycle(copy)]
     fn copied_over(&self, alloc: Global, last: Option<Term>) -> Result<Term, Memory>
-        ensures { IfOk result (λ copy. last_part (plain_term self.now) ≡ option_map plain_term last → plain_term copy ≡ plain_term self.now) }
+        ensures { IfOk result
+            (λ copy.
+            last_part (plain_term self.now) ≡ option_map plain_term last
+            → plain_term copy ≡ plain_term self.now) }
     {
         let node = match &self.node {
             Node::Var(name) => Node::Var(name.copied(alloc)?),
@@ -55,7 +58,10 @@ impl Term {
 // A copy of a row of terms, by a copy of the last one where there is one.
 #[cycle(copy)]
 fn copied_row(alloc: Global, terms: &Row<Term>, last: Option<Term>) -> Result<Row<Term>, Memory>
-    ensures { IfOk result (λ copy. last_term (plain_terms terms.now) ≡ option_map plain_term last → map plain_term copy ≡ map plain_term terms.now) }
+    ensures { IfOk result
+        (λ copy.
+        last_term (plain_terms terms.now) ≡ option_map plain_term last
+        → map plain_term copy ≡ map plain_term terms.now) }
 {
     match terms.as_slice() {
         [] => Ok(Row::new(alloc)),
@@ -83,7 +89,8 @@ pub fn copied_terms(alloc: Global, terms: &[Term]) -> Result<Row<Term>, Memory>
 }
 
 fn boxed(alloc: Global, term: Option<Term>) -> Result<Option<Box<Term>>, Memory>
-    ensures { IfOk result (λ boxed. option_map (λ b. plain_term b.value) boxed ≡ option_map plain_term term) }
+    ensures { IfOk result
+        (λ boxed. option_map (λ b. plain_term b.value) boxed ≡ option_map plain_term term) }
 {
     match term {
         Some(term) => Ok(Some(Box::new(alloc, term)?)),

@@ -27,8 +27,12 @@ impl Term {
     // How deep the term is where its last part is left out.
     #[cycle(depth)]
     fn depth_over(&self) -> u32
-        ensures leaf { last_part (plain_term self.now) ≡ None → result ≡ min (depth_of (plain_term self.now)) (2 ^ 32 - 1) }
-        ensures over { (last : PlainTerm) → last_part (plain_term self.now) ≡ Some last → min (depth_of (plain_term self.now)) (2 ^ 32 - 1) ≡ min (max result (1 + depth_of last)) (2 ^ 32 - 1) }
+        ensures leaf { last_part (plain_term self.now) ≡ None
+            → result ≡ min (depth_of (plain_term self.now)) (2 ^ 32 - 1) }
+        ensures over { (last : PlainTerm)
+            → last_part (plain_term self.now) ≡ Some last
+            → min (depth_of (plain_term self.now)) (2 ^ 32 - 1)
+            ≡ min (max result (1 + depth_of last)) (2 ^ 32 - 1) }
     {
         let parts = match &self.node {
             Node::Var(_) | Node::Int(_) | Node::Str(_) => 0,
@@ -43,8 +47,12 @@ impl Term {
 // The depth of the deepest of a row of terms, the last of which is left out.
 #[cycle(depth)]
 fn deepest_front(terms: &Row<Term>) -> u32
-    ensures none { last_term (plain_terms terms.now) ≡ None → result ≡ min (deepest (plain_terms terms.now)) (2 ^ 32 - 1) }
-    ensures over { (last : PlainTerm) → last_term (plain_terms terms.now) ≡ Some last → min (deepest (plain_terms terms.now)) (2 ^ 32 - 1) ≡ min (max result (depth_of last)) (2 ^ 32 - 1) }
+    ensures none { last_term (plain_terms terms.now) ≡ None
+        → result ≡ min (deepest (plain_terms terms.now)) (2 ^ 32 - 1) }
+    ensures over { (last : PlainTerm)
+        → last_term (plain_terms terms.now) ≡ Some last
+        → min (deepest (plain_terms terms.now)) (2 ^ 32 - 1)
+        ≡ min (max result (depth_of last)) (2 ^ 32 - 1) }
 {
     match terms.as_slice() {
         [] => 0,

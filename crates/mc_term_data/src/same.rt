@@ -33,7 +33,8 @@ impl Term {
     // Whether two terms are equal, where their last parts are.
     #[cycle(same)]
     fn same_over(&self, other: &Term) -> bool
-        ensures { last_part (plain_term self.now) ≡ last_part (plain_term other.now) → (IsTrue result ↔ (plain_term self.now ≡ plain_term other.now)) }
+        ensures { last_part (plain_term self.now) ≡ last_part (plain_term other.now)
+            → (IsTrue result ↔ (plain_term self.now ≡ plain_term other.now)) }
     {
         if self.line != other.line {
             return false;
@@ -57,7 +58,8 @@ impl Term {
 // Whether two rows of terms are equal, where their last terms are.
 #[cycle(same)]
 fn same_rows(left: &Row<Term>, right: &Row<Term>) -> bool
-    ensures { last_term (plain_terms left.now) ≡ last_term (plain_terms right.now) → (IsTrue result ↔ (plain_terms left.now ≡ plain_terms right.now)) }
+    ensures { last_term (plain_terms left.now) ≡ last_term (plain_terms right.now)
+        → (IsTrue result ↔ (plain_terms left.now ≡ plain_terms right.now)) }
 {
     match left.as_slice() {
         [] => right.is_empty(),

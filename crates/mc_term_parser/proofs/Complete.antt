@@ -4,16 +4,16 @@ use Rattle.mc_term_parser.specs.declared.table.Fix.{Fix}
 use Rattle.mc_term_parser.specs.declared.table.Fix.TheVariants.{Fx, Fy, Fxy}
 use Rattle.mc_term_parser.specs.declared.lexeme.Lexeme.{Lexeme}
 use Rattle.mc_term_parser.specs.declared.lexeme.Lexeme.TheVariants as L
-use Rattle.mc_term_parser.specs.declared.infix.Chain.{Chain}
-use Rattle.mc_term_parser.specs.declared.infix.Chain.TheVariants.{And, Or}
-use Rattle.mc_term_parser.specs.declared.infix.Infix.{Infix}
-use Rattle.mc_term_parser.specs.declared.infix.Infix.TheVariants.{Nothing, Binary, Chains}
-use Rattle.mc_term_parser.specs.declared.infix.Role.{Role}
-use Rattle.mc_term_parser.specs.declared.infix.Role.TheVariants.{Compound, Negative, Single, Double, Plain}
+use Rattle.mc_term_parser.specs.declared.infixes.Chain.{Chain}
+use Rattle.mc_term_parser.specs.declared.infixes.Chain.TheVariants.{And, Or}
+use Rattle.mc_term_parser.specs.declared.infixes.Infix.{Infix}
+use Rattle.mc_term_parser.specs.declared.infixes.Infix.TheVariants.{Nothing, Binary, Chains}
+use Rattle.mc_term_parser.specs.declared.infixes.Role.{Role}
+use Rattle.mc_term_parser.specs.declared.infixes.Role.TheVariants.{Compound, Negative, Single, Double, Plain}
 use Rattle.mc_term_parser.specs.declared.frame.Series.{Series}
 use Rattle.mc_term_parser.specs.declared.frame.Series.TheVariants.{Arguments, Elements, Chained}
 use Rattle.mc_term_parser.specs.Table.{prefix_row, same_name}
-use Rattle.mc_term_parser.specs.Infixes.{is_open_ct, prefix_of, prefix_role, operand, rank, infix, role, callee, is_paren, name_of, line}
+use Rattle.mc_term_parser.specs.Infixes.{is_open_ct, prefix_of, prefix_role, operand, rank, joined_by, role, callee, is_paren, name_of, line}
 use Rattle.mc_term_parser.specs.Part.{Part, closed, over}
 use Rattle.mc_term_parser.specs.Tree.{Tree, App, trees, line_of}
 use Rattle.mc_term_parser.specs.Reads.{chain, Between, ByComma, ByChain, Separates, Reads, Parts, variable, number, string, negative, name, path, compound, paren, nil, elements, tailed, prefix, quantified, binary, chained, last, more}
@@ -38,7 +38,7 @@ ShutAt (Chains k) b = b < rank k
 
 abbrev pub Shut : Bool → List Lexeme → ℕ → Type 0
 Shut c [] b = Unit {0}
-Shut c (x ∷ ts) b = ShutAt (infix c x) b
+Shut c (x ∷ ts) b = ShutAt (joined_by c x) b
 
 shut_at_below : (j : Infix) (a b : ℕ) → a ≤ b → ShutAt j b → ShutAt j a
 shut_at_below Nothing a b h s = tt
@@ -47,7 +47,7 @@ shut_at_below (Chains k) a b h s = omega arith
 
 shut_below : (c : Bool) (r : List Lexeme) (a b : ℕ) → a ≤ b → Shut c r b → Shut c r a
 shut_below c [] a b h s = tt
-shut_below c (x ∷ ts) a b h s = shut_at_below (infix c x) a b h s
+shut_below c (x ∷ ts) a b h s = shut_at_below (joined_by c x) a b h s
 
 operand_below : (y : Bool) (n : ℕ) → operand y n ≤ n
 operand_below true n = omega arith
@@ -123,7 +123,7 @@ stays_at c limit p x ts (Chains k) h = ap (λ b. cond (b && ltb p.number (rank k
 
 stays : (c : Bool) (limit : ℕ) (p : Part Tree) (r : List Lexeme) → Shut c r limit → next c limit p r ≡ Stay
 stays c limit p [] h = refl
-stays c limit p (x ∷ ts) h = stays_at c limit p x ts (infix c x) h
+stays c limit p (x ∷ ts) h = stays_at c limit p x ts (joined_by c x) h
 
 -- a frame of parts, and the context in which its parts are read
 pub data Sorted : Series → Between → Bool → ℕ → Type 0 where
@@ -131,8 +131,8 @@ pub data Sorted : Series → Between → Bool → ℕ → Type 0 where
   sorted_elements : Sorted Elements ByComma true 1200
   sorted_chain : {k : Chain} {c : Bool} {limit : ℕ} → limit < rank k → limit ≡ rank k - 1 → Sorted (Chained k) (ByChain k) c limit
 
-joins_not : infix true L.Comma ≡ Nothing
-unfolding infix
+joins_not : joined_by true L.Comma ≡ Nothing
+unfolding joined_by
 joins_not = refl
 
 same_chain_itself : (k : Chain) → same_chain k k ≡ true
@@ -220,30 +220,30 @@ list_step {ts = ts} c limit stack l d = go ts (first d)
 list_leads : {s : Between} {c' : Bool} {m : ℕ} {ts r : List Lexeme} {ms : List Tree} (c : Bool) (limit : ℕ) (stack : List Frame) (l : ℕ) → Parts s c' m ts ms r → Leads (Start c limit stack (L.ListOpen l ∷ ts)) (Start true 1200 (InParts Elements l [] c limit ∷ stack) ts)
 list_leads {ts = ts} c limit stack l d = onward (subst (λ u. Leads u (Start true 1200 (InParts Elements l [] c limit ∷ stack) ts)) (sym (list_step c limit stack l d)) here)
 
-infix_close : (c : Bool) → infix c L.Close ≡ Nothing
-unfolding infix
+infix_close : (c : Bool) → joined_by c L.Close ≡ Nothing
+unfolding joined_by
 infix_close true = refl
 infix_close false = refl
 
-infix_list_close : (c : Bool) → infix c L.ListClose ≡ Nothing
-unfolding infix
+infix_list_close : (c : Bool) → joined_by c L.ListClose ≡ Nothing
+unfolding joined_by
 infix_list_close true = refl
 infix_list_close false = refl
 
-infix_bar : (c : Bool) → infix c L.Bar ≡ Nothing
-unfolding infix
+infix_bar : (c : Bool) → joined_by c L.Bar ≡ Nothing
+unfolding joined_by
 infix_bar true = refl
 infix_bar false = refl
 
-shut_by : (c : Bool) (x : Lexeme) (us : List Lexeme) (b : ℕ) (j : Infix) → infix c x ≡ j → ShutAt j b → Shut c (x ∷ us) b
+shut_by : (c : Bool) (x : Lexeme) (us : List Lexeme) (b : ℕ) (j : Infix) → joined_by c x ≡ j → ShutAt j b → Shut c (x ∷ us) b
 shut_by c x us b j e h = subst (λ j. ShutAt j b) (sym e) h
 
-binary_push : (c : Bool) (limit : ℕ) (p : Part Tree) (x : Lexeme) (us : List Lexeme) (n : ℕ) (ly ry : Bool) → infix c x ≡ Binary n ly ry → n ≤ limit → p.number ≤ operand ly n → p.reach < n → next c limit p (x ∷ us) ≡ Push c (operand ry n) (AtRight (line_of p.tree) (name_of x) n (operand ry n) p.tree c limit) us
+binary_push : (c : Bool) (limit : ℕ) (p : Part Tree) (x : Lexeme) (us : List Lexeme) (n : ℕ) (ly ry : Bool) → joined_by c x ≡ Binary n ly ry → n ≤ limit → p.number ≤ operand ly n → p.reach < n → next c limit p (x ∷ us) ≡ Push c (operand ry n) (AtRight (line_of p.tree) (name_of x) n (operand ry n) p.tree c limit) us
 binary_push c limit p x us n ly ry e h i j =
     ap (next_at c limit p x us) e
     ∙ ap (λ b. cond b (Push c (operand ry n) (AtRight (line_of p.tree) (name_of x) n (operand ry n) p.tree c limit) us) Stay) (both_true (le-leb n limit h) (both_true (le-leb p.number (operand ly n) i) (lt-ltb p.reach n j)))
 
-chain_push : (c : Bool) (limit : ℕ) (p : Part Tree) (x : Lexeme) (us : List Lexeme) (k : Chain) → infix c x ≡ Chains k → rank k ≤ limit → p.number < rank k → next c limit p (x ∷ us) ≡ Push c (rank k - 1) (InParts (Chained k) (line_of p.tree) (p.tree ∷ []) c limit) us
+chain_push : (c : Bool) (limit : ℕ) (p : Part Tree) (x : Lexeme) (us : List Lexeme) (k : Chain) → joined_by c x ≡ Chains k → rank k ≤ limit → p.number < rank k → next c limit p (x ∷ us) ≡ Push c (rank k - 1) (InParts (Chained k) (line_of p.tree) (p.tree ∷ []) c limit) us
 chain_push c limit p x us k e h i =
     ap (next_at c limit p x us) e
     ∙ ap (λ b. cond b (Push c (rank k - 1) (InParts (Chained k) (line_of p.tree) (p.tree ∷ []) c limit) us) Stay) (both_true (le-leb (rank k) limit h) (lt-ltb p.number (rank k) i))
@@ -251,7 +251,7 @@ chain_push c limit p x us k e h i =
 -- a chain ends where something else follows
 chain_ends : (k : Chain) (l : ℕ) (ms : List Tree) (d : Bool) (outer : ℕ) (stack : List Frame) (c : Bool) (r : List Lexeme) → Shut c r (rank k) → parts (Chained k) l ms d outer stack c r ≡ Done d outer stack (over (rank k) (rank k) (made_chain k l ms)) r
 chain_ends k l ms d outer stack c [] h = refl
-chain_ends k l ms d outer stack c (x ∷ ts) h = go (infix c x) h
+chain_ends k l ms d outer stack c (x ∷ ts) h = go (joined_by c x) h
   where
     go : (j : Infix) → ShutAt j (rank k) → on_chain k l ms d outer stack c (x ∷ ts) j ts ≡ Done d outer stack (over (rank k) (rank k) (made_chain k l ms)) (x ∷ ts)
     go Nothing h = refl

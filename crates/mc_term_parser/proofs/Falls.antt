@@ -2,13 +2,13 @@
 use Rattle.std.proofs.Common.{◌≡◌, ℕ, ◌<◌, ◌+◌, ◌-◌, ◌*◌, Bool, true, false, cond, ◌&&◌, leb, ltb, List, [], ◌∷◌, length, arith}
 use Rattle.mc_term_parser.specs.declared.lexeme.Lexeme.{Lexeme}
 use Rattle.mc_term_parser.specs.declared.lexeme.Lexeme.TheVariants as L
-use Rattle.mc_term_parser.specs.declared.infix.Infix.{Infix}
-use Rattle.mc_term_parser.specs.declared.infix.Infix.TheVariants.{Nothing, Binary, Chains}
-use Rattle.mc_term_parser.specs.declared.infix.Role.{Role}
-use Rattle.mc_term_parser.specs.declared.infix.Role.TheVariants.{Compound, Negative, Single, Double, Plain}
+use Rattle.mc_term_parser.specs.declared.infixes.Infix.{Infix}
+use Rattle.mc_term_parser.specs.declared.infixes.Infix.TheVariants.{Nothing, Binary, Chains}
+use Rattle.mc_term_parser.specs.declared.infixes.Role.{Role}
+use Rattle.mc_term_parser.specs.declared.infixes.Role.TheVariants.{Compound, Negative, Single, Double, Plain}
 use Rattle.mc_term_parser.specs.declared.frame.Series.{Series}
 use Rattle.mc_term_parser.specs.declared.frame.Series.TheVariants.{Arguments, Elements, Chained}
-use Rattle.mc_term_parser.specs.Infixes.{operand, rank, infix, role, name_of}
+use Rattle.mc_term_parser.specs.Infixes.{operand, rank, joined_by, role, name_of}
 use Rattle.mc_term_parser.specs.Part.{Part, over}
 use Rattle.mc_term_parser.specs.Machine.{AtRight, AtOperand, AtFirst, AtSecond, InParen, InParts, InTail, Start, Done, Yes, No, Push, Stay, same_chain, finish, turn}
 use Rattle.mc_term_parser.specs.Machine as M
@@ -67,7 +67,7 @@ parts_fall Elements l ms d outer stack c (L.ListClose ∷ ts) = omega arith
 parts_fall Elements l ms d outer stack c (L.Bar ∷ ts) = omega arith
 parts_fall Elements l ms d outer stack c _ = omega arith
 parts_fall (Chained k) l ms d outer stack c [] = omega arith
-parts_fall (Chained k) l ms d outer stack c (x ∷ ts) = go (infix c x)
+parts_fall (Chained k) l ms d outer stack c (x ∷ ts) = go (joined_by c x)
   where
     go : (j : Infix) → weight (M.on_chain seen_making k l ms d outer stack c (x ∷ ts) j ts) < 4 * length (x ∷ ts) + stack_weight stack + 2
     go Nothing = omega arith
@@ -80,7 +80,7 @@ parts_fall (Chained k) l ms d outer stack c (x ∷ ts) = go (infix c x)
 
 first_falls : (c : Bool) (n l : ℕ) (t : Seen) (w : List (List ℕ)) (d : Bool) (outer : ℕ) (stack : List FrameSeen) (ts : List Lexeme) → weight (M.at_first seen_making c n l t w d outer stack ts) < 4 * length ts + stack_weight stack + 4
 first_falls c n l t w d outer stack [] = omega arith
-first_falls c n l t w d outer stack (x ∷ ts) = go (infix c x)
+first_falls c n l t w d outer stack (x ∷ ts) = go (joined_by c x)
   where
     go : (j : Infix) → weight (M.second seen_making c n l t w d outer stack (x ∷ ts) j) < 4 * length (x ∷ ts) + stack_weight stack + 4
     go Nothing = omega arith
@@ -102,7 +102,7 @@ reduce_falls c (InTail l es d outer ∷ stack) p _ = omega arith
 
 done_falls : (c : Bool) (limit : ℕ) (stack : List FrameSeen) (p : Part Seen) (ts : List Lexeme) → weight (M.step seen_making (Done c limit stack p ts)) < 4 * length ts + stack_weight stack + 1
 done_falls c limit stack p [] = reduce_falls c stack p []
-done_falls c limit stack p (x ∷ ts) = go (infix c x)
+done_falls c limit stack p (x ∷ ts) = go (joined_by c x)
   where
     low : weight (M.reduce seen_making c stack p (x ∷ ts)) < 4 * length (x ∷ ts) + stack_weight stack + 1
     low = reduce_falls c stack p (x ∷ ts)

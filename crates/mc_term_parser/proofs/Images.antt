@@ -5,15 +5,15 @@ use Rattle.mc_term_data.specs.Plain as S
 use Rattle.mc_term_data.specs.Plain.{PlainTerm, PlainNode, PlainTerms, at, tms, no_term, more_terms}
 use Rattle.mc_term_parser.specs.declared.lexeme.Lexeme.{Lexeme}
 use Rattle.mc_term_parser.specs.declared.lexeme.Lexeme.TheVariants as L
-use Rattle.mc_term_parser.specs.declared.infix.Infix.{Infix}
-use Rattle.mc_term_parser.specs.declared.infix.Infix.TheVariants.{Nothing, Binary, Chains}
-use Rattle.mc_term_parser.specs.declared.infix.Chain.{Chain}
-use Rattle.mc_term_parser.specs.declared.infix.Chain.TheVariants.{And, Or}
-use Rattle.mc_term_parser.specs.declared.infix.Role.{Role}
-use Rattle.mc_term_parser.specs.declared.infix.Role.TheVariants.{Compound, Negative, Single, Double, Plain}
+use Rattle.mc_term_parser.specs.declared.infixes.Infix.{Infix}
+use Rattle.mc_term_parser.specs.declared.infixes.Infix.TheVariants.{Nothing, Binary, Chains}
+use Rattle.mc_term_parser.specs.declared.infixes.Chain.{Chain}
+use Rattle.mc_term_parser.specs.declared.infixes.Chain.TheVariants.{And, Or}
+use Rattle.mc_term_parser.specs.declared.infixes.Role.{Role}
+use Rattle.mc_term_parser.specs.declared.infixes.Role.TheVariants.{Compound, Negative, Single, Double, Plain}
 use Rattle.mc_term_parser.specs.declared.frame.Series.{Series}
 use Rattle.mc_term_parser.specs.declared.frame.Series.TheVariants.{Arguments, Elements, Chained}
-use Rattle.mc_term_parser.specs.Infixes.{operand, rank, infix, role, name_of}
+use Rattle.mc_term_parser.specs.Infixes.{operand, rank, joined_by, role, name_of}
 use Rattle.mc_term_parser.specs.Part.{Part, over}
 use Rattle.mc_term_parser.specs.Tree.{Tree, Trees, Var, Int, Neg, Str, App, Items, Tailed, Conj, Disj, Inside, no_tree, more_trees, trees, line_of}
 use Rattle.mc_term_parser.specs.Seen.{Seen, SeenRow, line_seen, kept, leaf, seen_large, seen_int, seen_neg, seen_app, seen_items, seen_tailed, seen_conj, seen_disj, seen_inside, no_seen, seen_then, seen_making}
@@ -146,7 +146,7 @@ parts_image Elements l ms d outer stack c (L.ListClose ∷ ts) = refl
 parts_image Elements l ms d outer stack c (L.Bar ∷ ts) = refl
 parts_image Elements l ms d outer stack c _ = refl
 parts_image (Chained k) l ms d outer stack c [] = ap (λ t. Done d outer (image_stack stack) (over (rank k) (rank k) t) []) (chain_image k l ms)
-parts_image (Chained k) l ms d outer stack c (x ∷ ts) = go (infix c x)
+parts_image (Chained k) l ms d outer stack c (x ∷ ts) = go (joined_by c x)
   where
     ends : M.State Seen SeenRow
     ends = Done d outer (image_stack stack) (over (rank k) (rank k) (M.chain seen_making k l (row_image ms))) (x ∷ ts)
@@ -165,7 +165,7 @@ parts_image (Chained k) l ms d outer stack c (x ∷ ts) = go (infix c x)
 
 first_image : (c : Bool) (n l : ℕ) (t : Tree) (w : List (List ℕ)) (d : Bool) (outer : ℕ) (stack : List Frame) (ts : List Lexeme) → M.at_first seen_making c n l (image t) w d outer (image_stack stack) ts ≡ image_state (M.at_first tree_making c n l t w d outer stack ts)
 first_image c n l t w d outer stack [] = refl
-first_image c n l t w d outer stack (x ∷ ts) = go (infix c x)
+first_image c n l t w d outer stack (x ∷ ts) = go (joined_by c x)
   where
     go : (j : Infix) → M.second seen_making c n l (image t) w d outer (image_stack stack) (x ∷ ts) j ≡ image_state (M.second tree_making c n l t w d outer stack (x ∷ ts) j)
     go Nothing = refl
@@ -189,7 +189,7 @@ reduce_image c (InTail l es d outer ∷ stack) p _ = refl
 
 done_image : (c : Bool) (limit : ℕ) (stack : List Frame) (p : Part Tree) (ts : List Lexeme) → M.step seen_making (Done c limit (image_stack stack) (image_part p) ts) ≡ image_state (M.step tree_making (Done c limit stack p ts))
 done_image c limit stack p [] = reduce_image c stack p []
-done_image c limit stack p (x ∷ ts) = go (infix c x)
+done_image c limit stack p (x ∷ ts) = go (joined_by c x)
   where
     rest : M.reduce seen_making c (image_stack stack) (image_part p) (x ∷ ts) ≡ image_state (M.reduce tree_making c stack p (x ∷ ts))
     rest = reduce_image c stack p (x ∷ ts)

@@ -4,15 +4,15 @@ use Rattle.mc_term_parser.specs.declared.table.Fix.{Fix}
 use Rattle.mc_term_parser.specs.declared.table.Fix.TheVariants.{Fx, Fy, Fxy}
 use Rattle.mc_term_parser.specs.declared.lexeme.Lexeme.{Lexeme}
 use Rattle.mc_term_parser.specs.declared.lexeme.Lexeme.TheVariants as L
-use Rattle.mc_term_parser.specs.declared.infix.Chain.{Chain}
-use Rattle.mc_term_parser.specs.declared.infix.Chain.TheVariants.{And, Or}
-use Rattle.mc_term_parser.specs.declared.infix.Infix.{Infix}
-use Rattle.mc_term_parser.specs.declared.infix.Infix.TheVariants.{Nothing, Binary, Chains}
-use Rattle.mc_term_parser.specs.declared.infix.Role.{Role}
-use Rattle.mc_term_parser.specs.declared.infix.Role.TheVariants.{Compound, Negative, Single, Double, Plain}
+use Rattle.mc_term_parser.specs.declared.infixes.Chain.{Chain}
+use Rattle.mc_term_parser.specs.declared.infixes.Chain.TheVariants.{And, Or}
+use Rattle.mc_term_parser.specs.declared.infixes.Infix.{Infix}
+use Rattle.mc_term_parser.specs.declared.infixes.Infix.TheVariants.{Nothing, Binary, Chains}
+use Rattle.mc_term_parser.specs.declared.infixes.Role.{Role}
+use Rattle.mc_term_parser.specs.declared.infixes.Role.TheVariants.{Compound, Negative, Single, Double, Plain}
 use Rattle.mc_term_parser.specs.declared.frame.Series.TheVariants.{Arguments, Elements, Chained}
 use Rattle.mc_term_parser.specs.Table.{prefix_row, same_name}
-use Rattle.mc_term_parser.specs.Infixes.{is_open_ct, prefix_of, prefix_role, operand, rank, infix, role, callee, is_paren, name_of, line}
+use Rattle.mc_term_parser.specs.Infixes.{is_open_ct, prefix_of, prefix_role, operand, rank, joined_by, role, callee, is_paren, name_of, line}
 use Rattle.mc_term_parser.specs.Part.{Part, closed, over}
 use Rattle.mc_term_parser.specs.Tree.{Tree, Neg, line_of}
 use Rattle.mc_term_parser.specs.Reads.{Between, ByComma, ByChain, Separates, Reads, Parts, variable, number, string, negative, name, path, compound, paren, nil, elements, tailed, prefix, quantified, binary, chained, last, more, ReadsTerm}
@@ -39,7 +39,7 @@ closes {r = r} {ns = ns} (some {s = s} {c = c} {limit = limit} {ts = ts} {p = p}
 pub data Stacked : List Frame → Bool → ℕ → List Lexeme → List Lexeme → Type 0 where
   bottom : {ts : List Lexeme} → Stacked [] false 1200 ts ts
   right : {stack : List Frame} {c : Bool} {limit n : ℕ} {ly ry : Bool} {x : Lexeme} {ts us all : List Lexeme} {a : Part Tree} →
-      Stacked stack c limit ts all → Reads c limit ts a (x ∷ us) → infix c x ≡ Binary n ly ry → a.number ≤ operand ly n → a.reach < n → n ≤ limit →
+      Stacked stack c limit ts all → Reads c limit ts a (x ∷ us) → joined_by c x ≡ Binary n ly ry → a.number ≤ operand ly n → a.reach < n → n ≤ limit →
       Stacked (AtRight (line_of a.tree) (name_of x) n (operand ry n) a.tree c limit ∷ stack) c (operand ry n) us all
   operand_ : {stack : List Frame} {c : Bool} {limit n m l : ℕ} {w : List ℕ} {q : Bool} {ts all : List Lexeme} →
       Stacked stack c limit (L.Word w q l ∷ ts) all → role limit w ts ≡ Single n m →
@@ -48,7 +48,7 @@ pub data Stacked : List Frame → Bool → ℕ → List Lexeme → List Lexeme �
       Stacked stack c limit (L.Word w q l ∷ ts) all → role limit w ts ≡ Double n →
       Stacked (AtFirst l (w ∷ []) n c limit ∷ stack) c (n - 1) ts all
   second_ : {stack : List Frame} {c : Bool} {limit n l : ℕ} {w : List ℕ} {q : Bool} {x : Lexeme} {ts us all : List Lexeme} {a : Part Tree} →
-      Stacked stack c limit (L.Word w q l ∷ ts) all → role limit w ts ≡ Double n → Reads c (n - 1) ts a (x ∷ us) → a.number ≤ n - 1 → infix c x ≡ Nothing →
+      Stacked stack c limit (L.Word w q l ∷ ts) all → role limit w ts ≡ Double n → Reads c (n - 1) ts a (x ∷ us) → a.number ≤ n - 1 → joined_by c x ≡ Nothing →
       Stacked (AtSecond l (w ∷ []) n a.tree c limit ∷ stack) c n (x ∷ us) all
   paren_ : {stack : List Frame} {c : Bool} {limit : ℕ} {x : Lexeme} {ts all : List Lexeme} →
       Stacked stack c limit (x ∷ ts) all → is_paren x ≡ true →
@@ -63,7 +63,7 @@ pub data Stacked : List Frame → Bool → ℕ → List Lexeme → List Lexeme �
       Stacked stack c limit (L.ListOpen l ∷ ts) all → Parts ByComma true 1200 ts ms (L.Bar ∷ us) →
       Stacked (InTail l ms c limit ∷ stack) true 1200 us all
   chain_ : {stack : List Frame} {c : Bool} {limit : ℕ} {k : Chain} {x : Lexeme} {ts us vs all : List Lexeme} {a : Part Tree} {ms : List Tree} →
-      Stacked stack c limit ts all → Reads c limit ts a (x ∷ us) → infix c x ≡ Chains k → a.number < rank k → rank k ≤ limit →
+      Stacked stack c limit ts all → Reads c limit ts a (x ∷ us) → joined_by c x ≡ Chains k → a.number < rank k → rank k ≤ limit →
       Before (ByChain k) c (rank k - 1) us ms vs →
       Stacked (InParts (Chained k) (line_of a.tree) (a.tree ∷ ms) c limit ∷ stack) c (rank k - 1) vs all
 
@@ -172,13 +172,13 @@ module _ {all : List Lexeme} where
   reduce_sound (operand_ {limit = limit} {n = n} {m = m} {w = w} {ts = ts} st e) r d h = at_done st (prefix e d h) (role_fits limit w ts n m e).1
   reduce_sound (first_ {stack = stack} {c = c} {limit = limit} {n = n} {l = l} {w = w} {q = q} {ts = ts} st e) {p} r d h = go r d
     where
-      see : (x : Lexeme) (us : List Lexeme) (j : Infix) → infix c x ≡ j → Reads c (n - 1) ts p (x ∷ us) → Sound all (second c n l p.tree (w ∷ []) c limit stack (x ∷ us) j)
+      see : (x : Lexeme) (us : List Lexeme) (j : Infix) → joined_by c x ≡ j → Reads c (n - 1) ts p (x ∷ us) → Sound all (second c n l p.tree (w ∷ []) c limit stack (x ∷ us) j)
       see x us Nothing z d = at_start (second_ st e d h z)
       see x us _ z d = at_no
 
       go : (r : List Lexeme) → Reads c (n - 1) ts p r → Sound all (at_first c n l p.tree (w ∷ []) c limit stack r)
       go [] d = at_no
-      go (x ∷ us) d = see x us (infix c x) refl d
+      go (x ∷ us) d = see x us (joined_by c x) refl d
   reduce_sound (second_ {limit = limit} {n = n} {w = w} {ts = ts} st e d k j) r f h = at_done st (quantified e d k j f h) (role_fits_two limit w ts n e)
   reduce_sound (paren_ {stack = stack} {c = c} {limit = limit} {x = x} {ts = ts} st e) {p} r d h = go r d
     where
@@ -208,7 +208,7 @@ module _ {all : List Lexeme} where
       ends : (r : List Lexeme) → Reads c (rank k - 1) vs p r → Sound all (Done c limit stack (over (rank k) (rank k) (made_chain k (line_of a.tree) (a.tree ∷ (ms ++ (p.tree ∷ []))))) r)
       ends r d = subst (λ t. Sound all (Done c limit stack (over (rank k) (rank k) t) r)) (sym (chain_is k (line_of a.tree) (a.tree ∷ (ms ++ (p.tree ∷ []))))) (at_done st (chained d0 j i (closes b (last d h))) l)
 
-      sees : (x : Lexeme) (us : List Lexeme) (m : Infix) → infix c x ≡ m → Reads c (rank k - 1) vs p (x ∷ us) → Sound all (on_chain k (line_of a.tree) (a.tree ∷ (ms ++ (p.tree ∷ []))) c limit stack c (x ∷ us) m us)
+      sees : (x : Lexeme) (us : List Lexeme) (m : Infix) → joined_by c x ≡ m → Reads c (rank k - 1) vs p (x ∷ us) → Sound all (on_chain k (line_of a.tree) (a.tree ∷ (ms ++ (p.tree ∷ []))) c limit stack c (x ∷ us) m us)
       sees x us (Chains m) z d = turns (same_chain k m) refl
         where
           turns : (t : Bool) → same_chain k m ≡ t → Sound all (cond t (Start c (rank k - 1) (InParts (Chained k) (line_of a.tree) (a.tree ∷ (ms ++ (p.tree ∷ []))) c limit ∷ stack) us) (Done c limit stack (over (rank k) (rank k) (made_chain k (line_of a.tree) (a.tree ∷ (ms ++ (p.tree ∷ []))))) (x ∷ us)))
@@ -219,16 +219,16 @@ module _ {all : List Lexeme} where
 
       go : (r : List Lexeme) → Reads c (rank k - 1) vs p r → Sound all (parts (Chained k) (line_of a.tree) (a.tree ∷ (ms ++ (p.tree ∷ []))) c limit stack c r)
       go [] d = ends [] d
-      go (x ∷ us) d = sees x us (infix c x) refl d
+      go (x ∷ us) d = sees x us (joined_by c x) refl d
 
   done_sound : {c : Bool} {limit : ℕ} {stack : List Frame} {ts : List Lexeme} → Stacked stack c limit ts all → {p : Part Tree} (r : List Lexeme) → Reads c limit ts p r → p.number ≤ limit → Sound all (turn (next c limit p r) stack (reduce c stack p r))
   done_sound st [] d h = reduce_sound st [] d h
-  done_sound {c} {limit} {stack} {ts} st {p} (x ∷ us) d h = go (infix c x) refl
+  done_sound {c} {limit} {stack} {ts} st {p} (x ∷ us) d h = go (joined_by c x) refl
     where
       rest : Sound all (reduce c stack p (x ∷ us))
       rest = reduce_sound st (x ∷ us) d h
 
-      go : (j : Infix) → infix c x ≡ j → Sound all (turn (next_at c limit p x us j) stack (reduce c stack p (x ∷ us)))
+      go : (j : Infix) → joined_by c x ≡ j → Sound all (turn (next_at c limit p x us j) stack (reduce c stack p (x ∷ us)))
       go Nothing z = rest
       go (Binary n ly ry) z = see (leb n limit && (leb p.number (operand ly n) && ltb p.reach n)) refl
         where

@@ -4,7 +4,7 @@ use Rattle.std.proofs.str.Laws.{order}
 use Rattle.std.proofs.lemmas.List.{drop_all}
 use Rattle.mc_term_parser.specs.declared.lexeme.Lexeme.{Lexeme}
 use Rattle.mc_term_parser.specs.declared.lexeme.Lexeme.TheVariants as L
-use Rattle.mc_term_parser.specs.declared.infix.Role.TheVariants.{Compound, Negative}
+use Rattle.mc_term_parser.specs.declared.infixes.Role.TheVariants.{Compound, Negative}
 use Rattle.mc_term_parser.specs.declared.frame.Series.TheVariants.{Arguments}
 use Rattle.mc_term_parser.specs.declared.frame.Mark.TheVariants as MV
 use Rattle.mc_term_parser.specs.Table.{same_name, prefix_row}

@@ -5,9 +5,9 @@ use Rattle.std.proofs.lemmas.Bool.{lt-ltb}
 use Rattle.std.proofs.lemmas.List.{drop-drop, length-drop}
 use Rattle.mc_term_parser.specs.declared.lexeme.Lexeme.{Lexeme}
 use Rattle.mc_term_parser.specs.declared.lexeme.Lexeme.TheVariants as L
-use Rattle.mc_term_parser.specs.declared.infix.Chain.{Chain}
-use Rattle.mc_term_parser.specs.declared.infix.Infix.{Infix}
-use Rattle.mc_term_parser.specs.declared.infix.Infix.TheVariants as JV
+use Rattle.mc_term_parser.specs.declared.infixes.Chain.{Chain}
+use Rattle.mc_term_parser.specs.declared.infixes.Infix.{Infix}
+use Rattle.mc_term_parser.specs.declared.infixes.Infix.TheVariants as JV
 use Rattle.mc_term_parser.specs.declared.frame.Series.TheVariants.{Chained}
 use Rattle.mc_term_parser.specs.declared.frame.Context.{Context}
 use Rattle.mc_term_parser.specs.declared.frame.Part as D
@@ -112,7 +112,7 @@ module _ (k : Chain) (l : ℕ) (ms : SeenRow) (d : Bool) (outer : ℕ) (stack : 
   chain_on : (ts : List Lexeme) → separates k (infix_next c ts) ≡ true
       → (x : Lexeme) × (us : List Lexeme) × (ts ≡ x ∷ us) × (M.parts seen_making (Chained k) l ms d outer stack c ts ≡ M.Start c (J.rank k - 1) (M.InParts (Chained k) l ms d outer ∷ stack) us)
   chain_on [] e = cc
-  chain_on (x ∷ us) e = (x, us, refl, go (J.infix c x) e)
+  chain_on (x ∷ us) e = (x, us, refl, go (J.joined_by c x) e)
     where
       go : (j : Infix) → separates k j ≡ true → M.on_chain seen_making k l ms d outer stack c (x ∷ us) j us ≡ M.Start c (J.rank k - 1) (M.InParts (Chained k) l ms d outer ∷ stack) us
       go JV.Nothing e = cc
@@ -141,10 +141,10 @@ pub first_goes : (tokens : List Lexeme) (at : ℕ) (c : Bool) (n l : ℕ) (t : S
 first_goes tokens at c n l t w d outer stack h j =
     let (x, e) = more_left tokens at h in
     let us = drop (at + 1) tokens in
-    let none : J.infix c x ≡ JV.Nothing = sym (j ∙ ap (infix_next c) e) in
+    let none : J.joined_by c x ≡ JV.Nothing = sym (j ∙ ap (infix_next c) e) in
     ap (M.at_first seen_making c n l t w d outer stack) e ∙ ap (M.second seen_making c n l t w d outer stack (x ∷ us)) none ∙ ap (M.Start c n (M.AtSecond l w n t d outer ∷ stack)) (sym e)
 
--- the turn at an infix operator
+-- the turn at an joined_by operator
 pub binary_turn : (tokens : List Lexeme) (at : ℕ) (c : Bool) (limit : ℕ) (p : P.Part Seen) (n : ℕ) (ly ry : Bool) (stack : List FrameSeen) (other : StateSeen) → JV.Binary n ly ry ≡ infix_next c (drop at tokens) → n ≤ limit → p.number ≤ J.operand ly n → p.reach < n
     → M.turn (M.next seen_making c limit p (drop at tokens)) stack other ≡ M.Start c (J.operand ry n) (M.AtRight (line_seen p.tree.value) (name_next (drop at tokens)) n (J.operand ry n) p.tree c limit ∷ stack) (drop (at + 1) tokens)
 binary_turn tokens at c limit p n ly ry stack other j a b d = go (drop at tokens) refl
@@ -154,7 +154,7 @@ binary_turn tokens at c limit p n ly ry stack other j a b d = go (drop at tokens
     go [] z = let e : JV.Binary n ly ry ≡ JV.Nothing = j ∙ ap (infix_next c) z in cc
     go (x ∷ us) z =
         let f = after_first tokens at x us z in
-        let e : J.infix c x ≡ JV.Binary n ly ry = sym (j ∙ ap (infix_next c) z) in
+        let e : J.joined_by c x ≡ JV.Binary n ly ry = sym (j ∙ ap (infix_next c) z) in
         ap (λ ts. M.turn (M.next seen_making c limit p ts) stack other) f
         ∙ ap (λ m. M.turn (M.next_at seen_making c limit p x (drop (at + 1) tokens) m) stack other) e
         ∙ ap (λ t. M.turn (cond t (M.Push c (J.operand ry n) (M.AtRight (line_seen p.tree.value) (J.name_of x) n (J.operand ry n) p.tree c limit) (drop (at + 1) tokens)) M.Stay) stack other) (both_true (le-leb n limit a) (both_true (le-leb p.number (J.operand ly n) b) (lt-ltb p.reach n d)))
@@ -170,7 +170,7 @@ chain_turn tokens at c limit p k stack other j a b = go (drop at tokens) refl
     go [] z = let e : JV.Chains k ≡ JV.Nothing = j ∙ ap (infix_next c) z in cc
     go (x ∷ us) z =
         let f = after_first tokens at x us z in
-        let e : J.infix c x ≡ JV.Chains k = sym (j ∙ ap (infix_next c) z) in
+        let e : J.joined_by c x ≡ JV.Chains k = sym (j ∙ ap (infix_next c) z) in
         ap (λ ts. M.turn (M.next seen_making c limit p ts) stack other) f
         ∙ ap (λ m. M.turn (M.next_at seen_making c limit p x (drop (at + 1) tokens) m) stack other) e
         ∙ ap (λ t. M.turn (cond t (M.Push c (J.rank k - 1) (M.InParts (Chained k) (line_seen p.tree.value) (seen_then no_seen p.tree) c limit) (drop (at + 1) tokens)) M.Stay) stack other) (both_true (le-leb (J.rank k) limit a) (lt-ltb p.number (J.rank k) b))

@@ -1,9 +1,9 @@
 -- The machine as it makes trees.
 use Rattle.std.proofs.Common.{◌≡◌, ℕ, Bool, List, [], ◌∷◌, ◌++◌, refl, ap}
 use Rattle.mc_term_parser.specs.declared.lexeme.Lexeme.{Lexeme}
-use Rattle.mc_term_parser.specs.declared.infix.Chain.{Chain}
-use Rattle.mc_term_parser.specs.declared.infix.Infix.{Infix}
-use Rattle.mc_term_parser.specs.declared.infix.Role.{Role}
+use Rattle.mc_term_parser.specs.declared.infixes.Chain.{Chain}
+use Rattle.mc_term_parser.specs.declared.infixes.Infix.{Infix}
+use Rattle.mc_term_parser.specs.declared.infixes.Role.{Role}
 use Rattle.mc_term_parser.specs.declared.frame.Series.{Series}
 use Rattle.mc_term_parser.specs.Part.{Part}
 use Rattle.mc_term_parser.specs.Tree.{Tree, trees, line_of}

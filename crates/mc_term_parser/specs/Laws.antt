@@ -7,7 +7,9 @@ use Rattle.mc_term_parser.specs.Reads.{ReadsTerm}
 
 -- at most one term stands for a list of tokens
 abbrev pub AtMostOne : Type 0
-AtMostOne = (ts : List Lexeme) (limit : ℕ) (t u : Tree) → ReadsTerm ts t limit → ReadsTerm ts u limit → t ≡ u
+AtMostOne =
+    (ts : List Lexeme) (limit : ℕ) (t u : Tree)
+    → ReadsTerm ts t limit → ReadsTerm ts u limit → t ≡ u
 
 -- A term is no deeper than what was read, where brackets count too.
 abbrev pub NoDeeper : Type 0

@@ -1,5 +1,5 @@
--- A term that was read, with its number, and its reach: the number up to which its last operand was read (0
--- where it ends in no operand).
+-- A term that was read, with its number, and its reach: the number up to which its last operand was
+-- read (0 where it ends in no operand).
 use Rattle.std.specs.Prelude.{ℕ}
 
 pub record Part (T : Type 0) : Type 0 where

@@ -1,6 +1,6 @@
--- What is kept of a term while it is read. A term deeper than 256 leaves its line and its flags alone, and
--- 257 stands for every greater depth.
-use Rattle.std.specs.Prelude.{ℕ, ◌+◌, ◌^◌, max, pos, nat_lt, nat_le, cond, List, [], ◌∷◌, ◌++◌, Option, Some, None}
+-- What is kept of a term while it is read. A term deeper than 256 leaves its line and its flags
+-- alone, and 257 stands for every greater depth.
+use Rattle.std.specs.Prelude.{ℕ, ◌+◌, ◌^◌, max, pos, nat_lt, nat_le, List, [], ◌∷◌, ◌++◌, Option, Some, None, if◌then◌else◌}
 use Rattle.mc_term_data.specs.Plain as P
 use Rattle.mc_term_data.specs.Plain.{PlainTerm, PlainNode, PlainTerms, at, tms}
 use Rattle.mc_term_parser.specs.Tree.{or_else, minus}
@@ -25,8 +25,8 @@ node_seen (at n l) = n
 
 unfoldable pub kept : ℕ → PlainNode → ℕ → Option ℕ → Seen
 kept l n d large =
-    cond (nat_le d 256) (record { value = at n l; depth = d; large = large })
-    (record { value = at (P.Int (pos 0)) l; depth = 257; large = large })
+    if nat_le d 256 then record { value = at n l; depth = d; large = large }
+    else record { value = at (P.Int (pos 0)) l; depth = 257; large = large }
 
 unfoldable pub leaf : ℕ → PlainNode → Seen
 leaf l n = record { value = at n l; depth = 1; large = None }
@@ -36,10 +36,10 @@ unfoldable pub seen_large : ℕ → Seen
 seen_large l = record { value = at (P.Int (pos 0)) l; depth = 1; large = Some l }
 
 unfoldable pub seen_int : ℕ → ℕ → Seen
-seen_int l n = cond (nat_lt n (2 ^ 63)) (leaf l (P.Int (pos n))) (seen_large l)
+seen_int l n = if nat_lt n (2 ^ 63) then leaf l (P.Int (pos n)) else seen_large l
 
 unfoldable pub seen_neg : ℕ → ℕ → Seen
-seen_neg l n = cond (nat_le n (2 ^ 63)) (leaf l (P.Int (minus n))) (seen_large l)
+seen_neg l n = if nat_le n (2 ^ 63) then leaf l (P.Int (minus n)) else seen_large l
 
 abbrev pub seen_over : ℕ → PlainNode → SeenRow → Seen
 seen_over l n ts = kept l n (1 + ts.depth) ts.large
@@ -51,7 +51,8 @@ unfoldable pub seen_items : ℕ → SeenRow → Seen
 seen_items l ts = seen_over l (P.Items (tms ts.values)) ts
 
 unfoldable pub seen_tailed : ℕ → SeenRow → Seen → Seen
-seen_tailed l ts t = kept l (P.Tailed (tms ts.values) t.value) (1 + max ts.depth t.depth) (or_else ts.large t.large)
+seen_tailed l ts t =
+    kept l (P.Tailed (tms ts.values) t.value) (1 + max ts.depth t.depth) (or_else ts.large t.large)
 
 unfoldable pub seen_conj : ℕ → SeenRow → Seen
 seen_conj l ts = seen_over l (P.Conj (tms ts.values)) ts

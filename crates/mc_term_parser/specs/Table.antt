@@ -1,5 +1,5 @@
 -- The operators (this project's profile). A smaller number binds tighter.
-use Rattle.std.specs.Prelude.{ℕ, Bool, true, false, cond, nat_eq, ◌&&◌, Option, Some, None, List, [], ◌∷◌, codes}
+use Rattle.std.specs.Prelude.{ℕ, Bool, true, false, nat_eq, ◌&&◌, Option, Some, None, List, [], ◌∷◌, codes, if◌then◌else◌}
 use Rattle.mc_term_parser.specs.declared.table.Fix.{Fix}
 use Rattle.mc_term_parser.specs.declared.table.Fix.TheVariants.{Xfx, Xfy, Yfx, Fx, Fy, Fxy}
 
@@ -125,17 +125,21 @@ left_out_rows =
 -- the number and the kind of a name in a table
 abbrev pub row_of : List Operator → List ℕ → Option (ℕ × Fix)
 row_of [] w = None
-row_of (r ∷ rs) w = cond (same_name r.name w) (Some (r.number, r.fix)) (row_of rs w)
+row_of (r ∷ rs) w = if same_name r.name w then Some (r.number, r.fix) else row_of rs w
 
 -- a row, or else another
 abbrev pub or_row : Option (ℕ × Fix) → Option (ℕ × Fix) → Option (ℕ × Fix)
 or_row None other = other
 or_row (Some r) other = Some r
 
--- the infix operators
+-- the joined_by operators
 unfoldable pub infix_row : List ℕ → Option (ℕ × Fix)
-infix_row w = or_row (row_of arithmetic_rows w) (or_row (row_of comparing_rows w) (or_row (row_of joining_rows w) (row_of declaring_rows w)))
+infix_row w =
+    or_row (row_of arithmetic_rows w)
+    (or_row (row_of comparing_rows w) (or_row (row_of joining_rows w) (row_of declaring_rows w)))
 
 -- the prefix operators
 unfoldable pub prefix_row : List ℕ → Option (ℕ × Fix)
-prefix_row w = or_row (row_of sign_rows w) (or_row (row_of goal_rows w) (or_row (row_of item_rows w) (row_of left_out_rows w)))
+prefix_row w =
+    or_row (row_of sign_rows w)
+    (or_row (row_of goal_rows w) (or_row (row_of item_rows w) (row_of left_out_rows w)))

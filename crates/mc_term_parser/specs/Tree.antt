@@ -1,5 +1,5 @@
 -- Terms as they are read: with their brackets, and with the line of each term's first token.
-use Rattle.std.specs.Prelude.{ℕ, zero, suc, ℤ, pos, negsuc, ◌+◌, ◌^◌, max, nat_lt, nat_le, cond, List, [], ◌∷◌, Option, Some, None}
+use Rattle.std.specs.Prelude.{ℕ, zero, suc, ℤ, pos, negsuc, ◌+◌, ◌^◌, max, nat_lt, nat_le, List, [], ◌∷◌, Option, Some, None, if◌then◌else◌}
 use Rattle.mc_term_data.specs.Plain as P
 use Rattle.mc_term_data.specs.Plain.{PlainTerm, PlainNode, PlainTerms, at, no_term, more_terms}
 
@@ -42,8 +42,8 @@ line_of (Disj l ts) = l
 line_of (Inside l t) = l
 
 abbrev mutual
-  -- How deep a term is: a leaf has 1, a term in brackets one more than its inside, and any other term one
-  -- more than its deepest part; a whole conjunction and a whole disjunction are one term.
+  -- How deep a term is: a leaf has 1, a term in brackets one more than its inside, and any other
+  -- term one more than its deepest part; a whole conjunction and a whole disjunction are one term.
   pub depth : Tree → ℕ
   depth (Var l w) = 1
   depth (Int l n) = 1
@@ -65,12 +65,12 @@ or_else None b = b
 or_else (Some l) b = Some l
 
 abbrev mutual
-  -- The line of the first number that 64 bits don't hold: 2^63, where no minus sign stands before it. (A
-  -- literal is at most 2^63.)
+  -- The line of the first number that 64 bits don't hold: 2^63, where no minus sign stands before
+  -- it. (A literal is at most 2^63.)
   pub too_large : Tree → Option ℕ
   too_large (Var l w) = None
-  too_large (Int l n) = cond (nat_lt n (2 ^ 63)) None (Some l)
-  too_large (Neg l n) = cond (nat_le n (2 ^ 63)) None (Some l)
+  too_large (Int l n) = if nat_lt n (2 ^ 63) then None else Some l
+  too_large (Neg l n) = if nat_le n (2 ^ 63) then None else Some l
   too_large (Str l s) = None
   too_large (App l w ts) = first_large ts
   too_large (Items l ts) = first_large ts

@@ -1,5 +1,5 @@
 -- What the reader's values stand for.
-use Rattle.std.specs.Prelude.{◌≡◌, ℕ, ◌≤◌, List, [], ◌∷◌, map, drop, Option, Some, None, Bool, true, false, cond, codes, min}
+use Rattle.std.specs.Prelude.{◌≡◌, ℕ, ◌≤◌, List, [], ◌∷◌, map, drop, Option, Some, None, Bool, true, false, codes, min, if◌then◌else◌}
 use Rattle.mc_term_data.specs.Plain.{plain_term}
 use Rattle.mc_term_parser.specs.Tree.{Tree, depth, too_large, term}
 use Rattle.mc_term_parser.specs.Infixes as J
@@ -9,9 +9,9 @@ use Rattle.mc_term_parser.specs.Seen.{Seen, SeenRow}
 use Rattle.mc_term_parser.specs.Table.{same_name}
 use Rattle.mc_term_parser.specs.declared.lexeme.Lexeme.{Lexeme}
 use Rattle.mc_term_parser.specs.declared.lexeme.Lexeme.TheVariants as L
-use Rattle.mc_term_parser.specs.declared.infix.Chain.{Chain}
-use Rattle.mc_term_parser.specs.declared.infix.Infix.{Infix}
-use Rattle.mc_term_parser.specs.declared.infix.Infix.TheVariants as JV
+use Rattle.mc_term_parser.specs.declared.infixes.Chain.{Chain}
+use Rattle.mc_term_parser.specs.declared.infixes.Infix.{Infix}
+use Rattle.mc_term_parser.specs.declared.infixes.Infix.TheVariants as JV
 use Rattle.mc_term_parser.specs.declared.reading.Reading.{Reading}
 use Rattle.mc_term_parser.specs.declared.reading.Readings.{Readings}
 use Rattle.mc_term_parser.specs.declared.frame.Part.{Part}
@@ -76,7 +76,7 @@ mark_of _ = MV.Other
 
 abbrev pub infix_next : Bool → List Lexeme → Infix
 infix_next c [] = JV.Nothing
-infix_next c (x ∷ ts) = J.infix c x
+infix_next c (x ∷ ts) = J.joined_by c x
 
 abbrev pub name_next : List Lexeme → List (List ℕ)
 name_next [] = []
@@ -92,14 +92,18 @@ number_next _ = None
 
 -- the number behind a minus sign
 abbrev pub minus_next : List ℕ → List Lexeme → Option ℕ
-minus_next w ts = cond (same_name (codes "-") w) (number_next ts) None
+minus_next w ts = if same_name (codes "-") w then number_next ts else None
 
 abbrev pub is_over : StateSeen → Bool
 is_over (M.Yes p) = true
 is_over M.No = true
 is_over _ = false
 
--- What the reader answers for a term: its depth, where 257 stands for every depth above 256, the line of the
--- first number that 64 bits don't hold, and, where it is neither deeper nor holds such a number, the term.
+-- What the reader answers for a term: its depth, where 257 stands for every depth above 256, the
+-- line of the first number that 64 bits don't hold, and, where it is neither deeper nor holds such
+-- a number, the term.
 abbrev pub Shows : Tree → Reading → Type 0
-Shows t r = (r.depth ≡ min (depth t) 257) × (r.too_large ≡ too_large t) × (depth t ≤ 256 → too_large t ≡ None → plain_term r.term ≡ term t)
+Shows t r =
+    (r.depth ≡ min (depth t) 257)
+    × (r.too_large ≡ too_large t)
+    × (depth t ≤ 256 → too_large t ≡ None → plain_term r.term ≡ term t)

@@ -1,4 +1,4 @@
-use crate::infix::Chain;
+use crate::infixes::Chain;
 use crate::reading::{Reading, Readings};
 use mc_base::{Row, Text};
 

@@ -2,7 +2,7 @@
 #![tactic(auto)]
 
 mod frame;
-mod infix;
+mod infixes;
 mod law;
 mod lexeme;
 mod reader;

@@ -1,12 +1,12 @@
 ghost use Rattle.std.specs.Prelude.{◌≡◌, ◌-◌, ◌+◌, ◌≤◌, ◌<◌, ◌^◌, ◌∷◌, [], length, drop, IfOk, Some};
 ghost use Rattle.mc_term_parser.specs.Views.{state, frames, frame as frame_seen, part as part_seen, reading as seen, readings as seen_row, mark_of, infix_next, name_next, separates};
-ghost use Rattle.mc_term_parser.specs.Infixes.{infix, infix_of as infix_from, binary_of, operand, rank};
+ghost use Rattle.mc_term_parser.specs.Infixes.{joined_by, infix_of as infix_from, binary_of, operand, rank};
 ghost use Rattle.mc_term_parser.specs.Machine as M;
 ghost use Rattle.mc_term_parser.specs.Seen.{seen_making, seen_app};
 ghost use Rattle.mc_term_parser.specs.Part as P;
 
-use crate::frame::{ParserStack, Frame, Machine, Mark, Now, Operator, Part, Context, Series};
-use crate::infix::{Chain, Infix};
+use crate::frame::{Context, Frame, Machine, Mark, Now, Operator, ParserStack, Part, Series};
+use crate::infixes::{Chain, Infix};
 use crate::lexeme::Lexeme;
 use crate::reading::{Reading, Readings};
 use crate::table::{Fix, infix};
@@ -55,7 +55,8 @@ impl ParserStack {
 
     // The parser with a frame on top.
     pub fn with(self, frame: Frame) -> Result<ParserStack, Memory>
-        ensures frames { IfOk result (λ parser. frames parser.stack.items ≡ frame_seen frame ∷ frames self.stack.items) }
+        ensures frames { IfOk result
+            (λ parser. frames parser.stack.items ≡ frame_seen frame ∷ frames self.stack.items) }
         ensures at { IfOk result (λ parser. parser.at ≡ self.at) }
     {
         let mut stack = self.stack;
@@ -97,7 +98,11 @@ impl ParserStack {
 impl Operator {
     // The term over one operand, which was read up to a number.
     pub fn over_one(self, alloc: Global, operand: Reading, reach: u32) -> Result<Part, Memory>
-        ensures { IfOk result (λ p. part_seen p ≡ P.over self.number reach (seen_app self.line self.name (M.one seen_making (seen operand)))) }
+        ensures { IfOk result
+            (λ p.
+            part_seen p
+            ≡ P.over self.number reach
+            (seen_app self.line self.name (M.one seen_making (seen operand)))) }
     {
         let operands = Readings::one(alloc, operand)?;
         Ok(Part {
@@ -115,7 +120,11 @@ impl Operator {
         right: Reading,
         reach: u32,
     ) -> Result<Part, Memory>
-        ensures { IfOk result (λ p. part_seen p ≡ P.over self.number reach (seen_app self.line self.name (M.two seen_making (seen left) (seen right)))) }
+        ensures { IfOk result
+            (λ p.
+            part_seen p
+            ≡ P.over self.number reach
+            (seen_app self.line self.name (M.two seen_making (seen left) (seen right)))) }
     {
         let operands = Readings::two(alloc, left, right)?;
         Ok(Part {
@@ -135,7 +144,9 @@ fn after_paren(
     outer: Context,
 ) -> Machine
     requires { parser.at ≤ length tokens.now }
-    ensures { state tokens.now result ≡ M.after_paren seen_making outer.commas outer.limit (frames parser.stack.items) line (seen inside) (drop parser.at tokens.now) }
+    ensures { state tokens.now result
+        ≡ M.after_paren seen_making outer.commas outer.limit (frames parser.stack.items) line
+        (seen inside) (drop parser.at tokens.now) }
 {
     match mark(tokens, parser.at) {
         Mark::Close => parser.past().done(outer, closed(inside.inside(line))),
@@ -154,7 +165,11 @@ fn after_tail(
     outer: Context,
 ) -> Result<Machine, Memory>
     requires { parser.at ≤ length tokens.now }
-    ensures { IfOk result (λ m. state tokens.now m ≡ M.after_tail seen_making outer.commas outer.limit (frames parser.stack.items) line (seen_row items) (seen tail) (drop parser.at tokens.now)) }
+    ensures { IfOk result
+        (λ m.
+        state tokens.now m
+        ≡ M.after_tail seen_making outer.commas outer.limit (frames parser.stack.items) line
+        (seen_row items) (seen tail) (drop parser.at tokens.now)) }
 {
     match mark(tokens, parser.at) {
         Mark::ListClose => {
@@ -176,7 +191,11 @@ fn after_argument(
     commas: bool,
 ) -> Result<Machine, Memory>
     requires { parser.at ≤ length tokens.now }
-    ensures { IfOk result (λ m. state tokens.now m ≡ M.parts seen_making (Series.Arguments name) line (seen_row parts) outer.commas outer.limit (frames parser.stack.items) commas (drop parser.at tokens.now)) }
+    ensures { IfOk result
+        (λ m.
+        state tokens.now m
+        ≡ M.parts seen_making (Series.Arguments name) line (seen_row parts) outer.commas
+        outer.limit (frames parser.stack.items) commas (drop parser.at tokens.now)) }
 {
     let _commas = commas;
     match mark(tokens, parser.at) {
@@ -202,7 +221,11 @@ fn after_element(
     commas: bool,
 ) -> Result<Machine, Memory>
     requires { parser.at ≤ length tokens.now }
-    ensures { IfOk result (λ m. state tokens.now m ≡ M.parts seen_making Series.Elements line (seen_row parts) outer.commas outer.limit (frames parser.stack.items) commas (drop parser.at tokens.now)) }
+    ensures { IfOk result
+        (λ m.
+        state tokens.now m
+        ≡ M.parts seen_making Series.Elements line (seen_row parts) outer.commas outer.limit
+        (frames parser.stack.items) commas (drop parser.at tokens.now)) }
 {
     let _commas = commas;
     match mark(tokens, parser.at) {
@@ -223,9 +246,9 @@ fn after_element(
 }
 
 // What a token joins the term before it to.
-#[tactic(auto, unfolding(crate::specs::Infixes::infix))]
+#[tactic(auto, unfolding(crate::specs::Infixes::joined_by))]
 fn infix_of(commas: bool, token: &Lexeme) -> Infix
-    ensures { result ≡ infix commas token.now }
+    ensures { result ≡ joined_by commas token.now }
 {
     match token {
         Lexeme::Word(name, _, _) => match infix(name.bytes()) {
@@ -307,11 +330,11 @@ fn name_at(alloc: Global, tokens: &[Lexeme], at: usize) -> Result<Row<Text>, Mem
     Ok(Row::new(alloc))
 }
 
-// Whether a infix is the separator of a chain of this kind.
-fn goes_on(infix: Infix, kind: Chain) -> bool
-    ensures { result ≡ separates kind infix }
+// Whether an infix is the separator of a chain of this kind.
+fn goes_on(join: Infix, kind: Chain) -> bool
+    ensures { result ≡ separates kind join }
 {
-    match infix {
+    match join {
         Infix::Chains(other) => matches!(
             (kind, other),
             (Chain::And, Chain::And) | (Chain::Or, Chain::Or)
@@ -331,7 +354,11 @@ fn on_chain(
     commas: bool,
 ) -> Result<Machine, Memory>
     requires { parser.at ≤ length tokens.now }
-    ensures { IfOk result (λ m. state tokens.now m ≡ M.parts seen_making (Series.Chained kind) line (seen_row parts) outer.commas outer.limit (frames parser.stack.items) commas (drop parser.at tokens.now)) }
+    ensures { IfOk result
+        (λ m.
+        state tokens.now m
+        ≡ M.parts seen_making (Series.Chained kind) line (seen_row parts) outer.commas
+        outer.limit (frames parser.stack.items) commas (drop parser.at tokens.now)) }
 {
     let number = rank(kind);
     if goes_on(infix_at(tokens, commas, parser.at), kind) {
@@ -358,7 +385,11 @@ fn after_part(
     commas: bool,
 ) -> Result<Machine, Memory>
     requires { parser.at ≤ length tokens.now }
-    ensures { IfOk result (λ m. state tokens.now m ≡ M.parts seen_making series line (seen_row parts) outer.commas outer.limit (frames parser.stack.items) commas (drop parser.at tokens.now)) }
+    ensures { IfOk result
+        (λ m.
+        state tokens.now m
+        ≡ M.parts seen_making series line (seen_row parts) outer.commas outer.limit
+        (frames parser.stack.items) commas (drop parser.at tokens.now)) }
 {
     match series {
         Series::Arguments(name) => after_argument(tokens, parser, name, line, parts, outer, commas),
@@ -377,7 +408,12 @@ fn at_first(
     commas: bool,
 ) -> Result<Machine, Memory>
     requires { parser.at ≤ length tokens.now }
-    ensures { IfOk result (λ m. state tokens.now m ≡ M.at_first seen_making commas operator.number operator.line (seen first) operator.name outer.commas outer.limit (frames parser.stack.items) (drop parser.at tokens.now)) }
+    ensures { IfOk result
+        (λ m.
+        state tokens.now m
+        ≡ M.at_first seen_making commas operator.number operator.line (seen first)
+        operator.name outer.commas outer.limit (frames parser.stack.items)
+        (drop parser.at tokens.now)) }
 {
     if parser.at < tokens.len() {
         if let Infix::Nothing = infix_at(tokens, commas, parser.at) {
@@ -412,12 +448,23 @@ fn reduce(
     commas: bool,
 ) -> Result<Machine, Memory>
     requires { parser.at ≤ length tokens.now }
-    ensures { IfOk result (λ m. state tokens.now m ≡ M.reduce seen_making commas (frames parser.stack.items) (part_seen part) (drop parser.at tokens.now)) }
+    ensures { IfOk result
+        (λ m.
+        state tokens.now m
+        ≡ M.reduce seen_making commas (frames parser.stack.items) (part_seen part)
+        (drop parser.at tokens.now)) }
 {
     let ParserStack { mut stack, at } = parser;
     match stack.pop() {
         None => Ok(finish(tokens, ParserStack { stack, at }, part)),
-        Some(frame) => reduce_in(alloc, tokens, ParserStack { stack, at }, frame, part, commas),
+        Some(frame) => reduce_in(
+            alloc,
+            tokens,
+            ParserStack { stack, at },
+            frame,
+            part,
+            commas,
+        ),
     }
 }
 
@@ -430,7 +477,11 @@ fn reduce_in(
     commas: bool,
 ) -> Result<Machine, Memory>
     requires { parser.at ≤ length tokens.now }
-    ensures { IfOk result (λ m. state tokens.now m ≡ M.reduce seen_making commas (frame_seen frame ∷ frames parser.stack.items) (part_seen part) (drop parser.at tokens.now)) }
+    ensures { IfOk result
+        (λ m.
+        state tokens.now m
+        ≡ M.reduce seen_making commas (frame_seen frame ∷ frames parser.stack.items)
+        (part_seen part) (drop parser.at tokens.now)) }
 {
     let reading = part.reading;
     match frame {
@@ -470,7 +521,12 @@ pub fn step_done(
     context: Context,
 ) -> Result<Machine, Memory>
     requires { parser.at ≤ length tokens.now }
-    ensures { IfOk result (λ m. state tokens.now m ≡ M.step seen_making (M.Done context.commas context.limit (frames parser.stack.items) (part_seen part) (drop parser.at tokens.now))) }
+    ensures { IfOk result
+        (λ m.
+        state tokens.now m
+        ≡ M.step seen_making
+        (M.Done context.commas context.limit (frames parser.stack.items) (part_seen part)
+        (drop parser.at tokens.now))) }
 {
     let commas = context.commas;
     match infix_at(tokens, commas, parser.at) {

@@ -1,6 +1,6 @@
 ghost use Rattle.std.specs.Prelude.{◌≤◌, ◌≡◌, IfOk};
 
-use crate::infix::Chain;
+use crate::infixes::Chain;
 use mc_base::{Memory, Row, Text};
 use mc_term_data::{Node, Term};
 use std::alloc::Global;
@@ -208,7 +208,8 @@ impl Readings {
     // Two terms, in just the room that they take.
     #[tactic(auto, unfolding(crate::specs::Seen::no_seen))]
     pub fn two(alloc: Global, left: Reading, right: Reading) -> Result<Readings, Memory>
-        ensures { IfOk result (λ r. readings r ≡ seen_then (seen_then no_seen (reading left)) (reading right)) }
+        ensures { IfOk result
+            (λ r. readings r ≡ seen_then (seen_then no_seen (reading left)) (reading right)) }
     {
         let none = Readings {
             terms: Vec::with_capacity(alloc, 2)?,

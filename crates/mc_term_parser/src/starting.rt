@@ -9,7 +9,7 @@ ghost use Rattle.mc_term_parser.specs.Tree.{Tree};
 ghost use Rattle.mc_term_parser.specs.declared.lexeme.Lexeme.{Lexeme};
 
 use crate::frame::{Context, Frame, Machine, Mark, Now, Operator, ParserStack, Series};
-use crate::infix::Role;
+use crate::infixes::Role;
 use crate::lexeme::Lexeme;
 use crate::reader::{closed, mark, name_row, step_done};
 use crate::reading::{Reading, Readings};
@@ -100,7 +100,12 @@ fn start_word(
     context: Context,
 ) -> Result<Machine, Memory>
     requires { parser.at ≤ length tokens.now }
-    ensures { IfOk result (λ m. state tokens.now m ≡ M.on_role seen_making context.commas context.limit (frames parser.stack.items) line (name.now ∷ []) (drop parser.at tokens.now) (role context.limit name.now (drop parser.at tokens.now))) }
+    ensures { IfOk result
+        (λ m.
+        state tokens.now m
+        ≡ M.on_role seen_making context.commas context.limit (frames parser.stack.items) line
+        (name.now ∷ []) (drop parser.at tokens.now)
+        (role context.limit name.now (drop parser.at tokens.now))) }
 {
     let role = role(tokens, context.limit, name.bytes(), parser.at);
     start_name(
@@ -125,7 +130,11 @@ fn start_name(
     context: Context,
 ) -> Result<Machine, Memory>
     requires { parser.at ≤ length tokens.now }
-    ensures { IfOk result (λ m. state tokens.now m ≡ M.on_role seen_making context.commas context.limit (frames parser.stack.items) line name (drop parser.at tokens.now) role) }
+    ensures { IfOk result
+        (λ m.
+        state tokens.now m
+        ≡ M.on_role seen_making context.commas context.limit (frames parser.stack.items) line
+        name (drop parser.at tokens.now) role) }
 {
     let commas = context.commas;
     match role {
@@ -156,7 +165,9 @@ fn start_negative(
     context: Context,
 ) -> Machine
     requires { parser.at ≤ length tokens.now }
-    ensures { state tokens.now result ≡ M.on_negative seen_making context.commas context.limit (frames parser.stack.items) line value (drop parser.at tokens.now) }
+    ensures { state tokens.now result
+        ≡ M.on_negative seen_making context.commas context.limit (frames parser.stack.items) line
+        value (drop parser.at tokens.now) }
 {
     if parser.at >= tokens.len() {
         return parser.refused();
@@ -175,7 +186,11 @@ fn start_compound(
     context: Context,
 ) -> Result<Machine, Memory>
     requires { parser.at ≤ length tokens.now }
-    ensures { IfOk result (λ m. state tokens.now m ≡ M.on_compound seen_making context.commas context.limit (frames parser.stack.items) line name (drop parser.at tokens.now)) }
+    ensures { IfOk result
+        (λ m.
+        state tokens.now m
+        ≡ M.on_compound seen_making context.commas context.limit (frames parser.stack.items)
+        line name (drop parser.at tokens.now)) }
 {
     if parser.at >= tokens.len() {
         return Ok(parser.refused());
@@ -195,7 +210,11 @@ fn start_path(
     context: Context,
 ) -> Result<Machine, Memory>
     requires { parser.at ≤ length tokens.now }
-    ensures { IfOk result (λ m. state tokens.now m ≡ M.on_path seen_making context.commas context.limit (frames parser.stack.items) line name (drop parser.at tokens.now)) }
+    ensures { IfOk result
+        (λ m.
+        state tokens.now m
+        ≡ M.on_path seen_making context.commas context.limit (frames parser.stack.items) line
+        name (drop parser.at tokens.now)) }
 {
     let none = Readings::none(alloc);
     if let Mark::OpenCt = mark(tokens, parser.at) {
@@ -215,7 +234,11 @@ fn start_list(
     context: Context,
 ) -> Result<Machine, Memory>
     requires { parser.at ≤ length tokens.now }
-    ensures { IfOk result (λ m. state tokens.now m ≡ M.on_list seen_making context.commas context.limit (frames parser.stack.items) line (drop parser.at tokens.now)) }
+    ensures { IfOk result
+        (λ m.
+        state tokens.now m
+        ≡ M.on_list seen_making context.commas context.limit (frames parser.stack.items) line
+        (drop parser.at tokens.now)) }
 {
     let none = Readings::none(alloc);
     if let Mark::ListClose = mark(tokens, parser.at) {
@@ -233,7 +256,12 @@ fn start_paren(
     line: u32,
     context: Context,
 ) -> Result<Machine, Memory>
-    ensures { IfOk result (λ m. state tokens.now m ≡ M.Start false 1200 (M.InParen line context.commas context.limit ∷ frames parser.stack.items) (drop parser.at tokens.now)) }
+    ensures { IfOk result
+        (λ m.
+        state tokens.now m
+        ≡ M.Start false 1200
+        (M.InParen line context.commas context.limit ∷ frames parser.stack.items)
+        (drop parser.at tokens.now)) }
 {
     let _tokens = tokens;
     let frame = Frame::Paren(line, context);
@@ -249,7 +277,11 @@ fn start_with(
     context: Context,
 ) -> Result<Machine, Memory>
     requires { parser.at ≤ length tokens.now }
-    ensures { IfOk result (λ m. state tokens.now m ≡ M.start seen_making context.commas context.limit (frames parser.stack.items) (token.now ∷ drop parser.at tokens.now)) }
+    ensures { IfOk result
+        (λ m.
+        state tokens.now m
+        ≡ M.start seen_making context.commas context.limit (frames parser.stack.items)
+        (token.now ∷ drop parser.at tokens.now)) }
 {
     match token {
         Lexeme::Word(name, _, line) => start_word(alloc, tokens, parser, name, *line, context),
@@ -283,7 +315,11 @@ fn start_at(
     context: Context,
 ) -> Result<Machine, Memory>
     requires { parser.at ≤ length tokens.now }
-    ensures { IfOk result (λ m. state tokens.now m ≡ M.start seen_making context.commas context.limit (frames parser.stack.items) (drop parser.at tokens.now)) }
+    ensures { IfOk result
+        (λ m.
+        state tokens.now m
+        ≡ M.start seen_making context.commas context.limit (frames parser.stack.items)
+        (drop parser.at tokens.now)) }
 {
     if parser.at >= tokens.len() {
         return Ok(parser.refused());
@@ -330,7 +366,8 @@ fn answer(machine: Machine) -> Option<Reading>
 
 /// What the tokens of an item stand for, None where they are no term.
 pub fn read(alloc: Global, tokens: &[Lexeme]) -> Result<Option<Reading>, Memory>
-    ensures found { IfOk result (λ answer. IfSome answer (λ r. (t : Tree) × ReadsTerm tokens.now t 1200 × Shows t r)) }
+    ensures found { IfOk result
+        (λ answer. IfSome answer (λ r. (t : Tree) × ReadsTerm tokens.now t 1200 × Shows t r)) }
     ensures none { IfOk result (λ answer. IfNone answer ((t : Tree) → ReadsTerm tokens.now t 1200 → ⊥)) }
 {
     let parser = ParserStack {

@@ -18,7 +18,8 @@ use Rattle.mc_terms.specs.Lexemes.{lexemes}
 
 -- the tokens of the item that begins in a place, and the place behind its end
 abbrev pub ItemTokens : List ℕ → ℕ → List Lexeme → ℕ → Type 0
-ItemTokens text at ts stop = (ps : List Piece) × Item text at Eof ps stop × (lexemes text [] ps ≡ ts)
+ItemTokens text at ts stop =
+    (ps : List Piece) × Item text at Eof ps stop × (lexemes text [] ps ≡ ts)
 
 -- the item's tokens stand for a term, of which this is the tree
 abbrev pub ItemReads : List ℕ → ℕ → Tree → ℕ → Type 0
@@ -30,7 +31,13 @@ IsOver text at = (start : ℕ) × (stop : ℕ) × (lexed text at Eof ≡ Tok Eof
 
 -- the item's first token, which may be its end, is on a line, and it isn't the text's end
 abbrev pub BeginsOn : List ℕ → ℕ → ℕ → Type 0
-BeginsOn text at line = (k : Kind) × (start : ℕ) × (stop : ℕ) × (lexed text at Eof ≡ Tok k start stop) × (k ≢ Eof) × (line ≡ line_at text start)
+BeginsOn text at line =
+    (k : Kind)
+    × (start : ℕ)
+    × (stop : ℕ)
+    × (lexed text at Eof ≡ Tok k start stop)
+    × (k ≢ Eof)
+    × (line ≡ line_at text start)
 
 -- the place of a token, or of a fault
 abbrev pub place_of : Lexed → ℕ
@@ -48,15 +55,34 @@ token_line _ item own = own
 
 -- The item is a term that is no deeper than 256 and holds no number that 64 bits don't hold.
 abbrev pub IsItem : List ℕ → ℕ → Term → ℕ → Type 0
-IsItem text at u next = (t : Tree) × ItemReads text at t next × (too_large t ≡ None) × (depth t ≤ 256) × (plain_term u ≡ term t)
+IsItem text at u next =
+    (t : Tree)
+    × ItemReads text at t next
+    × (too_large t ≡ None)
+    × (depth t ≤ 256)
+    × (plain_term u ≡ term t)
 
--- Why an item isn't read, with the line of the fault and the place where reading goes on: after want of memory
--- the item's own.
+-- Why an item isn't read, with the line of the fault and the place where reading goes on: after
+-- want of memory the item's own.
 abbrev pub IsRefused : List ℕ → ℕ → ReadKind → ℕ → ℕ → Type 0
-IsRefused text at (Token f) line next = (place : ℕ) × Faulty text at Eof f place × (line ≡ token_line f (item_line text at) (line_at text place)) × Passes text (place + 1) Eof next
-IsRefused text at NotATerm line next = (ts : List Lexeme) × ItemTokens text at ts next × ((t : Tree) → ReadsTerm ts t 1200 → ⊥) × BeginsOn text at line
-IsRefused text at IntTooLarge line next = (t : Tree) × ItemReads text at t next × (too_large t ≡ Some line)
-IsRefused text at TooNested line next = (t : Tree) × ItemReads text at t next × (too_large t ≡ None) × (256 < depth t) × BeginsOn text at line
+IsRefused text at (Token f) line next =
+    (place : ℕ)
+    × Faulty text at Eof f place
+    × (line ≡ token_line f (item_line text at) (line_at text place))
+    × Passes text (place + 1) Eof next
+IsRefused text at NotATerm line next =
+    (ts : List Lexeme)
+    × ItemTokens text at ts next
+    × ((t : Tree) → ReadsTerm ts t 1200 → ⊥)
+    × BeginsOn text at line
+IsRefused text at IntTooLarge line next =
+    (t : Tree) × ItemReads text at t next × (too_large t ≡ Some line)
+IsRefused text at TooNested line next =
+    (t : Tree)
+    × ItemReads text at t next
+    × (too_large t ≡ None)
+    × (256 < depth t)
+    × BeginsOn text at line
 IsRefused text at Memory line next = (line ≡ line_at text at) × (next ≡ at)
 
 -- the place of the item's first faulty token
@@ -64,7 +90,8 @@ abbrev pub StandsAt : List ℕ → ℕ → ReadKind → ℕ → Type 0
 StandsAt text at (Token f) place = Faulty text at Eof f place
 StandsAt text at _ place = Unit {0}
 
--- Reading goes on behind the place where the item begins, and in the text, but after want of memory.
+-- Reading goes on behind the place where the item begins, and in the text, but after want of
+-- memory.
 abbrev pub IsOnward : List ℕ → ℕ → ReadKind → ℕ → Type 0
 IsOnward text at Memory next = Unit {0}
 IsOnward text at _ next = (at < next) × (next ≤ length text)

@@ -8,15 +8,16 @@ use Rattle.mc_tokens.specs.Contents.{stands_for}
 use Rattle.mc_tokens.specs.Items.{Piece}
 use Rattle.mc_terms.specs.Lines.{line_at}
 
--- The name that a dot goes on from, where the tokens so far, the last first, end so: its parts, its line, and
--- the tokens before it.
+-- The name that a dot goes on from, where the tokens so far, the last first, end so: its parts, its
+-- line, and the tokens before it.
 abbrev pub qualifier : List Lexeme → Option (List (List ℕ) × ℕ × List Lexeme)
 qualifier (L.Dot ∷ L.Word w q l ∷ done) = Some (w ∷ [], l, done)
 qualifier (L.Dot ∷ L.Path ws l ∷ done) = Some (ws, l, done)
 qualifier _ = None
 
 -- one more name: names with dots between them are one qualified name
-abbrev pub with_name : Option (List (List ℕ) × ℕ × List Lexeme) → List Lexeme → List ℕ → Bool → ℕ → List Lexeme
+abbrev pub with_name :
+    Option (List (List ℕ) × ℕ × List Lexeme) → List Lexeme → List ℕ → Bool → ℕ → List Lexeme
 with_name None done w q l = L.Word w q l ∷ done
 with_name (Some r) done w q l = L.Path (r.0 ++ w ∷ []) r.1 ∷ r.2
 
@@ -39,7 +40,8 @@ with_token done _ w l = L.Dot ∷ done
 -- The tokens of an item, of which those that are done, the last first, come before the pieces.
 abbrev pub lexemes : List ℕ → List Lexeme → List Piece → List Lexeme
 lexemes text done [] = reverse done
-lexemes text done (p ∷ ps) = lexemes text (with_token done p.kind (stands_for p.kind p.bytes) (line_at text p.place)) ps
+lexemes text done (p ∷ ps) =
+    lexemes text (with_token done p.kind (stands_for p.kind p.bytes) (line_at text p.place)) ps
 
 -- a kind of tokens that have no text of their own
 abbrev pub IsMark : Kind → Type 0

@@ -35,7 +35,14 @@ fn name_parts(alloc: Global, token: Lexeme) -> Result<Result<(Row<Text>, u32), L
 
 // The same of the last token, where a dot behind it was taken off.
 fn before_dot(alloc: Global, tokens: &mut Vec<Lexeme>) -> Result<Option<(Row<Text>, u32)>, Memory>
-    ensures { IfOk result (λ q. MatchOption q ((qualifier (Lexeme.Dot ∷ reverse tokens.old.items) ≡ None) × (tokens.new.items ≡ tokens.old.items ++ Lexeme.Dot ∷ [])) (λ q. qualifier (Lexeme.Dot ∷ reverse tokens.old.items) ≡ Some (q.0, q.1, reverse tokens.new.items))) }
+    ensures { IfOk result
+        (λ q.
+        MatchOption q
+        ((qualifier (Lexeme.Dot ∷ reverse tokens.old.items) ≡ None)
+        × (tokens.new.items ≡ tokens.old.items ++ Lexeme.Dot ∷ []))
+        (λ q.
+        qualifier (Lexeme.Dot ∷ reverse tokens.old.items)
+        ≡ Some (q.0, q.1, reverse tokens.new.items))) }
 {
     if let Some(token) = tokens.pop() {
         match name_parts(alloc, token)? {
@@ -59,7 +66,13 @@ fn take_qualifier(
     alloc: Global,
     tokens: &mut Vec<Lexeme>,
 ) -> Result<Option<(Row<Text>, u32)>, Memory>
-    ensures { IfOk result (λ q. MatchOption q ((qualifier (reverse tokens.old.items) ≡ None) × (tokens.new.items ≡ tokens.old.items)) (λ q. qualifier (reverse tokens.old.items) ≡ Some (q.0, q.1, reverse tokens.new.items))) }
+    ensures { IfOk result
+        (λ q.
+        MatchOption q
+        ((qualifier (reverse tokens.old.items) ≡ None)
+        × (tokens.new.items ≡ tokens.old.items))
+        (λ q.
+        qualifier (reverse tokens.old.items) ≡ Some (q.0, q.1, reverse tokens.new.items))) }
 {
     let Some(last) = tokens.pop() else {
         return Ok(None);
@@ -78,7 +91,10 @@ fn push_name(
     quoted: bool,
     line: u32,
 ) -> Result<(), Memory>
-    ensures { OnOk result (reverse tokens.new.items ≡ with_name (qualifier (reverse tokens.old.items)) (reverse tokens.old.items) name quoted line) }
+    ensures { OnOk result
+        (reverse tokens.new.items
+        ≡ with_name (qualifier (reverse tokens.old.items)) (reverse tokens.old.items) name
+        quoted line) }
 {
     match take_qualifier(alloc, tokens)? {
         None => tokens.push(Lexeme::Word(name, quoted, line))?,
@@ -100,7 +116,10 @@ fn push_token(
     token: &Token,
     line: u32,
 ) -> Result<(), Memory>
-    ensures { OnOk result (reverse tokens.new.items ≡ with_token (reverse tokens.old.items) token.now.kind (stands_for token.now.kind token.now.text.now) line) }
+    ensures { OnOk result
+        (reverse tokens.new.items
+        ≡ with_token (reverse tokens.old.items) token.now.kind
+        (stands_for token.now.kind token.now.text.now) line) }
 {
     let lexeme = match token.kind {
         Kind::Name => {
@@ -122,7 +141,8 @@ fn push_token(
 
 // A token that has no text of its own.
 fn mark(kind: Kind, line: u32) -> Lexeme
-    ensures { IsMark kind → (done : List Lexeme) (w : List ℕ) → result ∷ done ≡ with_token done kind w line }
+    ensures { IsMark kind → (done : List Lexeme) (w : List ℕ)
+        → result ∷ done ≡ with_token done kind w line }
 {
     match kind {
         Kind::Open => Lexeme::Open(line),
@@ -167,7 +187,8 @@ pub fn faulty_token(walk: &mut Walk, from: Position, line: u32, fault: TokenFaul
     requires line { from.line ≡ line_at walk.old from.at }
     requires small { length walk.old < 2 ^ 32 - 1 }
     ensures kind { result.fault.kind ≡ ReadKind.Token fault.kind }
-    ensures line { result.fault.line ≡ Rattle.mc_terms.specs.Answers.token_line fault.kind line (line_at walk.old fault.at) }
+    ensures line { result.fault.line
+        ≡ Rattle.mc_terms.specs.Answers.token_line fault.kind line (line_at walk.old fault.at) }
     ensures at { result.at ≡ fault.at }
     ensures passes { Passes walk.old (fault.at + 1) Kind.Eof result.fault.next }
     ensures within { (fault.at < result.fault.next) × (result.fault.next ≤ length walk.old) }
@@ -196,7 +217,11 @@ pub fn item_tokens(
     requires begun { (start stop : ℕ) → lexed walk.old from.at Kind.Eof ≢ Tok Kind.Eof start stop }
     requires small { length walk.old < 2 ^ 32 - 1 }
     ensures tokens { IfOk result (λ item. ItemTokens walk.old from.at item.tokens.items item.end.at) }
-    ensures end { IfOk result (λ item. (item.end.line ≡ line_at walk.old item.end.at) × (from.at < item.end.at) × (item.end.at ≤ length walk.old)) }
+    ensures end { IfOk result
+        (λ item.
+        (item.end.line ≡ line_at walk.old item.end.at)
+        × (from.at < item.end.at)
+        × (item.end.at ≤ length walk.old)) }
     ensures fault { IfErr result (λ f. IsRefused walk.old from.at f.fault.kind f.fault.line f.fault.next) }
     ensures place { IfErr result (λ f. StandsAt walk.old from.at f.fault.kind f.at) }
     ensures onward { IfErr result (λ f. IsOnward walk.old from.at f.fault.kind f.fault.next) }

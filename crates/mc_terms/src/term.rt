@@ -29,9 +29,19 @@ pub struct ReadItem {
 
 // An item that was read, which begins on a line and in a place, and ends before a position.
 fn judged(reading: Reading, line: u32, at: usize, end: Position) -> Result<ReadItem, ItemFault>
-    ensures kept { IfOk result (λ x. (x.term ≡ reading.term) × (x.line ≡ line) × (x.end ≡ end) × (reading.too_large ≡ None) × (reading.depth ≤ 256)) }
+    ensures kept { IfOk result
+        (λ x.
+        (x.term ≡ reading.term)
+        × (x.line ≡ line)
+        × (x.end ≡ end)
+        × (reading.too_large ≡ None)
+        × (reading.depth ≤ 256)) }
     ensures next { IfErr result (λ f. f.fault.next ≡ end.at) }
-    ensures why { IfErr result (λ f. MatchOption reading.too_large ((f.fault.kind ≡ ReadKind.TooNested) × (f.fault.line ≡ line) × (256 < reading.depth)) (λ large. (f.fault.kind ≡ ReadKind.IntTooLarge) × (f.fault.line ≡ large))) }
+    ensures why { IfErr result
+        (λ f.
+        MatchOption reading.too_large
+        ((f.fault.kind ≡ ReadKind.TooNested) × (f.fault.line ≡ line) × (256 < reading.depth))
+        (λ large. (f.fault.kind ≡ ReadKind.IntTooLarge) × (f.fault.line ≡ large))) }
 {
     let next = end.at;
     if let Some(line) = reading.too_large {
@@ -62,7 +72,13 @@ pub fn read_next(
     ensures over { IfOk result (λ answer. IfNone answer (IsOver walk.old from.at)) }
     ensures item { IfOk result (λ answer. IfSome answer (λ x. IsItem walk.old from.at x.term x.end.at)) }
     ensures line { IfOk result (λ answer. IfSome answer (λ x. x.line ≡ item_line walk.old from.at)) }
-    ensures place { IfOk result (λ answer. IfSome answer (λ x. (x.end.line ≡ line_at walk.old x.end.at) × (from.at < x.end.at) × (x.end.at ≤ length walk.old))) }
+    ensures place { IfOk result
+        (λ answer.
+        IfSome answer
+        (λ x.
+        (x.end.line ≡ line_at walk.old x.end.at)
+        × (from.at < x.end.at)
+        × (x.end.at ≤ length walk.old))) }
     ensures refused { IfErr result (λ f. IsRefused walk.old from.at f.fault.kind f.fault.line f.fault.next) }
     ensures stands { IfErr result (λ f. StandsAt walk.old from.at f.fault.kind f.at) }
     ensures onward { IfErr result (λ f. IsOnward walk.old from.at f.fault.kind f.fault.next) }

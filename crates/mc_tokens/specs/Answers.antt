@@ -38,7 +38,11 @@ answer (Err f) = Fault f.kind f.at
 
 -- A token's span is in order and in the text, from a place on; one that ends no item has bytes.
 abbrev pub InOrder : List ℕ → ℕ → Token → Type 0
-InOrder text at t = (at ≤ t.start) × (t.start ≤ t.end) × (t.end ≤ length text) × (ends t.kind ≡ false → t.start < t.end)
+InOrder text at t =
+    (at ≤ t.start)
+    × (t.start ≤ t.end)
+    × (t.end ≤ length text)
+    × (ends t.kind ≡ false → t.start < t.end)
 
 -- the bytes of a name or a variable without quotes are ASCII
 abbrev pub AsciiName : Kind → List ℕ → Type 0

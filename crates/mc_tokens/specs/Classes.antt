@@ -1,5 +1,5 @@
 -- Classes of bytes (this project's profile of the Mercury manual's chapter 'Syntax', 'Tokens').
-use Rattle.std.specs.Prelude.{ℕ, Bool, not, ◌&&◌, ◌||◌, ◌==◌, nat_lt, nat_le, ◌-◌, cond}
+use Rattle.std.specs.Prelude.{ℕ, Bool, not, ◌&&◌, ◌||◌, ◌==◌, nat_lt, nat_le, ◌-◌, if◌then◌else◌}
 use Rattle.mc_tokens.specs.declared.classes.Class.{Class}
 use Rattle.mc_tokens.specs.declared.classes.Class.TheVariants.{Blank, Comment, NameTail, Symbol}
 
@@ -17,7 +17,16 @@ is_name_tail x = between 48 57 x || between 65 90 x || (x == 95) || between 97 1
 -- # $ & * + - / : < = > ? @ \ ^ ~
 abbrev pub is_symbol : ℕ → Bool
 is_symbol x =
-    between 35 36 x || (x == 38) || between 42 43 x || (x == 45) || (x == 47) || (x == 58) || between 60 64 x || (x == 92) || (x == 94) || (x == 126)
+    between 35 36 x
+    || (x == 38)
+    || between 42 43 x
+    || (x == 45)
+    || (x == 47)
+    || (x == 58)
+    || between 60 64 x
+    || (x == 92)
+    || (x == 94)
+    || (x == 126)
 
 -- a byte of ASCII other than a line end and *, the bytes at which a comment needs a closer look
 abbrev pub is_comment : ℕ → Bool
@@ -39,7 +48,8 @@ hex_digit x = between 48 57 x || between 65 70 x || between 97 102 x
 
 -- the value of such a digit
 abbrev pub hex_value : ℕ → ℕ
-hex_value x = cond (nat_lt x 65) (x - 48) (cond (nat_lt x 97) (x - 55) (x - 87))
+hex_value x =
+    if nat_lt x 65 then x - 48 else if nat_lt x 97 then x - 55 else x - 87
 
 -- whether a byte is a digit of a base up to 16
 abbrev pub is_digit_of : ℕ → ℕ → Bool

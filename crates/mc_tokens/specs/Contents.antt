@@ -1,6 +1,6 @@
--- What a token stands for.
--- (The Mercury manual's chapter 'Syntax', 'Tokens', escapes and doubled quotes, in this project's profile.)
-use Rattle.std.specs.Prelude.{ℕ, zero, suc, ◌+◌, ◌*◌, cond, ◌==◌, List, [], ◌∷◌, ◌++◌, take, drop, encode_utf8}
+-- What a token stands for. (The Mercury manual's chapter 'Syntax', 'Tokens', escapes and doubled
+-- quotes, in this project's profile.)
+use Rattle.std.specs.Prelude.{ℕ, zero, suc, ◌+◌, ◌*◌, ◌==◌, List, [], ◌∷◌, ◌++◌, take, drop, encode_utf8, if◌then◌else◌}
 use Rattle.mc_tokens.specs.Classes.{is_digit_of, hex_value}
 use Rattle.mc_tokens.specs.Utf8.{char_len}
 use Rattle.mc_tokens.specs.Spots.{Go, Stop, Quoting, Plain, Backslash, Digits, Exact, is_simple, quote_turn}
@@ -10,20 +10,22 @@ use Rattle.mc_tokens.specs.declared.token.Kind.TheVariants.{Quoted, Str}
 -- the byte that a letter or a mark after a backslash stands for
 abbrev pub escaped : ℕ → ℕ
 escaped x =
-    cond (x == 97) 7
-    (cond (x == 98) 8
-    (cond (x == 102) 12
-    (cond (x == 110) 10
-    (cond (x == 114) 13
-    (cond (x == 116) 9
-    (cond (x == 118) 11
-    x))))))
+    if x == 97 then 7
+    else if x == 98 then 8
+    else if x == 102 then 12
+    else if x == 110 then 10
+    else if x == 114 then 13
+    else if x == 116 then 9
+    else if x == 118 then 11
+    else x
 
 -- what one turn inside the quotes q adds; a backslash before a line end stands for nothing
 abbrev pub says : ℕ → Quoting → ℕ → List ℕ → List ℕ
-says q Plain b bs = cond (b == q) (q ∷ []) (cond (b == 92) [] (take (char_len (b ∷ bs)) (b ∷ bs)))
-says q (Backslash start) b bs = cond (b == 10) [] (cond (is_simple b) (escaped b ∷ []) [])
-says q (Digits start base value some) b bs = cond (is_digit_of base b) [] (encode_utf8 value)
+says q Plain b bs =
+    if b == q then q ∷ [] else if b == 92 then [] else take (char_len (b ∷ bs)) (b ∷ bs)
+says q (Backslash start) b bs =
+    if b == 10 then [] else if is_simple b then escaped b ∷ [] else []
+says q (Digits start base value some) b bs = if is_digit_of base b then [] else encode_utf8 value
 says q (Exact start zero value) b bs = encode_utf8 (16 * value + hex_value b)
 says q (Exact start (suc more) value) b bs = []
 
@@ -31,7 +33,8 @@ says q (Exact start (suc more) value) b bs = []
 abbrev pub contents : ℕ → Quoting → ℕ → List ℕ → List ℕ
 contents q m past [] = []
 contents q m (suc past) (b ∷ bs) = contents q m past bs
-contents q m zero (b ∷ bs) = elim (quote_turn q m 0 b bs) [ Go n past ↦ says q m b bs ++ contents q n past bs | Stop s ↦ [] ]
+contents q m zero (b ∷ bs) =
+    elim (quote_turn q m 0 b bs) [ Go n past ↦ says q m b bs ++ contents q n past bs | Stop s ↦ [] ]
 
 -- the bytes that a token of a kind with these bytes stands for
 abbrev pub stands_for : Kind → List ℕ → List ℕ

@@ -12,12 +12,16 @@ use Rattle.mc_tokens.specs.declared.seen.Seen.{Seen}
 -- no */ follows from this place on, up to the text's end
 abbrev pub OpenComment : List ℕ → Option ℕ → Type 0
 OpenComment text None = Unit {0}
-OpenComment text (Some m) = (m ≤ length text) × ((start : ℕ) → layout (Block start) m (drop m text) ≡ Faulty Unterminated start)
+OpenComment text (Some m) =
+    (m ≤ length text)
+    × ((start : ℕ) → layout (Block start) m (drop m text) ≡ Faulty Unterminated start)
 
 -- a walk inside the quotes q that is in this place finds no closing one, up to the text's end
 abbrev pub OpenQuote : ℕ → List ℕ → Option ℕ → Type 0
 OpenQuote q text None = Unit {0}
-OpenQuote q text (Some m) = (m ≤ length text) × ((start : ℕ) → quote_walk q start Plain m (drop m text) ≡ Faulty Unterminated start)
+OpenQuote q text (Some m) =
+    (m ≤ length text)
+    × ((start : ℕ) → quote_walk q start Plain m (drop m text) ≡ Faulty Unterminated start)
 
 -- the digits from a place to an end spell a number above 2^63
 abbrev pub TooLarge : List ℕ → (from end : ℕ) → Type 0

@@ -39,7 +39,8 @@ fn line_rest(text: &[u8], from: usize) -> Result<usize, TokenFault>
 // Passes the rest of a comment that ends by a star and a slash.
 fn block_rest(text: &[u8], from: usize) -> Result<usize, Halt>
     requires { from ≤ length text.now }
-    ensures value { (start : ℕ) → layout (Block start) from (drop from text.now) ≡ comment_goes_on start text.now result }
+    ensures value { (start : ℕ)
+        → layout (Block start) from (drop from text.now) ≡ comment_goes_on start text.now result }
     ensures within { IfOk result (Within text.now from) }
     ensures placed { IfErr result (HaltPlaced text.now from) }
 {

@@ -26,7 +26,9 @@ fn is_name(kind: Kind) -> bool
 // A name or a variable of letters, where before is the kind of the token that ends at start.
 fn word(text: &[u8], start: usize, before: Kind, kind: Kind) -> Span
     requires { start < length text.now }
-    ensures value { span start result ≡ word before kind start (start + (1 + prefix_len is_name_tail (drop (start + 1) text.now))) }
+    ensures value { span start result
+        ≡ word before kind start
+        (start + (1 + prefix_len is_name_tail (drop (start + 1) text.now))) }
     ensures ends { IfOk result (Ends text.now start) }
     ensures placed { IfErr result (Placed text.now start) }
 {
@@ -151,7 +153,8 @@ fn begun(text: &[u8], start: usize, before: Kind, first: First, seen: &mut Seen)
     requires inside { start < length text.now }
     requires first { first ≡ first_of (get_or text.now start 0) }
     requires seen { Holds text.now seen.old }
-    ensures value { span start result ≡ begun before start (get_or text.now start 0) (drop (start + 1) text.now) first }
+    ensures value { span start result
+        ≡ begun before start (get_or text.now start 0) (drop (start + 1) text.now) first }
     ensures ends { IfOk result (Ends text.now start) }
     ensures placed { IfErr result (Placed text.now start) }
     ensures seen { Holds text.now seen.new }

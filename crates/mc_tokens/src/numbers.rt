@@ -101,7 +101,8 @@ fn decimal(text: &[u8], start: usize, known: &mut Option<Run>) -> Span
     requires inside { start < length text.now }
     requires digit { is_digit_of 10 (get_or text.now start 0) ≡ true }
     requires known { KnownRun text.now known.old }
-    ensures value { span start result ≡ decimal start (prefix_len (is_digit_of 10) (drop start text.now)) (drop start text.now) }
+    ensures value { span start result
+        ≡ decimal start (prefix_len (is_digit_of 10) (drop start text.now)) (drop start text.now) }
     ensures ends { IfOk result (Ends text.now start) }
     ensures placed { IfErr result (Placed text.now start) }
     ensures known { KnownRun text.now known.new }

@@ -97,8 +97,12 @@ fn simple(b: u8) -> Option<u8>
 fn numeral(text: &[u8], base: u32, at: usize, from: usize) -> Result<Escape, Halt>
     requires base { base ≤ 16 }
     requires range { (at < from) × (from ≤ length text.now) }
-    ensures value { (q start : ℕ) → quote_walk q start (Digits at base 0 false) from (drop from text.now) ≡ escape_goes_on q start text.now result }
-    ensures says { (q : ℕ) → contents q (Digits 0 base 0 false) 0 (drop from text.now) ≡ escape_contents q text.now result }
+    ensures value { (q start : ℕ)
+        → quote_walk q start (Digits at base 0 false) from (drop from text.now)
+        ≡ escape_goes_on q start text.now result }
+    ensures says { (q : ℕ)
+        → contents q (Digits 0 base 0 false) 0 (drop from text.now)
+        ≡ escape_contents q text.now result }
     ensures within { IfOk result (λ e. Within text.now from e.next) }
     ensures placed { IfErr result (HaltPlaced text.now at) }
 {
@@ -128,8 +132,12 @@ fn numeral_end(
 ) -> Result<Escape, Halt>
     requires range { (at < i) × (i < length text.now) }
     requires stops { is_digit_of base (get_or text.now i 0) ≡ false }
-    ensures value { (q start : ℕ) → quote_walk q start (Digits at base value some) i (drop i text.now) ≡ escape_goes_on q start text.now result }
-    ensures says { (q : ℕ) → contents q (Digits 0 base value some) 0 (drop i text.now) ≡ escape_contents q text.now result }
+    ensures value { (q start : ℕ)
+        → quote_walk q start (Digits at base value some) i (drop i text.now)
+        ≡ escape_goes_on q start text.now result }
+    ensures says { (q : ℕ)
+        → contents q (Digits 0 base value some) 0 (drop i text.now)
+        ≡ escape_contents q text.now result }
     ensures within { IfOk result (λ e. Within text.now i e.next) }
     ensures placed { IfErr result (HaltPlaced text.now at) }
 {
@@ -156,8 +164,11 @@ fn numeral_says(b: u8, value: u32, some: bool) -> Option<char>
 // The rest of an escape with so many more hexadecimal digits and one, which stand from a place on.
 fn exact(text: &[u8], at: usize, from: usize, more: u32) -> Result<Escape, Halt>
     requires { (at < from) × (from ≤ length text.now) }
-    ensures value { (q start : ℕ) → quote_walk q start (Exact at more 0) from (drop from text.now) ≡ escape_goes_on q start text.now result }
-    ensures says { (q : ℕ) → contents q (Exact 0 more 0) 0 (drop from text.now) ≡ escape_contents q text.now result }
+    ensures value { (q start : ℕ)
+        → quote_walk q start (Exact at more 0) from (drop from text.now)
+        ≡ escape_goes_on q start text.now result }
+    ensures says { (q : ℕ)
+        → contents q (Exact 0 more 0) 0 (drop from text.now) ≡ escape_contents q text.now result }
     ensures within { IfOk result (λ e. Within text.now from e.next) }
     ensures placed { IfErr result (HaltPlaced text.now at) }
 {
@@ -180,7 +191,9 @@ fn exact(text: &[u8], at: usize, from: usize, more: u32) -> Result<Escape, Halt>
 
 // The end of such an escape, after its last digit.
 fn exact_end(at: usize, next: usize, value: u32) -> Result<Escape, Halt>
-    ensures { result ≡ (if scalar value then Ok (record { next = next; says = Some value }) else Err (Halt.Bad (record { kind = FaultKind.BadChar; at = at }))) }
+    ensures { result
+        ≡ (if scalar value then Ok (record { next = next; says = Some value })
+        else Err (Halt.Bad (record { kind = FaultKind.BadChar; at = at }))) }
 {
     match char::from_u32(value) {
         Some(says) => Ok(Escape {
@@ -194,8 +207,11 @@ fn exact_end(at: usize, next: usize, value: u32) -> Result<Escape, Halt>
 // The escape whose backslash is in place at.
 pub fn escape_at(text: &[u8], at: usize) -> Result<Escape, Halt>
     requires { at < length text.now }
-    ensures value { (q start : ℕ) → quote_walk q start (Backslash at) (at + 1) (drop (at + 1) text.now) ≡ escape_goes_on q start text.now result }
-    ensures says { (q : ℕ) → contents q (Backslash 0) 0 (drop (at + 1) text.now) ≡ escape_contents q text.now result }
+    ensures value { (q start : ℕ)
+        → quote_walk q start (Backslash at) (at + 1) (drop (at + 1) text.now)
+        ≡ escape_goes_on q start text.now result }
+    ensures says { (q : ℕ)
+        → contents q (Backslash 0) 0 (drop (at + 1) text.now) ≡ escape_contents q text.now result }
     ensures within { IfOk result (λ e. Within text.now (at + 1) e.next) }
     ensures placed { IfErr result (HaltPlaced text.now at) }
 {
@@ -233,7 +249,9 @@ pub fn escape_at(text: &[u8], at: usize) -> Result<Escape, Halt>
 pub fn step_at(text: &[u8], quote: u8, i: usize) -> Result<Step, Halt>
     requires inside { i < length text.now }
     requires quote { 0 < quote }
-    ensures value { (start : ℕ) → quote_walk quote start Plain i (drop i text.now) ≡ turn_goes_on quote start text.now result }
+    ensures value { (start : ℕ)
+        → quote_walk quote start Plain i (drop i text.now)
+        ≡ turn_goes_on quote start text.now result }
     ensures within { IfOk result (StepsWithin text.now i) }
     ensures placed { IfErr result (HaltPlaced text.now i) }
 {
@@ -260,7 +278,8 @@ pub fn step_at(text: &[u8], quote: u8, i: usize) -> Result<Step, Halt>
 pub fn quote_rest(text: &[u8], quote: u8, from: usize) -> Result<usize, Halt>
     requires inside { from ≤ length text.now }
     requires quote { 0 < quote }
-    ensures value { (start : ℕ) → quote_walk quote start Plain from (drop from text.now) ≡ quote_ends start result }
+    ensures value { (start : ℕ)
+        → quote_walk quote start Plain from (drop from text.now) ≡ quote_ends start result }
     ensures within { IfOk result (λ i. (from < i) × (i ≤ length text.now)) }
     ensures placed { IfErr result (HaltPlaced text.now from) }
 {

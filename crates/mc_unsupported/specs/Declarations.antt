@@ -1,5 +1,6 @@
--- The declarations that this profile leaves out (the Mercury manual: Declarations, Existential types, Type classes, Pragmas).
-use Rattle.std.specs.Prelude.{ℕ, Bool, true, false, cond, nat_eq, ◌&&◌, ◌||◌, List, [], ◌∷◌, Option, Some, None, codes, bytes_eq}
+-- The declarations that this profile leaves out (the Mercury manual: Declarations, Existential
+-- types, Type classes, Pragmas).
+use Rattle.std.specs.Prelude.{ℕ, Bool, true, false, nat_eq, ◌&&◌, ◌||◌, List, [], ◌∷◌, Option, Some, None, codes, bytes_eq, if◌then◌else◌}
 use Rattle.std.specs.Bool.{then_some}
 use Rattle.mc_term_data.specs.Plain.{PlainTerm, PlainTerms, at, no_term, more_terms, Int, Str, App}
 use Rattle.mc_term_data.specs.Names.{count}
@@ -40,7 +41,8 @@ is_string _ = false
 
 -- `p/2`
 abbrev pub indicates : List ℕ → PlainTerms → Bool
-indicates w (more_terms t (more_terms u no_term)) = bytes_eq (codes "/") w && (is_constant t && is_number u)
+indicates w (more_terms t (more_terms u no_term)) =
+    bytes_eq (codes "/") w && (is_constant t && is_number u)
 indicates w _ = false
 
 abbrev pub is_indicator : PlainTerm → Bool
@@ -62,12 +64,13 @@ abbrev pub is_fact_table : PlainTerms → Bool
 is_fact_table (more_terms t (more_terms u no_term)) = is_predicate t && is_string u
 is_fact_table _ = false
 
--- a pragma that isn't one of the three that this profile knows, or that it knows and doesn't have yet
+-- a pragma that isn't one of the three that this profile knows, or that it knows and doesn't have
+-- yet
 abbrev pub named_pragma : List ℕ → PlainTerms → Option LeftOut
 named_pragma w ts =
-    cond (bytes_eq (codes "inline") w || bytes_eq (codes "no_inline") w) None
-    (cond (bytes_eq (codes "fact_table") w) (then_some (is_fact_table ts) L.Pragma)
-    (Some L.Pragma))
+    if bytes_eq (codes "inline") w || bytes_eq (codes "no_inline") w then None
+    else if bytes_eq (codes "fact_table") w then then_some (is_fact_table ts) L.Pragma
+    else Some L.Pragma
 
 abbrev pub pragma : PlainTerm → Option LeftOut
 pragma (at (App (w ∷ []) ts) l) = named_pragma w ts
@@ -92,7 +95,7 @@ is_existential _ = false
 -- what a declaration, a name over these parts, is left out for
 abbrev pub declaration : List ℕ → PlainTerms → Option LeftOut
 declaration w ts =
-    cond (bytes_eq (codes "pragma") w) (sole_pragma ts)
-    (cond (bytes_eq (codes "<=") w) (then_some (is_constrained ts) L.TypeClass)
-    (cond (bytes_eq (codes "some") w) (then_some (is_existential ts) L.ExistentialType)
-    (then_some (bytes_eq (codes "mutable") w) L.Mutable)))
+    if bytes_eq (codes "pragma") w then sole_pragma ts
+    else if bytes_eq (codes "<=") w then then_some (is_constrained ts) L.TypeClass
+    else if bytes_eq (codes "some") w then then_some (is_existential ts) L.ExistentialType
+    else then_some (bytes_eq (codes "mutable") w) L.Mutable

@@ -1,5 +1,6 @@
--- The forms that this project's profile of the Mercury manual (Items, Clauses, Goals, Insts and modes) leaves out, and
--- the first of them in an item: a term comes before its parts, and parts come left to right.
+-- The forms that this project's profile of the Mercury manual (Items, Clauses, Goals, Insts and
+-- modes) leaves out, and the first of them in an item: a term comes before its parts, and parts
+-- come left to right.
 use Rattle.std.specs.Prelude.{ℕ, nat_eq, nat_lt, ◌&&◌, List, [], ◌∷◌, Option, Some, None, codes}
 use Rattle.std.specs.Option.{option_or}
 use Rattle.std.specs.Bool.{then_some}
@@ -13,8 +14,8 @@ use Rattle.mc_unsupported.specs.declared.role.Role.TheVariants as S
 use Rattle.mc_unsupported.specs.declared.reason.LeftOut.{LeftOut}
 use Rattle.mc_unsupported.specs.declared.reason.LeftOut.TheVariants as L
 
--- the operators that are read and then refused, wherever they stand: those over two parts, those over one that
--- stand before a declaration, and those that begin an item
+-- the operators that are read and then refused, wherever they stand: those over two parts, those
+-- over one that stand before a declaration, and those that begin an item
 unfoldable pub infix_rows : List (Row LeftOut)
 infix_rows =
     row (codes "^") 2 L.FieldAccess
@@ -26,7 +27,9 @@ infix_rows =
     ∷ []
 
 unfoldable pub prefix_rows : List (Row LeftOut)
-prefix_rows = row (codes "impure") 1 L.Purity ∷ row (codes "semipure") 1 L.Purity ∷ row (codes "solver") 1 L.SolverType ∷ []
+prefix_rows =
+    row (codes "impure") 1 L.Purity ∷ row (codes "semipure") 1 L.Purity
+    ∷ row (codes "solver") 1 L.SolverType ∷ []
 
 unfoldable pub item_rows : List (Row LeftOut)
 item_rows =
@@ -38,7 +41,8 @@ item_rows =
     ∷ []
 
 abbrev pub refused : List ℕ → ℕ → Option LeftOut
-refused w n = option_or (found infix_rows w n) (option_or (found prefix_rows w n) (found item_rows w n))
+refused w n =
+    option_or (found infix_rows w n) (option_or (found prefix_rows w n) (found item_rows w n))
 
 -- the parts of a conditional expression
 unfoldable pub conditional_rows : List (Row LeftOut)

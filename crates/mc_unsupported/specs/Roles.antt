@@ -1,4 +1,5 @@
--- What the parts of a term are, by what the term itself is there (the Mercury manual: Items, Clauses, Goals, Declarations).
+-- What the parts of a term are, by what the term itself is there (the Mercury manual: Items,
+-- Clauses, Goals, Declarations).
 use Rattle.std.specs.Prelude.{ℕ, List, [], ◌∷◌, codes, unwrap_or}
 use Rattle.mc_term_data.specs.Names.{Row, row, found}
 use Rattle.mc_unsupported.specs.declared.role.Role.{Role}
@@ -64,16 +65,20 @@ declaration_rows =
     ∷ []
 
 unfoldable pub type_rows : List (Row Parts)
-type_rows = row (codes "--->") 2 (Elsewhere, Constructors) ∷ row (codes "==") 2 (Elsewhere, TypeTerm) ∷ []
+type_rows =
+    row (codes "--->") 2 (Elsewhere, Constructors) ∷ row (codes "==") 2 (Elsewhere, TypeTerm) ∷ []
 
 unfoldable pub inst_rows : List (Row Parts)
 inst_rows = row (codes "--->") 2 (Elsewhere, Symbols) ∷ row (codes "==") 2 (Elsewhere, Inst) ∷ []
 
 unfoldable pub mode_rows : List (Row Parts)
-mode_rows = row (codes "==") 2 (Elsewhere, Mode) ∷ row (codes "is") 2 (ModeItem, Elsewhere) ∷ row (codes "=") 2 (ModeItem, Mode) ∷ []
+mode_rows =
+    row (codes "==") 2 (Elsewhere, Mode) ∷ row (codes "is") 2 (ModeItem, Elsewhere)
+    ∷ row (codes "=") 2 (ModeItem, Mode) ∷ []
 
 unfoldable pub signature_rows : List (Row Parts)
-signature_rows = row (codes "is") 2 (Signature, Elsewhere) ∷ row (codes "=") 2 (Signature, Parameter) ∷ []
+signature_rows =
+    row (codes "is") 2 (Signature, Elsewhere) ∷ row (codes "=") 2 (Signature, Parameter) ∷ []
 
 -- the table for what the term itself is
 abbrev pub rows_at : Role → List (Row Parts)

@@ -1,5 +1,6 @@
--- The words that the program prints for what is left out, and the tokens that are (this project's profile).
-use Rattle.std.specs.Prelude.{ℕ, cond, nat_eq, nat_le, ◌&&◌, ◌||◌, List, codes}
+-- The words that the program prints for what is left out, and the tokens that are (this project's
+-- profile).
+use Rattle.std.specs.Prelude.{ℕ, nat_eq, nat_le, ◌&&◌, ◌||◌, List, codes, if◌then◌else◌}
 use Rattle.mc_unsupported.specs.declared.reason.LeftOut.{LeftOut}
 use Rattle.mc_unsupported.specs.declared.reason.LeftOut.TheVariants as L
 
@@ -28,11 +29,12 @@ words L.Pragma = codes "pragma"
 words L.ConditionalExpression = codes "conditional expression"
 words L.ModeSpecificClause = codes "mode-specific clause"
 
--- The form that a token left out is, by its first byte: a digit begins a float, a bracket behind a variable a
--- higher-order term, and a letter or an underscore stands directly behind a number.
+-- The form that a token left out is, by its first byte: a digit begins a float, a bracket behind a
+-- variable a higher-order term, and a letter or an underscore stands directly behind a number.
 abbrev pub of_token : ℕ → LeftOut
 of_token b =
-    cond (nat_le 48 b && nat_le b 57) L.Float
-    (cond (nat_eq b 96) L.Backquote
-    (cond (nat_eq b 123 || nat_eq b 125) L.Tuple
-    (cond (nat_eq b 40) L.HigherOrder L.IntegerTail)))
+    if nat_le 48 b && nat_le b 57 then L.Float
+    else if nat_eq b 96 then L.Backquote
+    else if nat_eq b 123 || nat_eq b 125 then L.Tuple
+    else if nat_eq b 40 then L.HigherOrder
+    else L.IntegerTail

@@ -50,7 +50,9 @@ fn left_out_over(role: Role, name: &[Text], parts: &[Term]) -> Option<LeftOut>
 // The first form that is left out in a list's elements and what follows the bar.
 #[cycle(walk)]
 fn left_out_tailed(role: Role, elements: &[Term], tail: &Term) -> Option<LeftOut>
-    ensures { result ≡ option_or (left_out_all role (tms (map plain_term elements.now))) (left_out role (plain_term tail.now)) }
+    ensures { result
+        ≡ option_or (left_out_all role (tms (map plain_term elements.now)))
+        (left_out role (plain_term tail.now)) }
 {
     match left_out_all(role, elements) {
         Some(form) => Some(form),

@@ -1,5 +1,5 @@
--- What a heap holds: which Refs are live, the value that each stands for, and what a mark keeps. Contracts cite these
--- and no more, so that a heap of another make has the same contracts.
+-- What a heap holds: which Refs are live, the value that each stands for, and what a mark keeps.
+-- Contracts cite these and no more, so that a heap of another make has the same contracts.
 use Rattle.std.specs.Prelude.{◌≡◌, ℕ, ◌≤◌, ◌<◌, List, map, length}
 use Rattle.mc_program.specs.Values.{Val, plain_value}
 use Rattle.mc_values.specs.declared.heap.Heap.{Heap}

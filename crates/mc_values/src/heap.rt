@@ -108,7 +108,8 @@ impl Heap {
     pub fn io_after(&mut self, before: Ref, added: &Text) -> Result<Ref, Memory>
         requires live { IsLive self.old before }
         requires state { IsState (value_at self.old before) }
-        ensures ok { IfOk result (λ r. StandsFor self.new r (with_written (value_at self.old before) added.now)) }
+        ensures ok { IfOk result
+            (λ r. StandsFor self.new r (with_written (value_at self.old before) added.now)) }
         ensures keeps { Extends self.old self.new }
         ensures err { OnErr result (self.new ≡ self.old) }
     {
@@ -135,7 +136,8 @@ impl Heap {
     /// A Ref of a constructor over the values that these Refs stand for.
     pub fn con(&mut self, symbol: u32, args: &Row<Ref>) -> Result<Ref, Memory>
         requires { All (IsLive self.old) args.now }
-        ensures ok { IfOk result (λ r. StandsFor self.new r (con symbol (vals (values_at self.old args.now)))) }
+        ensures ok { IfOk result
+            (λ r. StandsFor self.new r (con symbol (vals (values_at self.old args.now)))) }
         ensures keeps { Extends self.old self.new }
         ensures err { OnErr result (self.new ≡ self.old) }
     {
@@ -203,7 +205,8 @@ impl Heap {
     pub fn arg(&self, r: Ref, k: u32) -> Ref
         requires live { IsLive self.now r }
         requires within { k < length (arguments (value_at self.now r)) }
-        ensures value { StandsFor self.now result (slice_index_or (arguments (value_at self.now r)) k (value_at self.now result)) }
+        ensures value { StandsFor self.now result
+            (slice_index_or (arguments (value_at self.now r)) k (value_at self.now result)) }
         ensures below { (mark : ℕ) → IsBelow mark r → IsBelow mark result }
     {
         *self.cell(r).args.get(k)

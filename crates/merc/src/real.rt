@@ -83,7 +83,8 @@ fn read_front<R: rt::Files>(system: &R, alloc: Global, name: &str) -> Result<Vec
 /// before its end gives none.
 fn read_to_limit<R: Read>(reader: &mut R, alloc: Global) -> Result<Vec<u8>, FileAnswer>
     ensures limit { IfOk result (λ bytes. vec_len bytes ≤ READ_LIMIT) }
-    ensures bytes { IfOk result (λ bytes. Consumes (R.remaining reader.old) (R.remaining reader.new) bytes.items) }
+    ensures bytes { IfOk result
+        (λ bytes. Consumes (R.remaining reader.old) (R.remaining reader.new) bytes.items) }
     ensures whole { IfOk result (λ bytes. vec_len bytes < READ_LIMIT → IsAtEnd (R.remaining reader.new)) }
 {
     let mut bytes = Vec::new(alloc);
@@ -153,7 +154,8 @@ impl<R: Read> Source for RealSource<R> {
 /// Reads once, and again where a signal interrupted it: the next bytes of the reader, none only at its end.
 fn read_some<R: Read>(reader: &mut R, buf: &mut [u8]) -> Result<usize, Failed>
     ensures room { IfOk result (λ count. count ≤ length buf.new) }
-    ensures bytes { IfOk result (λ count. Consumes (R.remaining reader.old) (R.remaining reader.new) (take count buf.new)) }
+    ensures bytes { IfOk result
+        (λ count. Consumes (R.remaining reader.old) (R.remaining reader.new) (take count buf.new)) }
     ensures end { IfOk result (λ count. count ≡ 0 → 0 < length buf.new → IsAtEnd (R.remaining reader.new)) }
 {
     for _ in 0..RETRIES {

@@ -24,9 +24,21 @@ impl Known<'_> {
     /// The clauses of each given predicate, by its number; None where one is no fact of the form.
     pub fn clauses(&self, alloc: Global) -> Result<Option<Vec<Row<Clause>>>, Memory>
         requires { IsKnown self.now }
-        ensures clauses { IfOk result (λ all. option_map (λ table. plain_table table.items) all ≡ table_through (linked_of self.now.sources) 0 (no_clauses self.now.signatures.now) (linked_of self.now.sources).given) }
-        ensures places { IfOk result (λ all. IfSome all (λ table. beside_table table.items ≡ places_through (linked_of self.now.sources) 0 (no_clauses self.now.signatures.now) (linked_of self.now.sources).given)) }
-        ensures len { IfOk result (λ all. IfSome all (λ table. length table.items ≡ length self.now.signatures.now)) }
+        ensures clauses { IfOk result
+            (λ all.
+            option_map (λ table. plain_table table.items) all
+            ≡ table_through (linked_of self.now.sources) 0
+            (no_clauses self.now.signatures.now) (linked_of self.now.sources).given) }
+        ensures places { IfOk result
+            (λ all.
+            IfSome all
+            (λ table.
+            beside_table table.items
+            ≡ places_through (linked_of self.now.sources) 0
+            (no_clauses self.now.signatures.now)
+            (linked_of self.now.sources).given)) }
+        ensures len { IfOk result
+            (λ all. IfSome all (λ table. length table.items ≡ length self.now.signatures.now)) }
     {
         let mut table = no_clauses(alloc, self.signatures)?;
         if self.sources.given.len() > u32::MAX as usize {
@@ -50,8 +62,17 @@ impl Known<'_> {
     ) -> Result<bool, Memory>
         requires known { IsKnown self.now }
         requires len { length table.old.items ≡ length self.now.signatures.now }
-        ensures facts { IfOk result (λ good. table_over (linked_of self.now.sources) own (plain_table table.old.items) (map plain_entry file.now) ≡ cond good (Some (plain_table table.new.items)) None) }
-        ensures places { IfOk result (λ good. IsTrue good → beside_table table.new.items ≡ places_over (linked_of self.now.sources) own (beside_table table.old.items) (map plain_entry file.now)) }
+        ensures facts { IfOk result
+            (λ good.
+            table_over (linked_of self.now.sources) own (plain_table table.old.items)
+            (map plain_entry file.now)
+            ≡ cond good (Some (plain_table table.new.items)) None) }
+        ensures places { IfOk result
+            (λ good.
+            IsTrue good
+            → beside_table table.new.items
+            ≡ places_over (linked_of self.now.sources) own (beside_table table.old.items)
+            (map plain_entry file.now)) }
         ensures len { length table.new.items ≡ length self.now.signatures.now }
     {
         for entry in file {
@@ -72,8 +93,18 @@ impl Known<'_> {
     ) -> Result<bool, Memory>
         requires known { IsKnown self.now }
         requires len { length table.old.items ≡ length self.now.signatures.now }
-        ensures fact { IfOk result (λ good. put_all (plain_table table.old.items) (facts_of_clause (linked_of self.now.sources) own (plain_item entry.now.decl)) ≡ cond good (Some (plain_table table.new.items)) None) }
-        ensures places { IfOk result (λ good. IsTrue good → beside_table table.new.items ≡ put_places (places_by (linked_of self.now.sources) own (plain_item entry.now.decl) entry.now.at) (beside_table table.old.items)) }
+        ensures fact { IfOk result
+            (λ good.
+            put_all (plain_table table.old.items)
+            (facts_of_clause (linked_of self.now.sources) own (plain_item entry.now.decl))
+            ≡ cond good (Some (plain_table table.new.items)) None) }
+        ensures places { IfOk result
+            (λ good.
+            IsTrue good
+            → beside_table table.new.items
+            ≡ put_places
+            (places_by (linked_of self.now.sources) own (plain_item entry.now.decl)
+            entry.now.at) (beside_table table.old.items)) }
         ensures len { length table.new.items ≡ length self.now.signatures.now }
     {
         match &entry.decl {
@@ -92,7 +123,8 @@ impl Known<'_> {
     // The predicate of the module itself that a clause is a fact of, and its constants; None where it is none.
     fn fact(&self, alloc: Global, own: u32, term: &Term) -> Result<Option<(u32, Row<u32>)>, Memory>
         requires { IsKnown self.now }
-        ensures fact { IfOk result (λ fact. fact ≡ bare_fact (linked_of self.now.sources) own (plain_term term.now)) }
+        ensures fact { IfOk result
+            (λ fact. fact ≡ bare_fact (linked_of self.now.sources) own (plain_term term.now)) }
         ensures inside { IfOk result (λ fact. IfSome fact (λ f. f.0 < length self.now.signatures.now)) }
     {
         match &term.node {
@@ -122,7 +154,11 @@ impl Known<'_> {
         arguments: &[Term],
     ) -> Result<Option<(u32, Row<u32>)>, Memory>
         requires { IsKnown self.now }
-        ensures fact { IfOk result (λ fact. fact ≡ fact_over (linked_of self.now.sources) own (Some pred) (tms (map plain_term arguments.now))) }
+        ensures fact { IfOk result
+            (λ fact.
+            fact
+            ≡ fact_over (linked_of self.now.sources) own (Some pred)
+            (tms (map plain_term arguments.now))) }
         ensures inside { IfOk result (λ fact. IfSome fact (λ f. f.0 < length self.now.signatures.now)) }
     {
         let numbers = self.sources.constant_numbers(alloc, own, arguments)?;
@@ -152,8 +188,12 @@ fn no_clauses(alloc: Global, signatures: &[Row<u32>]) -> Result<Vec<Row<Clause>>
 #[tactic(auto, using(crate::proofs::Tables::put_plain, crate::proofs::Tables::put_beside))]
 fn put(table: &mut Vec<Row<Clause>>, pred: u32, clause: Clause) -> Result<(), Memory>
     requires { pred < length table.old.items }
-    ensures clauses { OnOk result (plain_table table.new.items ≡ put_behind pred (plain_clause clause) (plain_table table.old.items)) }
-    ensures places { OnOk result (beside_table table.new.items ≡ put_behind pred (beside_clause clause) (beside_table table.old.items)) }
+    ensures clauses { OnOk result
+        (plain_table table.new.items
+        ≡ put_behind pred (plain_clause clause) (plain_table table.old.items)) }
+    ensures places { OnOk result
+        (beside_table table.new.items
+        ≡ put_behind pred (beside_clause clause) (beside_table table.old.items)) }
     ensures len { length table.new.items ≡ length table.old.items }
 {
     let clauses = &mut table[pred as usize];

@@ -20,7 +20,10 @@ impl Sources<'_> {
         own: u32,
         terms: &[Term],
     ) -> Result<Option<Row<u32>>, Memory>
-        ensures { IfOk result (λ numbers. numbers ≡ constant_numbers (linked_of self.now) own (tms (map plain_term terms.now))) }
+        ensures { IfOk result
+            (λ numbers.
+            numbers
+            ≡ constant_numbers (linked_of self.now) own (tms (map plain_term terms.now))) }
     {
         let mut numbers = Row::new(alloc);
         for term in terms {
@@ -34,7 +37,8 @@ impl Sources<'_> {
     }
 
     fn constant_number(&self, alloc: Global, own: u32, term: &Term) -> Result<Option<u32>, Memory>
-        ensures { IfOk result (λ number. number ≡ constant_number (linked_of self.now) own (plain_term term.now)) }
+        ensures { IfOk result
+            (λ number. number ≡ constant_number (linked_of self.now) own (plain_term term.now)) }
     {
         match &term.node {
             Node::App(name, arguments) if has_none(arguments) => {

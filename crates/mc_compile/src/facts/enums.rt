@@ -63,10 +63,19 @@ impl Enums {
     #[tactic(auto, using(crate::proofs::Passes::no_more))]
     fn add_type(&mut self, alloc: Global, named: &Named) -> Result<(), Memory>
         ensures groups { OnOk result (map (λ (t : TypeDef). t.symbols) self.new.types ≡ map (λ (t : TypeDef). t.symbols) self.old.types ++ from (length self.old.symbols) (how_many (plain_item named.now.decl)) ∷ []) }
-        ensures symbols { OnOk result (map plain_symbol self.new.symbols ≡ map plain_symbol self.old.symbols ++ map constructor_of (constants_by named.now.name.«module» (length self.old.types) (plain_item named.now.decl))) }
+        ensures symbols { OnOk result
+            (map plain_symbol self.new.symbols
+            ≡ map plain_symbol self.old.symbols
+            ++ map constructor_of
+            (constants_by named.now.name.«module» (length self.old.types)
+            (plain_item named.now.decl))) }
         ensures number { OnOk result (length self.new.types ≡ length self.old.types + 1) }
-        ensures len { OnOk result (length self.new.symbols ≡ length self.old.symbols + how_many (plain_item named.now.decl)) }
-        ensures beside { OnOk result (map beside_type self.new.types ≡ map beside_type self.old.types ++ no_parameters (plain_named named.now) ∷ []) }
+        ensures len { OnOk result
+            (length self.new.symbols
+            ≡ length self.old.symbols + how_many (plain_item named.now.decl)) }
+        ensures beside { OnOk result
+            (map beside_type self.new.types
+            ≡ map beside_type self.old.types ++ no_parameters (plain_named named.now) ∷ []) }
     {
         let symbols = match &named.decl {
             Decl::UnionType(_, constructors) => {
@@ -93,10 +102,20 @@ impl Enums {
         module: &Text,
         constants: &[Term],
     ) -> Result<Row<u32>, Memory>
-        ensures numbers { IfOk result (λ numbers. numbers ≡ from (length self.old.symbols) (count (tms (map plain_term constants.now)))) }
-        ensures symbols { OnOk result (map plain_symbol self.new.symbols ≡ map plain_symbol self.old.symbols ++ map constructor_of (constants_in «module».now (length self.old.types) (tms (map plain_term constants.now)))) }
+        ensures numbers { IfOk result
+            (λ numbers.
+            numbers
+            ≡ from (length self.old.symbols) (count (tms (map plain_term constants.now)))) }
+        ensures symbols { OnOk result
+            (map plain_symbol self.new.symbols
+            ≡ map plain_symbol self.old.symbols
+            ++ map constructor_of
+            (constants_in «module».now (length self.old.types)
+            (tms (map plain_term constants.now)))) }
         ensures types { OnOk result (self.new.types ≡ self.old.types) }
-        ensures len { OnOk result (length self.new.symbols ≡ length self.old.symbols + count (tms (map plain_term constants.now))) }
+        ensures len { OnOk result
+            (length self.new.symbols
+            ≡ length self.old.symbols + count (tms (map plain_term constants.now))) }
     {
         let mut numbers = Row::new(alloc);
         for term in constants {

@@ -35,7 +35,9 @@ impl Sources<'_> {
         file: &[Entry],
     ) -> Result<bool, Memory>
         requires { number_of modules.now ≡ module_of (plain_files self.now.files.now) }
-        ensures { IfOk result (λ holds. holds ≡ every (imports_given (linked_of self.now)) (map plain_entry file.now)) }
+        ensures { IfOk result
+            (λ holds.
+            holds ≡ every (imports_given (linked_of self.now)) (map plain_entry file.now)) }
     {
         for entry in file {
             if !self.imports_given(alloc, modules, &entry.decl)? {
@@ -86,7 +88,11 @@ impl Sources<'_> {
         name: &Row<Text>,
     ) -> Result<bool, Memory>
         requires { number_of modules.now ≡ module_of (plain_files self.now.files.now) }
-        ensures { IfOk result (λ holds. holds ≡ is_below (module_of (linked_of self.now).all (joined name.now)) (length (linked_of self.now).given)) }
+        ensures { IfOk result
+            (λ holds.
+            holds
+            ≡ is_below (module_of (linked_of self.now).all (joined name.now))
+            (length (linked_of self.now).given)) }
     {
         match modules.number(alloc, name.as_slice())? {
             Some(number) => Ok((number as usize) < self.given.len()),

@@ -19,7 +19,8 @@ pub struct Known<'a> {
 /// The types of the arguments of a predicate.
 #[tactic(auto, using(crate::proofs::Passes::some_there, crate::proofs::Passes::some_past))]
 pub fn signature_at(signatures: &[Row<u32>], pred: u32) -> Option<&Row<u32>>
-    ensures { option_map (λ types. types.now) result ≡ slice_index_or (map (λ us. Some us) signatures.now) pred None }
+    ensures { option_map (λ types. types.now) result
+        ≡ slice_index_or (map (λ us. Some us) signatures.now) pred None }
 {
     signatures.get(pred as usize)
 }

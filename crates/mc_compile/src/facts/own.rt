@@ -17,7 +17,9 @@ impl Sources<'_> {
         name: &[u8],
         arity: usize,
     ) -> Result<Option<u32>, Memory>
-        ensures { IfOk result (λ pred. pred ≡ own_predicate (plain_names self.now.names.now) own (id name.now arity)) }
+        ensures { IfOk result
+            (λ pred.
+            pred ≡ own_predicate (plain_names self.now.names.now) own (id name.now arity)) }
     {
         let found = self.names.own_candidates(alloc, own, name, arity)?;
         Ok(sole_predicate(found.as_slice()))

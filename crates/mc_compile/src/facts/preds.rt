@@ -27,8 +27,13 @@ pub fn preds(
 ) -> Result<Vec<Pred>, Memory>
     requires named { length named.now ≡ length table.items }
     requires signatures { length signatures.now ≡ length table.items }
-    ensures preds { IfOk result (λ preds. map plain_pred preds.items ≡ predicates_over (map plain_named named.now) signatures.now (plain_table table.items)) }
-    ensures beside { IfOk result (λ preds. map beside_pred preds.items ≡ map no_function (beside_table table.items)) }
+    ensures preds { IfOk result
+        (λ preds.
+        map plain_pred preds.items
+        ≡ predicates_over (map plain_named named.now) signatures.now
+        (plain_table table.items)) }
+    ensures beside { IfOk result
+        (λ preds. map beside_pred preds.items ≡ map no_function (beside_table table.items)) }
 {
     let mut preds = Vec::new(alloc);
     let mut k = 0usize;
@@ -45,7 +50,10 @@ fn pred(
     types: &Row<u32>,
     clauses: Row<Clause>,
 ) -> Result<Pred, Memory>
-    ensures pred { IfOk result (λ pred. plain_pred pred ≡ predicate_over (plain_named named.now) types.now (map plain_clause clauses)) }
+    ensures pred { IfOk result
+        (λ pred.
+        plain_pred pred
+        ≡ predicate_over (plain_named named.now) types.now (map plain_clause clauses)) }
     ensures beside { IfOk result (λ pred. beside_pred pred ≡ no_function (map beside_clause clauses)) }
 {
     let name = Name {
@@ -90,8 +98,21 @@ pub fn query_pred(
     signatures: &[Row<u32>],
     place: Place,
 ) -> Result<Pred, Memory>
-    ensures pred { IfOk result (λ pred. plain_pred pred ≡ query_predicate relation (or_none (slice_index_or (map (λ us. Some us) signatures.now) relation None))) }
-    ensures beside { IfOk result (λ pred. beside_pred pred ≡ no_function ((length (or_none (slice_index_or (map (λ us. Some us) signatures.now) relation None)), place) ∷ [])) }
+    ensures pred { IfOk result
+        (λ pred.
+        plain_pred pred
+        ≡ query_predicate relation
+        (or_none (slice_index_or (map (λ us. Some us) signatures.now) relation None))) }
+    ensures beside { IfOk result
+        (λ pred.
+        beside_pred pred
+        ≡ no_function
+        ((
+          length
+              (or_none
+              (slice_index_or (map (λ us. Some us) signatures.now) relation None)),
+          place,
+        ) ∷ [])) }
 {
     match signature_at(signatures, relation) {
         Some(types) => query_over(alloc, relation, types.as_slice(), place),

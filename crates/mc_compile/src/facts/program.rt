@@ -110,7 +110,8 @@ impl Sources<'_> {
         requires formed { IsFormed self.now }
         requires enums { AreEnums (given_types (linked_of self.now)) enums }
         requires distinct { is_distinct (names_of (constants (linked_of self.now))) ≡ true }
-        requires signatures { Some signatures.items ≡ all_some (signatures_through (linked_of self.now) 0 (linked_of self.now).given) }
+        requires signatures { Some signatures.items
+            ≡ all_some (signatures_through (linked_of self.now) 0 (linked_of self.now).given) }
         ensures { IfOk result (IsAnswered (linked_of self.now) goal.now) }
     {
         let known = Known {
@@ -147,8 +148,17 @@ impl Sources<'_> {
         requires formed { IsFormed self.now }
         requires signatures { length signatures.now ≡ length (given_preds (linked_of self.now)) }
         requires table { length table.items ≡ length signatures.now }
-        ensures built { IfOk result (IsBuilt enums (predicates_over (given_preds (linked_of self.now)) signatures.now (plain_table table.items)) signatures.now (option_map plain_question asked)) }
-        ensures beside { IfOk result (λ c. map beside_pred c.program.preds ≡ map no_function (beside_table table.items ++ query_besides (length (linked_of self.now).given) signatures.now asked)) }
+        ensures built { IfOk result
+            (IsBuilt enums
+            (predicates_over (given_preds (linked_of self.now)) signatures.now
+            (plain_table table.items)) signatures.now (option_map plain_question asked)) }
+        ensures beside { IfOk result
+            (λ c.
+            map beside_pred c.program.preds
+            ≡ map no_function
+            (beside_table table.items
+            ++ query_besides (length (linked_of self.now).given) signatures.now
+            asked)) }
     {
         let named = first(self.names.preds.as_slice(), signatures.len());
         let mut preds = preds(alloc, named, signatures, table)?;

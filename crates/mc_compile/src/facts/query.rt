@@ -29,8 +29,12 @@ impl Known<'_> {
     /// The query that a goal is: one call of a given predicate over distinct variables.
     pub fn question(&self, alloc: Global, goal: &Term) -> Result<Option<Asked>, Memory>
         requires { IsKnown self.now }
-        ensures question { IfOk result (λ found. option_map plain_question found ≡ question (linked_of self.now.sources) (plain_term goal.now)) }
-        ensures on_line { IfOk result (λ found. IfSome found (λ query. query.line ≡ line_of (plain_term goal.now))) }
+        ensures question { IfOk result
+            (λ found.
+            option_map plain_question found
+            ≡ question (linked_of self.now.sources) (plain_term goal.now)) }
+        ensures on_line { IfOk result
+            (λ found. IfSome found (λ query. query.line ≡ line_of (plain_term goal.now))) }
     {
         match &goal.node {
             Node::App(name, arguments) if is_call(name, arguments) => {
@@ -56,7 +60,10 @@ impl Known<'_> {
         line: u32,
     ) -> Result<Option<Asked>, Memory>
         requires { IsKnown self.now }
-        ensures question { IfOk result (λ found. option_map plain_question found ≡ asked (linked_of self.now.sources) pred variables) }
+        ensures question { IfOk result
+            (λ found.
+            option_map plain_question found
+            ≡ asked (linked_of self.now.sources) pred variables) }
         ensures on_line { IfOk result (λ found. IfSome found (λ query. query.line ≡ line)) }
     {
         match (pred, variables) {
@@ -79,7 +86,9 @@ impl Known<'_> {
 
     fn argument_count(&self, pred: u32) -> u32
         requires { IsKnown self.now }
-        ensures { result ≡ length (or_none (slice_index_or (signatures (linked_of self.now.sources)) pred None)) }
+        ensures { result
+            ≡ length
+            (or_none (slice_index_or (signatures (linked_of self.now.sources)) pred None)) }
     {
         match signature_at(self.signatures, pred) {
             Some(types) => types.len(),

@@ -18,7 +18,11 @@ impl Sources<'_> {
     #[tactic(auto, using(crate::proofs::Passes::all_behind_none))]
     pub fn signatures(&self, alloc: Global) -> Result<Option<Vec<Row<u32>>>, Memory>
         requires { IsCounted self.now }
-        ensures { IfOk result (λ all. option_map (λ signatures. signatures.items) all ≡ all_some (signatures_through (linked_of self.now) 0 (linked_of self.now).given)) }
+        ensures { IfOk result
+            (λ all.
+            option_map (λ signatures. signatures.items) all
+            ≡ all_some
+            (signatures_through (linked_of self.now) 0 (linked_of self.now).given)) }
     {
         let mut signatures = Vec::new(alloc);
         if self.given.len() > u32::MAX as usize {

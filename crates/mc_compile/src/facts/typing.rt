@@ -38,7 +38,9 @@ impl Sources<'_> {
         terms: &[Term],
     ) -> Result<Option<Row<u32>>, Memory>
         requires { IsCounted self.now }
-        ensures { IfOk result (λ types. types ≡ argument_types (linked_of self.now) own (tms (map plain_term terms.now))) }
+        ensures { IfOk result
+            (λ types.
+            types ≡ argument_types (linked_of self.now) own (tms (map plain_term terms.now))) }
     {
         let mut types = Row::new(alloc);
         for term in terms {
@@ -53,7 +55,11 @@ impl Sources<'_> {
 
     fn argument_type(&self, alloc: Global, own: u32, term: &Term) -> Result<Option<u32>, Memory>
         requires { IsCounted self.now }
-        ensures { IfOk result (λ number. number ≡ argument_type (linked_of self.now) own (pair (codes "::") (plain_term term.now))) }
+        ensures { IfOk result
+            (λ number.
+            number
+            ≡ argument_type (linked_of self.now) own
+            (pair (codes "::") (plain_term term.now))) }
     {
         match pair(b"::", term) {
             Some((of_type, mode)) if is_out(mode) => self.type_number(alloc, own, of_type),
@@ -64,7 +70,8 @@ impl Sources<'_> {
     // The number of the given type that a name without arguments means.
     fn type_number(&self, alloc: Global, own: u32, term: &Term) -> Result<Option<u32>, Memory>
         requires { IsCounted self.now }
-        ensures { IfOk result (λ number. number ≡ type_number (linked_of self.now) own (plain_term term.now)) }
+        ensures { IfOk result
+            (λ number. number ≡ type_number (linked_of self.now) own (plain_term term.now)) }
     {
         match &term.node {
             Node::App(name, arguments) if has_none(arguments) => {
