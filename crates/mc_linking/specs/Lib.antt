@@ -1,7 +1,7 @@
-pub mod Files
-pub mod Visible
+pub mod Examples
 pub mod Faults
-pub mod Rows
-pub mod Visibilities
-pub mod Tables
+pub mod Files
 pub mod Steps
+pub mod Tables
+pub mod Visibilities
+pub mod Visible
