@@ -1,1 +1,2 @@
 pub mod Determinism
+pub mod Rules

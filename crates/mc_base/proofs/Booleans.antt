@@ -1,0 +1,22 @@
+-- What a conjunction or a disjunction of tests says of each of them.
+use Rattle.std.proofs.Common.{◌≡◌, Bool, true, false, ◌&&◌, ◌||◌, refl}
+
+pub left_true : (a b : Bool) → (a && b) ≡ true → a ≡ true
+left_true true b h = refl
+left_true false b h = cc
+
+pub right_true : (a b : Bool) → (a && b) ≡ true → b ≡ true
+right_true true b h = h
+right_true false b h = cc
+
+pub both_true : (a b : Bool) → a ≡ true → b ≡ true → (a && b) ≡ true
+both_true true b h k = k
+both_true false b h k = cc
+
+pub left_false : (a b : Bool) → (a || b) ≡ false → a ≡ false
+left_false false b h = refl
+left_false true b h = cc
+
+pub right_false : (a b : Bool) → (a || b) ≡ false → b ≡ false
+right_false false b h = h
+right_false true b h = cc

@@ -1,0 +1,28 @@
+-- How the rules that sources break are listed: one rule at most for each item, in the order of the
+-- items (this project's profile).
+use Rattle.std.specs.Prelude.{ℕ, List, [], ◌∷◌, ◌++◌, Option, Some, None}
+use Rattle.mc_source.specs.declared.rule.Rule.{Rule}
+use Rattle.mc_source.specs.declared.rule.Broken.{Broken}
+use Rattle.mc_source.specs.declared.place.Place.{Place}
+
+-- a rule that is broken, with what is said of it
+abbrev pub Fault : Type 0
+Fault = Rule × List ℕ
+
+-- what is listed of an item at a place: its first broken rule, where it breaks one
+abbrev pub broken_at : Place → Option Fault → List Broken
+broken_at place None = []
+broken_at place (Some fault) = record { rule = fault.0; at = place; what = fault.1 } ∷ []
+
+-- The first broken rule of each faulty item, in the order of the items.
+abbrev pub first_rules : {A : Type 0} → (A → Place) → (A → Option Fault) → List A → List Broken
+first_rules place rule [] = []
+first_rules place rule (item ∷ items) =
+    broken_at (place item) (rule item) ++ first_rules place rule items
+
+-- The same, and then the query's: its one rule at most, at its own place.
+abbrev pub rules_then_query's :
+    {A : Type 0} → (A → Place) → (A → Option Fault) → List A
+    → (query : Place) → Option Fault → List Broken
+rules_then_query's place rule items query fault =
+    first_rules place rule items ++ broken_at query fault
