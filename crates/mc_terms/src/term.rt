@@ -58,9 +58,9 @@ fn judged(reading: Reading, line: u32, at: usize, end: Position) -> Result<ReadI
     Ok(ReadItem { term, line, end })
 }
 
-/// The item that begins in a position; None where only blanks and comments are left. To read all items of a
-/// text in linear time, pass one walk on from item to item, and after a fault go on at its `next`, to which
-/// [`Position::moved`] leads.
+/// The item that begins in a position; None where only blanks and comments are left. To read all
+/// items of a text in linear time, pass one walk on from item to item, and after a fault go on at
+/// its `next`, to which [`Position::moved`] leads.
 pub fn read_next(
     alloc: Global,
     walk: &mut Walk,
@@ -70,8 +70,12 @@ pub fn read_next(
     requires line { from.line ≡ line_at walk.old from.at }
     requires small { length walk.old < 2 ^ 32 - 1 }
     ensures over { IfOk result (λ answer. IfNone answer (IsOver walk.old from.at)) }
-    ensures item { IfOk result (λ answer. IfSome answer (λ x. IsItem walk.old from.at x.term x.end.at)) }
-    ensures line { IfOk result (λ answer. IfSome answer (λ x. x.line ≡ item_line walk.old from.at)) }
+    ensures item {
+        IfOk result (λ answer. IfSome answer (λ x. IsItem walk.old from.at x.term x.end.at))
+    }
+    ensures line {
+        IfOk result (λ answer. IfSome answer (λ x. x.line ≡ item_line walk.old from.at))
+    }
     ensures place { IfOk result
         (λ answer.
         IfSome answer
@@ -79,7 +83,9 @@ pub fn read_next(
         (x.end.line ≡ line_at walk.old x.end.at)
         × (from.at < x.end.at)
         × (x.end.at ≤ length walk.old))) }
-    ensures refused { IfErr result (λ f. IsRefused walk.old from.at f.fault.kind f.fault.line f.fault.next) }
+    ensures refused {
+        IfErr result (λ f. IsRefused walk.old from.at f.fault.kind f.fault.line f.fault.next)
+    }
     ensures stands { IfErr result (λ f. StandsAt walk.old from.at f.fault.kind f.at) }
     ensures onward { IfErr result (λ f. IsOnward walk.old from.at f.fault.kind f.fault.next) }
     ensures same { walk.new ≡ walk.old }
@@ -111,14 +117,16 @@ pub fn read_next(
     }
 }
 
-/// The term of the item that begins in a place of a text, and the place behind its end; None where only blanks
-/// and comments are left.
+/// The term of the item that begins in a place of a text, and the place behind its end; None where
+/// only blanks and comments are left.
 pub fn read_term(alloc: Global, text: &[u8], at: usize) -> Result<Option<(Term, usize)>, ReadFault>
     requires within { at ≤ length text.now }
     requires small { length text.now < 2 ^ 32 - 1 }
     ensures over { IfOk result (λ answer. IfNone answer (IsOver text.now at)) }
     ensures item { IfOk result (λ answer. IfSome answer (λ x. IsItem text.now at x.0 x.1)) }
-    ensures place { IfOk result (λ answer. IfSome answer (λ x. (at < x.1) × (x.1 ≤ length text.now))) }
+    ensures place {
+        IfOk result (λ answer. IfSome answer (λ x. (at < x.1) × (x.1 ≤ length text.now)))
+    }
     ensures refused { IfErr result (λ f. IsRefused text.now at f.kind f.line f.next) }
     ensures onward { IfErr result (λ f. IsOnward text.now at f.kind f.next) }
 {
