@@ -1,10 +1,10 @@
 ghost use Rattle.std.specs.Prelude.{◌≡◌, map};
 ghost use Rattle.std.specs.Option.{option_map};
 ghost use Rattle.mc_term_data.specs.Plain.{plain_term, tms};
-ghost use Rattle.mc_decl_syntax.specs.Terms.{word, is_word, is_the_word, has_none, has_one, two, variable, constant, pair};
+ghost use Rattle.mc_term_data.specs.Shapes.{word, is_word, is_the_word, has_none, has_one, two, variable, constant, operands};
 
+use crate::term::{Node, Term};
 use mc_base::{Row, Text};
-use mc_term_data::{Node, Term};
 
 /// A name that has no qualifiers.
 pub fn word(name: &Row<Text>) -> Option<&[u8]>
@@ -17,7 +17,7 @@ pub fn word(name: &Row<Text>) -> Option<&[u8]>
 }
 
 /// Whether a name has no qualifiers.
-#[tactic(auto, using(crate::proofs::Views::is_word_by_length))]
+#[tactic(auto, using(crate::proofs::Shapes::is_word_by_length))]
 pub fn is_word(name: &Row<Text>) -> bool
     ensures { result ≡ is_word name.now }
 {
@@ -42,7 +42,7 @@ pub fn has_none(terms: &Row<Term>) -> bool
 }
 
 /// Whether there is one term.
-#[tactic(auto, using(crate::proofs::Views::has_one_by_length))]
+#[tactic(auto, using(crate::proofs::Shapes::has_one_by_length))]
 pub fn has_one(terms: &Row<Term>) -> bool
     ensures { result ≡ has_one (tms (map plain_term terms.now)) }
 {
@@ -50,7 +50,7 @@ pub fn has_one(terms: &Row<Term>) -> bool
 }
 
 /// The two terms that these are.
-#[tactic(auto, using(crate::proofs::Views::less_than_two, crate::proofs::Views::more_than_two))]
+#[tactic(auto, using(crate::proofs::Shapes::less_than_two, crate::proofs::Shapes::more_than_two))]
 pub fn two(terms: &Row<Term>) -> Option<(&Term, &Term)>
     ensures { option_map (λ p. (plain_term p.0.now, plain_term p.1.now)) result
         ≡ two (tms (map plain_term terms.now)) }
@@ -87,10 +87,10 @@ pub fn constant(term: &Term) -> Option<&[u8]>
     }
 }
 
-/// The two parts of a name that has no qualifiers.
-pub fn pair<'a>(name: &[u8], term: &'a Term) -> Option<(&'a Term, &'a Term)>
+/// The two parts of a name that has no qualifiers: of an operator, its operands.
+pub fn operands<'a>(name: &[u8], term: &'a Term) -> Option<(&'a Term, &'a Term)>
     ensures { option_map (λ p. (plain_term p.0.now, plain_term p.1.now)) result
-        ≡ pair name.now (plain_term term.now) }
+        ≡ operands name.now (plain_term term.now) }
 {
     match &term.node {
         Node::App(found, parts) => {
