@@ -3,9 +3,14 @@ ghost use Rattle.mc_term_data.specs.Names.{found};
 
 use mc_base::Text;
 
-/// What the name of a goal makes of its parts.
+/// What a goal is, by its name and the number of its parts: the one table of the forms of goals, which every phase that
+/// reads goals asks.
 #[derive(Clone, Copy, Debug, PartialEq, Eq)]
-pub enum Connective {
+pub enum GoalForm {
+    /// `true`
+    True,
+    /// `fail`, `false`
+    Fail,
     /// `A, B`
     Conjunction,
     /// `A ; B`
@@ -20,52 +25,66 @@ pub enum Connective {
     Else,
     /// `not A`, `\+ A`
     Negation,
-    /// `some [V] A`, `all [V] A`
-    Quantifier,
-    /// `A => B`, `A <= B`
+    /// `some [V] A`
+    Existential,
+    /// `all [V] A`
+    Universal,
+    /// `A => B`
     Implication,
+    /// `A <= B`
+    ReverseImplication,
     /// `A <=> B`
     Equivalence,
-    /// `X = Y`, `X \= Y`
-    Equation,
+    /// `X = Y`
+    Unification,
+    /// `X \= Y`
+    Disunification,
     /// Any other name is called.
     Call,
 }
 
-impl Connective {
-    ghost use Rattle.mc_clause_syntax.specs.Goals.{connectives, connective, parts, admits, one_equivalence};
+impl GoalForm {
+    ghost use Rattle.mc_clause_syntax.specs.GoalForms.{goal_form, goal_rows, parts, admits, one_equivalence};
 
-    /// What a name over so many parts makes of them. A qualified name is called.
-    pub fn of(name: &[Text], arity: usize) -> Connective
-        ensures { result ≡ connective name.now arity }
+    /// What a name over so many parts is as a goal. A qualified name is called.
+    pub fn of(name: &[Text], arity: usize) -> GoalForm
+        ensures { result ≡ goal_form name.now arity }
     {
         match name {
-            [word] => Connective::named(word.bytes(), arity).unwrap_or(Connective::Call),
-            _ => Connective::Call,
+            [word] => GoalForm::named(word.bytes(), arity).unwrap_or(GoalForm::Call),
+            _ => GoalForm::Call,
         }
     }
 
-    // What the name of a form makes of so many parts.
-    #[tactic(auto, unfolding(crate::specs::Goals::connectives))]
-    fn named(name: &[u8], arity: usize) -> Option<Connective>
-        ensures { result ≡ found connectives name.now arity }
+    // The form that a name over so many parts has, where it isn't called.
+    #[tactic(auto, unfolding(crate::specs::GoalForms::goal_rows))]
+    fn named(name: &[u8], arity: usize) -> Option<GoalForm>
+        ensures { result ≡ found goal_rows name.now arity }
     {
         match arity {
+            0 => match name {
+                b"true" => Some(GoalForm::True),
+                b"fail" | b"false" => Some(GoalForm::Fail),
+                _ => None,
+            },
             1 => match name {
-                b"if" => Some(Connective::If),
-                b"not" | b"\\+" => Some(Connective::Negation),
+                b"if" => Some(GoalForm::If),
+                b"not" | b"\\+" => Some(GoalForm::Negation),
                 _ => None,
             },
             2 => match name {
-                b"," => Some(Connective::Conjunction),
-                b";" => Some(Connective::Disjunction),
-                b"->" => Some(Connective::Arrow),
-                b"then" => Some(Connective::Then),
-                b"else" => Some(Connective::Else),
-                b"some" | b"all" => Some(Connective::Quantifier),
-                b"=>" | b"<=" => Some(Connective::Implication),
-                b"<=>" => Some(Connective::Equivalence),
-                b"=" | b"\\=" => Some(Connective::Equation),
+                b"," => Some(GoalForm::Conjunction),
+                b";" => Some(GoalForm::Disjunction),
+                b"->" => Some(GoalForm::Arrow),
+                b"then" => Some(GoalForm::Then),
+                b"else" => Some(GoalForm::Else),
+                b"some" => Some(GoalForm::Existential),
+                b"all" => Some(GoalForm::Universal),
+                b"=>" => Some(GoalForm::Implication),
+                b"<=" => Some(GoalForm::ReverseImplication),
+                b"<=>" => Some(GoalForm::Equivalence),
+                b"=" => Some(GoalForm::Unification),
+                b"\\=" => Some(GoalForm::Disunification),
                 _ => None,
             },
             _ => None,
@@ -77,12 +96,13 @@ impl Connective {
         ensures { result ≡ parts self }
     {
         match self {
-            Connective::Disjunction => Parts::Goals(Stand::Disjunct, Stand::Whole),
-            Connective::If => Parts::Goals(Stand::BehindIf, Stand::BehindIf),
-            Connective::Else => Parts::Goals(Stand::BeforeElse, Stand::Whole),
-            Connective::Quantifier => Parts::Quantified,
-            Connective::Equation => Parts::Sides,
-            Connective::Call => Parts::Arguments,
+            GoalForm::True | GoalForm::Fail => Parts::Nothing,
+            GoalForm::Disjunction => Parts::Goals(Stand::Disjunct, Stand::Whole),
+            GoalForm::If => Parts::Goals(Stand::BehindIf, Stand::BehindIf),
+            GoalForm::Else => Parts::Goals(Stand::BeforeElse, Stand::Whole),
+            GoalForm::Existential | GoalForm::Universal => Parts::Quantified,
+            GoalForm::Unification | GoalForm::Disunification => Parts::Sides,
+            GoalForm::Call => Parts::Arguments,
             _ => Parts::Goals(Stand::Whole, Stand::Whole),
         }
     }
@@ -93,7 +113,7 @@ impl Connective {
         ensures small { result ≤ 1 }
     {
         match self {
-            Connective::Equivalence => 1,
+            GoalForm::Equivalence => 1,
             _ => 0,
         }
     }
@@ -103,9 +123,9 @@ impl Connective {
         ensures { result ≡ admits self stand }
     {
         match self {
-            Connective::Arrow => matches!(stand, Stand::Disjunct),
-            Connective::If => matches!(stand, Stand::BeforeElse),
-            Connective::Then => matches!(stand, Stand::BehindIf),
+            GoalForm::Arrow => matches!(stand, Stand::Disjunct),
+            GoalForm::If => matches!(stand, Stand::BeforeElse),
+            GoalForm::Then => matches!(stand, Stand::BehindIf),
             _ => matches!(stand, Stand::Whole | Stand::Disjunct),
         }
     }
@@ -125,19 +145,21 @@ pub enum Stand {
 }
 
 impl Stand {
-    ghost use Rattle.mc_clause_syntax.specs.Goals.{is_open};
+    ghost use Rattle.mc_clause_syntax.specs.GoalForms.{is_open};
 
     /// Whether any goal may stand there.
     pub fn is_open(self) -> bool
         ensures { result ≡ is_open self }
     {
-        Connective::Call.may_stand(self)
+        GoalForm::Call.may_stand(self)
     }
 }
 
 /// What the parts of a goal are.
 #[derive(Clone, Copy, Debug, PartialEq, Eq)]
 pub enum Parts {
+    /// There are none.
+    Nothing,
     /// Goals: the first stands in one place, the others in another.
     Goals(Stand, Stand),
     /// A list of variables, and a goal.
@@ -146,15 +168,4 @@ pub enum Parts {
     Sides,
     /// The arguments of a call.
     Arguments,
-}
-
-/// What stands for a state variable.
-#[derive(Clone, Copy, Debug, PartialEq, Eq)]
-pub enum StateForm {
-    /// `!X`: both versions
-    Both,
-    /// `!.X`: the version before
-    Before,
-    /// `!:X`: the version after
-    After,
 }
