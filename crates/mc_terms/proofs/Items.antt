@@ -38,6 +38,9 @@ pub begins : (text : List ℕ) (from : ℕ) → Continues text from from Eof []
 begins text from =
     record { items = λ ps stop d. (ps, d, sym (walked_is text ps)); faults = λ f place d. d }
 
+pub begins_with : (text : List ℕ) (from : ℕ) (tokens : List Lexeme) → tokens ≡ [] → Continues text from from Eof tokens
+begins_with text from tokens e = subst (λ ts. Continues text from from Eof ts) (sym e) (begins text from)
+
 -- at the item's end
 pub ended :
     (text : List ℕ) (from at : ℕ) (after e : Kind) (start stop : ℕ) (tokens : List Lexeme)
