@@ -27,10 +27,10 @@ use Rattle.mc_terms.specs.Answers.{AreItemTokens, IsRefused, StandsAt, item_line
 pub record Continues (text : List ℕ) (from at : ℕ) (after : Kind) (tokens : List Lexeme) : Type 0 where
   pub items :
       (ps : List Piece) (stop : ℕ)
-        → Item text at after ps stop
-        → (qs : List Piece)
-            × Item text from Eof qs stop
-            × (lexemes text qs ≡ walked text (reverse tokens) ps)
+      → Item text at after ps stop
+      → (qs : List Piece)
+      × Item text from Eof qs stop
+      × (lexemes text qs ≡ walked text (reverse tokens) ps)
   pub faults :
       (f : FaultKind) (place : ℕ) → Faulty text at after f place → Faulty text from Eof f place
 
@@ -44,8 +44,8 @@ begins_with text from tokens e = subst (λ ts. Continues text from from Eof ts) 
 -- at the item's end
 pub ended :
     (text : List ℕ) (from at : ℕ) (after e : Kind) (start stop : ℕ) (tokens : List Lexeme)
-      → Continues text from at after tokens → lexed text at after ≡ Tok e start stop → ends e ≡ true
-      → AreItemTokens text from tokens stop
+    → Continues text from at after tokens → lexed text at after ≡ Tok e start stop → ends e ≡ true
+    → AreItemTokens text from tokens stop
 ended text from at after e start stop tokens c l h =
     let (qs, item, is) = c.items [] stop (I.over l h) in
     (qs, item, is ∙ reverse-reverse tokens)
@@ -53,9 +53,9 @@ ended text from at after e start stop tokens c l h =
 -- behind one more token
 pub goes_on : (text : List ℕ) (from at : ℕ) (after e : Kind) (start stop : ℕ) (tokens more : List Lexeme) → Continues text from at after tokens → lexed text at after ≡ Tok e start stop → ends e ≡ false
     → reverse more
-        ≡ with_token (reverse tokens) e (stands_for e (slice_range text start stop))
-            (line_at text start)
-        → Continues text from stop e more
+    ≡ with_token (reverse tokens) e (stands_for e (slice_range text start stop))
+    (line_at text start)
+    → Continues text from stop e more
 goes_on text from at after e start stop tokens more c l h m = record {
   items = λ ps last d.
       let (qs, item, is) = c.items (record { kind = e; bytes = slice_range text start stop; place = start } ∷ ps) last (I.next l h d) in
@@ -66,20 +66,20 @@ goes_on text from at after e start stop tokens more c l h m = record {
 -- at a faulty token
 pub faulty :
     (text : List ℕ) (from at : ℕ) (after : Kind) (f : FaultKind) (place : ℕ) (tokens : List Lexeme)
-      → Continues text from at after tokens → lexed text at after ≡ Fault f place
-      → Faulty text from Eof f place
+    → Continues text from at after tokens → lexed text at after ≡ Fault f place
+    → Faulty text from Eof f place
 faulty text from at after f place tokens c l = c.faults f place (I.here l)
 
 -- the same for the walk's answers, the text of which stays
 pub refused_by : (text before behind : List ℕ) (from at line : ℕ) (after : Kind) (f : TokenFault) (tokens : List Lexeme) (r : ReadFault) → before ≡ text → behind ≡ before → Continues before from at after tokens → Fault f.kind f.at ≡ lexed before at after
     → line ≡ item_line text from → r.kind ≡ Token f.kind
-        → r.line ≡ token_line f.kind line (line_at behind f.at)
-        → Passes behind (f.at + 1) Eof r.next → IsRefused text from r.kind r.line r.next
+    → r.line ≡ token_line f.kind line (line_at behind f.at)
+    → Passes behind (f.at + 1) Eof r.next → IsRefused text from r.kind r.line r.next
 refused_by text before behind from at line after f tokens r e g c l m k n p =
     subst (λ kind. IsRefused text from kind r.line r.next) (sym k) (
       f.at,
       subst (λ t. Faulty t from Eof f.kind f.at) e
-        (faulty before from at after f.kind f.at tokens c (sym l)),
+          (faulty before from at after f.kind f.at tokens c (sym l)),
       n ∙ (λ i. token_line f.kind (m i) (line_at ((g ∙ e) i) f.at)),
       subst (λ t. Passes t (f.at + 1) Eof r.next) (g ∙ e) p,
     )
@@ -97,13 +97,13 @@ pub ended_at : (text before : List ℕ) (from at : ℕ) (after : Kind) (t : D.To
 ended_at text before from at after t tokens stop e c l h s =
     subst (λ stop. AreItemTokens text from tokens stop) (sym s)
     (subst (λ u. AreItemTokens u from tokens t.end) e
-       (ended before from at after t.kind t.start t.end tokens c (sym l) h))
+    (ended before from at after t.kind t.start t.end tokens c (sym l) h))
 
 pub goes_on_at : (behind before : List ℕ) (from at : ℕ) (after : Kind) (t : D.Token) (tokens more : List Lexeme) (line stop : ℕ) → behind ≡ before → Continues before from at after tokens → Tok t.kind t.start t.end ≡ lexed before at after
     → ends t.kind ≡ false → t.text.now ≡ slice_range before t.start t.end
-        → line ≡ line_at behind t.start → stop ≡ t.end
+    → line ≡ line_at behind t.start → stop ≡ t.end
     → reverse more ≡ with_token (reverse tokens) t.kind (stands_for t.kind t.text.now) line
-        → Continues behind from stop t.kind more
+    → Continues behind from stop t.kind more
 goes_on_at behind before from at after t tokens more line stop g c l h w n s m =
     subst (λ stop. Continues behind from stop t.kind more) (sym s)
     (subst (λ u. Continues u from t.end t.kind more) (sym g)
@@ -113,7 +113,7 @@ goes_on_at behind before from at after t tokens more line stop g c l h w n s m =
 -- where nothing reads
 pub not_a_term : (text walk shown : List ℕ) (at : ℕ) (ts slice : List Lexeme) (stop line : ℕ) (first : D.Token) → walk ≡ text → AreItemTokens walk at ts stop → slice ≡ ts → ((t : Tree) → ReadsTerm slice t 1200 → ⊥)
     → Tok first.kind first.start first.end ≡ lexed text at Eof → (first.kind ≡ Eof → ⊥)
-        → shown ≡ walk → line ≡ line_at shown first.start → IsRefused text at NotATerm line stop
+    → shown ≡ walk → line ≡ line_at shown first.start → IsRefused text at NotATerm line stop
 not_a_term text walk shown at ts slice stop line first e items s none l k w n = (
   ts,
   subst (λ u. AreItemTokens u at ts stop) e items,
@@ -131,7 +131,7 @@ pub past_end : (text : List ℕ) (from at : ℕ) (after e : Kind) (start stop : 
 past_end text from at after e start stop begun (inr b) l h i n = omega (arith, b, h, i)
 past_end text from at after Eof start stop begun (inl p) l h i n =
     absurd
-      (begun start stop
-         (subst (λ k. lexed text from k ≡ Tok Eof start stop) p.1
-            (subst (λ a. lexed text a after ≡ Tok Eof start stop) p.0 (sym l))))
+    (begun start stop
+    (subst (λ k. lexed text from k ≡ Tok Eof start stop) p.1
+    (subst (λ a. lexed text a after ≡ Tok Eof start stop) p.0 (sym l))))
 past_end text from at after e start stop begun (inl p) l h i n = grind arith

@@ -226,17 +226,13 @@ pub fn item_tokens(
     requires item { line ≡ item_line walk.old from.at }
     requires begun { (start stop : ℕ) → lexed walk.old from.at Kind.Eof ≢ Tok Kind.Eof start stop }
     requires small { length walk.old < 2 ^ 32 - 1 }
-    ensures tokens {
-        IfOk result (λ item. AreItemTokens walk.old from.at item.tokens.items item.end.at)
-    }
+    ensures tokens { IfOk result (λ item. AreItemTokens walk.old from.at item.tokens.items item.end.at) }
     ensures end { IfOk result
         (λ item.
         (item.end.line ≡ line_at walk.old item.end.at)
         × (from.at < item.end.at)
         × (item.end.at ≤ length walk.old)) }
-    ensures fault {
-        IfErr result (λ f. IsRefused walk.old from.at f.fault.kind f.fault.line f.fault.next)
-    }
+    ensures fault { IfErr result (λ f. IsRefused walk.old from.at f.fault.kind f.fault.line f.fault.next) }
     ensures place { IfErr result (λ f. StandsAt walk.old from.at f.fault.kind f.at) }
     ensures onward { IfErr result (λ f. IsOnward walk.old from.at f.fault.kind f.fault.next) }
     ensures same { walk.new ≡ walk.old }

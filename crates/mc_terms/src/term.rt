@@ -70,12 +70,8 @@ pub fn read_next(
     requires line { from.line ≡ line_at walk.old from.at }
     requires small { length walk.old < 2 ^ 32 - 1 }
     ensures over { IfOk result (λ answer. IfNone answer (IsOver walk.old from.at)) }
-    ensures item {
-        IfOk result (λ answer. IfSome answer (λ x. IsItem walk.old from.at x.term x.end.at))
-    }
-    ensures line {
-        IfOk result (λ answer. IfSome answer (λ x. x.line ≡ item_line walk.old from.at))
-    }
+    ensures item { IfOk result (λ answer. IfSome answer (λ x. IsItem walk.old from.at x.term x.end.at)) }
+    ensures line { IfOk result (λ answer. IfSome answer (λ x. x.line ≡ item_line walk.old from.at)) }
     ensures place { IfOk result
         (λ answer.
         IfSome answer
@@ -83,9 +79,7 @@ pub fn read_next(
         (x.end.line ≡ line_at walk.old x.end.at)
         × (from.at < x.end.at)
         × (x.end.at ≤ length walk.old))) }
-    ensures refused {
-        IfErr result (λ f. IsRefused walk.old from.at f.fault.kind f.fault.line f.fault.next)
-    }
+    ensures refused { IfErr result (λ f. IsRefused walk.old from.at f.fault.kind f.fault.line f.fault.next) }
     ensures stands { IfErr result (λ f. StandsAt walk.old from.at f.fault.kind f.at) }
     ensures onward { IfErr result (λ f. IsOnward walk.old from.at f.fault.kind f.fault.next) }
     ensures same { walk.new ≡ walk.old }
@@ -124,9 +118,7 @@ pub fn read_term(alloc: Global, text: &[u8], at: usize) -> Result<Option<(Term, 
     requires small { length text.now < 2 ^ 32 - 1 }
     ensures over { IfOk result (λ answer. IfNone answer (IsOver text.now at)) }
     ensures item { IfOk result (λ answer. IfSome answer (λ x. IsItem text.now at x.0 x.1)) }
-    ensures place {
-        IfOk result (λ answer. IfSome answer (λ x. (at < x.1) × (x.1 ≤ length text.now)))
-    }
+    ensures place { IfOk result (λ answer. IfSome answer (λ x. (at < x.1) × (x.1 ≤ length text.now))) }
     ensures refused { IfErr result (λ f. IsRefused text.now at f.kind f.line f.next) }
     ensures onward { IfErr result (λ f. IsOnward text.now at f.kind f.next) }
 {

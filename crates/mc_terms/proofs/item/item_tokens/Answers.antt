@@ -51,5 +51,5 @@ item-init c = record {
   within = c.requires.within;
   line = c.requires.line;
   past = inl (refl, refl);
-  continues = begins_with c.args.walk.now c.args.from.at _ c.new.ensures.items;
+  continues = begins_with c.args.walk.now c.args.from.at _ c.new-tokens.ensures.items;
 }
