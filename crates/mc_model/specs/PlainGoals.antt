@@ -4,8 +4,7 @@ use Rattle.std.specs.Prelude.{List, [], ◌∷◌, map, false}
 use Rattle.mc_program.specs.Values.{plain_value}
 use Rattle.mc_program.specs.PlainPrograms.{plain_type}
 use Rattle.mc_model.specs.Flat as F
-use Rattle.mc_model.specs.Flat.{Flat_goal}
-use Rattle.mc_accepted.specs.Normal.{flats}
+use Rattle.mc_model.specs.Flat.{Flat_goal, flats}
 use Rattle.mc_model.specs.Scheduled as S
 use Rattle.mc_model.specs.Scheduled.{Label, for_symbol, for_constant, Node, node, Scheduled, nodes, Arms, no_arms, arm_then, Procedure}
 use Rattle.mc_model.specs.declared.flat.Flat.{Flat}
