@@ -66,7 +66,16 @@ ground_inst = 1
 -- a procedure with its head's variables, their insts at the call and at an answer, its determinism
 -- and its body
 abbrev pub procedure : (head first last : List ℕ) → Det → Node → Procedure
-procedure head first last d body = record { pred = 0; head = head; first = first; last = last; body = body; det = d; var_types = [] }
+procedure head first last d body =
+    record {
+      pred = 0;
+      head = head;
+      first = first;
+      last = last;
+      body = body;
+      det = d;
+      var_types = [];
+    }
 
 -- a query, whose variables are unbound at first
 abbrev pub query : (head : List ℕ) → Det → Node → Procedure
@@ -95,7 +104,7 @@ list_of (v ∷ vs) = con cell (vals (v ∷ list_of vs ∷ []))
 abbrev pub ints : List ℕ → Val
 ints ns = list_of (map (λ n. int (pos n)) ns)
 
--- What a run shows: its items, but for the arguments of calls.
+-- What a run shows: its events, but for the arguments of calls.
 pub data Shown : Type 0 where
   called : (proc : ℕ) → Shown
   answer : List (Option Val) → Shown
@@ -148,7 +157,7 @@ calls_of (Called c xs) = suc (calls_of xs)
 calls_of (Wrote t xs) = calls_of xs
 calls_of (Read k xs) = calls_of xs
 
--- the run shows these items and ends so
+-- the run shows these events and ends so
 abbrev pub Shows : Items (List (Option Val)) → List Shown → Ending → Type 0
 Shows xs items end = (shown xs ≡ items) × (ending xs ≡ end)
 

@@ -7,9 +7,9 @@ use Rattle.mc_model.specs.Scheduled as S
 use Rattle.mc_model.specs.Scheduled.{Node, node, Ite, Assign, Take, Procedure}
 use Rattle.mc_model.specs.Good.{System}
 use Rattle.mc_accepted.specs.Accepted.{Accepted, AcceptedProcedure}
-use Rattle.mc_laws.specs.Examples.{cell, det, semidet}
-use Rattle.mc_laws.specs.ExamplesOfGoals.{list_cell, only}
-use Rattle.mc_laws.specs.ExamplesOfProcedures.{item_type, list_type, list_source, list_insts, nothing_done}
+use Rattle.mc_laws.specs.code.Examples.{cell, det, semidet}
+use Rattle.mc_laws.specs.code.ExamplesOfGoals.{list_cell, only}
+use Rattle.mc_laws.specs.code.ExamplesOfProcedures.{item_type, list_type, list_source, list_insts, nothing_done}
 use Rattle.mc_source.specs.declared.det.Det.{Det}
 
 -- a list has a first element and a rest

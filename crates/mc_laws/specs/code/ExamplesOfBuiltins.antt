@@ -206,7 +206,9 @@ abbrev pub InPrograms : Type 0
 InPrograms =
     (in_program B.ToCharList (str (codes "z") ∷ [])
     ≡ gives (con 2 (val_then (char 122) (val_then (con 1 no_vals) no_vals)) ∷ []))
-    × (in_program B.Write (con 2 (val_then (con 0 no_vals) (val_then (con 2 (val_then (int (pos 7)) (val_then (con 1 no_vals) no_vals))) no_vals)) ∷ state [] 0 ∷ [])
+    × (in_program B.Write (con 2 (val_then (con 0 no_vals)
+    (val_then (con 2 (val_then (int (pos 7)) (val_then (con 1 no_vals) no_vals))) no_vals))
+    ∷ state [] 0 ∷ [])
     ≡ writes (codes "['a b', 7]") (state (codes "['a b', 7]") 0 ∷ []))
     × (in_program B.ReadLine (state [] 0 ∷ [])
     ≡ reads 0 (con 3 (val_then (str (codes "x\n")) no_vals) ∷ state [] 2 ∷ []))

@@ -4,9 +4,10 @@ use Rattle.mc_program.specs.Values.{int}
 use Rattle.mc_program.specs.Programs.{Expression, variable, constant, made, applied, no_expressions, expressions, Formula, Equal, Call, And, Or, If, Not, Exists, ClauseForm}
 use Rattle.mc_program.specs.PlainPrograms.{formulas}
 use Rattle.mc_model.specs.Flat as F
-use Rattle.mc_accepted.specs.Normal.{flats, normal_goal}
+use Rattle.mc_model.specs.Flat.{flats}
+use Rattle.mc_accepted.specs.Normal.{normal_goal}
 use Rattle.mc_accepted.specs.Scope.{scoped, HasScopes}
-use Rattle.mc_laws.specs.Examples.{nil, cell}
+use Rattle.mc_laws.specs.code.Examples.{nil, cell}
 
 -- a call of variables; the predicates are p, q and append, the functions + and *
 abbrev pub call_of : ℕ → List ℕ → Formula
@@ -122,11 +123,19 @@ abbrev pub NormalGoals : Type 0
 NormalGoals =
     (normal_goal 3 append_clauses ≡ record { arity = 3; variables = 6; body = append_goal })
     -- `r(X, Y) :- Y = X + X * 2.`: the parts come before the atom, inner first
-    × (normal_goal 2 (only (variable 0 ∷ variable 1 ∷ []) (Equal (variable 1) (sum (variable 0) (product (variable 0) (number 2)))))
-    ≡ record { arity = 2; variables = 4; body = F.And (flats (F.Is 2 (int (pos 2)) ∷ F.Call times (0 ∷ 2 ∷ 3 ∷ []) ∷ F.Call plus (0 ∷ 3 ∷ 1 ∷ []) ∷ [])) })
+    × (normal_goal 2 (only (variable 0 ∷ variable 1 ∷ [])
+    (Equal (variable 1) (sum (variable 0) (product (variable 0) (number 2)))))
+    ≡ record {
+      arity = 2;
+      variables = 4;
+      body = F.And (flats (F.Is 2 (int (pos 2)) ∷ F.Call times (0 ∷ 2 ∷ 3 ∷ [])
+          ∷ F.Call plus (0 ∷ 3 ∷ 1 ∷ []) ∷ []));
+    })
     -- `r(X) :- not p(X + 1), ( q(X) ; fail ).`: made variables are quantified around the
     -- conjunction that they stand in
-    × (normal_goal 1 (only (variable 0 ∷ []) (both (Not (Call 0 (expressions (sum (variable 0) (number 1) ∷ [])))) (either (q (0 ∷ [])) (Or (formulas [])))))
+    × (normal_goal 1 (only (variable 0 ∷ [])
+    (both (Not (Call 0 (expressions (sum (variable 0) (number 1) ∷ []))))
+    (either (q (0 ∷ [])) (Or (formulas [])))))
     ≡ record {
       arity = 1;
       variables = 3;
@@ -144,17 +153,20 @@ NormalGoals =
     })
     -- `r(X, X) :- true, ( if p(Y) then q(Y) else true ).`: a second X in the head is an equation,
     -- and `true` vanishes
-    × (normal_goal 2 (only (variable 0 ∷ variable 0 ∷ []) (both (And (formulas [])) (If (1 ∷ []) (p (1 ∷ [])) (q (1 ∷ [])) (And (formulas [])))))
+    × (normal_goal 2 (only (variable 0 ∷ variable 0 ∷ [])
+    (both (And (formulas [])) (If (1 ∷ []) (p (1 ∷ [])) (q (1 ∷ [])) (And (formulas [])))))
     ≡ record {
       arity = 2;
       variables = 3;
-      body = F.And (flats (F.Same 1 0 ∷ F.If (2 ∷ []) (F.Call 0 (2 ∷ [])) (F.Call 1 (2 ∷ [])) (F.And F.no_flat) ∷ []));
+      body = F.And (flats (F.Same 1 0 ∷ F.If (2 ∷ []) (F.Call 0 (2 ∷ [])) (F.Call 1 (2 ∷ []))
+          (F.And F.no_flat) ∷ []));
     })
     -- an equation of two terms that are no variables: the left one gets a variable
     × (normal_goal 0 (only [] (Equal (number 3) (sum (number 1) (number 2))))
     ≡ record {
       arity = 0;
       variables = 3;
-      body = F.And (flats (F.Is 0 (int (pos 3)) ∷ F.Is 1 (int (pos 1)) ∷ F.Is 2 (int (pos 2)) ∷ F.Call plus (1 ∷ 2 ∷ 0 ∷ []) ∷ []));
+      body = F.And (flats (F.Is 0 (int (pos 3)) ∷ F.Is 1 (int (pos 1)) ∷ F.Is 2 (int (pos 2))
+          ∷ F.Call plus (1 ∷ 2 ∷ 0 ∷ []) ∷ []));
     })
     × ((normal_goal 2 (only (variable 0 ∷ variable 0 ∷ []) (p (0 ∷ [])))).body ≢ F.Call 0 (0 ∷ []))

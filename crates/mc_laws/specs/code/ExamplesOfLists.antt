@@ -2,7 +2,7 @@
 use Rattle.std.specs.Prelude.{◌≢◌, ℕ, List, [], ◌∷◌, pos}
 use Rattle.mc_program.specs.Values.{Val, int, con, no_vals}
 use Rattle.mc_model.specs.Scheduled.{for_symbol, Node, Not, Exists, Assign, Build, Take, Procedure}
-use Rattle.mc_laws.specs.Examples.{det, semidet, nondet, cc_nondet, goal, once, all_of, one_of, switch_on, call, apply, number, free_inst, ground_inst, procedure, query, nil, cell, ints, Shown, called, answered, shown, at_end, answers_of, Shows, Answers, asked, plenty}
+use Rattle.mc_laws.specs.code.Examples.{det, semidet, nondet, cc_nondet, goal, once, all_of, one_of, switch_on, call, apply, number, free_inst, ground_inst, procedure, query, nil, cell, ints, Shown, called, answered, shown, at_end, answers_of, Shows, Answers, asked, plenty}
 use Rattle.mc_program.specs.declared.builtin.Builtin.TheVariants as B
 
 -- Variables: the head's three, those of clauses, and fresh ones.
@@ -228,7 +228,8 @@ abbrev pick : Procedure
 pick =
     procedure (first ∷ []) (free_inst ∷ []) (ground_inst ∷ []) cc_nondet
     (goal (all_of
-    (number t1 3 ∷ number t2 1 ∷ number t3 2 ∷ build t4 nil [] ∷ build t5 cell (t3 ∷ t4 ∷ []) ∷ build t6 cell (t2 ∷ t5 ∷ []) ∷ build t7 cell (t1 ∷ t6 ∷ [])
+    (number t1 3 ∷ number t2 1 ∷ number t3 2 ∷ build t4 nil [] ∷ build t5 cell (t3 ∷ t4 ∷ [])
+    ∷ build t6 cell (t2 ∷ t5 ∷ []) ∷ build t7 cell (t1 ∷ t6 ∷ [])
     ∷ call 0 (first ∷ t7 ∷ []) ∷ number y 3 ∷ apply B.IntLess (first ∷ y ∷ []) [] ∷ [])))
 
 abbrev members : List Procedure
@@ -257,7 +258,8 @@ abbrev all_above : ℕ → Procedure
 all_above n =
     query [] semidet
     (once (Not (once (Exists (x ∷ []) (goal (all_of (and_then one_two
-    (call 0 (x ∷ t5 ∷ []) ∷ once (Not (once (all_of (number y n ∷ apply B.IntGreater (x ∷ y ∷ []) [] ∷ [])))) ∷ []))))))))
+    (call 0 (x ∷ t5 ∷ []) ∷ once (Not (once
+    (all_of (number y n ∷ apply B.IntGreater (x ∷ y ∷ []) [] ∷ [])))) ∷ []))))))))
 
 -- pick(X), asked for its first answer
 abbrev picks : Procedure
@@ -288,7 +290,8 @@ place =
       goal (Exists (x ∷ xs ∷ y ∷ ys ∷ rest ∷ []) (goal (all_of
           (take first cell (x ∷ xs ∷ []) ∷ build t1 cell (x ∷ xs ∷ []) ∷ call 1 (y ∷ t1 ∷ rest ∷ [])
           ∷ number t2 1 ∷ call 2 (y ∷ t2 ∷ second ∷ [])
-          ∷ build t3 cell (y ∷ second ∷ []) ∷ call 0 (rest ∷ t3 ∷ ys ∷ []) ∷ build third cell (y ∷ ys ∷ []) ∷ [])))),
+          ∷ build t3 cell (y ∷ second ∷ []) ∷ call 0 (rest ∷ t3 ∷ ys ∷ [])
+          ∷ build third cell (y ∷ ys ∷ []) ∷ [])))),
     )
     ∷ [])))
 
@@ -301,7 +304,8 @@ select =
     ((
       for_symbol cell,
       goal (one_of
-          (goal (Exists (xs ∷ []) (goal (all_of (take second cell (first ∷ xs ∷ []) ∷ goal (Assign third xs) ∷ []))))
+          (goal (Exists (xs ∷ []) (goal (all_of
+          (take second cell (first ∷ xs ∷ []) ∷ goal (Assign third xs) ∷ []))))
           ∷ goal
           (Exists (y ∷ ys ∷ zs ∷ [])
           (goal
@@ -325,7 +329,8 @@ safe =
           (take third cell (x ∷ xs ∷ [])
           ∷ once (Not (once (all_of (apply B.IntPlus (x ∷ second ∷ []) (first ∷ []) ∷ []))))
           ∷ once (Not (once (all_of (apply B.IntMinus (x ∷ second ∷ []) (first ∷ []) ∷ []))))
-          ∷ number t1 1 ∷ apply B.IntPlus (second ∷ t1 ∷ []) (t2 ∷ []) ∷ call 2 (first ∷ t2 ∷ xs ∷ []) ∷ [])))),
+          ∷ number t1 1 ∷ apply B.IntPlus (second ∷ t1 ∷ []) (t2 ∷ [])
+          ∷ call 2 (first ∷ t2 ∷ xs ∷ []) ∷ [])))),
     )
     ∷ [])))
 
@@ -334,7 +339,9 @@ abbrev queens : Procedure
 queens =
     procedure (first ∷ []) (free_inst ∷ []) (ground_inst ∷ []) nondet
     (goal (all_of
-    (number x 1 ∷ number xs 2 ∷ number y 3 ∷ number ys 4 ∷ build t1 nil [] ∷ build t2 cell (ys ∷ t1 ∷ []) ∷ build t3 cell (y ∷ t2 ∷ []) ∷ build t4 cell (xs ∷ t3 ∷ []) ∷ build t5 cell (x ∷ t4 ∷ [])
+    (number x 1 ∷ number xs 2 ∷ number y 3 ∷ number ys 4 ∷ build t1 nil []
+    ∷ build t2 cell (ys ∷ t1 ∷ []) ∷ build t3 cell (y ∷ t2 ∷ [])
+    ∷ build t4 cell (xs ∷ t3 ∷ []) ∷ build t5 cell (x ∷ t4 ∷ [])
     ∷ build t6 nil [] ∷ call 0 (t5 ∷ t6 ∷ first ∷ []) ∷ [])))
 
 abbrev boards : List Procedure

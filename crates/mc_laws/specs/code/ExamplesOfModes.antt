@@ -2,18 +2,17 @@
 use Rattle.std.specs.Prelude.{◌≡◌, ◌≢◌, ℕ, List, [], ◌∷◌, Bool, true, false, nat_eq, Option, pos, if◌then◌else◌}
 use Rattle.mc_program.specs.Values.{Val, int}
 use Rattle.mc_program.specs.Programs.{TypeTerm, int_type}
-use Rattle.mc_source.specs.Determinism.{Determinism, det, semidet}
+use Rattle.mc_source.specs.Determinism.{Determinism, failure, det, semidet, multi, nondet}
 use Rattle.mc_model.specs.Flat as F
 use Rattle.mc_model.specs.Flat.{Flat_goal}
 use Rattle.mc_model.specs.Scheduled.{for_symbol, for_constant, Node, Scheduled, Not, Take, TestConst, Call, Apply}
 use Rattle.mc_model.specs.Good.{System}
 use Rattle.mc_accepted.specs.Ordered.{Insts, also, Ordered}
 use Rattle.mc_accepted.specs.Determined.{nothing_known, determined, Placed, IoPlaced}
-use Rattle.mc_laws.specs.Examples as R
-use Rattle.mc_laws.specs.Examples.{nil, cell, goal, once, all_of, one_of, switch_on}
-use Rattle.mc_laws.specs.ExamplesOfProcedures.{list_type, append_procedure, append_system}
+use Rattle.mc_laws.specs.code.Examples as example
+use Rattle.mc_laws.specs.code.Examples.{nil, cell, goal, once, all_of, one_of, switch_on}
+use Rattle.mc_laws.specs.code.ExamplesOfProcedures.{list_type, append_procedure, append_system}
 use Rattle.mc_program.specs.declared.builtin.Builtin.TheVariants as B
-use Rattle.mc_source.specs.declared.det.Most.TheVariants.{Zero, Many}
 
 -- variable 0 is a list of this inst, variable 1 a ground integer, and every other one free
 abbrev pub list_at : (inst : ℕ) → Insts
@@ -31,15 +30,6 @@ takes_cell = goal (Take 0 cell (3 ∷ 4 ∷ []))
 
 abbrev pub takes_nil : Node
 takes_nil = goal (Take 0 nil [])
-
-abbrev pub failure : Determinism
-failure = record { can_fail = true; most = Zero }
-
-abbrev pub multi : Determinism
-multi = record { can_fail = false; most = Many }
-
-abbrev pub nondet : Determinism
-nondet = record { can_fail = true; most = Many }
 
 abbrev pub done : Node
 done = goal (all_of [])
@@ -68,7 +58,8 @@ Determinisms =
 
 -- every procedure is committed
 abbrev pub committed_system : System
-committed_system = record append_system { procs = λ k. append_procedure R.cc_nondet R.det }
+committed_system =
+    record append_system { procs = λ k. append_procedure example.cc_nondet example.det }
 
 abbrev pub StandsIn : (first : Bool) → Node → Type 0
 StandsIn first n = Placed committed_system type_of (list_at 1) nothing_known first n
@@ -115,5 +106,6 @@ HasNoOrder b g =
 abbrev pub GoalsWithoutOrder : Type 0
 GoalsWithoutOrder =
     ((b : Insts) (x y : ℕ) → b x ≡ 0 → b y ≡ 0 → HasNoOrder b (F.Same x y))
-    × ((b : Insts) (x s y : ℕ) (ys : List ℕ) → b x ≡ 0 → b y ≡ 0 → HasNoOrder b (F.Made x s (y ∷ ys)))
+    × ((b : Insts) (x s y : ℕ) (ys : List ℕ) → b x ≡ 0 → b y ≡ 0
+    → HasNoOrder b (F.Made x s (y ∷ ys)))
     × ((b : Insts) (x : ℕ) (v : Val) → b x ≡ 0 → HasNoOrder b (F.Not (F.Is x v)))

@@ -8,8 +8,8 @@ use Rattle.mc_model.specs.Outcomes.{Outcome, fails}
 use Rattle.mc_model.specs.Scheduled.{for_symbol, Node, node, Conj, Switch, Assign, Build, Take, Call, nodes, no_arms, arm_then, Procedure}
 use Rattle.mc_model.specs.Good.{System}
 use Rattle.mc_accepted.specs.Accepted.{Accepted, AcceptedProcedure}
-use Rattle.mc_laws.specs.Examples.{nil, cell, det, nondet}
-use Rattle.mc_laws.specs.ExamplesOfGoals.{append, append_clauses}
+use Rattle.mc_laws.specs.code.Examples.{nil, cell, det, nondet}
+use Rattle.mc_laws.specs.code.ExamplesOfGoals.{append, append_clauses}
 use Rattle.mc_program.specs.declared.builtin.Builtin.{Builtin}
 use Rattle.mc_source.specs.declared.det.Det.{Det}
 use Rattle.mc_source.specs.declared.det.Most.TheVariants.{Zero}
@@ -22,8 +22,18 @@ abbrev pub list_type : TypeTerm
 list_type = union_type 0 (type_then item_type no_types)
 
 abbrev pub list_symbols : ℕ → Constructor
-list_symbols zero = record { name = record { module_name = codes "list"; bytes = codes "[]"; arity = 0 }; of_type = 0; args = [] }
-list_symbols (suc zero) = record { name = record { module_name = codes "list"; bytes = codes "[|]"; arity = 2 }; of_type = 0; args = item_type ∷ list_type ∷ [] }
+list_symbols zero =
+    record {
+      name = record { module_name = codes "list"; bytes = codes "[]"; arity = 0 };
+      of_type = 0;
+      args = [];
+    }
+list_symbols (suc zero) =
+    record {
+      name = record { module_name = codes "list"; bytes = codes "[|]"; arity = 2 };
+      of_type = 0;
+      args = item_type ∷ list_type ∷ [];
+    }
 list_symbols (suc (suc s)) = record { name = no_symbol.name; of_type = 1; args = [] }
 
 abbrev pub append_pred : Predicate

@@ -3,7 +3,7 @@ use Rattle.std.specs.Prelude.{◌≡◌, ◌≢◌, ℕ, List, [], ◌∷◌, �
 use Rattle.mc_program.specs.Values.{Val, int, str, state}
 use Rattle.mc_model.specs.EventList.{zero_divide, budget, too_deep, thrown, written}
 use Rattle.mc_model.specs.Scheduled.{Label, for_symbol, for_constant, Node, Ite, Exists, Assign, Build, Take, Const, TestConst, Procedure}
-use Rattle.mc_laws.specs.Examples.{det, semidet, multi, nondet, goal, once, all_of, one_of, switch_on, call, apply, number, free_inst, ground_inst, procedure, query, nil, cell, Shown, called, answered, wrote, at_end, at_stop, ending, answers_of, calls_of, Shows, asked, started, plenty}
+use Rattle.mc_laws.specs.code.Examples.{det, semidet, multi, nondet, goal, once, all_of, one_of, switch_on, call, apply, number, free_inst, ground_inst, procedure, query, nil, cell, Shown, called, answered, wrote, at_end, at_stop, ending, answers_of, calls_of, Shows, asked, started, plenty}
 use Rattle.mc_program.specs.declared.builtin.Builtin.TheVariants as B
 
 -- Variables: the head's three, and others.
@@ -175,7 +175,9 @@ main =
     procedure (first ∷ second ∷ []) (ground_inst ∷ free_inst ∷ []) (ground_inst ∷ ground_inst ∷ [])
     det
     (goal (all_of
-    (number t1 3 ∷ number t2 4 ∷ number t3 5 ∷ goal (Build t4 nil []) ∷ goal (Build t5 cell (t3 ∷ t4 ∷ [])) ∷ goal (Build t6 cell (t2 ∷ t5 ∷ [])) ∷ goal (Build xs cell (t1 ∷ t6 ∷ []))
+    (number t1 3 ∷ number t2 4 ∷ number t3 5 ∷ goal (Build t4 nil [])
+    ∷ goal (Build t5 cell (t3 ∷ t4 ∷ [])) ∷ goal (Build t6 cell (t2 ∷ t5 ∷ []))
+    ∷ goal (Build xs cell (t1 ∷ t6 ∷ []))
     ∷ number z 0 ∷ call 1 (xs ∷ z ∷ x ∷ [])
     ∷ text total_text (codes "Total: ") ∷ apply B.IntToString (x ∷ []) (sum_text ∷ [])
     ∷ text line_end_text (10 ∷ [])
@@ -194,7 +196,8 @@ sum =
     ∷ (
       for_symbol cell,
       goal (Exists (x ∷ xs ∷ []) (goal (all_of
-          (goal (Take first cell (x ∷ xs ∷ [])) ∷ apply B.IntPlus (second ∷ x ∷ []) (t1 ∷ []) ∷ call 1 (xs ∷ t1 ∷ third ∷ []) ∷ [])))),
+          (goal (Take first cell (x ∷ xs ∷ [])) ∷ apply B.IntPlus (second ∷ x ∷ []) (t1 ∷ [])
+          ∷ call 1 (xs ∷ t1 ∷ third ∷ []) ∷ [])))),
     )
     ∷ [])))
 
@@ -210,7 +213,8 @@ squares =
     (goal (all_of
     (apply B.IntTimes (first ∷ first ∷ []) (t2 ∷ []) ∷ apply B.WriteInt (t2 ∷ second ∷ []) (x ∷ [])
     ∷ apply B.Nl (x ∷ []) (y ∷ [])
-    ∷ number t3 1 ∷ apply B.IntPlus (first ∷ t3 ∷ []) (t4 ∷ []) ∷ call 2 (t4 ∷ y ∷ third ∷ []) ∷ [])))))
+    ∷ number t3 1 ∷ apply B.IntPlus (first ∷ t3 ∷ []) (t4 ∷ []) ∷ call 2 (t4 ∷ y ∷ third ∷ [])
+    ∷ [])))))
 
 abbrev total : List Procedure
 total = main ∷ sum ∷ squares ∷ []
