@@ -10,7 +10,7 @@ use Rattle.mc_term_parser.specs.declared.frame.Series.{Series}
 use Rattle.mc_term_parser.specs.declared.frame.Series.TheVariants.{Arguments, Elements, Chained}
 use Rattle.mc_term_parser.specs.Infixes.{operand, rank, joined_by, role, name_of}
 use Rattle.mc_term_parser.specs.Part.{Part, over}
-use Rattle.mc_term_parser.specs.code.Machine.{AtRight, AtOperand, AtFirst, AtSecond, InParen, InParts, InTail, Start, Done, Yes, No, Push, Stay, same_chain, finish, turn}
+use Rattle.mc_term_parser.specs.code.Machine.{AtRight, AtOperand, AtFirst, AtSecond, InParen, InParts, InTail, Start, Done, Yes, No, Push, Stay, same_chain, turn}
 use Rattle.mc_term_parser.specs.code.Machine as M
 use Rattle.mc_term_parser.specs.code.Seen.{Seen, SeenRow, seen_making, seen_then, no_seen, line_seen}
 use Rattle.mc_term_parser.specs.code.Views.{FrameSeen, StateSeen, is_over}

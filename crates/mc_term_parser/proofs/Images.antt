@@ -2,7 +2,7 @@
 use Rattle.std.proofs.Common.{◌≡◌, ℕ, ◌-◌, Bool, true, false, cond, ◌&&◌, leb, ltb, List, [], ◌∷◌, ◌++◌, refl, sym, ap, ◌∙◌, Option}
 use Rattle.std.specs.Prelude.{pos}
 use Rattle.mc_term_data.specs.Plain as S
-use Rattle.mc_term_data.specs.Plain.{PlainTerm, PlainNode, PlainTerms, at, tms, no_term, more_terms}
+use Rattle.mc_term_data.specs.Plain.{PlainNode, at}
 use Rattle.mc_term_parser.specs.declared.lexeme.Lexeme.{Lexeme}
 use Rattle.mc_term_parser.specs.declared.lexeme.Lexeme.TheVariants as L
 use Rattle.mc_term_parser.specs.declared.infixes.Infix.{Infix}
@@ -17,7 +17,7 @@ use Rattle.mc_term_parser.specs.Infixes.{operand, rank, joined_by, role, name_of
 use Rattle.mc_term_parser.specs.Part.{Part, over}
 use Rattle.mc_term_parser.specs.Tree.{Tree, Trees, Var, Int, Neg, Str, App, Items, Tailed, Conj, Disj, Inside, no_tree, more_trees, trees, line_of}
 use Rattle.mc_term_parser.specs.code.Seen.{Seen, SeenRow, line_seen, kept, leaf, seen_large, seen_int, seen_neg, seen_app, seen_items, seen_tailed, seen_conj, seen_disj, seen_inside, no_seen, seen_then, seen_making}
-use Rattle.mc_term_parser.specs.code.Machine.{AtRight, AtOperand, AtFirst, AtSecond, InParen, InParts, InTail, Start, Done, Yes, No, Push, Stay, same_chain, finish, turn}
+use Rattle.mc_term_parser.specs.code.Machine.{AtRight, AtOperand, AtFirst, AtSecond, InParen, InParts, InTail, Start, Done, Yes, No, Push, Stay, same_chain, turn}
 use Rattle.mc_term_parser.specs.code.Machine as M
 use Rattle.mc_term_parser.specs.code.Leads as Run
 use Rattle.mc_term_parser.specs.code.Views.{FrameSeen, StateSeen}
