@@ -1,9 +1,9 @@
 ghost use Rattle.std.specs.Prelude.{◌≡◌, ℕ, ◌+◌, ◌<◌, ◌^◌, [], ◌++◌, map, length, IfOk, IfErr};
 ghost use Rattle.mc_linking.specs.Files.{plain_files};
+ghost use Rattle.mc_ground_form.specs.Program.{plain_goal};
 ghost use Rattle.mc_compile.specs.Library.{library_texts};
-ghost use Rattle.mc_compile.specs.Reading.{IsLibraryRead};
-ghost use Rattle.mc_compile.specs.Rejected.{goal_rules_in};
-ghost use Rattle.mc_compile.specs.Naming.{IsWithLibrary};
+ghost use Rattle.mc_compile.specs.Linking.{goal_rules_in};
+ghost use Rattle.mc_compile.specs.code.Reader.{IsLibraryRead, IsWithLibrary};
 
 use crate::given::CompileFault;
 use crate::library::LIBRARY;
@@ -17,11 +17,12 @@ use mc_source::rule::Broken;
 use mc_term_data::Term;
 use std::alloc::Global;
 
-/// Sources with their names: the items of each file and behind them those of the library's modules, what their names
-/// mean, and the goal of the query where there is one.
+/// Sources with their names: the items of each file and behind them those of the library's modules, how many files are
+/// given, what their names mean, and the goal of the query where there is one.
 #[derive(Drop)]
 pub struct Named {
     pub files: Row<Row<Entry>>,
+    pub given: u32,
     pub names: Names,
     pub goal: Option<Term>,
 }
@@ -72,7 +73,7 @@ fn goal_rules(
     goal: &Option<Term>,
 ) -> Result<Vec<Broken>, Memory>
     requires { 0 < length files.now }
-    ensures { IfOk result (λ broken. broken.items ≡ goal_rules_in (plain_files files.now) number goal.now) }
+    ensures { IfOk result (λ broken. broken.items ≡ goal_rules_in (plain_files files.now) number (plain_goal goal.now)) }
 {
     let mut broken = Vec::new(alloc);
     if let Some(goal) = goal {
@@ -97,8 +98,10 @@ fn behind(broken: Row<Broken>, further: Vec<Broken>) -> Result<Row<Broken>, Memo
     Row::of(all)
 }
 
-impl Read {
-    ghost use Rattle.mc_compile.specs.Naming.{IsNamed, IsUnlinked};
+impl Named {
+    ghost use Rattle.mc_compile.specs.Phases.{Tells, Viewed};
+    ghost use Rattle.mc_compile.specs.Reading.{plain_read};
+    ghost use Rattle.mc_compile.specs.Linking.{Links, plain_named};
 
     /// Links the files with the library's modules, and the goal of the query with what the first file sees.
     ///
@@ -106,16 +109,20 @@ impl Read {
     ///
     /// `Rejected` with the rules of linking that are broken: those of the files, in their order, and then the query's.
     #[tactic(auto, using(crate::proofs::SomeFiles::some_files))]
-    pub fn named(self, alloc: Global) -> Result<Named, CompileFault>
-        ensures named { IfOk result (IsNamed library_texts (plain_files self.files) self.goal) }
-        ensures refusal { IfErr result (IsUnlinked library_texts (plain_files self.files) self.goal) }
+    pub fn of(alloc: Global, read: Read) -> Result<Named, CompileFault>
+        ensures { Tells Links (Viewed plain_named) (plain_read read) result }
     {
-        let Read { files, goal } = self;
-        let number = files.len();
+        let Read { files, goal } = read;
+        let given = files.len();
         let files = with_library(alloc, files)?;
-        let in_goal = goal_rules(alloc, &files, number, &goal)?;
+        let in_goal = goal_rules(alloc, &files, given, &goal)?;
         match link(alloc, &files) {
-            Ok(names) if in_goal.is_empty() => Ok(Named { files, names, goal }),
+            Ok(names) if in_goal.is_empty() => Ok(Named {
+                files,
+                given,
+                names,
+                goal,
+            }),
             Ok(_names) => Err(CompileFault::Rejected(Row::of(in_goal)?)),
             Err(ItemsFault::Broken(broken)) => {
                 Err(CompileFault::Rejected(behind(broken, in_goal)?))
