@@ -2,6 +2,7 @@
 use Rattle.std.specs.Prelude.{◌≡◌, Some, Ok}
 use Rattle.mc_ground_form.specs.Database.{Question}
 use Rattle.mc_ground_form.specs.Laws.{Fits, Asks}
+use Rattle.mc_ground_form.specs.FormLaws.{HaveTheirNumbers}
 use Rattle.mc_compile.specs.Sources.{Sources}
 use Rattle.mc_compile.specs.Forming.{Formed}
 use Rattle.mc_compile.specs.Compiling.{Compiles}
@@ -17,3 +18,10 @@ abbrev pub CompiledAsks : Type 0
 CompiledAsks =
     (sources : Sources) (form : Formed) (question : Question)
     → Compiles sources (Ok form) → form.question ≡ Some question → Asks form.database question
+
+-- The numbers of the types, constants and predicates of what sources are compiled to are those that
+-- they have among the names of all files, the library's included; the query is the predicate behind
+-- them.
+abbrev pub CompiledNumbers : Type 0
+CompiledNumbers =
+    (sources : Sources) (form : Formed) → Compiles sources (Ok form) → HaveTheirNumbers form.files

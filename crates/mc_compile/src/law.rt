@@ -4,7 +4,7 @@ ghost use Rattle.mc_compile.specs.Reading.{Reads};
 ghost use Rattle.mc_compile.specs.Linking.{Links};
 ghost use Rattle.mc_compile.specs.Forming.{Forms};
 ghost use Rattle.mc_compile.specs.Compiling.{Compiles};
-ghost use Rattle.mc_compile.specs.Laws.{CompiledFits, CompiledAsks};
+ghost use Rattle.mc_compile.specs.Laws.{CompiledFits, CompiledAsks, CompiledNumbers};
 
 use mc_items::{at_most_one_goal, at_most_one_list};
 
@@ -37,4 +37,11 @@ pub fn question_asks()
     ensures { CompiledAsks }
 {
     mc_ground_form::question_asks();
+}
+
+/// What sources are compiled to has the numbers of names: a law, and nothing to run.
+pub fn numbers_are_those_of_names()
+    ensures { CompiledNumbers }
+{
+    mc_ground_form::numbers_are_those_of_names();
 }

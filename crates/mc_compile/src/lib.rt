@@ -12,7 +12,9 @@ mod reading;
 
 pub use compiling::compile;
 pub use given::{CompileFault, Given, Query};
-pub use law::{at_most_one_phase, at_most_one_program, facts_fit, question_asks};
+pub use law::{
+    at_most_one_phase, at_most_one_program, facts_fit, numbers_are_those_of_names, question_asks,
+};
 pub use library::LIBRARY;
 pub use mc_ground_form::Compiled;
 pub use naming::Named;

@@ -1,5 +1,5 @@
-use crate::{CompileFault, Given, LIBRARY, Query, Read, named};
 use mc_base::{Memory, Row, Text};
+use mc_compile::{CompileFault, Given, LIBRARY, Named, Query, Read};
 use mc_defs_uses::{Definition, DefinitionSet, Kind, clause_of, definitions};
 use mc_items::{ItemsFault, read_items};
 use mc_source::rule::Broken;
@@ -67,6 +67,11 @@ fn read_shown(alloc: Global, files: &Row<Given>, query: Option<&Query>) -> Resul
         }
         Err(fault) => fault_shown(alloc, fault),
     }
+}
+
+// The first two phases.
+fn named(alloc: Global, files: &Row<Given>, query: Option<&Query>) -> Result<Named, CompileFault> {
+    Named::of(alloc, Read::of(alloc, files, query)?)
 }
 
 // What both phases answer: how many files there are, with the library's, or the rules that are broken.

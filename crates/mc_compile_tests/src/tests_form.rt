@@ -1,6 +1,6 @@
 use crate::tests::fault_shown;
-use crate::{CompileFault, Compiled, Given, Query, compile};
 use mc_base::{Memory, Row, Text};
+use mc_compile::{CompileFault, Compiled, Given, Query, compile};
 use mc_program::program::Goal;
 use mc_source::place::Place;
 use std::alloc::Global;

@@ -9,3 +9,4 @@ pub mod Forms
 pub mod Builds
 pub mod Answering
 mod FactsFit
+mod Numbers

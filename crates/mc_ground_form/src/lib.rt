@@ -9,7 +9,7 @@ pub use compiled::Compiled;
 pub use facts::program_of;
 
 ghost use Rattle.mc_ground_form.specs.Laws.{FactsAreGood, QueriesAreGood, FactsAreAnswered, QueriesEnd};
-ghost use Rattle.mc_ground_form.specs.FormLaws.{FactsFit, QuestionAsks};
+ghost use Rattle.mc_ground_form.specs.FormLaws.{FactsFit, NumbersAreThoseOfNames, QuestionAsks};
 ghost use Rattle.mc_ground_form.specs.Lines.{AnswersAreLines, BareAnswersAreLines};
 
 /// Every run of a program of ground facts is good, with a query beside it or without one: answers are true in the
@@ -52,4 +52,10 @@ pub fn facts_fit()
 /// The query of a goal of the form asks a predicate of the modules.
 pub fn question_asks()
     ensures { QuestionAsks }
+{}
+
+/// The types, constants and predicates of modules of the form have the numbers that they have among the names of all
+/// files.
+pub fn numbers_are_those_of_names()
+    ensures { NumbersAreThoseOfNames }
 {}
