@@ -15,12 +15,12 @@ use Rattle.mc_ground_form.specs.Facts.{LinkedFiles}
 use Rattle.mc_ground_form.specs.Program.{plain_goal}
 use Rattle.mc_ground_form.specs.Answered.{linked_files}
 use Rattle.mc_compile.specs.declared.given.CompileFault.TheVariants as F
-use Rattle.mc_compile.specs.declared.naming.Named.{Named}
+use Rattle.mc_compile.specs.declared.named.Named.{Named}
 use Rattle.mc_compile.specs.declared.reading.Read.{Read}
 use Rattle.mc_compile.specs.Phases.{Breaks, unless_broken, Tells, Viewed}
 use Rattle.mc_compile.specs.Library.{library_texts}
 use Rattle.mc_compile.specs.Reading.{Reading, PlainRead, plain_read}
-use Rattle.mc_compile.specs.Linking.{library_behind, goal_rules_in, linking_rules_of, PlainNamed, plain_named, AreLinked, linked_with, Links}
+use Rattle.mc_compile.specs.Linking.{library_behind, goal_rules_in, linking_rules_of, PlainNamed, plain_named, linked_with, Links}
 use Rattle.mc_compile.specs.code.Reader.{IsWithLibrary}
 use Rattle.mc_compile.proofs.Chains.{broken_up, none_broken}
 
@@ -34,11 +34,6 @@ made_same goal g h a b m n e f i = rw (e, f, i) refl
 pub answer_is : (rules : List Broken) (read : PlainRead) (library : List File) (named : PlainNamed) → Ok named ≡ unless_broken rules (linked_with read library) → linked_with read library ≡ named
 answer_is [] read library named e = cc
 answer_is (rule ∷ rules) read library named e = cc
-
-pub are_linked : (read : PlainRead) (named : Named) → Tells Links (Viewed plain_named) read (Ok named) → AreLinked (plain_named named)
-are_linked read named t =
-    let library = library_behind read.files t.2.modules in
-    subst AreLinked (answer_is (linking_rules_of read.files library read.goal) read library t.0 t.2.is ∙ sym t.1) refl
 
 module _ (read : Read) (all : List (List Entry)) (w : IsWithLibrary library_texts read.files all) where
   abbrev library : List File
@@ -62,15 +57,15 @@ module _ (read : Read) (all : List (List Entry)) (w : IsWithLibrary library_text
       ∙ take-append_seam (plain_files read.files) library
 
   -- where no rule of linking is broken
-  pub named_is : (names : Names) (in_goal : List Broken) (n : ℕ) → n ≡ length read.files → plain_names names ≡ linked (plain_files all) → link_faults (plain_files all) ≡ []
+  pub named_is : (named : Named) (names : Names) (in_goal : List Broken) (n : ℕ) → plain_named named ≡ made (plain_goal read.goal) (plain_files (take n all)) (plain_files all) (plain_names names) → n ≡ length read.files → plain_names names ≡ linked (plain_files all) → link_faults (plain_files all) ≡ []
       → in_goal ≡ goal_rules_in (plain_files all) n (plain_goal read.goal) → in_goal ≡ []
-      → Tells Links (Viewed plain_named) (plain_read read) (Ok (record { files = all; given = n; names = names; goal = read.goal }))
-  named_is names in_goal n e named sound g none =
-      let whole : rules ≡ [] = sym (rules_are [] in_goal n e (sym sound) g) ∙ none in
-      (
+      → Tells Links (Viewed plain_named) (plain_read read) (Ok named)
+  named_is named names in_goal n view e known sound g none =
+      let whole : rules ≡ [] = sym (rules_are [] in_goal n e (sym sound) g) ∙ none in (
         linked_with (plain_read read) library,
-        made_same (plain_goal read.goal) (plain_files (take n all)) (plain_files read.files) (plain_files all) (plain_files read.files ++ library) (plain_names names) (linked (plain_files read.files ++ library))
-        (given_are n e) w.items (named ∙ ap linked w.items),
+        view
+            ∙ made_same (plain_goal read.goal) (plain_files (take n all)) (plain_files read.files) (plain_files all) (plain_files read.files ++ library) (plain_names names) (linked (plain_files read.files ++ library))
+            (given_are n e) w.items (known ∙ ap linked w.items),
         record { modules = w.modules; is_library = w.is_library; is = none_broken rules (linked_with (plain_read read) library) whole },
       )
 

@@ -199,8 +199,7 @@ pub has_read : (s : Sources) (goal : Option Term) (old new : Reader) (files : Li
     → Tells Reads (Viewed plain_read) s (Ok (record { files = files; goal = goal }))
 has_read s goal old new files d q f e =
     let r = sources s.texts s.query goal old new d q in
-    let sound : reading_rules r ≡ [] = sym (rules_are s.texts s.query goal old new d q) ∙ e in
-    (
+    let sound : reading_rules r ≡ [] = sym (rules_are s.texts s.query goal old new d q) ∙ e in (
       read_as r,
       ap (with_files (plain_goal goal)) (ap plain_files (f ∙ q.files) ∙ d.items (first_empty old.broken.items q.rules (sym q.broken ∙ e))),
       record { read = r; is = none_broken (reading_rules r) (read_as r) sound },

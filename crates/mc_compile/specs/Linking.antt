@@ -10,7 +10,7 @@ use Rattle.mc_modules.specs.Linked.{linked}
 use Rattle.mc_ground_form.specs.Facts.{LinkedFiles}
 use Rattle.mc_ground_form.specs.Program.{plain_goal, line_of}
 use Rattle.mc_ground_form.specs.Answered.{linked_files}
-use Rattle.mc_compile.specs.declared.naming.Named.{Named}
+use Rattle.mc_compile.specs.declared.named.Named.{Named}
 use Rattle.mc_compile.specs.Phases.{Refusal, unless_broken}
 use Rattle.mc_compile.specs.Library.{library_texts}
 use Rattle.mc_compile.specs.Reading.{Reading, FilesRead, PlainRead, rules_from, items_from}
@@ -47,10 +47,6 @@ plain_named named =
       files = linked_files named.files named.given named.names;
       goal = plain_goal named.goal;
     }
-
--- the names are those of all the files
-abbrev pub AreLinked : PlainNamed → Type 0
-AreLinked named = named.files.names ≡ linked named.files.all
 
 -- what is read, once it is linked with these modules behind it
 abbrev pub linked_with : PlainRead → (library : List File) → PlainNamed

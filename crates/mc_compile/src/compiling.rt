@@ -10,7 +10,7 @@ ghost use Rattle.mc_compile.specs.Compiling.{Compiles};
 
 use crate::forming::form;
 use crate::given::{CompileFault, Given, Query};
-use crate::naming::Named;
+use crate::named::Named;
 use crate::reading::Read;
 use mc_base::Row;
 use mc_ground_form::Compiled;

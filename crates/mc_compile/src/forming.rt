@@ -3,11 +3,11 @@ ghost use Rattle.std.specs.Option.{option_copied};
 ghost use Rattle.mc_compile.specs.declared.given.Given.{Given};
 ghost use Rattle.mc_compile.specs.Phases.{Tells};
 ghost use Rattle.mc_compile.specs.Sources.{is_first, sources_of};
-ghost use Rattle.mc_compile.specs.Linking.{plain_named, AreLinked};
+ghost use Rattle.mc_compile.specs.Linking.{plain_named};
 ghost use Rattle.mc_compile.specs.Forming.{Forms, IsProgramOf};
 
 use crate::given::{CompileFault, Query};
-use crate::naming::Named;
+use crate::named::Named;
 use mc_ground_form::{Compiled, program_of};
 use std::alloc::Global;
 
@@ -22,7 +22,6 @@ pub fn form(
     query: Option<&Query>,
     want_main: bool,
 ) -> Result<Compiled, CompileFault>
-    requires { AreLinked (plain_named named.now) }
     ensures { (files : List Given)
         → Tells (Forms (sources_of files (option_copied query.entry) want_main)) IsProgramOf
         (plain_named named.now) result }

@@ -6,7 +6,8 @@ mod forming;
 mod given;
 mod law;
 mod library;
-mod naming;
+mod linking;
+mod named;
 mod reader;
 mod reading;
 
@@ -17,5 +18,5 @@ pub use law::{
 };
 pub use library::LIBRARY;
 pub use mc_ground_form::Compiled;
-pub use naming::Named;
+pub use named::Named;
 pub use reading::Read;

@@ -1,5 +1,5 @@
 use Rattle.mc_compile.specs.Library.{library_texts}
-use Rattle.mc_compile.proofs.naming.library.Goals as goal
+use Rattle.mc_compile.proofs.linking.library.Goals as goal
 
 pub returns : goal.returns
 unfolding library_texts

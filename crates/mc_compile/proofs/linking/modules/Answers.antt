@@ -1,7 +1,7 @@
 use Rattle.std.proofs.Common.{ℕ, List, []}
 use Rattle.std.specs.Borrow.{Bor}
 use Rattle.mc_compile.proofs.ReadFiles.{next_done, all_done, library_done}
-use Rattle.mc_compile.proofs.naming.modules.Goals as goal
+use Rattle.mc_compile.proofs.linking.modules.Goals as goal
 
 pub loop-text-preserved : goal.loop-text-preserved
 loop-text-preserved c =

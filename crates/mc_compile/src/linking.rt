@@ -7,25 +7,16 @@ ghost use Rattle.mc_compile.specs.code.Reader.{IsLibraryRead, IsWithLibrary};
 
 use crate::given::CompileFault;
 use crate::library::LIBRARY;
+use crate::named::Named;
 use crate::reader::Reader;
 use crate::reading::Read;
 use mc_base::{Memory, Row};
 use mc_items::{Entry, ItemsFault};
-use mc_modules::{Names, goal_rule, link};
+use mc_modules::{goal_rule, link};
 use mc_source::place::Place;
 use mc_source::rule::Broken;
 use mc_term_data::Term;
 use std::alloc::Global;
-
-/// Sources with their names: the items of each file and behind them those of the library's modules, how many files are
-/// given, what their names mean, and the goal of the query where there is one.
-#[derive(Drop)]
-pub struct Named {
-    pub files: Row<Row<Entry>>,
-    pub given: u32,
-    pub names: Names,
-    pub goal: Option<Term>,
-}
 
 // Reads texts that are modules of a library, and numbered from one on. None of them breaks a rule of reading, which a test
 // shows and no clause can: one that did would be answered as want of memory.
