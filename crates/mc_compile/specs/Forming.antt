@@ -10,8 +10,8 @@ use Rattle.mc_compile.specs.Phases.{Refusal, Unbuilt}
 use Rattle.mc_compile.specs.Sources.{Sources}
 use Rattle.mc_compile.specs.Linking.{PlainNamed}
 
--- linked files of the form of facts, with the goal of the query: the program of facts that they are,
--- and what the query asks of it
+-- linked files of the form of facts, with the goal of the query: the program of facts that they
+-- are, and what the query asks of it
 pub record Formed : Type 0 where
   pub files : LinkedFiles
   pub goal : Option PlainTerm

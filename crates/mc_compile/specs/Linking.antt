@@ -1,13 +1,12 @@
--- The phase that links: the library's modules behind the given files, what names mean, and the rules
--- of linking that are broken (this project's rules; the Mercury manual: The module system).
+-- The phase that links: the library's modules behind the given files, what names mean, and the
+-- rules of linking that are broken (this project's rules; the Mercury manual: The module system).
 use Rattle.std.specs.Prelude.{◌≡◌, ℕ, ◌+◌, List, [], ◌++◌, length, Option, Some, None, Result}
 use Rattle.mc_term_data.specs.Plain.{PlainTerm}
 use Rattle.mc_source.specs.declared.rule.Broken.{Broken}
 use Rattle.mc_source.specs.Rules.{broken_at}
 use Rattle.mc_linking.specs.Files.{File}
 use Rattle.mc_linking.specs.Faults.{link_faults, goal_fault}
-use Rattle.mc_modules.specs.Linked.{linked}
-use Rattle.mc_ground_form.specs.Facts.{LinkedFiles}
+use Rattle.mc_ground_form.specs.Facts.{LinkedFiles, with_library}
 use Rattle.mc_ground_form.specs.Program.{plain_goal, line_of}
 use Rattle.mc_ground_form.specs.Answered.{linked_files}
 use Rattle.mc_compile.specs.declared.named.Named.{Named}
@@ -52,7 +51,7 @@ plain_named named =
 abbrev pub linked_with : PlainRead → (library : List File) → PlainNamed
 linked_with read library =
     record {
-      files = record { given = read.files; all = read.files ++ library; names = linked (read.files ++ library) };
+      files = with_library read.files library;
       goal = read.goal;
     }
 

@@ -88,7 +88,8 @@ abbrev pub plain_read : Read → PlainRead
 plain_read read = record { files = plain_files read.files; goal = plain_goal read.goal }
 
 -- what sources are, once they are read
-abbrev pub read_as : {texts : List (List ℕ)} {query : Option (List ℕ)} → AreRead texts query → PlainRead
+abbrev pub read_as :
+    {texts : List (List ℕ)} {query : Option (List ℕ)} → AreRead texts query → PlainRead
 read_as sources =
     record { files = items_from 0 sources.files; goal = plain_goal sources.goal }
 

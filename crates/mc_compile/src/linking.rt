@@ -64,7 +64,9 @@ fn goal_rules(
     goal: &Option<Term>,
 ) -> Result<Vec<Broken>, Memory>
     requires { 0 < length files.now }
-    ensures { IfOk result (λ broken. broken.items ≡ goal_rules_in (plain_files files.now) number (plain_goal goal.now)) }
+    ensures { IfOk result
+        (λ broken.
+        broken.items ≡ goal_rules_in (plain_files files.now) number (plain_goal goal.now)) }
 {
     let mut broken = Vec::new(alloc);
     if let Some(goal) = goal {

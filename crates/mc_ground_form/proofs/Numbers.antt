@@ -11,8 +11,8 @@ use Rattle.mc_source.specs.declared.name.Name.{Name}
 use Rattle.mc_linking.specs.Files.{File, Section, PlainItemInFile, section_after, items_in_file, items_in_file_from, is_empty}
 use Rattle.mc_modules.specs.Linked.{Defined, name_in, constructors, symbols_by, symbols_in, symbols_of, types_by, types_in, types_of, preds_of, name_of as module_name_of, each, flat, linked}
 use Rattle.mc_ground_form.specs.Database.{Constant}
-use Rattle.mc_ground_form.specs.Facts.{LinkedFiles, Fact, facts, facts_from, given_types, given_preds, constants, constants_in, constants_by, constants_from, names_of, is_constant, are_constants, has_no_parameters}
-use Rattle.mc_ground_form.specs.FormLaws.{name_of, HaveTheirNumbers, with_library, NumbersAreThoseOfNames}
+use Rattle.mc_ground_form.specs.Facts.{LinkedFiles, with_library, Fact, facts, facts_from, given_types, given_preds, constants, constants_in, constants_by, constants_from, names_of, is_constant, are_constants, has_no_parameters}
+use Rattle.mc_ground_form.specs.FormLaws.{name_of, HaveTheirNumbers, NumbersAreThoseOfNames}
 use Rattle.mc_ground_form.specs.code.Passes.{every, everywhere, is_plain, all_plain}
 use Rattle.mc_ground_form.proofs.Forms.{refuted, plain_none}
 use Rattle.mc_ground_form.proofs.Builds.{first_of, no_facts}

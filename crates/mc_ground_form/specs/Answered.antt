@@ -13,7 +13,12 @@ use Rattle.mc_ground_form.specs.Program.{form_of, IsProgram, KeepsMetadata}
 
 -- linked files, of which the first are given
 abbrev pub linked_files : List (List Entry) → (given : ℕ) → Names → LinkedFiles
-linked_files files n names = record { given = plain_files (take n files); all = plain_files files; names = plain_names names }
+linked_files files n names =
+    record {
+      given = plain_files (take n files);
+      all = plain_files files;
+      names = plain_names names;
+    }
 
 abbrev pub IsAnswered : LinkedFiles → Option PlainTerm → Option Compiled → Type 0
 IsAnswered P goal None = form_of P goal ≡ None

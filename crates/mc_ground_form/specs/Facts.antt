@@ -24,7 +24,7 @@ use Rattle.mc_defs_uses.specs.Occurrences.{is_truth, nil_path}
 use Rattle.mc_linking.specs.Files.{File, PlainItemInFile, items_in_file, joined}
 use Rattle.mc_linking.specs.Faults.{is_number}
 use Rattle.mc_linking.specs.Visible.{module_of, sole}
-use Rattle.mc_modules.specs.Linked.{Defined, Linked, each, flat, types_of, preds_of}
+use Rattle.mc_modules.specs.Linked.{Defined, Linked, linked, each, flat, types_of, preds_of}
 use Rattle.mc_modules.specs.Candidates.{candidates, fitting, type_candidates}
 use Rattle.mc_ground_form.specs.Database.{Constant, Relation, Database, Question, from}
 
@@ -34,6 +34,11 @@ pub record LinkedFiles : Type 0 where
   pub given : List File
   pub all : List File
   pub names : Linked
+
+-- given files with the library's behind, and their names
+abbrev pub with_library : (given library : List File) → LinkedFiles
+with_library given library =
+    record { given = given; all = given ++ library; names = linked (given ++ library) }
 
 -- the types and the predicates that the given files define
 abbrev pub given_types : LinkedFiles → List Defined
@@ -299,7 +304,13 @@ abbrev pub relations_from :
     (p : ℕ) → List (Option (List ℕ)) → List Fact → List Defined → List Relation
 relations_from p ss fs [] = []
 relations_from p ss fs (d ∷ ds) =
-    record { module_name = d.name.module; name = d.name.name; types = or_none (slice_index_or ss p None); rows = those_of p fs } ∷ relations_from (p + 1) ss fs ds
+    record {
+      module_name = d.name.module;
+      name = d.name.name;
+      types = or_none (slice_index_or ss p None);
+      rows = those_of p fs;
+    }
+    ∷ relations_from (p + 1) ss fs ds
 
 abbrev pub how_many : PlainDecl → ℕ
 how_many (UnionType h ts) = count ts
@@ -312,7 +323,12 @@ groups_from n (d ∷ ds) = from n (how_many d.item) ∷ groups_from (n + how_man
 
 -- the program of ground facts that files of the form are
 abbrev pub database : LinkedFiles → List Fact → Database
-database P fs = record { types = groups_from 0 (given_types P); constants = constants P; relations = relations_from 0 (signatures P) fs (given_preds P) }
+database P fs =
+    record {
+      types = groups_from 0 (given_types P);
+      constants = constants P;
+      relations = relations_from 0 (signatures P) fs (given_preds P);
+    }
 
 -- the predicates among candidates: a goal's name means no other
 abbrev pub predicates : List Candidate → List Candidate

@@ -1,12 +1,12 @@
 -- Laws of the form of facts: what modules of the form are fits, and a query of them asks.
-use Rattle.std.specs.Prelude.{◌≡◌, List, ◌++◌, map, length, take, Some}
+use Rattle.std.specs.Prelude.{◌≡◌, List, map, length, take, Some}
 use Rattle.mc_term_data.specs.Plain.{PlainTerm}
 use Rattle.mc_source.specs.declared.name.Name.{Name}
 use Rattle.mc_linking.specs.Files.{File}
-use Rattle.mc_modules.specs.Linked.{Defined, linked}
+use Rattle.mc_modules.specs.Linked.{Defined}
 use Rattle.mc_ground_form.specs.Database.{Constant, Question}
 use Rattle.mc_ground_form.specs.Laws.{Fits, Asks}
-use Rattle.mc_ground_form.specs.Facts.{LinkedFiles, given_types, given_preds, constants, Fact, facts, database, question}
+use Rattle.mc_ground_form.specs.Facts.{LinkedFiles, with_library, given_types, given_preds, constants, Fact, facts, database, question}
 
 -- the facts of files of the form have constants of their predicates' types
 abbrev pub FactsFit : Type 0
@@ -31,11 +31,6 @@ pub record HaveTheirNumbers (P : LinkedFiles) : Type 0 where
       map (λ (d : Defined). d.name) (take (length (constants P)) P.names.symbols)
       ≡ map name_of (constants P)
   pub preds : take (length (given_preds P)) P.names.preds ≡ given_preds P
-
--- files with the library's behind, and their names
-abbrev pub with_library : (given library : List File) → LinkedFiles
-with_library given library =
-    record { given = given; all = given ++ library; names = linked (given ++ library) }
 
 -- so it is where the given files are of the form, since they stand before the library's
 abbrev pub NumbersAreThoseOfNames : Type 0

@@ -27,12 +27,14 @@ abbrev pub with_question : Database → Option Question → Option (Database × 
 with_question d None = None
 with_question d (Some q) = Some (d, Some q)
 
-abbrev pub asked_of : LinkedFiles → Option PlainTerm → Database → Option (Database × Option Question)
+abbrev pub asked_of :
+    LinkedFiles → Option PlainTerm → Database → Option (Database × Option Question)
 asked_of P None d = Some (d, None)
 asked_of P (Some goal) d = with_question d (question P goal)
 
 abbrev pub over_facts :
-    LinkedFiles → Option PlainTerm → Option (List (ℕ × List ℕ)) → Option (Database × Option Question)
+    LinkedFiles → Option PlainTerm → Option (List (ℕ × List ℕ))
+    → Option (Database × Option Question)
 over_facts P goal None = None
 over_facts P goal (Some fs) = asked_of P goal (database P fs)
 
@@ -86,7 +88,8 @@ beside_facts P = map (map beside_fact) (by_predicate 0 (given_preds P) (places P
 
 -- The query's clause has the variables that the question names. It stands where the rules do
 -- that the goal breaks: on the goal's line, in a file that is numbered behind the given ones.
-abbrev pub beside_query : (number : ℕ) → Option PlainTerm → Option Question → List (List (ℕ × Place))
+abbrev pub beside_query :
+    (number : ℕ) → Option PlainTerm → Option Question → List (List (ℕ × Place))
 beside_query n (Some goal) (Some q) =
     ((length q.variables, place n (line_of goal)) ∷ []) ∷ []
 beside_query n _ _ = []
@@ -98,4 +101,3 @@ pub record KeepsMetadata (P : LinkedFiles) (goal : Option PlainTerm) (q : Option
   pub preds :
       map beside_pred c.program.preds
       ≡ map no_function (beside_facts P ++ beside_query (length P.given) goal q)
-

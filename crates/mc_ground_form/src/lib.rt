@@ -5,12 +5,12 @@
 mod compiled;
 mod facts;
 
-pub use compiled::Compiled;
-pub use facts::program_of;
-
 ghost use Rattle.mc_ground_form.specs.Laws.{FactsAreGood, QueriesAreGood, FactsAreAnswered, QueriesEnd};
 ghost use Rattle.mc_ground_form.specs.FormLaws.{FactsFit, NumbersAreThoseOfNames, QuestionAsks};
 ghost use Rattle.mc_ground_form.specs.Lines.{AnswersAreLines, BareAnswersAreLines};
+
+pub use compiled::Compiled;
+pub use facts::program_of;
 
 /// Every run of a program of ground facts is good, with a query beside it or without one: answers are true in the
 /// completion, and none is omitted.

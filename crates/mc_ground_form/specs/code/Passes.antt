@@ -63,7 +63,12 @@ pub record AreEnums (ds : List Defined) (enums : Enums) : Type 0 where
 
 -- linked files, as the passes have them
 abbrev pub linked_of : Sources → LinkedFiles
-linked_of s = record { given = plain_files s.given.now; all = plain_files s.files.now; names = plain_names s.names.now }
+linked_of s =
+    record {
+      given = plain_files s.given.now;
+      all = plain_files s.files.now;
+      names = plain_names s.names.now;
+    }
 
 -- the number of types is that of the given files
 abbrev pub IsCounted : Sources → Type 0

@@ -12,13 +12,13 @@ ghost use Rattle.mc_ground_form.specs.Program.{plain_goal, beside_pred, no_funct
 ghost use Rattle.mc_ground_form.specs.Answered.{linked_files, IsAnswered};
 ghost use Rattle.mc_ground_form.specs.code.Built.{IsBuilt, IsMade, query_besides};
 
+use crate::compiled::Compiled;
 use crate::facts::enums::Enums;
 use crate::facts::known::Known;
 use crate::facts::plain::all_plain;
 use crate::facts::preds::{preds, query_pred};
 use crate::facts::query::Asked;
 use crate::facts::sources::Sources;
-use crate::compiled::Compiled;
 use mc_base::{Memory, Row, Text};
 use mc_decl_syntax::Decl;
 use mc_items::Entry;
