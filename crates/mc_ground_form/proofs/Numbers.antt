@@ -3,7 +3,7 @@ use Rattle.std.proofs.Common.{◌≡◌, ℕ, ◌+◌, Bool, true, false, cond, 
 use Rattle.std.proofs.lemmas.List.{append-nil, map-append, length-map}
 use Rattle.mc_base.proofs.Booleans.{left_true, right_true}
 use Rattle.mc_term_data.specs.Plain.{PlainTerm, PlainTerms, at, no_term, more_terms, Var, Int, Str, App, Items, Tailed, Conj, Disj}
-use Rattle.mc_decl_syntax.specs.Terms.{has_none}
+use Rattle.mc_term_data.specs.Shapes.{has_none}
 use Rattle.mc_decl_syntax.specs.Plain.{PlainDecl, ModuleStart, ModuleEnd, Interface, Implementation, Imports, UseOnly, AbstractType, UnionType, SameType, SameInst, BoundInst, ModeDef, Pred, Func, Mode, Pragma, Clause}
 use Rattle.mc_decl_syntax.specs.Terms.{is_distinct}
 use Rattle.mc_defs_uses.specs.Definitions.{symbol_name}

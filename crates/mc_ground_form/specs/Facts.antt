@@ -12,15 +12,15 @@ use Rattle.mc_source.specs.declared.det.Most.TheVariants.{Many}
 use Rattle.mc_source.specs.declared.name.Candidate.{Candidate}
 use Rattle.mc_source.specs.declared.place.Place.{Place}
 use Rattle.mc_source.specs.declared.name.Candidate.TheVariants as C
-use Rattle.mc_clause_syntax.specs.declared.connective.Parts.{Parts}
-use Rattle.mc_clause_syntax.specs.declared.connective.Parts.TheVariants.{Arguments}
-use Rattle.mc_clause_syntax.specs.Goals.{connective, parts}
-use Rattle.mc_clause_syntax.specs.Clauses.{operands}
+use Rattle.mc_clause_syntax.specs.declared.goal_form.Parts.{Parts}
+use Rattle.mc_clause_syntax.specs.declared.goal_form.Parts.TheVariants.{Arguments}
+use Rattle.mc_clause_syntax.specs.GoalForms.{goal_form, parts}
+use Rattle.mc_term_data.specs.Shapes.{operands, is_the_word, has_none}
 use Rattle.mc_decl_syntax.specs.Plain.{Path, PlainDecl, ModuleStart, ModuleEnd, Interface, Implementation, Imports, UseOnly, UnionType, Pred, Func, Pragma, Clause}
-use Rattle.mc_decl_syntax.specs.Terms.{pair, is_the_word, has_none, is_distinct}
+use Rattle.mc_decl_syntax.specs.Terms.{is_distinct}
 use Rattle.mc_defs_uses.specs.Plain.{PlainNameArity, id, qualifiers, last_part}
 use Rattle.mc_defs_uses.specs.Definitions.{symbol_name}
-use Rattle.mc_defs_uses.specs.Occurrences.{is_truth, nil_path}
+use Rattle.mc_defs_uses.specs.Occurrences.{nil_path}
 use Rattle.mc_linking.specs.Files.{File, PlainItemInFile, items_in_file, joined}
 use Rattle.mc_linking.specs.Faults.{is_number}
 use Rattle.mc_linking.specs.Visible.{module_of, sole}
@@ -100,7 +100,7 @@ with_number _ _ = None
 abbrev pub argument_types : LinkedFiles → (own : ℕ) → PlainTerms → Option (List ℕ)
 argument_types P own no_term = Some []
 argument_types P own (more_terms t ts) =
-    with_number (argument_type P own (pair (codes "::") t)) (argument_types P own ts)
+    with_number (argument_type P own (operands (codes "::") t)) (argument_types P own ts)
 
 -- the types of the arguments of a predicate, of which there is one at least
 abbrev pub signature : LinkedFiles → (own : ℕ) → PlainTerm → Option (List ℕ)
@@ -359,7 +359,7 @@ are_arguments _ = false
 
 -- a call, and no form of the language
 abbrev pub is_call : Path → PlainTerms → Bool
-is_call w ts = are_arguments (parts (connective w (count ts))) && not (is_truth w ts)
+is_call w ts = are_arguments (parts (goal_form w (count ts)))
 
 abbrev pub asked : LinkedFiles → Option ℕ → Option (List (List ℕ)) → Option Question
 asked P (Some p) (Some xs) =

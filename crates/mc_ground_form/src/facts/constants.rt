@@ -6,9 +6,8 @@ ghost use Rattle.mc_ground_form.specs.code.Passes.{linked_of, behind};
 
 use crate::facts::sources::Sources;
 use mc_base::{Memory, Row, Text};
-use mc_decl_syntax::has_none;
 use mc_source::name::Candidate;
-use mc_term_data::{Node, Term};
+use mc_term_data::{Node, Term, has_none};
 use std::alloc::Global;
 
 impl Sources<'_> {

@@ -7,11 +7,10 @@ ghost use Rattle.mc_ground_form.specs.Facts.{has_no_parameters, is_constant, are
 ghost use Rattle.mc_ground_form.specs.code.Passes.{every, is_plain, all_plain};
 
 use mc_base::Row;
-use mc_clause_syntax::operands;
-use mc_decl_syntax::{Decl, has_none};
+use mc_decl_syntax::Decl;
 use mc_items::Entry;
 use mc_source::det::{Det, Most};
-use mc_term_data::{Node, Term};
+use mc_term_data::{Node, Term, has_none, operands};
 
 /// Whether each item of files is of the form, as far as its own text tells.
 pub fn all_plain(files: &[Row<Entry>]) -> bool

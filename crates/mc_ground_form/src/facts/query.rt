@@ -10,8 +10,7 @@ use crate::facts::known::{Known, signature_at};
 use crate::facts::own::sole_predicate;
 use crate::facts::typing::below;
 use mc_base::{Memory, NameSet, Row, Text};
-use mc_clause_syntax::{Connective, Parts};
-use mc_defs_uses::is_truth;
+use mc_clause_syntax::{GoalForm, Parts};
 use mc_source::name::Candidate;
 use mc_term_data::{Node, Term, arity};
 use std::alloc::Global;
@@ -101,8 +100,8 @@ impl Known<'_> {
 fn is_call(name: &Row<Text>, arguments: &Row<Term>) -> bool
     ensures { result ≡ is_call name.now (tms (map plain_term arguments.now)) }
 {
-    let parts = Connective::of(name.as_slice(), arity(arguments.as_slice())).parts();
-    matches!(parts, Parts::Arguments) && !is_truth(name, arguments)
+    let parts = GoalForm::of(name.as_slice(), arity(arguments.as_slice())).parts();
+    matches!(parts, Parts::Arguments)
 }
 
 // The predicates among candidates: a goal's name means no other.

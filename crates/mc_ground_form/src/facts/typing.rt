@@ -1,14 +1,13 @@
 ghost use Rattle.std.specs.Prelude.{◌≡◌, map, codes, IfOk};
 ghost use Rattle.mc_term_data.specs.Plain.{plain_term, tms};
-ghost use Rattle.mc_decl_syntax.specs.Terms.{pair};
+ghost use Rattle.mc_term_data.specs.Shapes.{operands};
 ghost use Rattle.mc_linking.specs.Visible.{sole};
 ghost use Rattle.mc_ground_form.specs.Facts.{below, type_number, is_out, argument_type, argument_types, signature};
 ghost use Rattle.mc_ground_form.specs.code.Passes.{linked_of, IsCounted};
 
 use crate::facts::sources::Sources;
 use mc_base::{Memory, Row};
-use mc_decl_syntax::{has_none, is_the_word, pair};
-use mc_term_data::{Node, Term};
+use mc_term_data::{Node, Term, has_none, is_the_word, operands};
 use std::alloc::Global;
 
 impl Sources<'_> {
@@ -59,9 +58,9 @@ impl Sources<'_> {
             (λ number.
             number
             ≡ argument_type (linked_of self.now) own
-            (pair (codes "::") (plain_term term.now))) }
+            (operands (codes "::") (plain_term term.now))) }
     {
-        match pair(b"::", term) {
+        match operands(b"::", term) {
             Some((of_type, mode)) if is_out(mode) => self.type_number(alloc, own, of_type),
             _ => Ok(None),
         }
