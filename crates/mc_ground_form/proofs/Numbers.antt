@@ -88,7 +88,7 @@ item_names : (m : List ℕ) (all : List PlainItemInFile) (s : PlainItemInFile) (
 item_names m all s (UnionType h ts) plain e =
     constructors_named m s h ts (right_true _ _ plain)
     ∙ ap (λ j. map name_of (constants_by m 0 j)) (sym e)
-    ∙ append-nil (map name_of (constants_by m 0 s.item))
+    ∙ sym (append-nil (map name_of (constants_by m 0 s.item)))
 item_names m all s (ModuleStart w) plain e = refl
 item_names m all s (ModuleEnd w) plain e = refl
 item_names m all s Interface plain e = refl
@@ -106,14 +106,14 @@ item_names m all s (Mode t d) plain e = cc
 item_names m all s Pragma plain e = refl
 item_names m all s (Clause t) plain e = refl
 
-file_names : (m : List ℕ) (all : List PlainItemInFile) (b : Bool) (section : Section) (es : File) → every is_plain es ≡ true
-    → names (symbols_in m (items_in_file_from b section es)) ≡ by_types (types_in m all (items_in_file_from b section es))
-file_names m all b section [] plain = refl
-file_names m all b section (e ∷ es) plain =
-    let s : PlainItemInFile = record { item = e.0; at = e.1; section = section; is_first = b; is_last = is_empty es } in
-    let rest = items_in_file_from false (section_after section e.0) es in
+file_names : (m : List ℕ) (all : List PlainItemInFile) (b : Bool) (at_section : Section) (es : File) → every is_plain es ≡ true
+    → names (symbols_in m (items_in_file_from b at_section es)) ≡ by_types (types_in m all (items_in_file_from b at_section es))
+file_names m all b at_section [] plain = refl
+file_names m all b at_section (e ∷ es) plain =
+    let s : PlainItemInFile = record { item = e.0; at = e.1; section = at_section; is_first = b; is_last = is_empty es } in
+    let rest = items_in_file_from false (section_after at_section e.0) es in
     map-append (λ (d : Defined). d.name) (symbols_by m s e.0) (symbols_in m rest)
-    ∙ ap₂ (λ xs ys. xs ++ ys) (item_names m all s e.0 (left_true _ _ plain) refl) (file_names m all false (section_after section e.0) es (right_true _ _ plain))
+    ∙ ap₂ (λ xs ys. xs ++ ys) (item_names m all s e.0 (left_true _ _ plain) refl) (file_names m all false (section_after at_section e.0) es (right_true _ _ plain))
     ∙ sym (by_types_append (types_by m all s e.0) (types_in m all rest))
 
 files_names : (k : ℕ) (fs : List File) → everywhere (λ own i. is_plain i) k fs ≡ true → names (flat (each symbols_of fs)) ≡ by_types (flat (each types_of fs))
