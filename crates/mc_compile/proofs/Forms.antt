@@ -27,6 +27,10 @@ built_where : (b : Bool) (r : Result Formed Refusal) → b ≡ false → r ≡ c
 built_where false r e = refl
 built_where true r e = cc
 
+pub neither : (a b : Bool) → a ≡ false → b ≡ false → a || b ≡ false
+neither false b e f = f
+neither true b e f = cc
+
 -- what isn't built
 pub is_unbuilt : (s : Sources) (named : PlainNamed) → s.wants_main || s.first ≡ true → Tells (Forms s) IsProgramOf named (Err F.NotBuilt)
 is_unbuilt s named e = unbuilt_where (s.wants_main || s.first) (formed named (form_of named.files named.goal)) e
