@@ -1,4 +1,4 @@
--- What a conjunction or a disjunction of tests says of each of them.
+-- What a conjunction or a disjunction of tests says of each of them, and how disjunctions compute.
 use Rattle.std.proofs.Common.{◌≡◌, Bool, true, false, ◌&&◌, ◌||◌, refl}
 
 pub left_true : (a b : Bool) → (a && b) ≡ true → a ≡ true
@@ -20,3 +20,11 @@ left_false true b h = cc
 pub right_false : (a b : Bool) → (a || b) ≡ false → b ≡ false
 right_false false b h = h
 right_false true b h = cc
+
+pub or_false : (b : Bool) → (b || false) ≡ b
+or_false true = refl
+or_false false = refl
+
+pub or_assoc : (a b c : Bool) → ((a || b) || c) ≡ (a || (b || c))
+or_assoc true b c = refl
+or_assoc false b c = refl

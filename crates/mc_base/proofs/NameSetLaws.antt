@@ -5,8 +5,10 @@ use Rattle.std.specs.Cmp.Lexicographic.{nat_list_eq_equiv}
 use Rattle.std.specs.Set.{is_member, distinct_count, unique_keys}
 use Rattle.std.specs.Str.{bytes_eq}
 use Rattle.std.proofs.lemmas.List.Folds.{list_any-append}
+use Rattle.std.proofs.lemmas.List.{append-nil}
 use Rattle.std.proofs.lemmas.Map.Steps.{list_any_congr}
 use Rattle.mc_base.specs.NameSets.{put, put_all}
+pub use Rattle.mc_base.proofs.Booleans.{or_false, or_assoc}
 
 pub put_all-append : (names xs ys : List (List ℕ)) → put_all names (xs ++ ys) ≡ put_all (put_all names xs) ys
 put_all-append names [] ys = refl
@@ -16,18 +18,6 @@ put_all-append names (x ∷ xs) ys = put_all-append (put names x) xs ys
 pub on_err_always : {T E P : Type 0} (r : Result T E) → P → OnErr r P
 on_err_always (Ok x) p = tt
 on_err_always (Err e) p = p
-
-pub or_false : (b : Bool) → (b || false) ≡ b
-or_false true = refl
-or_false false = refl
-
-pub or_assoc : (a b c : Bool) → ((a || b) || c) ≡ (a || (b || c))
-or_assoc true b c = refl
-or_assoc false b c = refl
-
-append_none : (xs : List (List ℕ)) → xs ++ [] ≡ xs
-append_none [] = refl
-append_none (x ∷ xs) = ap (λ l. x ∷ l) (append_none xs)
 
 module _ {K : Type 0} {eq : K → K → Bool} (laws : IsEquivalence eq) where
   is_member-push : (xs : List K) (x q : K) → is_member eq (xs ++ x ∷ []) q ≡ (is_member eq xs q || eq q x)
@@ -73,7 +63,7 @@ length-push_unless false names x = length-append names (x ∷ [])
 
 counts : (names ys xs : List (List ℕ)) → length names ≡ distinct_count bytes_eq ys → ((q : List ℕ) → is_member bytes_eq names q ≡ is_member bytes_eq ys q)
     → length (put_all names xs) ≡ distinct_count bytes_eq (ys ++ xs)
-counts names ys [] e same = e ∙ sym (ap (distinct_count bytes_eq) (append_none ys))
+counts names ys [] e same = e ∙ sym (ap (distinct_count bytes_eq) (append-nil ys))
 counts names ys (x ∷ xs) e same =
     counts (put names x) (ys ++ x ∷ []) xs
     (length-push_unless (is_member bytes_eq names x) names x ∙ rw (e, same x) (sym (distinct_count-push nat_list_eq_equiv ys x)))

@@ -7,7 +7,7 @@ use Rattle.mc_base.proofs.NameSetLaws.{length-put_all}
 use Rattle.mc_base.specs.NameSets.{put, put_all}
 use Rattle.mc_clause_syntax.specs.declared.variables.Variables.{Variables}
 use Rattle.mc_clause_syntax.specs.Limits.{is_anonymous, anonymous, with_name, variables, greatest_variables, too_many_variables}
-use Rattle.mc_clause_syntax.specs.Found.{with_variable, with_variables}
+use Rattle.mc_clause_syntax.specs.code.Found.{with_variable, with_variables}
 
 pub with_variables_append : (v : Variables) (xs ys : List (List ℕ)) → with_variables v (xs ++ ys) ≡ with_variables (with_variables v xs) ys
 with_variables_append v [] ys = refl

@@ -2,20 +2,24 @@
 use Rattle.std.proofs.Common.{◌≡◌, ℕ, Bool, true, false, ◌&&◌, ◌||◌, List, [], ◌∷◌, ◌++◌, Option, Some, None, refl, ap, ap₂, sym, ◌∙◌, codes, nat_le}
 use Rattle.std.specs.Str.{bytes_eq}
 use Rattle.std.proofs.lemmas.List.Folds.{list_any-append}
+use Rattle.std.proofs.Math.Bool.{or_assoc, or_comm, or-false}
 use Rattle.mc_base.specs.NameSets.{put_all}
 use Rattle.mc_base.proofs.NameSetLaws.{is_member-put_all}
 use Rattle.mc_term_data.specs.Names.{count}
 use Rattle.mc_term_data.specs.Plain.{PlainTerm, PlainTerms, at, no_term, more_terms, Var, Int, Str, App, Items, Tailed, Conj, Disj}
-use Rattle.mc_clause_syntax.specs.declared.connective.Stand.{Stand}
-use Rattle.mc_clause_syntax.specs.declared.connective.Parts.{Parts}
-use Rattle.mc_clause_syntax.specs.declared.connective.Parts.TheVariants.{Goals, Quantified, Sides, Arguments}
-use Rattle.mc_clause_syntax.specs.declared.connective.StateForm.{StateForm}
-use Rattle.mc_clause_syntax.specs.declared.connective.StateForm.TheVariants.{Both, Before, After}
-use Rattle.mc_clause_syntax.specs.declared.connective.Stand.TheVariants.{Whole}
-use Rattle.mc_clause_syntax.specs.Goals.{connective, parts, state, is_goal, equivalences}
-use Rattle.mc_clause_syntax.specs.Clauses.{greatest_equivalences, operands, is_head, is_head_of, is_headed, is_body}
+use Rattle.mc_clause_syntax.specs.declared.goal_form.Stand.{Stand}
+use Rattle.mc_clause_syntax.specs.declared.goal_form.Parts.{Parts}
+use Rattle.mc_clause_syntax.specs.declared.goal_form.Parts.TheVariants.{Nothing, Goals, Quantified, Sides, Arguments}
+use Rattle.mc_clause_syntax.specs.declared.state.StateForm.{StateForm}
+use Rattle.mc_clause_syntax.specs.declared.state.StateForm.TheVariants.{Both, Before, After}
+use Rattle.mc_clause_syntax.specs.declared.goal_form.Stand.TheVariants.{Whole}
+use Rattle.mc_clause_syntax.specs.GoalForms.{goal_form, parts}
+use Rattle.mc_clause_syntax.specs.StateVariables.{state}
+use Rattle.mc_clause_syntax.specs.Goals.{is_goal, equivalences}
+use Rattle.mc_clause_syntax.specs.Clauses.{greatest_equivalences, is_head, is_head_of, is_headed, is_body}
+use Rattle.mc_term_data.specs.Shapes.{operands}
 use Rattle.mc_clause_syntax.specs.States.{in_scope, quantified, placed_state, placed, all_placed, goal_placed, parts_placed, goals_placed}
-use Rattle.mc_clause_syntax.specs.Scopes.{all_names}
+use Rattle.mc_clause_syntax.specs.code.Scopes.{all_names}
 
 abbrev pub HaveSame : List (List ℕ) → List (List ℕ) → Type 0
 HaveSame a b = (x : List ℕ) → in_scope a x ≡ in_scope b x
@@ -23,16 +27,6 @@ HaveSame a b = (x : List ℕ) → in_scope a x ≡ in_scope b x
 pub parts_are_goals : (scope : List (List ℕ)) (a b : Stand) (ts : PlainTerms) → parts_placed scope (Goals a b) ts ≡ goals_placed scope ts
 parts_are_goals scope a b no_term = refl
 parts_are_goals scope a b (more_terms t ts) = refl
-
-or_false : (b : Bool) → (b || false) ≡ b
-or_false true = refl
-or_false false = refl
-
-or_comm : (a b : Bool) → (a || b) ≡ (b || a)
-or_comm true true = refl
-or_comm true false = refl
-or_comm false true = refl
-or_comm false false = refl
 
 state_same : (a b : List (List ℕ)) → HaveSame a b → (is_argument : Bool) (s : Option (StateForm × List ℕ)) → placed_state a is_argument s ≡ placed_state b is_argument s
 state_same a b h k None = refl
@@ -62,7 +56,7 @@ mutual
   pub goal_same : (a b : List (List ℕ)) → HaveSame a b → (t : PlainTerm) → goal_placed a t ≡ goal_placed b t
   goal_same a b h (at (Conj ts) l) = goals_same a b h ts
   goal_same a b h (at (Disj ts) l) = goals_same a b h ts
-  goal_same a b h (at (App w ts) l) = parts_same a b h (parts (connective w (count ts))) ts
+  goal_same a b h (at (App w ts) l) = parts_same a b h (parts (goal_form w (count ts))) ts
   goal_same a b h (at (Var x) l) = refl
   goal_same a b h (at (Int n) l) = refl
   goal_same a b h (at (Str s) l) = refl
@@ -70,6 +64,7 @@ mutual
   goal_same a b h (at (Tailed ts t) l) = refl
 
   parts_same : (a b : List (List ℕ)) → HaveSame a b → (p : Parts) (ts : PlainTerms) → parts_placed a p ts ≡ parts_placed b p ts
+  parts_same a b h Nothing ts = refl
   parts_same a b h (Goals m n) no_term = refl
   parts_same a b h (Goals m n) (more_terms t ts) = ap₂ (λ p q. p && q) (goal_same a b h t) (goals_same a b h ts)
   parts_same a b h Quantified no_term = refl
@@ -85,16 +80,12 @@ in_scope-put_all : (names : List (List ℕ)) (x : List ℕ) → in_scope (put_al
 in_scope-put_all names x = is_member-put_all [] names x
 
 in_scope-pushed : (sets : List (List (List ℕ))) (set : List (List ℕ)) (x : List ℕ) → in_scope (all_names (sets ++ set ∷ [])) x ≡ (in_scope (all_names sets) x || in_scope set x)
-in_scope-pushed [] set x = list_any-append (bytes_eq x) set [] ∙ or_false (in_scope set x)
+in_scope-pushed [] set x = list_any-append (bytes_eq x) set [] ∙ or-false (in_scope set x)
 in_scope-pushed (s ∷ sets) set x =
     list_any-append (bytes_eq x) s (all_names (sets ++ set ∷ []))
     ∙ ap (λ r. in_scope s x || r) (in_scope-pushed sets set x)
-    ∙ or_assoc (in_scope s x) (in_scope (all_names sets) x) (in_scope set x)
+    ∙ sym (or_assoc (in_scope s x) (in_scope (all_names sets) x) (in_scope set x))
     ∙ ap (λ r. r || in_scope set x) (sym (list_any-append (bytes_eq x) s (all_names sets)))
-  where
-    or_assoc : (p q r : Bool) → (p || (q || r)) ≡ (p || q || r)
-    or_assoc true q r = refl
-    or_assoc false q r = refl
 
 -- the names that a quantifier gives, as the innermost scope
 pub entered : (sets : List (List (List ℕ))) (names : List (List ℕ)) → HaveSame (all_names (sets ++ put_all [] names ∷ [])) (names ++ all_names sets)

@@ -1,11 +1,10 @@
 -- What definitions by cases say of slices by their length.
-use Rattle.std.proofs.Common.{◌≡◌, ℕ, List, [], ◌∷◌, None, Some, length, map, refl, arith, ◌≤◌, ◌<◌, ◌+◌, drop, get_or, drop-cons, add-one, ◌∙◌, take, zero, suc, ◌-◌}
+use Rattle.std.proofs.Common.{◌≡◌, ℕ, List, [], ◌∷◌, None, length, map, refl, arith, ◌≤◌, ◌<◌, ◌+◌, drop, get_or, drop-cons, add-one, ◌∙◌, take, zero, suc, ◌-◌}
 use Rattle.mc_term_data.specs.Plain.{plain_term, tms}
 use Rattle.std.proofs.Math.Seq.{take-nil, drop-nil}
 use denote.Param.Weighed.{most}
 use Rattle.mc_term_data.specs.declared.term.Term.{Term, size-Term}
-use Rattle.mc_clause_syntax.specs.Goals.{one_variable}
-use Rattle.mc_clause_syntax.specs.Clauses.{pair}
+use Rattle.mc_clause_syntax.specs.StateVariables.{one_variable}
 
 pub no_one_variable : (ts : List Term) → 2 ≤ length ts → None ≡ one_variable (tms (map plain_term ts))
 no_one_variable [] h = absurd (omega arith)
@@ -30,20 +29,3 @@ most_drop (suc n) (t ∷ ts) = omega (arith, most_drop n ts)
 -- behind its first element a slice is no larger
 pub most_rest : (ts : List Term) → most size-Term (take (length ts - 1) (drop 1 ts)) ≤ most size-Term ts
 most_rest ts = omega (arith, most_take (length ts - 1) (drop 1 ts), most_drop 1 ts)
-
-pub pair_of_two : (ts : List Term) (t u : Term) → 2 ≤ length ts → length ts < 3 → t ≡ get_or ts 0 t → u ≡ get_or ts 1 u → Some (plain_term t, plain_term u) ≡ pair (tms (map plain_term ts))
-pair_of_two [] t u lo hi e f = absurd (omega arith)
-pair_of_two (x ∷ []) t u lo hi e f = absurd (omega arith)
-pair_of_two (x ∷ y ∷ []) t u lo hi e f = rw (e, f) refl
-pair_of_two (x ∷ y ∷ z ∷ ts) t u lo hi e f = absurd (omega arith)
-
-pub pair_of_fewer : (ts : List Term) → length ts < 2 → None ≡ pair (tms (map plain_term ts))
-pair_of_fewer [] hi = refl
-pair_of_fewer (x ∷ []) hi = refl
-pair_of_fewer (x ∷ y ∷ ts) hi = absurd (omega arith)
-
-pub pair_of_more : (ts : List Term) → 3 ≤ length ts → None ≡ pair (tms (map plain_term ts))
-pair_of_more [] lo = absurd (omega arith)
-pair_of_more (x ∷ []) lo = absurd (omega arith)
-pair_of_more (x ∷ y ∷ []) lo = absurd (omega arith)
-pair_of_more (x ∷ y ∷ z ∷ ts) lo = refl

@@ -1,9 +1,10 @@
 -- The forms of clauses, and of the goal of a query (the Mercury manual: Clauses; State variables).
-use Rattle.std.specs.Prelude.{ℕ, Bool, false, not, nat_le, ◌&&◌, List, [], ◌∷◌, Option, Some, None, codes, if◌then◌else◌}
-use Rattle.std.specs.Str.{bytes_eq}
-use Rattle.mc_term_data.specs.Plain.{PlainTerm, PlainTerms, at, no_term, more_terms, App}
-use Rattle.mc_clause_syntax.specs.declared.connective.Stand.TheVariants.{Whole}
-use Rattle.mc_clause_syntax.specs.Goals.{is_goal, is_state, equivalences}
+use Rattle.std.specs.Prelude.{ℕ, Bool, false, not, nat_le, ◌&&◌, List, [], ◌∷◌, Option, Some, None, codes}
+use Rattle.mc_term_data.specs.Plain.{PlainTerm, at, App}
+use Rattle.mc_term_data.specs.Shapes.{operands}
+use Rattle.mc_clause_syntax.specs.declared.goal_form.Stand.TheVariants.{Whole}
+use Rattle.mc_clause_syntax.specs.StateVariables.{is_state}
+use Rattle.mc_clause_syntax.specs.Goals.{is_goal, equivalences}
 use Rattle.mc_clause_syntax.specs.States.{states_of, placed, goal_placed}
 
 -- at most eight equivalences stand inside one another
@@ -20,16 +21,6 @@ is_body scope t =
 abbrev pub is_headed : PlainTerm → Bool
 is_headed (at (App (w ∷ []) ts) l) = not (is_state (w ∷ []) ts)
 is_headed _ = false
-
--- the two terms that these are
-abbrev pub pair : PlainTerms → Option (PlainTerm × PlainTerm)
-pair (more_terms t (more_terms u no_term)) = Some (t, u)
-pair _ = None
-
--- the operands of an infix operator
-abbrev pub operands : List ℕ → PlainTerm → Option (PlainTerm × PlainTerm)
-operands name (at (App (w ∷ []) ts) l) = if bytes_eq name w then pair ts else None
-operands name _ = None
 
 -- The head of a predicate's clause, `p(..)`, or of a function's, `f(..) = R`, by the sides of the
 -- latter. Each state variable in it is in scope.

@@ -1,6 +1,7 @@
+pub mod GoalForms
+pub mod StateVariables
 pub mod Goals
 pub mod States
 pub mod Clauses
 pub mod Limits
-pub mod Found
-pub mod Scopes
+pub mod code

@@ -3,7 +3,7 @@ use Rattle.std.specs.Prelude.{ℕ, ◌+◌, Bool, false, nat_lt, ◌&&◌, ◌||
 use Rattle.std.specs.Str.{bytes_eq}
 use Rattle.std.specs.Set.{distinct_count}
 use Rattle.mc_term_data.specs.Plain.{PlainTerm, PlainTerms, at, no_term, more_terms, Var, App, Items, Tailed, Conj, Disj}
-use Rattle.mc_clause_syntax.specs.Goals.{state, both_versions}
+use Rattle.mc_clause_syntax.specs.StateVariables.{state, both_versions}
 
 abbrev pub greatest_arguments : ℕ
 greatest_arguments = 255

@@ -4,11 +4,12 @@ use Rattle.std.specs.Str.{bytes_eq}
 use Rattle.std.specs.Set.{is_member}
 use Rattle.mc_term_data.specs.Plain.{PlainTerm, PlainTerms, at, no_term, more_terms, App, Items, Tailed, Conj, Disj}
 use Rattle.mc_term_data.specs.Names.{count}
-use Rattle.mc_clause_syntax.specs.declared.connective.Parts.{Parts}
-use Rattle.mc_clause_syntax.specs.declared.connective.Parts.TheVariants.{Goals, Quantified, Sides, Arguments}
-use Rattle.mc_clause_syntax.specs.declared.connective.StateForm.{StateForm}
-use Rattle.mc_clause_syntax.specs.declared.connective.StateForm.TheVariants.{Both, Before, After}
-use Rattle.mc_clause_syntax.specs.Goals.{connective, parts, state}
+use Rattle.mc_clause_syntax.specs.declared.goal_form.Parts.{Parts}
+use Rattle.mc_clause_syntax.specs.declared.goal_form.Parts.TheVariants.{Nothing, Goals, Quantified, Sides, Arguments}
+use Rattle.mc_clause_syntax.specs.declared.state.StateForm.{StateForm}
+use Rattle.mc_clause_syntax.specs.declared.state.StateForm.TheVariants.{Both, Before, After}
+use Rattle.mc_clause_syntax.specs.GoalForms.{goal_form, parts}
+use Rattle.mc_clause_syntax.specs.StateVariables.{state}
 
 -- whether the names in scope have this one
 abbrev pub in_scope : List (List ℕ) → List ℕ → Bool
@@ -76,10 +77,11 @@ abbrev mutual
   pub goal_placed : List (List ℕ) → PlainTerm → Bool
   goal_placed scope (at (Conj ts) l) = goals_placed scope ts
   goal_placed scope (at (Disj ts) l) = goals_placed scope ts
-  goal_placed scope (at (App w ts) l) = parts_placed scope (parts (connective w (count ts))) ts
+  goal_placed scope (at (App w ts) l) = parts_placed scope (parts (goal_form w (count ts))) ts
   goal_placed scope _ = true
 
   pub parts_placed : List (List ℕ) → Parts → PlainTerms → Bool
+  parts_placed scope Nothing ts = true
   parts_placed scope (Goals a b) no_term = true
   parts_placed scope (Goals a b) (more_terms t ts) = goal_placed scope t && goals_placed scope ts
   parts_placed scope Quantified no_term = true

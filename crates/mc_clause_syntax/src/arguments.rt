@@ -7,7 +7,7 @@ use mc_term_data::{Node, Term};
 
 const GREATEST_ARGUMENTS: usize = 255;
 
-/// Whether a name in a clause's term has too many arguments; both versions of a state variable count as two. PlainDecl takes
+/// Whether a name in a clause's term has too many arguments; both versions of a state variable count as two. It takes
 /// stack for each level of the term, and no memory.
 pub fn clause_has_too_many_arguments(term: &Term) -> bool
     ensures { result ≡ too_many_arguments true (plain_term term.now) }
@@ -15,7 +15,7 @@ pub fn clause_has_too_many_arguments(term: &Term) -> bool
     has_too_many_arguments(term, true)
 }
 
-/// Whether a name in a declaration's term has too many arguments. PlainDecl takes stack for each level of the term, and no
+/// Whether a name in a declaration's term has too many arguments. It takes stack for each level of the term, and no
 /// memory.
 pub fn declaration_has_too_many_arguments(term: &Term) -> bool
     ensures { result ≡ too_many_arguments false (plain_term term.now) }

@@ -1,21 +1,20 @@
-ghost use Rattle.std.specs.Prelude.{◌≡◌, map, IfOk};
-ghost use Rattle.std.specs.Option.{option_map};
-ghost use Rattle.mc_term_data.specs.Plain.{plain_term, tms};
-ghost use Rattle.mc_clause_syntax.specs.Clauses.{pair, operands, is_headed, is_head, is_body, is_fact, is_rule, is_clause, is_query};
-ghost use Rattle.mc_clause_syntax.specs.Scopes.{all_names};
+ghost use Rattle.std.specs.Prelude.{◌≡◌, IfOk};
+ghost use Rattle.mc_term_data.specs.Plain.{plain_term};
+ghost use Rattle.mc_clause_syntax.specs.Clauses.{is_headed, is_head, is_body, is_fact, is_rule, is_clause, is_query};
+ghost use Rattle.mc_clause_syntax.specs.code.Scopes.{all_names};
 
-use crate::connective::Stand;
 use crate::equivalences::nests_at_most;
 use crate::goal::is_goal;
+use crate::goal_form::Stand;
 use crate::scope::Scope;
 use crate::state::is_state;
 use mc_base::Memory;
-use mc_term_data::{Node, Term};
+use mc_term_data::{Node, Term, operands};
 use std::alloc::Global;
 
 const GREATEST_EQUIVALENCES: u32 = 8;
 
-/// Whether an item's term is a clause. PlainDecl takes stack for each level of the term.
+/// Whether an item's term is a clause. It takes stack for each level of the term.
 pub fn is_clause(alloc: Global, term: &Term) -> Result<bool, Memory>
     ensures { IfOk result (λ holds. holds ≡ is_clause (plain_term term.now)) }
 {
@@ -25,7 +24,7 @@ pub fn is_clause(alloc: Global, term: &Term) -> Result<bool, Memory>
     }
 }
 
-/// Whether a term is the goal of a query. PlainDecl takes stack for each level of the term.
+/// Whether a term is the goal of a query. It takes stack for each level of the term.
 pub fn is_query(alloc: Global, term: &Term) -> Result<bool, Memory>
     ensures { IfOk result (λ holds. holds ≡ is_query (plain_term term.now)) }
 {
@@ -84,33 +83,5 @@ fn is_headed(term: &Term) -> bool
             _ => false,
         },
         _ => false,
-    }
-}
-
-/// The operands of an infix operator.
-pub fn operands<'a>(name: &[u8], term: &'a Term) -> Option<(&'a Term, &'a Term)>
-    ensures { option_map (λ p. (plain_term p.0.now, plain_term p.1.now)) result
-        ≡ operands name.now (plain_term term.now) }
-{
-    match &term.node {
-        Node::App(words, parts) => match words.as_slice() {
-            [word] if name == word.bytes() => pair(parts.as_slice()),
-            _ => None,
-        },
-        _ => None,
-    }
-}
-
-// The two terms that these are.
-#[tactic(auto, using(crate::proofs::Shapes::pair_of_two, crate::proofs::Shapes::pair_of_fewer, crate::proofs::Shapes::pair_of_more))]
-fn pair(terms: &[Term]) -> Option<(&Term, &Term)>
-    ensures { option_map (λ p. (plain_term p.0.now, plain_term p.1.now)) result
-        ≡ pair (tms (map plain_term terms.now)) }
-{
-    match terms {
-        [] => None,
-        [_] => None,
-        [left, right] => Some((left, right)),
-        [_, _, _, ..] => None,
     }
 }

@@ -2,7 +2,7 @@ ghost use Rattle.std.specs.Prelude.{◌≡◌, map, nat_le};
 ghost use Rattle.mc_term_data.specs.Plain.{plain_term, tms};
 ghost use Rattle.mc_clause_syntax.specs.Goals.{equivalences, equivalences_within, most_equivalences};
 
-use crate::connective::{Connective, Parts};
+use crate::goal_form::{GoalForm, Parts};
 use mc_term_data::{Node, Term, arity};
 
 /// Whether at most so many equivalences stand inside one another in a goal.
@@ -14,9 +14,9 @@ pub fn nests_at_most(term: &Term, limit: u32) -> bool
     match &term.node {
         Node::Conj(goals) | Node::Disj(goals) => all_nest_at_most(goals.as_slice(), limit),
         Node::App(name, parts) => {
-            let connective = Connective::of(name.as_slice(), arity(parts.as_slice()));
-            let own = connective.equivalences();
-            own <= limit && parts_nest_at_most(parts.as_slice(), connective.parts(), limit - own)
+            let form = GoalForm::of(name.as_slice(), arity(parts.as_slice()));
+            let own = form.equivalences();
+            own <= limit && parts_nest_at_most(parts.as_slice(), form.parts(), limit - own)
         }
         Node::Var(_) | Node::Int(_) | Node::Str(_) | Node::List(_, _) => true,
     }
@@ -29,7 +29,7 @@ fn parts_nest_at_most(parts: &[Term], form: Parts, limit: u32) -> bool
 {
     match form {
         Parts::Goals(_, _) | Parts::Quantified => all_nest_at_most(parts, limit),
-        Parts::Sides | Parts::Arguments => true,
+        Parts::Nothing | Parts::Sides | Parts::Arguments => true,
     }
 }
 

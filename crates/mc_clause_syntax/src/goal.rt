@@ -1,9 +1,9 @@
 ghost use Rattle.std.specs.Prelude.{◌≡◌, map};
-ghost use Rattle.mc_term_data.specs.Plain.{plain_term, tms};
+ghost use Rattle.mc_term_data.specs.Plain.{at, App, plain_term, tms};
 ghost use Rattle.mc_term_data.specs.Names.{count};
-ghost use Rattle.mc_clause_syntax.specs.Goals.{is_quantifiable, all_quantifiable, is_quantified_list, is_goal, is_goal_of, have_form, are_goals, are_disjuncts};
+ghost use Rattle.mc_clause_syntax.specs.Goals.{is_quantifiable, all_quantifiable, is_quantified_list, is_goal, have_form, are_goals, are_disjuncts};
 
-use crate::connective::{Connective, Parts, Stand};
+use crate::goal_form::{GoalForm, Parts, Stand};
 use crate::state::{is_both_versions, is_state};
 use mc_base::Text;
 use mc_term_data::{Node, Term, arity};
@@ -24,10 +24,10 @@ pub fn is_goal(term: &Term, stand: Stand) -> bool
 // Whether a name over parts is a goal that may stand there.
 #[cycle(goals)]
 fn is_goal_of(name: &[Text], parts: &[Term], stand: Stand) -> bool
-    ensures { result ≡ is_goal_of stand name.now (tms (map plain_term parts.now)) }
+    ensures { result ≡ is_goal stand (at (App name.now (tms (map plain_term parts.now))) 0) }
 {
-    let connective = Connective::of(name, arity(parts));
-    !is_state(name, parts) && connective.may_stand(stand) && have_form(parts, connective.parts())
+    let form = GoalForm::of(name, arity(parts));
+    !is_state(name, parts) && form.may_stand(stand) && have_form(parts, form.parts())
 }
 
 // Whether the parts of a goal are what they are to be.
@@ -44,7 +44,7 @@ fn have_form(parts: &[Term], form: Parts) -> bool
             [] => false,
             [list, goals @ ..] => is_quantified_list(list) && are_goals(goals, Stand::Whole),
         },
-        Parts::Sides | Parts::Arguments => true,
+        Parts::Nothing | Parts::Sides | Parts::Arguments => true,
     }
 }
 

@@ -1,9 +1,9 @@
 ghost use Rattle.std.specs.Prelude.{◌≡◌, ◌++◌, map, IfOk, OnOk};
 ghost use Rattle.mc_term_data.specs.Plain.{plain_term, tms};
 ghost use Rattle.mc_clause_syntax.specs.States.{quantified, goal_placed, parts_placed, goals_placed};
-ghost use Rattle.mc_clause_syntax.specs.Scopes.{all_names};
+ghost use Rattle.mc_clause_syntax.specs.code.Scopes.{all_names};
 
-use crate::connective::{Connective, Parts};
+use crate::goal_form::{GoalForm, Parts};
 use crate::scope::{Scope, quantified};
 use mc_base::Memory;
 use mc_term_data::{Node, Term, arity};
@@ -20,8 +20,8 @@ impl<'a> Scope<'a> {
         match &goal.node {
             Node::Conj(goals) | Node::Disj(goals) => self.places_goals(goals.as_slice()),
             Node::App(name, parts) => {
-                let connective = Connective::of(name.as_slice(), arity(parts.as_slice()));
-                self.places_parts(parts.as_slice(), connective.parts())
+                let form = GoalForm::of(name.as_slice(), arity(parts.as_slice()));
+                self.places_parts(parts.as_slice(), form.parts())
             }
             Node::Var(_) | Node::Int(_) | Node::Str(_) | Node::List(_, _) => Ok(true),
         }
@@ -38,6 +38,7 @@ impl<'a> Scope<'a> {
         ensures kept { OnOk result (self.new.sets.items ≡ self.old.sets.items) }
     {
         match form {
+            Parts::Nothing => Ok(true),
             Parts::Goals(_, _) => self.places_goals(parts),
             Parts::Quantified => match parts {
                 [] => Ok(true),

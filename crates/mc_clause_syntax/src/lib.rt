@@ -3,9 +3,9 @@
 
 mod arguments;
 mod clause;
-mod connective;
 mod equivalences;
 mod goal;
+mod goal_form;
 mod goal_states;
 mod scope;
 mod state;
@@ -14,10 +14,7 @@ mod variables;
 pub use arguments::{
     argument_count, clause_has_too_many_arguments, declaration_has_too_many_arguments,
 };
-pub use clause::{is_clause, is_query, operands};
-pub use connective::{Connective, Parts, Stand};
+pub use clause::{is_clause, is_query};
+pub use goal_form::{GoalForm, Parts, Stand};
 pub use state::is_state;
 pub use variables::has_too_many_variables;
-
-#[cfg(test)]
-mod tests;

@@ -1,12 +1,11 @@
 ghost use Rattle.std.specs.Prelude.{◌≡◌, ◌∷◌, ◌++◌, [], map, IfOk, OnOk};
 ghost use Rattle.mc_base.specs.NameSets.{put_all};
 ghost use Rattle.mc_term_data.specs.Plain.{plain_term, tms};
-ghost use Rattle.mc_clause_syntax.specs.Goals.{state};
+ghost use Rattle.mc_clause_syntax.specs.StateVariables.{state};
 ghost use Rattle.mc_clause_syntax.specs.States.{in_scope, name_of, state_name, quantified_in, quantified, states_of, states_of_all, placed_state, placed, all_placed};
-ghost use Rattle.mc_clause_syntax.specs.Scopes.{all_names};
+ghost use Rattle.mc_clause_syntax.specs.code.Scopes.{all_names};
 
-use crate::connective::StateForm;
-use crate::state::state;
+use crate::state::{StateForm, state};
 use mc_base::{Memory, NameSet, Text};
 use mc_term_data::{Node, Term};
 use std::alloc::Global;
@@ -19,7 +18,7 @@ pub struct Scope<'a> {
 }
 
 impl<'a> Scope<'a> {
-    /// No name is in scope. PlainDecl takes no memory.
+    /// No name is in scope. It takes no memory.
     pub fn empty(alloc: Global) -> Scope<'a>
         ensures { result.sets.items ≡ [] }
     {

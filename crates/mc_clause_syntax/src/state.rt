@@ -2,11 +2,21 @@ ghost use Rattle.std.specs.Prelude.{◌≡◌, map};
 ghost use Rattle.std.specs.Option.{option_map};
 ghost use Rattle.mc_term_data.specs.Plain.{plain_term, tms};
 ghost use Rattle.mc_term_data.specs.Names.{found};
-ghost use Rattle.mc_clause_syntax.specs.Goals.{one_variable, state, state_rows, both_versions, is_state};
+ghost use Rattle.mc_clause_syntax.specs.StateVariables.{one_variable, state, state_rows, both_versions, is_state};
 
-use crate::connective::StateForm;
 use mc_base::Text;
-use mc_term_data::{Node, Term};
+use mc_term_data::{Term, variable};
+
+/// What stands for a state variable.
+#[derive(Clone, Copy, Debug, PartialEq, Eq)]
+pub enum StateForm {
+    /// `!X`: both versions
+    Both,
+    /// `!.X`: the version before
+    Before,
+    /// `!:X`: the version after
+    After,
+}
 
 /// What a name over parts is as a state variable: which of its versions, and its name.
 pub fn state<'a>(name: &[Text], parts: &'a [Term]) -> Option<(StateForm, &'a [u8])>
@@ -28,17 +38,14 @@ fn one_variable(parts: &[Term]) -> Option<&[u8]>
     ensures { option_map (λ x. x.now) result ≡ one_variable (tms (map plain_term parts.now)) }
 {
     match parts {
-        [part] => match &part.node {
-            Node::Var(name) => Some(name.bytes()),
-            _ => None,
-        },
+        [part] => variable(part),
         [] => None,
         [_, _, ..] => None,
     }
 }
 
 // What stands for a state variable, by its name over one part.
-#[tactic(auto, unfolding(crate::specs::Goals::state_rows))]
+#[tactic(auto, unfolding(crate::specs::StateVariables::state_rows))]
 fn state_form(name: &[u8]) -> Option<StateForm>
     ensures { result ≡ found state_rows name.now 1 }
 {

@@ -1,7 +1,7 @@
 ghost use Rattle.std.specs.Prelude.{◌≡◌, ◌+◌, map, length, nat_lt, IfOk, OnOk};
 ghost use Rattle.mc_term_data.specs.Plain.{plain_term, tms};
 ghost use Rattle.mc_clause_syntax.specs.Limits.{variables, all_variables, greatest_variables, too_many_variables};
-ghost use Rattle.mc_clause_syntax.specs.Found.{with_variable, with_variables};
+ghost use Rattle.mc_clause_syntax.specs.code.Found.{with_variable, with_variables};
 
 use mc_base::{Memory, NameSet};
 use mc_term_data::{Node, Term};
@@ -9,7 +9,7 @@ use std::alloc::Global;
 
 const GREATEST_VARIABLES: usize = 4096;
 
-/// Whether a clause has too many variables. Each `_` is one, and so is a state variable. PlainDecl takes stack for each level of
+/// Whether a clause has too many variables. Each `_` is one, and so is a state variable. It takes stack for each level of
 /// the term.
 pub fn has_too_many_variables(alloc: Global, term: &Term) -> Result<bool, Memory>
     ensures { IfOk result (λ too_many. too_many ≡ too_many_variables (plain_term term.now)) }

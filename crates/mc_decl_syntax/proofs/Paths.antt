@@ -1,10 +1,11 @@
 -- Names that are taken from terms one after another.
 use Rattle.std.proofs.Common.{◌≡◌, List, [], ◌∷◌, ◌++◌, Option, Some, None, refl, ap, sym, append_assoc}
 use Rattle.std.specs.Option.{option_map}
+use Rattle.std.proofs.lemmas.List.{append-nil}
 use Rattle.mc_term_data.specs.Plain.{PlainTerm, PlainTerms, no_term, more_terms}
 use Rattle.mc_decl_syntax.specs.Plain.{Path}
 use Rattle.mc_decl_syntax.specs.Terms.{path, paths, joined}
-use Rattle.mc_decl_syntax.specs.Steps.{paths_with}
+use Rattle.mc_decl_syntax.specs.code.Steps.{paths_with}
 
 with_joined : (names : List Path) (p : Path) (more : Option (List Path)) → option_map (λ m. names ++ m) (joined (Some p) more) ≡ option_map (λ m. (names ++ (p ∷ [])) ++ m) more
 with_joined names p None = refl
@@ -15,10 +16,6 @@ with_path names t p ts e = rw (← e) (with_joined names p (paths ts))
 
 pub without_path : (names : List Path) (t : PlainTerm) (ts : PlainTerms) → None ≡ path t → paths_with names (more_terms t ts) ≡ None
 without_path names t ts e = rw (← e) refl
-
-append-nil : (xs : List Path) → xs ++ [] ≡ xs
-append-nil [] = refl
-append-nil (x ∷ xs) = ap (λ l. x ∷ l) (append-nil xs)
 
 pub all_paths : (names : List Path) → paths_with names no_term ≡ Some names
 all_paths names = ap Some (append-nil names)

@@ -7,7 +7,8 @@ use Rattle.mc_source.specs.declared.det.Det.{Det}
 use Rattle.mc_decl_syntax.specs.declared.keyword.Keyword.{Keyword}
 use Rattle.mc_decl_syntax.specs.declared.keyword.Keyword.TheVariants as K
 use Rattle.mc_decl_syntax.specs.Plain.{PlainDecl, ModuleStart, ModuleEnd, Interface, Implementation, Imports, UseOnly, Pred, Func, Mode, Pragma}
-use Rattle.mc_decl_syntax.specs.Terms.{word, is_word, is_the_word, has_none, path, pair, only, conjuncts, paths, declared_as}
+use Rattle.mc_term_data.specs.Shapes.{word, is_word, is_the_word, has_none, operands}
+use Rattle.mc_decl_syntax.specs.Terms.{path, only, conjuncts, paths, declared_as}
 use Rattle.mc_decl_syntax.specs.Types.{is_type, type_item}
 use Rattle.mc_decl_syntax.specs.Insts.{is_mode, are_modes, inst_item, mode_definition}
 
@@ -45,7 +46,7 @@ moded_as (Some p) = is_type p.0 && is_mode [] p.1
 
 -- an argument or a result with its mode, `T :: M`
 abbrev pub is_moded : PlainTerm → Bool
-is_moded t = moded_as (pair (codes "::") t)
+is_moded t = moded_as (operands (codes "::") t)
 
 abbrev pub plain_as : PlainTerm → Option (PlainTerm × PlainTerm) → Bool
 plain_as t None = is_type t
@@ -53,7 +54,7 @@ plain_as t (Some p) = false
 
 -- an argument or a result without a mode
 abbrev pub is_plain : PlainTerm → Bool
-is_plain t = plain_as t (pair (codes "::") t)
+is_plain t = plain_as t (operands (codes "::") t)
 
 abbrev pub are_moded : PlainTerms → Bool
 are_moded no_term = true
@@ -95,11 +96,12 @@ pred_item (Some p) = if is_pred p.0 (is_some p.1) then Some (Pred p.0 p.1) else 
 abbrev pub func_item : Option (PlainTerm × Option Det) → Option PlainDecl
 func_item None = None
 func_item (Some p) =
-    if is_func (pair (codes "=") p.0) (is_some p.1) then Some (Func p.0 p.1) else None
+    if is_func (operands (codes "=") p.0) (is_some p.1) then Some (Func p.0 p.1) else None
 
 abbrev pub further_mode : Option (PlainTerm × Option Det) → Option PlainDecl
 further_mode None = None
-further_mode (Some p) = if is_further p.0 (pair (codes "=") p.0) then Some (Mode p.0 p.1) else None
+further_mode (Some p) =
+    if is_further p.0 (operands (codes "=") p.0) then Some (Mode p.0 p.1) else None
 
 abbrev pub definition_or : PlainTerm → Option (PlainTerm × PlainTerm) → Option PlainDecl
 definition_or t (Some p) = mode_definition p
@@ -107,7 +109,7 @@ definition_or t None = further_mode (declared_as t)
 
 -- what stands behind the word `mode`
 abbrev pub mode_item : PlainTerm → Option PlainDecl
-mode_item t = definition_or t (pair (codes "==") t)
+mode_item t = definition_or t (operands (codes "==") t)
 
 -- a pragma without effect: `inline(..)` or `no_inline(..)`
 abbrev pub is_pragma : PlainTerm → Bool

@@ -4,7 +4,8 @@ use Rattle.std.specs.Str.{bytes_eq}
 use Rattle.std.specs.Set.{is_member}
 use Rattle.mc_term_data.specs.Plain.{PlainTerm, PlainTerms, at, no_term, more_terms, Var, App, Items, Tailed, Disj}
 use Rattle.mc_decl_syntax.specs.Plain.{PlainDecl, SameInst, BoundInst, ModeDef}
-use Rattle.mc_decl_syntax.specs.Terms.{is_the_word, has_none, has_one, pair, alternatives, parameters}
+use Rattle.mc_term_data.specs.Shapes.{is_the_word, has_none, has_one, operands}
+use Rattle.mc_decl_syntax.specs.Terms.{alternatives, parameters}
 
 abbrev mutual
   -- an inst: one of these parameters, what `bound` lists, or a name over insts
@@ -81,11 +82,11 @@ same_or_none None = None
 
 abbrev pub bound_or : PlainTerm → Option (PlainTerm × PlainTerm) → Option PlainDecl
 bound_or t (Some p) = bound_inst p
-bound_or t None = same_or_none (pair (codes "==") t)
+bound_or t None = same_or_none (operands (codes "==") t)
 
 -- what stands behind the word `inst`
 abbrev pub inst_item : PlainTerm → Option PlainDecl
-inst_item t = bound_or t (pair (codes "--->") t)
+inst_item t = bound_or t (operands (codes "--->") t)
 
 -- the definition of a mode, by the two sides of `==`
 abbrev pub mode_definition : PlainTerm × PlainTerm → Option PlainDecl

@@ -3,4 +3,4 @@ pub mod Terms
 pub mod Types
 pub mod Insts
 pub mod Declarations
-pub mod Steps
+pub mod code

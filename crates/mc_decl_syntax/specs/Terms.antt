@@ -1,68 +1,25 @@
--- What the forms of declarations ask of terms: names, pairs, heads of definitions (the Mercury
+-- What the forms of declarations ask of terms: paths, heads of definitions (the Mercury
 -- manual: Declarations).
 use Rattle.std.specs.Prelude.{ℕ, Bool, true, false, not, ◌&&◌, List, [], ◌∷◌, Option, Some, None, codes, if◌then◌else◌}
 use Rattle.std.specs.Option.{is_some, option_or}
 use Rattle.std.specs.Str.{bytes_eq}
 use Rattle.std.specs.Set.{is_member}
-use Rattle.mc_term_data.specs.Plain.{PlainTerm, PlainTerms, at, no_term, more_terms, Var, App, Conj, Disj}
+use Rattle.mc_term_data.specs.Plain.{PlainTerm, PlainTerms, at, no_term, more_terms, App, Conj, Disj}
 use Rattle.mc_term_data.specs.Names.{Row, row, found}
+use Rattle.mc_term_data.specs.Shapes.{is_word, is_the_word, has_none, one, variable, constant, operands}
 use Rattle.mc_source.specs.declared.det.Det.{Det}
 use Rattle.mc_source.specs.Determinism.{Determinism, erroneous, failure, det, semidet, multi, nondet, inferred}
 use Rattle.mc_decl_syntax.specs.Plain.{Path}
-
--- a name without qualifiers
-abbrev pub word : Path → Option (List ℕ)
-word (w ∷ []) = Some w
-word _ = None
-
-abbrev pub is_word : Path → Bool
-is_word (w ∷ []) = true
-is_word _ = false
-
--- this name, without qualifiers
-abbrev pub is_the_word : List ℕ → Path → Bool
-is_the_word name (w ∷ []) = bytes_eq w name
-is_the_word name _ = false
-
--- no terms
-abbrev pub has_none : PlainTerms → Bool
-has_none no_term = true
-has_none _ = false
-
--- one term
-abbrev pub has_one : PlainTerms → Bool
-has_one (more_terms t no_term) = true
-has_one _ = false
-
--- the one term that these are
-abbrev pub one : PlainTerms → Option PlainTerm
-one (more_terms t no_term) = Some t
-one _ = None
-
--- the two terms that these are
-abbrev pub two : PlainTerms → Option (PlainTerm × PlainTerm)
-two (more_terms a (more_terms b no_term)) = Some (a, b)
-two _ = None
 
 -- a name without arguments, by its parts
 abbrev pub path : PlainTerm → Option Path
 path (at (App w ts) l) = if has_none ts then Some w else None
 path _ = None
 
--- a name without qualifiers and arguments
-abbrev pub constant : PlainTerm → Option (List ℕ)
-constant (at (App w ts) l) = if has_none ts then word w else None
-constant _ = None
-
 -- what stands behind the `:-` of a declaration
 abbrev pub declared_part : PlainTerm → Option PlainTerm
 declared_part (at (App w ts) l) = if is_the_word (codes ":-") w then one ts else None
 declared_part _ = None
-
--- the two parts of this name, which has no qualifiers
-abbrev pub pair : List ℕ → PlainTerm → Option (PlainTerm × PlainTerm)
-pair name (at (App w ts) l) = if is_the_word name w then two ts else None
-pair name _ = None
 
 -- the one part of a name
 abbrev pub only : PlainTerm → Option PlainTerm
@@ -87,11 +44,6 @@ joined _ _ = None
 abbrev pub paths : PlainTerms → Option (List Path)
 paths no_term = Some []
 paths (more_terms t ts) = joined (path t) (paths ts)
-
--- the name of a variable
-abbrev pub variable : PlainTerm → Option (List ℕ)
-variable (at (Var x) l) = Some x
-variable _ = None
 
 abbrev pub are_variables : PlainTerms → Bool
 are_variables no_term = true
@@ -162,4 +114,4 @@ split_is t (Some p) = with_determinism p.0 (determinism p.1)
 -- A declaration, and its determinism where `is D` stands behind it; none where what stands behind
 -- `is` is no determinism.
 abbrev pub declared_as : PlainTerm → Option (PlainTerm × Option Det)
-declared_as t = split_is t (pair (codes "is") t)
+declared_as t = split_is t (operands (codes "is") t)

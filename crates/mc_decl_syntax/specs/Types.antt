@@ -3,7 +3,8 @@ use Rattle.std.specs.Prelude.{Bool, true, false, ◌&&◌, Option, Some, None, c
 use Rattle.std.specs.Option.{is_some}
 use Rattle.mc_term_data.specs.Plain.{PlainTerm, PlainTerms, at, no_term, more_terms, Var, App, Items, Tailed}
 use Rattle.mc_decl_syntax.specs.Plain.{PlainDecl, AbstractType, UnionType, SameType}
-use Rattle.mc_decl_syntax.specs.Terms.{is_word, has_none, has_one, pair, alternatives, parameters}
+use Rattle.mc_term_data.specs.Shapes.{is_word, has_none, has_one, operands}
+use Rattle.mc_decl_syntax.specs.Terms.{alternatives, parameters}
 
 abbrev mutual
   -- a type: a variable, or a name over types
@@ -27,7 +28,7 @@ field_of t (Some p) = is_field_name p.0 && is_type p.1
 
 -- an argument of a constructor: a type, with the name of a field or without
 abbrev pub is_field : PlainTerm → Bool
-is_field t = field_of t (pair (codes "::") t)
+is_field t = field_of t (operands (codes "::") t)
 
 abbrev pub are_fields : PlainTerms → Bool
 are_fields no_term = true
@@ -62,8 +63,8 @@ same_or_abstract t None = abstract_type t
 
 abbrev pub union_or : PlainTerm → Option (PlainTerm × PlainTerm) → Option PlainDecl
 union_or t (Some p) = union_type p
-union_or t None = same_or_abstract t (pair (codes "==") t)
+union_or t None = same_or_abstract t (operands (codes "==") t)
 
 -- what stands behind the word `type`
 abbrev pub type_item : PlainTerm → Option PlainDecl
-type_item t = union_or t (pair (codes "--->") t)
+type_item t = union_or t (operands (codes "--->") t)

@@ -16,7 +16,7 @@ use mc_term_data::Term;
 use std::alloc::Global;
 
 /// What a declaration declares, by the term behind `:-`; None where it has no form. The terms of the answer are those
-/// of the given term, moved. PlainDecl takes stack for each level of the term.
+/// of the given term, moved. It takes stack for each level of the term.
 pub fn declaration(alloc: Global, term: Term) -> Result<Option<Decl>, Memory>
     ensures { IfOk result (λ item. option_map plain_item item ≡ declaration (plain_term term)) }
 {

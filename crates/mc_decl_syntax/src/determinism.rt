@@ -4,13 +4,12 @@ ghost use Rattle.mc_term_data.specs.Plain.{plain_term};
 ghost use Rattle.mc_term_data.specs.Names.{found};
 ghost use Rattle.mc_decl_syntax.specs.Terms.{determinism, common_determinisms, rare_determinisms, declared_as};
 
-use crate::name::constant;
 use crate::parts::into_pair;
 use mc_source::det::{Det, Most};
-use mc_term_data::Term;
+use mc_term_data::{Term, constant};
 
 /// A declaration, and its determinism where `is D` stands behind it; None where what stands behind `is` is no
-/// determinism. PlainDecl takes no memory.
+/// determinism. It takes no memory.
 pub fn declared_as(term: Term) -> Option<(Term, Option<Det>)>
     ensures { option_map (λ p. (plain_term p.0, p.1)) result ≡ declared_as (plain_term term) }
 {

@@ -3,11 +3,10 @@ ghost use Rattle.std.specs.Option.{option_map, is_some};
 ghost use Rattle.mc_term_data.specs.Plain.{plain_term};
 ghost use Rattle.mc_decl_syntax.specs.Terms as T;
 
-use crate::name::{has_one, is_the_word};
 use crate::parts::into_only;
-use mc_term_data::{Node, Term};
+use mc_term_data::{Node, Term, has_one, is_the_word};
 
-/// Whether a term is a declaration, `:- D`. PlainDecl takes no memory.
+/// Whether a term is a declaration, `:- D`. It takes no memory.
 #[tactic(auto, using(crate::proofs::Views::one_where))]
 pub fn is_declaration(term: &Term) -> bool
     ensures { result ≡ is_some (T.declared_part (plain_term term.now)) }
@@ -18,7 +17,7 @@ pub fn is_declaration(term: &Term) -> bool
     }
 }
 
-/// What stands behind the `:-` of a declaration; None where the term is none. PlainDecl takes no memory.
+/// What stands behind the `:-` of a declaration; None where the term is none. It takes no memory.
 pub fn declared_part(term: Term) -> Option<Term>
     ensures { option_map plain_term result ≡ T.declared_part (plain_term term) }
 {

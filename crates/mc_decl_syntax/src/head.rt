@@ -1,11 +1,11 @@
 ghost use Rattle.std.specs.Prelude.{◌≡◌, true, map, cond, None, IfOk, IsTrue};
 ghost use Rattle.mc_term_data.specs.Plain.{PlainTerms, more_terms, plain_term, tms};
-ghost use Rattle.mc_decl_syntax.specs.Terms.{variable, is_distinct, parameters_in, parameters};
-ghost use Rattle.mc_decl_syntax.specs.Steps.{parameters_with};
+ghost use Rattle.mc_term_data.specs.Shapes.{variable};
+ghost use Rattle.mc_decl_syntax.specs.Terms.{is_distinct, parameters_in, parameters};
+ghost use Rattle.mc_decl_syntax.specs.code.Steps.{parameters_with};
 
-use crate::name::{is_word, variable};
 use mc_base::{Memory, NameSet};
-use mc_term_data::{Node, Term};
+use mc_term_data::{Node, Term, is_word, variable};
 use std::alloc::Global;
 
 /// The parameters of a definition, by its head, which is a name without qualifiers over distinct variables; None where

@@ -3,11 +3,10 @@ ghost use Rattle.mc_term_data.specs.Plain.{plain_term, tms};
 ghost use Rattle.mc_decl_syntax.specs.Terms.{alternatives};
 ghost use Rattle.mc_decl_syntax.specs.Insts.{is_inst, is_inst_over, are_insts, are_bound, is_symbol, are_symbols, is_mode};
 
-use crate::name::{has_none, has_one, is_the_word};
 use mc_base::NameSet;
-use mc_term_data::{Node, Term};
+use mc_term_data::{Node, Term, has_none, has_one, is_the_word};
 
-/// Whether a term is an inst over these parameters: one of them, what `bound` lists, or a name over insts. PlainDecl takes
+/// Whether a term is an inst over these parameters: one of them, what `bound` lists, or a name over insts. It takes
 /// stack for each level of the term.
 #[cycle(insts)]
 pub fn is_inst(parameters: &NameSet, term: &Term) -> bool

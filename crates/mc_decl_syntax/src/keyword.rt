@@ -3,8 +3,7 @@ ghost use Rattle.mc_term_data.specs.Plain.{plain_term};
 ghost use Rattle.mc_term_data.specs.Names.{found};
 ghost use Rattle.mc_decl_syntax.specs.Declarations.{keyword, keyword_over, section_words, module_words, declaring_words};
 
-use crate::name::word;
-use mc_term_data::{Node, Term, arity};
+use mc_term_data::{Node, Term, arity, word};
 
 /// The words that declarations begin with.
 #[derive(Clone, Copy, Debug, PartialEq, Eq)]

@@ -10,7 +10,6 @@ mod head;
 mod insts;
 mod item;
 mod keyword;
-mod name;
 mod parts;
 mod signature;
 mod types;
@@ -18,8 +17,4 @@ mod types;
 pub use declaring::declaration;
 pub use directive::{declared_part, is_declaration};
 pub use item::Decl;
-pub use name::{has_none, is_the_word, pair};
 pub use signature::are_moded;
-
-#[cfg(test)]
-mod tests;

@@ -1,20 +1,20 @@
 ghost use Rattle.std.specs.Prelude.{◌≡◌, true, [], ◌∷◌, map, IfOk, MatchResult};
 ghost use Rattle.std.specs.Option.{option_map, is_some};
 ghost use Rattle.mc_term_data.specs.Plain.{plain_term, tms};
-ghost use Rattle.mc_decl_syntax.specs.Terms.{one, two, pair, path, paths, only, alternatives, conjuncts};
+ghost use Rattle.mc_term_data.specs.Shapes.{one, two, operands};
+ghost use Rattle.mc_decl_syntax.specs.Terms.{path, paths, only, alternatives, conjuncts};
 
-use crate::name::{has_none, pair};
 use mc_base::{Memory, Row, Text};
-use mc_term_data::{Node, Term};
+use mc_term_data::{Node, Term, has_none, operands};
 use std::alloc::Global;
 
-/// The two parts of a name that has no qualifiers, or else the term as it was. PlainDecl takes no memory.
+/// The two parts of a name that has no qualifiers, or else the term as it was. It takes no memory.
 pub fn into_pair(name: &[u8], term: Term) -> Result<(Term, Term), Term>
     ensures { MatchResult result
-        (λ p. Some (plain_term p.0, plain_term p.1) ≡ pair name.now (plain_term term))
-        (λ t. (t ≡ term) × (None ≡ pair name.now (plain_term term))) }
+        (λ p. Some (plain_term p.0, plain_term p.1) ≡ operands name.now (plain_term term))
+        (λ t. (t ≡ term) × (None ≡ operands name.now (plain_term term))) }
 {
-    if pair(name, &term).is_none() {
+    if operands(name, &term).is_none() {
         return Err(term);
     }
     match term.into_node() {
@@ -35,7 +35,7 @@ fn into_two(mut terms: Row<Term>) -> (Term, Term)
     }
 }
 
-/// The one part of a name. PlainDecl takes no memory.
+/// The one part of a name. It takes no memory.
 pub fn into_only(term: Term) -> Option<Term>
     ensures { option_map plain_term result ≡ only (plain_term term) }
 {
@@ -53,7 +53,7 @@ fn into_one(mut terms: Row<Term>) -> Option<Term>
     if terms.len() == 1 { terms.pop() } else { None }
 }
 
-/// The parts of a name without arguments. PlainDecl takes no memory.
+/// The parts of a name without arguments. It takes no memory.
 pub fn into_path(term: Term) -> Option<Row<Text>>
     ensures { result ≡ path (plain_term term) }
 {

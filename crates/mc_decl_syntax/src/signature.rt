@@ -1,14 +1,13 @@
 ghost use Rattle.std.specs.Prelude.{◌≡◌, map, codes};
 ghost use Rattle.mc_term_data.specs.Plain.{plain_term, tms};
-ghost use Rattle.mc_decl_syntax.specs.Terms.{pair};
+ghost use Rattle.mc_term_data.specs.Shapes.{operands};
 ghost use Rattle.mc_decl_syntax.specs.Declarations.{is_moded, are_moded, is_plain, are_plain, is_pred, is_func, is_func_over, is_further, has_modes, is_pragma};
 ghost use Rattle.mc_decl_syntax.specs.Insts.{are_modes};
 
 use crate::insts::is_mode;
-use crate::name::{has_none, is_the_word, is_word, pair};
 use crate::types::is_type;
 use mc_base::NameSet;
-use mc_term_data::{Node, Term};
+use mc_term_data::{Node, Term, has_none, is_the_word, is_word, operands};
 use std::alloc::Global;
 
 /// Whether a term is a predicate over its arguments: each has a mode, or none has, and then no determinism stands
@@ -29,9 +28,9 @@ pub fn is_pred(alloc: Global, term: &Term, has_determinism: bool) -> bool
 /// Whether a term is a function over its arguments, with its result: each of these has a mode, or none has, and then
 /// no determinism stands behind it.
 pub fn is_func(alloc: Global, term: &Term, has_determinism: bool) -> bool
-    ensures { result ≡ is_func (pair (codes "=") (plain_term term.now)) has_determinism }
+    ensures { result ≡ is_func (operands (codes "=") (plain_term term.now)) has_determinism }
 {
-    match pair(b"=", term) {
+    match operands(b"=", term) {
         Some((function, result_term)) => {
             is_func_over(alloc, function, result_term, has_determinism)
         }
@@ -40,7 +39,9 @@ pub fn is_func(alloc: Global, term: &Term, has_determinism: bool) -> bool
 }
 
 fn is_func_over(alloc: Global, function: &Term, result_term: &Term, has_determinism: bool) -> bool
-    ensures { result ≡ is_func_over (plain_term function.now) (plain_term result_term.now) has_determinism }
+    ensures {
+        result ≡ is_func_over (plain_term function.now) (plain_term result_term.now) has_determinism
+    }
 {
     match &function.node {
         Node::App(name, arguments) => {
@@ -55,9 +56,11 @@ fn is_func_over(alloc: Global, function: &Term, result_term: &Term, has_determin
 
 /// Whether a term is a further mode of a predicate or of a function.
 pub fn is_further(alloc: Global, term: &Term) -> bool
-    ensures { result ≡ is_further (plain_term term.now) (pair (codes "=") (plain_term term.now)) }
+    ensures {
+        result ≡ is_further (plain_term term.now) (operands (codes "=") (plain_term term.now))
+    }
 {
-    match pair(b"=", term) {
+    match operands(b"=", term) {
         Some((function, mode)) => has_modes(alloc, function) && is_mode(&NameSet::new(alloc), mode),
         None => has_modes(alloc, term),
     }
@@ -102,7 +105,7 @@ pub fn are_moded(alloc: Global, terms: &[Term]) -> bool
 fn is_moded(alloc: Global, term: &Term) -> bool
     ensures { result ≡ is_moded (plain_term term.now) }
 {
-    match pair(b"::", term) {
+    match operands(b"::", term) {
         Some((of_type, mode)) => is_type(of_type) && is_mode(&NameSet::new(alloc), mode),
         None => false,
     }
@@ -124,7 +127,7 @@ fn are_plain(terms: &[Term]) -> bool
 fn is_plain(term: &Term) -> bool
     ensures { result ≡ is_plain (plain_term term.now) }
 {
-    pair(b"::", term).is_none() && is_type(term)
+    operands(b"::", term).is_none() && is_type(term)
 }
 
 /// Whether a term is a pragma without effect, `inline(..)` or `no_inline(..)`.

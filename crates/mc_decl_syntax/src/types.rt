@@ -3,10 +3,9 @@ ghost use Rattle.mc_term_data.specs.Plain.{plain_term, tms};
 ghost use Rattle.mc_decl_syntax.specs.Terms.{alternatives};
 ghost use Rattle.mc_decl_syntax.specs.Types.{is_type, are_types, is_field_name, is_field, are_fields, is_constructor, are_constructors};
 
-use crate::name::{has_none, has_one, is_word, pair};
-use mc_term_data::{Node, Term};
+use mc_term_data::{Node, Term, has_none, has_one, is_word, operands};
 
-/// Whether a term is a type: a variable, or a name over types. PlainDecl takes stack for each level of the term.
+/// Whether a term is a type: a variable, or a name over types. It takes stack for each level of the term.
 #[cycle(types)]
 pub fn is_type(term: &Term) -> bool
     ensures { result ≡ is_type (plain_term term.now) }
@@ -84,7 +83,7 @@ fn are_fields(terms: &[Term]) -> bool
 fn is_field(term: &Term) -> bool
     ensures { result ≡ is_field (plain_term term.now) }
 {
-    match pair(b"::", term) {
+    match operands(b"::", term) {
         Some((name, field)) => is_field_name(name) && is_type(field),
         None => is_type(term),
     }

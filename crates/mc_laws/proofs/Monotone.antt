@@ -3,7 +3,8 @@ use Rattle.std.proofs.Common.{◌≡◌, ◌≤◌, Bool, true, false, not, ◌&
 use Rattle.std.proofs.lemmas.Bool.{and_parts, and_from}
 use Rattle.mc_source.specs.declared.det.Most.{Most}
 use Rattle.mc_source.specs.declared.det.Most.TheVariants.{Zero, One, Many}
-use Rattle.mc_source.specs.Determinism.{Determinism, erroneous, failure, det, semidet, multi, nondet, rank, Allows, conj, disj, ite, negated, pruned, ConjIsMonotone, DisjIsMonotone, IteIsMonotone, NegatedIsMonotone, PrunedIsMonotone, AllowsItself, AllowsInTurn, AllowsOneWay}
+use Rattle.mc_source.specs.Determinism.{Determinism, erroneous, failure, det, semidet, multi, nondet, rank, Allows, conj, disj, ite, negated, pruned}
+use Rattle.mc_laws.specs.DeterminismLaws.{ConjIsMonotone, DisjIsMonotone, IteIsMonotone, NegatedIsMonotone, PrunedIsMonotone, AllowsItself, AllowsInTurn, AllowsOneWay}
 
 abbrev implies : Bool → Bool → Bool
 implies a b = not a || b

@@ -1,9 +1,10 @@
--- The plain views of types and of terms have inverses.
+-- The plain views of types and of terms have inverses, as that of values has.
 use Rattle.std.proofs.Common.{◌≡◌, List, [], ◌∷◌, map, refl, sym, ap, ap₂, ◌∙◌, subst}
-use Rattle.mc_program.specs.Values.{Val, int, char, str, con, state}
+use Rattle.mc_program.specs.Values.{Val, int, char, str, con, state, plain_value}
+use Rattle.mc_program.proofs.Views.{plain_value-injective}
 use Rattle.mc_program.specs.Programs.{TypeTerm, int_type, char_type, string_type, state_type, variable_type, union_type, TypeTerms, no_types, type_then, Expression, variable, constant, made, applied, Expressions, no_expressions, expression_then, expressions}
 use Rattle.mc_program.specs.PlainPrograms.{type_terms, plain_type, plain_type_step, plain_expression, plain_expression_step}
-use Rattle.mc_laws.specs.Laws.{PlainTypesAreExact, PlainTermsAreExact}
+use Rattle.mc_laws.specs.Laws.{PlainIsExact, PlainTypesAreExact, PlainTermsAreExact}
 use Rattle.mc_program.specs.declared.ty.Ty.{Ty}
 use Rattle.mc_program.specs.declared.ty.Ty.TheOpen as T
 use Rattle.mc_program.specs.declared.ty.Ty.TheViews.{roll-Ty}
@@ -12,6 +13,9 @@ use Rattle.mc_program.specs.declared.expr.Expr.{Expr}
 use Rattle.mc_program.specs.declared.expr.Expr.TheOpen as E
 use Rattle.mc_program.specs.declared.expr.Expr.TheViews.{roll-Expr}
 use Rattle.mc_program.specs.declared.expr.Expr.TheFolds.{ind-Expr, fold-roll-Expr, map-Expr}
+
+pub plain_is_exact : PlainIsExact
+plain_is_exact v w = (plain_value-injective v w, (λ e. ap plain_value e))
 
 -- the type of which the data is the view
 abbrev mutual

@@ -1,3 +1,4 @@
+pub mod DeterminismLaws
 pub mod Examples
 pub mod ExamplesOfBranches
 pub mod ExamplesOfBuiltins

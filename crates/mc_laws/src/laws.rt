@@ -3,7 +3,7 @@ ghost use Rattle.mc_laws.specs.Laws.{GoalsStay, CallsStay, NoGoalIsBoth, NoCallI
 ghost use Rattle.mc_laws.specs.Proper.{IncludedSets};
 ghost use Rattle.mc_laws.specs.FlatLaws.{FlatGoalsCarry};
 ghost use Rattle.mc_laws.specs.PredicateLaws.{PredicatesCarry};
-ghost use Rattle.mc_source.specs.Determinism.{ConjIsMonotone, DisjIsMonotone, IteIsMonotone, NegatedIsMonotone, PrunedIsMonotone, AllowsItself, AllowsInTurn, AllowsOneWay};
+ghost use Rattle.mc_laws.specs.DeterminismLaws.{ConjIsMonotone, DisjIsMonotone, IteIsMonotone, NegatedIsMonotone, PrunedIsMonotone, AllowsItself, AllowsInTurn, AllowsOneWay};
 
 /// What is true, or false, at a stage is so at every later one.
 pub fn stages_stay()

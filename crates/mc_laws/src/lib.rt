@@ -4,4 +4,8 @@
 pub mod examples;
 pub mod laws;
 #[cfg(test)]
+mod copy_tests;
+#[cfg(test)]
+mod det_tests;
+#[cfg(test)]
 mod tests;

@@ -1,7 +1,6 @@
 -- The plain view of values has an inverse, and how it computes.
 use Rattle.std.proofs.Common.{◌≡◌, ℕ, List, [], ◌∷◌, map, refl, sym, ap, ap₂, ◌∙◌, subst}
 use Rattle.mc_program.specs.Values.{Val, int, char, str, con, state, Vals, no_vals, val_then, vals, listed, plain_value, plain_value_step}
-use Rattle.mc_laws.specs.Laws.{PlainIsExact}
 use Rattle.mc_program.specs.declared.value.Value.{Value, Con}
 use Rattle.mc_program.specs.declared.value.Value.TheOpen as V
 use Rattle.mc_program.specs.declared.value.Value.TheViews.{roll-Value}
@@ -42,9 +41,6 @@ is_held = ind-Value IsHeld (λ x y is.
 -- values with one plain view are one value
 pub plain_value-injective : (v w : Value) → plain_value v ≡ plain_value w → v ≡ w
 plain_value-injective v w e = sym (is_held v) ∙ ap held e ∙ is_held w
-
-pub plain_is_exact : PlainIsExact
-plain_is_exact v w = (plain_value-injective v w, (λ e. ap plain_value e))
 
 -- the plain view of a constructor
 pub plain_value-Con : (s : ℕ) (args : List Value) → plain_value (Con s args) ≡ con s (vals (map plain_value args))

@@ -1,6 +1,6 @@
 -- Determinisms: whether a goal can fail and at most how many answers it has, from those of its
 -- parts, row by row. (Mercury Language Reference Manual: Determinism.)
-use Rattle.std.specs.Prelude.{ℕ, ◌≤◌, ◌≡◌, Bool, true, false, not, ◌&&◌, ◌||◌, IsTrue, if◌then◌else◌}
+use Rattle.std.specs.Prelude.{ℕ, ◌≤◌, Bool, true, false, not, ◌&&◌, ◌||◌, IsTrue, if◌then◌else◌}
 use Rattle.mc_source.specs.declared.det.Det.{Det}
 use Rattle.mc_source.specs.declared.det.Most.{Most}
 use Rattle.mc_source.specs.declared.det.Most.TheVariants.{Zero, One, Many}
@@ -117,31 +117,3 @@ rank Many = 2
 -- many answers as D.
 abbrev pub Allows : (declared inferred : Determinism) → Type 0
 Allows d i = (IsTrue i.can_fail → IsTrue d.can_fail) × (rank i.most ≤ rank d.most)
-
--- the tables are monotone: what allows the parts' determinisms has a value that allows the whole's
-abbrev pub ConjIsMonotone : Type 0
-ConjIsMonotone = (a b c d : Determinism) → Allows c a → Allows d b → Allows (conj c d) (conj a b)
-
-abbrev pub DisjIsMonotone : Type 0
-DisjIsMonotone = (a b c d : Determinism) → Allows c a → Allows d b → Allows (disj c d) (disj a b)
-
-abbrev pub IteIsMonotone : Type 0
-IteIsMonotone =
-    (a b c d e f : Determinism)
-    → Allows d a → Allows e b → Allows f c → Allows (ite d e f) (ite a b c)
-
-abbrev pub NegatedIsMonotone : Type 0
-NegatedIsMonotone = (a b : Determinism) → Allows b a → Allows (negated b) (negated a)
-
-abbrev pub PrunedIsMonotone : Type 0
-PrunedIsMonotone = (a b : Determinism) → Allows b a → Allows (pruned b) (pruned a)
-
--- allowing is an order
-abbrev pub AllowsItself : Type 0
-AllowsItself = (a : Determinism) → Allows a a
-
-abbrev pub AllowsInTurn : Type 0
-AllowsInTurn = (a b c : Determinism) → Allows b a → Allows c b → Allows c a
-
-abbrev pub AllowsOneWay : Type 0
-AllowsOneWay = (a b : Determinism) → Allows b a → Allows a b → a ≡ b

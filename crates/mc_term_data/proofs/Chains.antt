@@ -3,7 +3,8 @@ use Rattle.std.proofs.Common.{◌≡◌, ◌≤◌, ◌<◌, List, [], ◌∷◌
 use Rattle.std.proofs.lemmas.List.{map-append}
 use denote.Bor.{Bor}
 use Rattle.mc_term_data.specs.declared.term.Term.{Term}
-use Rattle.mc_term_data.specs.Plain.{PlainTerm, depth, last_part, plain_term}
+use Rattle.mc_term_data.specs.Plain.{PlainTerm, depth, plain_term}
+use Rattle.mc_term_data.specs.code.LastParts.{last_part}
 use Rattle.mc_term_data.proofs.Depths.{last_shallower}
 
 -- The first of these terms is v, each other one is the last part of the one before it, and t is that of the last one.

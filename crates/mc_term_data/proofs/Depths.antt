@@ -3,7 +3,8 @@ use Rattle.std.proofs.Common.{◌≡◌, ℕ, ◌+◌, ◌-◌, ◌≤◌, ◌<�
 use Rattle.std.proofs.lemmas.List.{take_more, map-append}
 use Rattle.mc_term_data.proofs.Lasts.{plain_front_of}
 use Rattle.mc_term_data.specs.declared.term.Term.{Term}
-use Rattle.mc_term_data.specs.Plain.{PlainTerm, at, Var, Int, Str, App, Items, Tailed, Conj, Disj, PlainTerms, no_term, more_terms, tms, depth, deepest, last_from, last_term, last_part, plain_term, plain_terms}
+use Rattle.mc_term_data.specs.Plain.{PlainTerm, at, Var, Int, Str, App, Items, Tailed, Conj, Disj, PlainTerms, no_term, more_terms, tms, depth, deepest, plain_term, plain_terms}
+use Rattle.mc_term_data.specs.code.LastParts.{last_from, last_term, last_part}
 
 -- the depth of the deepest of some terms
 abbrev pub deepest_of : List Term → ℕ

@@ -2,7 +2,8 @@
 use Rattle.std.proofs.Common.{◌≡◌, ℕ, zero, suc, ◌+◌, ◌-◌, ◌≤◌, ◌<◌, ◌↔◌, Bool, IsTrue, List, [], ◌∷◌, ◌++◌, length, map, take, get_or, Some, None, refl, ap, ap₂, sym, ◌∙◌, arith}
 use Rattle.std.proofs.lemmas.List.{take_more, take_all, map-append, take-map, length-map}
 use Rattle.mc_term_data.specs.declared.term.Term.{Term}
-use Rattle.mc_term_data.specs.Plain.{PlainTerm, no_term, tms, last_from, last_term, plain_term, plain_terms}
+use Rattle.mc_term_data.specs.Plain.{PlainTerm, no_term, tms, plain_term, plain_terms}
+use Rattle.mc_term_data.specs.code.LastParts.{last_from, last_term}
 
 pub tms_same : (ts us : List PlainTerm) → tms ts ≡ tms us → ts ≡ us
 tms_same [] [] e = refl

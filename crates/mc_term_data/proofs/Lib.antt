@@ -2,3 +2,4 @@ mod Counts
 pub mod Chains
 pub mod Depths
 pub mod Lasts
+pub mod Shapes

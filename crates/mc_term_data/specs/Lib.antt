@@ -1,2 +1,4 @@
 pub mod Plain
 pub mod Names
+pub mod Shapes
+pub mod code

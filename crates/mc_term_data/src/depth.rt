@@ -1,5 +1,6 @@
 ghost use Rattle.std.specs.Prelude.{◌≡◌, ◌+◌, ◌-◌, ◌^◌, min, max, Some, None};
-ghost use Rattle.mc_term_data.specs.Plain.{PlainTerm, plain_term, plain_terms, last_term, last_part, depth as depth_of, deepest};
+ghost use Rattle.mc_term_data.specs.Plain.{PlainTerm, plain_term, plain_terms, depth as depth_of, deepest};
+ghost use Rattle.mc_term_data.specs.code.LastParts.{last_term, last_part};
 
 use crate::term::{Node, Term};
 use mc_base::Row;

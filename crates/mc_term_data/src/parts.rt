@@ -4,7 +4,7 @@ ghost use Rattle.mc_term_data.specs.Names.{count};
 
 use crate::term::Term;
 
-/// How many parts these are. PlainDecl takes no memory.
+/// How many parts these are. It takes no memory.
 #[tactic(auto, using(crate::proofs::Counts::count_is_length))]
 pub fn arity(parts: &[Term]) -> usize
     ensures { result ≡ count (tms (map plain_term parts.now)) }

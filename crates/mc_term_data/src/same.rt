@@ -1,5 +1,6 @@
 ghost use Rattle.std.specs.Prelude.{◌≡◌, ◌↔◌, IsTrue};
-ghost use Rattle.mc_term_data.specs.Plain.{plain_term, plain_terms, last_term, last_part};
+ghost use Rattle.mc_term_data.specs.Plain.{plain_term, plain_terms};
+ghost use Rattle.mc_term_data.specs.code.LastParts.{last_term, last_part};
 
 use crate::term::{Node, Term};
 use mc_base::{Row, Text};

@@ -30,7 +30,7 @@ pub enum Node {
 }
 
 impl Term {
-    /// What the term is, without its line. PlainDecl takes no memory.
+    /// What the term is, without its line. It takes no memory.
     pub fn into_node(self) -> Node
         ensures { result ≡ self.node }
     {

@@ -26,7 +26,7 @@ tree_making = record {
   inside = T.Inside;
   line = line_of;
   none = [];
-  then = λ ts t. ts ++ t ∷ [];
+  more = λ ts t. ts ++ t ∷ [];
 }
 
 abbrev pub Frame : Type 0

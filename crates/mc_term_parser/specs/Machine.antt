@@ -28,7 +28,7 @@ pub record Making (T R : Type 0) : Type 0 where
   pub inside : ℕ → T → T
   pub line : T → ℕ
   pub none : R
-  pub then : R → T → R
+  pub more : R → T → R
 
 -- What waits for a part; each frame ends with the context outside it.
 pub data Frame (T R : Type 0) : Type 0 where
@@ -66,10 +66,10 @@ turn Stay stack other = other
 
 module _ {T R : Type 0} (A : Making T R) where
   abbrev pub one : T → R
-  one t = A.then A.none t
+  one t = A.more A.none t
 
   abbrev pub two : T → T → R
-  two t u = A.then (one t) u
+  two t u = A.more (one t) u
 
   -- a name where a term starts, with the tokens after it
   abbrev pub on_negative : Bool → ℕ → List (Frame T R) → ℕ → ℕ → List Lexeme → State T R
@@ -189,7 +189,7 @@ module _ {T R : Type 0} (A : Making T R) where
   reduce c (AtSecond l w n t d outer ∷ stack) p ts =
       Done d outer stack (over n n (A.app l w (two t p.tree))) ts
   reduce c (InParen l d outer ∷ stack) p ts = after_paren d outer stack l p.tree ts
-  reduce c (InParts s l ms d outer ∷ stack) p ts = parts s l (A.then ms p.tree) d outer stack c ts
+  reduce c (InParts s l ms d outer ∷ stack) p ts = parts s l (A.more ms p.tree) d outer stack c ts
   reduce c (InTail l es d outer ∷ stack) p ts = after_tail d outer stack l es p.tree ts
 
   abbrev pub step : State T R → State T R

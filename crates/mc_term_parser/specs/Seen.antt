@@ -84,5 +84,5 @@ seen_making = record {
   inside = seen_inside;
   line = λ t. line_seen t.value;
   none = no_seen;
-  then = seen_then;
+  more = seen_then;
 }

@@ -1,9 +1,9 @@
 -- The declarations that this profile leaves out (the Mercury manual: Declarations, Existential
 -- types, Type classes, Pragmas).
-use Rattle.std.specs.Prelude.{ℕ, Bool, true, false, nat_eq, ◌&&◌, ◌||◌, List, [], ◌∷◌, Option, Some, None, codes, bytes_eq, if◌then◌else◌}
+use Rattle.std.specs.Prelude.{ℕ, Bool, true, false, ◌&&◌, ◌||◌, List, [], ◌∷◌, Option, Some, None, codes, bytes_eq, if◌then◌else◌}
 use Rattle.std.specs.Bool.{then_some}
 use Rattle.mc_term_data.specs.Plain.{PlainTerm, PlainTerms, at, no_term, more_terms, Int, Str, App}
-use Rattle.mc_term_data.specs.Names.{count}
+use Rattle.mc_term_data.specs.Shapes.{has_none}
 use Rattle.mc_unsupported.specs.declared.reason.LeftOut.{LeftOut}
 use Rattle.mc_unsupported.specs.declared.reason.LeftOut.TheVariants as L
 
@@ -28,7 +28,7 @@ abbrev mutual
 
 -- a name without parts
 abbrev pub is_constant : PlainTerm → Bool
-is_constant (at (App w ts) l) = nat_eq (count ts) 0
+is_constant (at (App w ts) l) = has_none ts
 is_constant _ = false
 
 abbrev pub is_number : PlainTerm → Bool
@@ -45,13 +45,13 @@ indicates w (more_terms t (more_terms u no_term)) =
     bytes_eq (codes "/") w && (is_constant t && is_number u)
 indicates w _ = false
 
-abbrev pub is_indicator : PlainTerm → Bool
-is_indicator (at (App (w ∷ []) ts) l) = indicates w ts
-is_indicator _ = false
+abbrev pub is_name_arity : PlainTerm → Bool
+is_name_arity (at (App (w ∷ []) ts) l) = indicates w ts
+is_name_arity _ = false
 
 -- `pred(p/2)`
 abbrev pub indicates_pred : List ℕ → PlainTerms → Bool
-indicates_pred w (more_terms t no_term) = bytes_eq (codes "pred") w && is_indicator t
+indicates_pred w (more_terms t no_term) = bytes_eq (codes "pred") w && is_name_arity t
 indicates_pred w _ = false
 
 -- a predicate, by its name and the number of its arguments

@@ -7,6 +7,9 @@ use Rattle.std.specs.Bool.{then_some}
 use Rattle.std.specs.List.{starts_with}
 use Rattle.mc_term_data.specs.Plain.{PlainTerm, PlainNode, PlainTerms, at, no_term, more_terms, Var, App, Items, Tailed, Conj, Disj}
 use Rattle.mc_term_data.specs.Names.{count, Row, row, found}
+use Rattle.mc_clause_syntax.specs.declared.goal_form.GoalForm.{GoalForm}
+use Rattle.mc_clause_syntax.specs.declared.goal_form.GoalForm.TheVariants as G
+use Rattle.mc_clause_syntax.specs.GoalForms.{goal_form}
 use Rattle.mc_unsupported.specs.Declarations.{is_order, declaration}
 use Rattle.mc_unsupported.specs.Roles.{parts, inner, joined}
 use Rattle.mc_unsupported.specs.declared.role.Role.{Role}
@@ -44,14 +47,13 @@ abbrev pub refused : List ℕ → ℕ → Option LeftOut
 refused w n =
     option_or (found infix_rows w n) (option_or (found prefix_rows w n) (found item_rows w n))
 
--- the parts of a conditional expression
-unfoldable pub conditional_rows : List (Row LeftOut)
-conditional_rows =
-    row (codes "if") 1 L.ConditionalExpression
-    ∷ row (codes "->") 2 L.ConditionalExpression
-    ∷ row (codes "then") 2 L.ConditionalExpression
-    ∷ row (codes "else") 2 L.ConditionalExpression
-    ∷ []
+-- the parts of a conditional expression, by what they would be as a goal
+abbrev pub conditional : GoalForm → Option LeftOut
+conditional G.If = Some L.ConditionalExpression
+conditional G.Then = Some L.ConditionalExpression
+conditional G.Else = Some L.ConditionalExpression
+conditional G.Arrow = Some L.ConditionalExpression
+conditional _ = None
 
 unfoldable pub inst_rows : List (Row LeftOut)
 inst_rows =
@@ -68,25 +70,26 @@ abbrev pub higher_order : List ℕ → PlainTerms → Option LeftOut
 higher_order w ts = then_some (nat_lt 0 (count ts) && is_order w) L.HigherOrder
 
 -- what is left out in the head of a clause
-abbrev pub head_form : List ℕ → ℕ → Option LeftOut
-head_form w n = option_or (found conditional_rows w n) (found mode_specific_rows w n)
+abbrev pub head_form : GoalForm → List ℕ → ℕ → Option LeftOut
+head_form form w n = option_or (conditional form) (found mode_specific_rows w n)
 
--- what is left out, by what the name over these parts is there
-abbrev pub by_role : Role → List ℕ → PlainTerms → Option LeftOut
-by_role S.Item w ts = head_form w (count ts)
-by_role S.Head w ts = head_form w (count ts)
-by_role S.Argument w ts = found conditional_rows w (count ts)
-by_role S.Goal w ts = then_some (starts_with nat_eq w (codes "promise_")) L.Promise
-by_role S.Declaration w ts = declaration w ts
-by_role S.Field w ts = higher_order w ts
-by_role S.TypeTerm w ts = higher_order w ts
-by_role S.Parameter w ts = higher_order w ts
-by_role S.Inst w ts = option_or (higher_order w ts) (found inst_rows w (count ts))
-by_role _ w ts = None
+-- what is left out, by what the name over these parts is there, and by its form as a goal
+abbrev pub by_role : Role → GoalForm → List ℕ → PlainTerms → Option LeftOut
+by_role S.Item form w ts = head_form form w (count ts)
+by_role S.Head form w ts = head_form form w (count ts)
+by_role S.Argument form w ts = conditional form
+by_role S.Goal form w ts = then_some (starts_with nat_eq w (codes "promise_")) L.Promise
+by_role S.Declaration form w ts = declaration w ts
+by_role S.Field form w ts = higher_order w ts
+by_role S.TypeTerm form w ts = higher_order w ts
+by_role S.Parameter form w ts = higher_order w ts
+by_role S.Inst form w ts = option_or (higher_order w ts) (found inst_rows w (count ts))
+by_role _ form w ts = None
 
 -- what a name over these parts is left out for; a qualified name is no operator and no form
 abbrev pub reason : Role → List (List ℕ) → PlainTerms → Option LeftOut
-reason s (w ∷ []) ts = option_or (refused w (count ts)) (by_role s w ts)
+reason s (w ∷ []) ts =
+    option_or (refused w (count ts)) (by_role s (goal_form (w ∷ []) (count ts)) w ts)
 reason s _ ts = None
 
 abbrev mutual
@@ -110,10 +113,6 @@ abbrev mutual
   pub left_out_all : Role → PlainTerms → Option LeftOut
   left_out_all s no_term = None
   left_out_all s (more_terms t ts) = option_or (left_out s t) (left_out_all s ts)
-
--- the first form that is left out in a name over parts
-abbrev pub left_out_over : Role → List (List ℕ) → PlainTerms → Option LeftOut
-left_out_over s w ts = option_or (reason s w ts) (left_out_parts (parts s w (count ts)) ts)
 
 -- the first form that is left out in an item: a declaration, a clause with a body, or a fact
 abbrev pub item_left_out : PlainTerm → Option LeftOut

@@ -2,6 +2,9 @@
 -- Clauses, Goals, Declarations).
 use Rattle.std.specs.Prelude.{ℕ, List, [], ◌∷◌, codes, unwrap_or}
 use Rattle.mc_term_data.specs.Names.{Row, row, found}
+use Rattle.mc_clause_syntax.specs.declared.goal_form.Parts.TheVariants as P
+use Rattle.mc_clause_syntax.specs.declared.goal_form.Parts as F
+use Rattle.mc_clause_syntax.specs.GoalForms as G
 use Rattle.mc_unsupported.specs.declared.role.Role.{Role}
 use Rattle.mc_unsupported.specs.declared.role.Role.TheVariants.{Item, Head, Goal, Argument, Declaration, TypeItem, Constructors, Field, TypeTerm, InstItem, Inst, Symbols, ModeItem, Mode, Signature, Parameter, Elsewhere}
 
@@ -37,24 +40,6 @@ joined s = inner s
 unfoldable pub item_rows : List (Row Parts)
 item_rows = row (codes ":-") 1 (Declaration, Elsewhere) ∷ row (codes ":-") 2 (Head, Goal) ∷ []
 
--- goals made of goals
-unfoldable pub goal_rows : List (Row Parts)
-goal_rows =
-    row (codes ",") 2 (Goal, Goal)
-    ∷ row (codes ";") 2 (Goal, Goal)
-    ∷ row (codes "->") 2 (Goal, Goal)
-    ∷ row (codes "then") 2 (Goal, Goal)
-    ∷ row (codes "else") 2 (Goal, Goal)
-    ∷ row (codes "if") 1 (Goal, Goal)
-    ∷ row (codes "not") 1 (Goal, Goal)
-    ∷ row (92 ∷ 43 ∷ []) 1 (Goal, Goal)
-    ∷ row (codes "=>") 2 (Goal, Goal)
-    ∷ row (codes "<=") 2 (Goal, Goal)
-    ∷ row (codes "<=>") 2 (Goal, Goal)
-    ∷ row (codes "some") 2 (Elsewhere, Goal)
-    ∷ row (codes "all") 2 (Elsewhere, Goal)
-    ∷ []
-
 unfoldable pub declaration_rows : List (Row Parts)
 declaration_rows =
     row (codes "type") 1 (TypeItem, Elsewhere)
@@ -83,7 +68,6 @@ signature_rows =
 -- the table for what the term itself is
 abbrev pub rows_at : Role → List (Row Parts)
 rows_at Item = item_rows
-rows_at Goal = goal_rows
 rows_at Declaration = declaration_rows
 rows_at TypeItem = type_rows
 rows_at InstItem = inst_rows
@@ -94,7 +78,14 @@ rows_at Parameter = row (codes "::") 2 (TypeTerm, Mode) ∷ []
 rows_at Inst = row (codes "bound") 1 (Symbols, Symbols) ∷ []
 rows_at _ = []
 
+-- what the parts of a goal are, by what its form says of them
+abbrev pub goal_roles : F.Parts → Parts
+goal_roles (P.Goals a b) = (Goal, Goal)
+goal_roles P.Quantified = (Elsewhere, Goal)
+goal_roles _ = (Argument, Argument)
+
 -- What the parts of a name over a number of parts are. A qualified name stands in no table.
 abbrev pub parts : Role → List (List ℕ) → ℕ → Parts
+parts Goal w n = goal_roles (G.parts (G.goal_form w n))
 parts s (w ∷ []) n = unwrap_or (found (rows_at s) w n) (inner s, inner s)
 parts s _ n = (inner s, inner s)

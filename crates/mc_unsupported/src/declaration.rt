@@ -1,10 +1,9 @@
 ghost use Rattle.std.specs.Prelude.{◌≡◌, map};
 ghost use Rattle.mc_term_data.specs.Plain.{plain_term, tms};
-ghost use Rattle.mc_term_data.specs.Names.{count};
-ghost use Rattle.mc_unsupported.specs.Declarations.{is_order, is_constraint, declares, declared, is_indicator, indicates, is_predicate, indicates_pred, is_constant, is_number, is_string, is_fact_table, named_pragma, pragma, sole_pragma, is_constrained, is_existential, declaration};
+ghost use Rattle.mc_unsupported.specs.Declarations.{is_order, is_constraint, declares, declared, is_name_arity, indicates, is_predicate, indicates_pred, is_constant, is_number, is_string, is_fact_table, named_pragma, pragma, sole_pragma, is_constrained, is_existential, declaration};
 
 use crate::reason::LeftOut;
-use mc_term_data::{Node, Term, arity};
+use mc_term_data::{Node, Term, has_none};
 
 /// What a declaration, a name over these parts, is left out for.
 pub fn declaration(name: &[u8], parts: &[Term]) -> Option<LeftOut>
@@ -135,13 +134,13 @@ fn indicates_pred(name: &[u8], parts: &[Term]) -> bool
     ensures { result ≡ indicates_pred name.now (tms (map plain_term parts.now)) }
 {
     match parts {
-        [only] => b"pred".as_slice() == name && is_indicator(only),
+        [only] => b"pred".as_slice() == name && is_name_arity(only),
         _ => false,
     }
 }
 
-fn is_indicator(term: &Term) -> bool
-    ensures { result ≡ is_indicator (plain_term term.now) }
+fn is_name_arity(term: &Term) -> bool
+    ensures { result ≡ is_name_arity (plain_term term.now) }
 {
     match &term.node {
         Node::App(name, parts) => match name.as_slice() {
@@ -168,7 +167,7 @@ fn is_constant(term: &Term) -> bool
     ensures { result ≡ is_constant (plain_term term.now) }
 {
     match &term.node {
-        Node::App(_, parts) => arity(parts.as_slice()) == 0,
+        Node::App(_, parts) => has_none(parts),
         _ => false,
     }
 }

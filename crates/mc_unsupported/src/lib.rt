@@ -9,6 +9,3 @@ mod walk;
 
 pub use reason::LeftOut;
 pub use walk::{goal_left_out, item_left_out};
-
-#[cfg(test)]
-mod tests;

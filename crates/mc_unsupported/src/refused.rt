@@ -1,12 +1,13 @@
 ghost use Rattle.std.specs.Prelude.{◌≡◌, map};
 ghost use Rattle.mc_term_data.specs.Plain.{plain_term, tms};
 ghost use Rattle.mc_term_data.specs.Names.{found};
-ghost use Rattle.mc_unsupported.specs.Reasons.{reason, by_role, refused, infix_rows, prefix_rows, item_rows, conditional_rows, inst_rows, mode_specific_rows, higher_order};
+ghost use Rattle.mc_unsupported.specs.Reasons.{reason, by_role, refused, infix_rows, prefix_rows, item_rows, conditional, inst_rows, mode_specific_rows, higher_order};
 
 use crate::declaration::{declaration, is_order};
 use crate::reason::LeftOut;
 use crate::role::Role;
 use mc_base::Text;
+use mc_clause_syntax::GoalForm;
 use mc_term_data::{Term, arity};
 
 /// What a name over parts is left out for. A qualified name is no operator and no form.
@@ -16,7 +17,7 @@ pub fn reason(role: Role, name: &[Text], parts: &[Term]) -> Option<LeftOut>
     match name {
         [word] => match refused(word.bytes(), arity(parts)) {
             Some(form) => Some(form),
-            None => by_role(role, word.bytes(), parts),
+            None => by_role(role, GoalForm::of(name, arity(parts)), word.bytes(), parts),
         },
         _ => None,
     }
@@ -79,15 +80,13 @@ fn item(name: &[u8], arity: usize) -> Option<LeftOut>
     }
 }
 
-// What is left out by what the name over these parts is there.
-fn by_role(role: Role, name: &[u8], parts: &[Term]) -> Option<LeftOut>
-    ensures { result ≡ by_role role name.now (tms (map plain_term parts.now)) }
+// What is left out by what the name over these parts is there, and by its form as a goal.
+fn by_role(role: Role, form: GoalForm, name: &[u8], parts: &[Term]) -> Option<LeftOut>
+    ensures { result ≡ by_role role form name.now (tms (map plain_term parts.now)) }
 {
     match role {
-        Role::Item | Role::Head => {
-            conditional(name, arity(parts)).or(mode_specific(name, arity(parts)))
-        }
-        Role::Argument => conditional(name, arity(parts)),
+        Role::Item | Role::Head => conditional(form).or(mode_specific(name, arity(parts))),
+        Role::Argument => conditional(form),
         Role::Goal if name.starts_with(b"promise_") => Some(LeftOut::Promise),
         Role::Declaration => declaration(name, parts),
         Role::Field | Role::TypeTerm | Role::Parameter => higher_order(name, parts),
@@ -96,20 +95,14 @@ fn by_role(role: Role, name: &[u8], parts: &[Term]) -> Option<LeftOut>
     }
 }
 
-// The parts of a conditional expression.
-#[tactic(auto, unfolding(crate::specs::Reasons::conditional_rows))]
-fn conditional(name: &[u8], arity: usize) -> Option<LeftOut>
-    ensures { result ≡ found conditional_rows name.now arity }
+// The parts of a conditional expression, by what they would be as a goal.
+fn conditional(form: GoalForm) -> Option<LeftOut>
+    ensures { result ≡ conditional form }
 {
-    match arity {
-        1 => match name {
-            b"if" => Some(LeftOut::ConditionalExpression),
-            _ => None,
-        },
-        2 => match name {
-            b"->" | b"then" | b"else" => Some(LeftOut::ConditionalExpression),
-            _ => None,
-        },
+    match form {
+        GoalForm::If | GoalForm::Then | GoalForm::Else | GoalForm::Arrow => {
+            Some(LeftOut::ConditionalExpression)
+        }
         _ => None,
     }
 }

@@ -1,8 +1,9 @@
 ghost use Rattle.std.specs.Prelude.{◌≡◌};
 ghost use Rattle.mc_term_data.specs.Names.{found};
-ghost use Rattle.mc_unsupported.specs.Roles.{inner, joined, parts, rows_at, item_rows, goal_rows, declaration_rows, type_rows, inst_rows, mode_rows, signature_rows};
+ghost use Rattle.mc_unsupported.specs.Roles.{inner, joined, goal_roles, parts, rows_at, item_rows, declaration_rows, type_rows, inst_rows, mode_rows, signature_rows};
 
 use mc_base::Text;
+use mc_clause_syntax::{GoalForm, Parts};
 
 /// What a part of an item is there, as far as it decides what is left out.
 #[derive(Clone, Copy, Debug, PartialEq, Eq)]
@@ -71,8 +72,9 @@ impl Role {
         ensures { result ≡ parts self name.now arity }
     {
         let inner = self.inner();
-        match name {
-            [word] => self.row(word.bytes(), arity).unwrap_or((inner, inner)),
+        match (self, name) {
+            (Role::Goal, _) => goal_roles(GoalForm::of(name, arity).parts()),
+            (_, [word]) => self.row(word.bytes(), arity).unwrap_or((inner, inner)),
             _ => (inner, inner),
         }
     }
@@ -83,7 +85,6 @@ impl Role {
     {
         match self {
             Role::Item => item_parts(name, arity),
-            Role::Goal => goal_parts(name, arity),
             Role::Declaration => declaration_parts(name, arity),
             Role::TypeItem => type_parts(name, arity),
             Role::InstItem => inst_parts(name, arity),
@@ -106,6 +107,17 @@ impl Role {
     }
 }
 
+// What the parts of a goal are, by what its form says of them.
+fn goal_roles(parts: Parts) -> (Role, Role)
+    ensures { result ≡ goal_roles parts }
+{
+    match parts {
+        Parts::Goals(_, _) => (Role::Goal, Role::Goal),
+        Parts::Quantified => (Role::Elsewhere, Role::Goal),
+        _ => (Role::Argument, Role::Argument),
+    }
+}
+
 // The parts of a declaration and of a clause with a body.
 #[tactic(auto, unfolding(crate::specs::Roles::item_rows))]
 fn item_parts(name: &[u8], arity: usize) -> Option<(Role, Role)>
@@ -114,27 +126,6 @@ fn item_parts(name: &[u8], arity: usize) -> Option<(Role, Role)>
     match (arity, name) {
         (1, b":-") => Some((Role::Declaration, Role::Elsewhere)),
         (2, b":-") => Some((Role::Head, Role::Goal)),
-        _ => None,
-    }
-}
-
-// The parts of goals made of goals.
-#[tactic(auto, unfolding(crate::specs::Roles::goal_rows))]
-fn goal_parts(name: &[u8], arity: usize) -> Option<(Role, Role)>
-    ensures { result ≡ found goal_rows name.now arity }
-{
-    match arity {
-        1 => match name {
-            b"if" | b"not" | b"\\+" => Some((Role::Goal, Role::Goal)),
-            _ => None,
-        },
-        2 => match name {
-            b"," | b";" | b"->" | b"then" | b"else" | b"=>" | b"<=" | b"<=>" => {
-                Some((Role::Goal, Role::Goal))
-            }
-            b"some" | b"all" => Some((Role::Elsewhere, Role::Goal)),
-            _ => None,
-        },
         _ => None,
     }
 }

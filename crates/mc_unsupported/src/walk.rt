@@ -1,7 +1,7 @@
 ghost use Rattle.std.specs.Prelude.{◌≡◌, map};
 ghost use Rattle.std.specs.Option.{option_or};
-ghost use Rattle.mc_term_data.specs.Plain.{plain_term, tms};
-ghost use Rattle.mc_unsupported.specs.Reasons.{left_out, left_out_all, left_out_over, item_left_out, goal_left_out};
+ghost use Rattle.mc_term_data.specs.Plain.{at, App, plain_term, tms};
+ghost use Rattle.mc_unsupported.specs.Reasons.{left_out, left_out_all, item_left_out, goal_left_out};
 
 use crate::reason::LeftOut;
 use crate::refused::reason;
@@ -32,7 +32,7 @@ pub fn left_out(role: Role, term: &Term) -> Option<LeftOut>
 // The first form that is left out in a name over parts.
 #[cycle(walk)]
 fn left_out_over(role: Role, name: &[Text], parts: &[Term]) -> Option<LeftOut>
-    ensures { result ≡ left_out_over role name.now (tms (map plain_term parts.now)) }
+    ensures { result ≡ left_out role (at (App name.now (tms (map plain_term parts.now))) 0) }
 {
     if let Some(form) = reason(role, name, parts) {
         return Some(form);
@@ -74,7 +74,7 @@ fn left_out_all(role: Role, terms: &[Term]) -> Option<LeftOut>
 }
 
 /// The first form in an item that this profile leaves out: a term comes before its parts, and the parts come left
-/// to right. PlainDecl takes no memory, and stack for each level of the term.
+/// to right. It takes no memory, and stack for each level of the term.
 pub fn item_left_out(term: &Term) -> Option<LeftOut>
     ensures { result ≡ item_left_out (plain_term term.now) }
 {

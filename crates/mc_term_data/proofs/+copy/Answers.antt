@@ -1,7 +1,8 @@
 use Rattle.std.proofs.Common.{arith, map, sym, ap, ◌∙◌, subst, length, ◌-◌}
 use Rattle.std.specs.Option.{option_map}
 use Rattle.std.proofs.lemmas.List.{length-take}
-use Rattle.mc_term_data.specs.Plain.{plain_term, plain_terms, last_term}
+use Rattle.mc_term_data.specs.Plain.{plain_term, plain_terms}
+use Rattle.mc_term_data.specs.code.LastParts.{last_term}
 use Rattle.mc_term_data.proofs.Depths.{deepest_of, deepest_take, depth_item, last_shallower}
 use Rattle.mc_term_data.proofs.Lasts.{row_copied, has_last}
 use Rattle.mc_term_data.proofs.Chains.{Hangs, seen, pushed, popped, popped_last, hangs_depth}

@@ -1,6 +1,7 @@
 use Rattle.std.proofs.Common.{arith, ap, ◌∙◌, length, ◌-◌}
 use Rattle.std.specs.Option.{option_map}
-use Rattle.mc_term_data.specs.Plain.{plain_term, plain_terms, last_term}
+use Rattle.mc_term_data.specs.Plain.{plain_term, plain_terms}
+use Rattle.mc_term_data.specs.code.LastParts.{last_term}
 use Rattle.mc_term_data.proofs.Depths.{deepest_of, deepest_take, deepest_more, deepest_front, depth_item, last_shallower}
 use Rattle.mc_term_data.proofs.+depth.Goals as goal
 

@@ -1,7 +1,8 @@
 use Rattle.std.proofs.Common.{arith, refl, Some, sym, ap, ◌∙◌, length, ◌-◌}
 use Rattle.std.proofs.lemmas.Bool.{false≢true}
 use Rattle.std.specs.Option.{option_map}
-use Rattle.mc_term_data.specs.Plain.{plain_term, last_part}
+use Rattle.mc_term_data.specs.Plain.{plain_term}
+use Rattle.mc_term_data.specs.code.LastParts.{last_part}
 use Rattle.mc_term_data.proofs.Depths.{deepest_of, deepest_take, depth_item, last_shallower}
 use Rattle.mc_term_data.proofs.Lasts.{rows_by_fronts, empty_test, at_same_place, as_long, some_same}
 use Rattle.mc_term_data.proofs.+same.Goals as goal

@@ -2,7 +2,7 @@ use Rattle.std.proofs.Common.{◌∙◌, ◌∷◌, []}
 use Rattle.mc_base.specs.NameSets.{put_all}
 use Rattle.mc_term_data.specs.Plain.{plain_term}
 use Rattle.mc_clause_syntax.specs.States.{states_of}
-use Rattle.mc_clause_syntax.specs.Scopes.{all_names}
+use Rattle.mc_clause_syntax.specs.code.Scopes.{all_names}
 use Rattle.mc_clause_syntax.proofs.Scoped.{headed, head_same}
 use Rattle.mc_clause_syntax.proofs.clause.is_fact.Goals as goal
 

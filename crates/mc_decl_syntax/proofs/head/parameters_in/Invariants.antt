@@ -1,7 +1,7 @@
 use Rattle.std.proofs.Common.{◌≡◌, true, drop, map}
 use Rattle.mc_term_data.specs.Plain.{plain_term, tms}
 use Rattle.mc_decl_syntax.specs.Terms.{is_distinct, parameters_in}
-use Rattle.mc_decl_syntax.specs.Steps.{parameters_with}
+use Rattle.mc_decl_syntax.specs.code.Steps.{parameters_with}
 use Rattle.mc_decl_syntax.proofs.head.parameters_in.Given as goal
 
 abbrev pub invariant-loop-term : goal.invariant-loop-term

@@ -1,7 +1,7 @@
 use Rattle.std.proofs.Common.{◌≡◌, ◌+◌, length, map}
 use Rattle.mc_term_data.specs.Plain.{plain_term, tms}
 use Rattle.mc_decl_syntax.specs.Terms.{paths}
-use Rattle.mc_decl_syntax.specs.Steps.{paths_with}
+use Rattle.mc_decl_syntax.specs.code.Steps.{paths_with}
 use Rattle.mc_decl_syntax.proofs.parts.into_paths.Given as goal
 
 abbrev pub invariant-loop-term : goal.invariant-loop-term

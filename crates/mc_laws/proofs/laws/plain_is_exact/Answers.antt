@@ -1,5 +1,4 @@
-use Rattle.mc_program.proofs.Views.{plain_is_exact}
-use Rattle.mc_laws.proofs.TermViews.{plain_types_are_exact, plain_terms_are_exact}
+use Rattle.mc_laws.proofs.TermViews.{plain_is_exact, plain_types_are_exact, plain_terms_are_exact}
 use Rattle.mc_laws.proofs.laws.plain_is_exact.Goals as goal
 
 pub returns-clause-values : goal.returns-clause-values

@@ -2,7 +2,7 @@ use Rattle.std.proofs.Common.{◌∙◌, map, ◌++◌, ◌∷◌, []}
 use Rattle.mc_base.specs.NameSets.{put_all}
 use Rattle.mc_term_data.specs.Plain.{plain_term, tms}
 use Rattle.mc_clause_syntax.specs.States.{quantified}
-use Rattle.mc_clause_syntax.specs.Scopes.{all_names}
+use Rattle.mc_clause_syntax.specs.code.Scopes.{all_names}
 use Rattle.mc_clause_syntax.proofs.Scoped.{entered, goals_same}
 use Rattle.mc_clause_syntax.proofs.scope.Scope.+goals_placed.Goals as goal
 

@@ -3,7 +3,7 @@ use denote.Param.Weighed.{most}
 use Rattle.mc_term_data.specs.Plain.{plain_term, tms}
 use Rattle.mc_term_data.specs.declared.term.Term.{size-Term}
 use Rattle.mc_clause_syntax.specs.States.{goals_placed}
-use Rattle.mc_clause_syntax.specs.Scopes.{all_names}
+use Rattle.mc_clause_syntax.specs.code.Scopes.{all_names}
 use Rattle.mc_clause_syntax.proofs.scope.Scope.+goals_placed.Given as goal
 
 abbrev pub decreases-places_goal : goal.decreases-places_goal

@@ -1,7 +1,7 @@
 use Rattle.std.proofs.Common.{◌≡◌, drop, map}
 use Rattle.mc_term_data.specs.Plain.{plain_term, tms}
 use Rattle.mc_clause_syntax.specs.States.{all_placed}
-use Rattle.mc_clause_syntax.specs.Scopes.{all_names}
+use Rattle.mc_clause_syntax.specs.code.Scopes.{all_names}
 use Rattle.mc_clause_syntax.proofs.scope.Scope.+placed.Given as goal
 
 abbrev pub invariant-places_all-loop-term : goal.invariant-places_all-loop-term

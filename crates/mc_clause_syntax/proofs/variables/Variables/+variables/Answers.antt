@@ -1,5 +1,5 @@
 use Rattle.std.proofs.Common.{refl, ◌∙◌, sym, map, drop, ◌+◌, ◌++◌, ◌≡◌, ap}
-use Rattle.mc_clause_syntax.specs.Found.{with_variables}
+use Rattle.mc_clause_syntax.specs.code.Found.{with_variables}
 use Rattle.mc_term_data.specs.Plain.{plain_term, tms}
 use Rattle.mc_clause_syntax.specs.Limits.{variables, all_variables}
 use Rattle.mc_clause_syntax.proofs.Appended.{with_variables_append}

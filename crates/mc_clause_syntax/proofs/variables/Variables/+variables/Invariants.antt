@@ -1,7 +1,7 @@
 use Rattle.std.proofs.Common.{◌≡◌, drop, map}
 use Rattle.mc_term_data.specs.Plain.{plain_term, tms}
 use Rattle.mc_clause_syntax.specs.Limits.{all_variables}
-use Rattle.mc_clause_syntax.specs.Found.{with_variables}
+use Rattle.mc_clause_syntax.specs.code.Found.{with_variables}
 use Rattle.mc_clause_syntax.proofs.variables.Variables.+variables.Given as goal
 
 abbrev pub invariant-add_all-loop-term : goal.invariant-add_all-loop-term

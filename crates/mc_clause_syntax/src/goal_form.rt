@@ -1,0 +1,171 @@
+ghost use Rattle.std.specs.Prelude.{◌≡◌, ◌≤◌};
+ghost use Rattle.mc_term_data.specs.Names.{found};
+
+use mc_base::Text;
+
+/// What a goal is, by its name and the number of its parts: the one table of the forms of goals, which every phase that
+/// reads goals asks.
+#[derive(Clone, Copy, Debug, PartialEq, Eq)]
+pub enum GoalForm {
+    /// `true`
+    True,
+    /// `fail`, `false`
+    Fail,
+    /// `A, B`
+    Conjunction,
+    /// `A ; B`
+    Disjunction,
+    /// `C -> T`
+    Arrow,
+    /// `if C then T`, which an `else` follows
+    If,
+    /// `C then T`
+    Then,
+    /// `if C then T else E`
+    Else,
+    /// `not A`, `\+ A`
+    Negation,
+    /// `some [V] A`
+    Existential,
+    /// `all [V] A`
+    Universal,
+    /// `A => B`
+    Implication,
+    /// `A <= B`
+    ReverseImplication,
+    /// `A <=> B`
+    Equivalence,
+    /// `X = Y`
+    Unification,
+    /// `X \= Y`
+    Disunification,
+    /// Any other name is called.
+    Call,
+}
+
+impl GoalForm {
+    ghost use Rattle.mc_clause_syntax.specs.GoalForms.{goal_form, goal_rows, parts, admits, one_equivalence};
+
+    /// What a name over so many parts is as a goal. A qualified name is called.
+    pub fn of(name: &[Text], arity: usize) -> GoalForm
+        ensures { result ≡ goal_form name.now arity }
+    {
+        match name {
+            [word] => GoalForm::named(word.bytes(), arity).unwrap_or(GoalForm::Call),
+            _ => GoalForm::Call,
+        }
+    }
+
+    // The form that a name over so many parts has, where it isn't called.
+    #[tactic(auto, unfolding(crate::specs::GoalForms::goal_rows))]
+    fn named(name: &[u8], arity: usize) -> Option<GoalForm>
+        ensures { result ≡ found goal_rows name.now arity }
+    {
+        match arity {
+            0 => match name {
+                b"true" => Some(GoalForm::True),
+                b"fail" | b"false" => Some(GoalForm::Fail),
+                _ => None,
+            },
+            1 => match name {
+                b"if" => Some(GoalForm::If),
+                b"not" | b"\\+" => Some(GoalForm::Negation),
+                _ => None,
+            },
+            2 => match name {
+                b"," => Some(GoalForm::Conjunction),
+                b";" => Some(GoalForm::Disjunction),
+                b"->" => Some(GoalForm::Arrow),
+                b"then" => Some(GoalForm::Then),
+                b"else" => Some(GoalForm::Else),
+                b"some" => Some(GoalForm::Existential),
+                b"all" => Some(GoalForm::Universal),
+                b"=>" => Some(GoalForm::Implication),
+                b"<=" => Some(GoalForm::ReverseImplication),
+                b"<=>" => Some(GoalForm::Equivalence),
+                b"=" => Some(GoalForm::Unification),
+                b"\\=" => Some(GoalForm::Disunification),
+                _ => None,
+            },
+            _ => None,
+        }
+    }
+
+    /// What the parts of a goal are.
+    pub fn parts(self) -> Parts
+        ensures { result ≡ parts self }
+    {
+        match self {
+            GoalForm::True | GoalForm::Fail => Parts::Nothing,
+            GoalForm::Disjunction => Parts::Goals(Stand::Disjunct, Stand::Whole),
+            GoalForm::If => Parts::Goals(Stand::BehindIf, Stand::BehindIf),
+            GoalForm::Else => Parts::Goals(Stand::BeforeElse, Stand::Whole),
+            GoalForm::Existential | GoalForm::Universal => Parts::Quantified,
+            GoalForm::Unification | GoalForm::Disunification => Parts::Sides,
+            GoalForm::Call => Parts::Arguments,
+            _ => Parts::Goals(Stand::Whole, Stand::Whole),
+        }
+    }
+
+    /// How many equivalences a goal of this form is, without its parts.
+    pub fn equivalences(self) -> u32
+        ensures value { result ≡ one_equivalence self }
+        ensures small { result ≤ 1 }
+    {
+        match self {
+            GoalForm::Equivalence => 1,
+            _ => 0,
+        }
+    }
+
+    /// Whether a goal of this form may stand there.
+    pub fn may_stand(self, stand: Stand) -> bool
+        ensures { result ≡ admits self stand }
+    {
+        match self {
+            GoalForm::Arrow => matches!(stand, Stand::Disjunct),
+            GoalForm::If => matches!(stand, Stand::BeforeElse),
+            GoalForm::Then => matches!(stand, Stand::BehindIf),
+            _ => matches!(stand, Stand::Whole | Stand::Disjunct),
+        }
+    }
+}
+
+/// Where a goal stands, as far as it decides which forms it may have.
+#[derive(Clone, Copy, Debug, PartialEq, Eq)]
+pub enum Stand {
+    /// Any goal may stand here.
+    Whole,
+    /// A disjunct that others follow: it may be `C -> T`.
+    Disjunct,
+    /// Before `else` stands `if C then T`.
+    BeforeElse,
+    /// Behind `if` stands `C then T`.
+    BehindIf,
+}
+
+impl Stand {
+    ghost use Rattle.mc_clause_syntax.specs.GoalForms.{is_open};
+
+    /// Whether any goal may stand there.
+    pub fn is_open(self) -> bool
+        ensures { result ≡ is_open self }
+    {
+        GoalForm::Call.may_stand(self)
+    }
+}
+
+/// What the parts of a goal are.
+#[derive(Clone, Copy, Debug, PartialEq, Eq)]
+pub enum Parts {
+    /// There are none.
+    Nothing,
+    /// Goals: the first stands in one place, the others in another.
+    Goals(Stand, Stand),
+    /// A list of variables, and a goal.
+    Quantified,
+    /// The sides of an equation.
+    Sides,
+    /// The arguments of a call.
+    Arguments,
+}
