@@ -13,9 +13,10 @@ use Rattle.mc_command_line.specs.Plain.{plain_bounds}
 use Rattle.mc_command_line.specs.declared.limits.Bounds.{Bounds}
 use Rattle.mc_ground_form.specs.Database.{Question}
 use Rattle.mc_compile.specs.Phases.{Breaks, Unbuilt}
-use Rattle.mc_compile.specs.Compiles.{Formed, Compiles, IsProgramOf}
+use Rattle.mc_compile.specs.Forming.{Formed, IsProgramOf}
+use Rattle.mc_compile.specs.Compiling.{Compiles}
 use Rattle.mc_compile.specs.declared.given.Given.{Given}
-use Rattle.mc_compile.specs.declared.given.Compiled.{Compiled}
+use Rattle.mc_ground_form.specs.declared.compiled.Compiled.{Compiled}
 use Rattle.mc_cmd.specs.declared.status.Status.{Status}
 use Rattle.mc_cmd.specs.declared.status.Status.TheVariants as S
 use Rattle.mc_cmd.specs.declared.decision.Decision.{Decision}

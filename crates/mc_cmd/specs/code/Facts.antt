@@ -4,7 +4,7 @@ use Rattle.std.specs.Prelude.{◌≡◌, ℕ, List, [], ◌∷◌, map, get_or, 
 use Rattle.mc_program.specs.Programs.{Expression, made, Formula, Call, ClauseForm, Predicate}
 use Rattle.mc_program.specs.PlainPrograms.{no_pred, plain_pred}
 use Rattle.mc_ground_form.specs.Laws.{answer_of, answers_of}
-use Rattle.mc_compile.specs.declared.given.Compiled.{Compiled}
+use Rattle.mc_ground_form.specs.declared.compiled.Compiled.{Compiled}
 use Rattle.mc_cmd.specs.code.Runs.{QueryItems}
 
 -- the clauses of the predicate with a number
