@@ -1,12 +1,8 @@
-pub mod Passes
-pub mod Tables
-pub mod Forms
-pub mod Builds
-pub mod Answering
+pub mod Chains
+mod Once
+mod OnePhase
 mod Lists
 mod ReadFiles
-mod OneBreach
-mod LinkFiles
 mod SomeFiles
-mod FactsFit
-pub mod Compilation
+mod Links
+mod Forms

@@ -1,20 +1,23 @@
 -- What is known of the reader behind files.
 use Rattle.std.proofs.Common.{◌≡◌, inl, inr, ℕ, suc, ◌+◌, ◌*◌, ◌≤◌, map, take, get_or, ◌<◌, List, [], ◌∷◌, ◌++◌, length, Option, Some, None, Result, Ok, Err, refl, sym, ap, ap₂, ◌∙◌, subst, arith, append_assoc}
 use Rattle.std.proofs.lemmas.List.{append-nil, map-append, take_all}
-use Rattle.std.specs.Prelude.{IfErr, IsErrAnd}
+use Rattle.mc_term_data.specs.Plain.{PlainTerm}
 use Rattle.mc_term_data.specs.declared.term.Term.{Term}
 use Rattle.mc_source.specs.declared.rule.Broken.{Broken}
 use Rattle.mc_items.specs.declared.entry.Entry.{Entry}
 use Rattle.mc_items.specs.Verdicts.{PlainVerdict, kept, breaks}
 use Rattle.mc_items.specs.declared.entry.ItemsFault.TheVariants as I
 use Rattle.mc_items.specs.Files.{plain_entry, broken_in, too_long_in, IsWhole, IsRefusal}
-use Rattle.mc_linking.specs.Files.{plain_files}
+use Rattle.mc_linking.specs.Files.{File, plain_files}
+use Rattle.mc_ground_form.specs.Program.{plain_goal}
 use Rattle.mc_compile.specs.declared.given.CompileFault.{CompileFault}
 use Rattle.mc_compile.specs.declared.given.CompileFault.TheVariants as C
 use Rattle.mc_compile.specs.declared.reader.Reader.{Reader}
-use Rattle.mc_compile.specs.Sources.{greatest_sources, Reading, FileReads, FilesRead, QueryReads, counted, rules_of, rules_from, items_of, items_from}
-use Rattle.mc_compile.specs.Rejected.{AreRead, reading_rules}
-use Rattle.mc_compile.specs.Reading.{IsRejected, IsOneMore, IsQueryRead, IsLibraryRead, HasRead, IsUnread}
+use Rattle.mc_compile.specs.Phases.{Breaks, Tells, Viewed}
+use Rattle.mc_compile.specs.Sources.{Sources}
+use Rattle.mc_compile.specs.Reading.{greatest_sources, Reading, FileReads, FilesRead, QueryReads, counted, rules_of, rules_from, items_of, items_from, AreRead, PlainRead, plain_read, reading_rules, read_as, Reads}
+use Rattle.mc_compile.specs.code.Reader.{IsRejected, IsOneMore, IsQueryRead, IsLibraryRead}
+use Rattle.mc_compile.proofs.Chains.{broken_up, none_broken}
 use Rattle.mc_compile.proofs.Lists.{first_empty, second_empty, both_empty, map_more}
 
 -- the bytes that files count
@@ -188,21 +191,25 @@ sources texts query goal old new d q = record {
 rules_are : (texts : List (List ℕ)) (query : Option (List ℕ)) (goal : Option Term) (old new : Reader) (d : AreDone 0 texts old) (q : IsQueryRead query goal old new) → new.broken.items ≡ reading_rules (sources texts query goal old new d q)
 rules_are texts query goal old new d q = q.broken ∙ ap (λ bs. bs ++ q.rules) d.broken
 
-pub has_read : (texts : List (List ℕ)) (query : Option (List ℕ)) (goal : Option Term) (old new : Reader) (files : List (List Entry)) → AreDone 0 texts old → IsQueryRead query goal old new → files ≡ new.files.items → new.broken.items ≡ []
-    → HasRead texts query (record { files = files; goal = goal })
-has_read texts query goal old new files d q f e = record {
-  sources = sources texts query goal old new d q;
-  sound = sym (rules_are texts query goal old new d q) ∙ e;
-  items = ap plain_files (f ∙ q.files) ∙ d.items (first_empty old.broken.items q.rules (sym q.broken ∙ e));
-  same_goal = refl;
-}
+abbrev with_files : Option PlainTerm → List File → PlainRead
+with_files goal files = record { files = files; goal = goal }
 
-pub is_unread : (texts : List (List ℕ)) (query : Option (List ℕ)) (goal : Option Term) (old new : Reader) (fault : CompileFault) → AreDone 0 texts old → IsQueryRead query goal old new → IsRejected new.broken.items fault → IsUnread texts query fault
-is_unread texts query goal old new (C.Rejected bs) d q r = (sources texts query goal old new d q, r.0 ∙ rules_are texts query goal old new d q, r.1)
-is_unread texts query goal old new C.NotBuilt d q r = r
-is_unread texts query goal old new C.Memory d q r = r
+-- what the phase that reads tells where no rule is broken
+pub has_read : (s : Sources) (goal : Option Term) (old new : Reader) (files : List (List Entry)) → AreDone 0 s.texts old → IsQueryRead s.query goal old new → files ≡ new.files.items → new.broken.items ≡ []
+    → Tells Reads (Viewed plain_read) s (Ok (record { files = files; goal = goal }))
+has_read s goal old new files d q f e =
+    let r = sources s.texts s.query goal old new d q in
+    let sound : reading_rules r ≡ [] = sym (rules_are s.texts s.query goal old new d q) ∙ e in (
+      read_as r,
+      ap (with_files (plain_goal goal)) (ap plain_files (f ∙ q.files) ∙ d.items (first_empty old.broken.items q.rules (sym q.broken ∙ e))),
+      record { read = r; is = none_broken (reading_rules r) (read_as r) sound },
+    )
 
--- a fault that is passed on
-pub passed_on : {T : Type 0} (P : CompileFault → Type 0) (r : Result T CompileFault) (fault : CompileFault) → IsErrAnd r (λ e. e ≡ fault) → P fault → IfErr r P
-passed_on P (Err e) fault h p = subst P (sym h) p
-passed_on P (Ok v) fault h p = absurd h
+-- and where rules are broken
+pub is_unread : (s : Sources) (goal : Option Term) (old new : Reader) (fault : CompileFault) → AreDone 0 s.texts old → IsQueryRead s.query goal old new → IsRejected new.broken.items fault → Tells Reads (Viewed plain_read) s (Err fault)
+is_unread s goal old new (C.Rejected bs) d q rejected =
+    let r = sources s.texts s.query goal old new d q in
+    let same : bs ≡ reading_rules r = rejected.0 ∙ rules_are s.texts s.query goal old new d q in
+    record { read = r; is = ap (λ rules. Err (Breaks rules)) same ∙ broken_up (reading_rules r) (read_as r) (λ none. rejected.1 (same ∙ none)) }
+is_unread s goal old new C.NotBuilt d q rejected = absurd rejected
+is_unread s goal old new C.Memory d q rejected = tt

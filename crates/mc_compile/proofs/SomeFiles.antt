@@ -5,8 +5,8 @@ use Rattle.mc_items.specs.declared.entry.Entry.{Entry}
 use Rattle.mc_items.specs.Files.{plain_entry}
 use Rattle.mc_linking.specs.Files.{File, plain_files}
 use Rattle.mc_compile.specs.Library.{library_texts}
-use Rattle.mc_compile.specs.Sources.{Reading, FilesRead, counted, items_from}
-use Rattle.mc_compile.specs.Naming.{IsWithLibrary}
+use Rattle.mc_compile.specs.Reading.{Reading, FilesRead, counted, items_from}
+use Rattle.mc_compile.specs.code.Reader.{IsWithLibrary}
 
 abbrev plain_entries : List Entry → File
 plain_entries es = map plain_entry es

@@ -1,10 +1,27 @@
--- Laws of the rules that sources break.
-use Rattle.std.specs.Prelude.{◌≡◌, ℕ, List, Option}
-use Rattle.mc_source.specs.declared.rule.Broken.{Broken}
-use Rattle.mc_compile.specs.Rejected.{Breaks}
+-- Laws of what sources are compiled to.
+use Rattle.std.specs.Prelude.{◌≡◌, Some, Ok}
+use Rattle.mc_ground_form.specs.Database.{Question}
+use Rattle.mc_ground_form.specs.Laws.{Fits, Asks}
+use Rattle.mc_ground_form.specs.FormLaws.{HaveTheirNumbers}
+use Rattle.mc_compile.specs.Sources.{Sources}
+use Rattle.mc_compile.specs.Forming.{Formed}
+use Rattle.mc_compile.specs.Compiling.{Compiles}
 
--- sources break one list of rules at most
-abbrev pub AtMostOneBreaks : Type 0
-AtMostOneBreaks =
-    (library texts : List (List ℕ)) (query : Option (List ℕ)) (bs cs : List Broken)
-    → Breaks library texts query bs → Breaks library texts query cs → bs ≡ cs
+-- the facts of what sources are compiled to have constants of their predicates' types
+abbrev pub CompiledFits : Type 0
+CompiledFits =
+    (sources : Sources) (form : Formed)
+    → Compiles sources (Ok form) → Fits form.database form.database.relations
+
+-- and a query of them asks one of their predicates, with a variable for each argument
+abbrev pub CompiledAsks : Type 0
+CompiledAsks =
+    (sources : Sources) (form : Formed) (question : Question)
+    → Compiles sources (Ok form) → form.question ≡ Some question → Asks form.database question
+
+-- The numbers of the types, constants and predicates of what sources are compiled to are those that
+-- they have among the names of all files, the library's included; the query is the predicate behind
+-- them.
+abbrev pub CompiledNumbers : Type 0
+CompiledNumbers =
+    (sources : Sources) (form : Formed) → Compiles sources (Ok form) → HaveTheirNumbers form.files

@@ -1,11 +1,9 @@
+pub mod Phases
 pub mod Sources
-pub mod Rejected
-pub mod Facts
-pub mod Compiled
-pub mod Passes
-pub mod Answered
-pub mod Library
 pub mod Reading
-pub mod Naming
+pub mod Library
+pub mod Linking
+pub mod Forming
+pub mod Compiling
 pub mod Laws
-pub mod FactsLaws
+pub mod code

@@ -1,67 +1,99 @@
--- What the phase that reads answers.
-use Rattle.std.specs.Prelude.{◌≡◌, ◌≢◌, ℕ, ◌+◌, List, [], ◌∷◌, ◌++◌, map, Option, Some, None}
+-- The phase that reads: what the given files and the query read as, and the rules of reading that
+-- they break (this project's rules; the Mercury manual: Syntax).
+use Rattle.std.specs.Prelude.{◌≡◌, ℕ, ◌+◌, ◌≤◌, ◌<◌, ◌⊎◌, min, List, [], ◌∷◌, ◌++◌, length, Option, Some, None, Result}
+use Rattle.mc_term_data.specs.Plain.{PlainTerm}
 use Rattle.mc_term_data.specs.declared.term.Term.{Term}
 use Rattle.mc_source.specs.declared.rule.Broken.{Broken}
-use Rattle.mc_items.specs.declared.entry.Entry.{Entry}
-use Rattle.mc_linking.specs.Files.{plain_files}
-use Rattle.mc_compile.specs.declared.given.CompileFault.{CompileFault}
-use Rattle.mc_compile.specs.declared.given.CompileFault.TheVariants as C
-use Rattle.mc_compile.specs.declared.given.Given.{Given}
-use Rattle.mc_compile.specs.declared.given.Query.{Query}
-use Rattle.mc_compile.specs.declared.reader.Reader.{Reader}
+use Rattle.mc_items.specs.Verdicts.{PlainVerdict}
+use Rattle.mc_items.specs.Files.{Items, kept_in, broken_in, too_long_in, greatest_text}
+use Rattle.mc_items.specs.Queries.{IsGoal, IsQueryRefusal}
+use Rattle.mc_items.specs.declared.entry.ItemsFault.TheVariants as I
+use Rattle.mc_linking.specs.Files.{File, plain_files}
+use Rattle.mc_ground_form.specs.Program.{plain_goal}
 use Rattle.mc_compile.specs.declared.reading.Read.{Read}
-use Rattle.mc_compile.specs.Sources.{Reading, FileReads, QueryReads, counted, rules_of, items_of, items_from}
-use Rattle.mc_compile.specs.Rejected.{AreRead, IsLibrary, reading_rules}
+use Rattle.mc_compile.specs.Phases.{Refusal, unless_broken}
+use Rattle.mc_compile.specs.Sources.{Sources}
 
--- the bytes of files, and of a query
-abbrev pub texts_of : List Given → List (List ℕ)
-texts_of fs = map (λ (f : Given). f.bytes) fs
+-- the greatest length of the files together, in bytes: 16 MiB
+abbrev pub greatest_sources : ℕ
+greatest_sources = 16777216
 
-abbrev pub text_of : Option Query → Option (List ℕ)
-text_of None = None
-text_of (Some q) = Some q.text
+-- the length of a file among the files: one that is too long counts as one byte more than may be
+abbrev pub counted : List ℕ → ℕ
+counted text = min (length text) (greatest_text + 1)
 
--- rules that are broken, and why sources aren't compiled
-abbrev pub IsRejected : List Broken → CompileFault → Type 0
-IsRejected broken (C.Rejected bs) = (bs ≡ broken) × (bs ≢ [])
-IsRejected broken C.NotBuilt = ⊥
-IsRejected broken C.Memory = Unit {0}
+-- what each item of a file is, with its line; of a file that is too long nothing is read
+abbrev pub Reading : Type 0
+Reading = Option (List (PlainVerdict × ℕ))
 
--- One more file is read. Its items are put behind the others where it breaks no rule.
-pub record IsOneMore (text : List ℕ) (old new : Reader) : Type 0 where
-  pub reading : Reading
-  pub reads : FileReads old.bytes text reading
-  pub number : new.number ≡ old.number + 1
-  pub bytes : new.bytes ≡ old.bytes + counted text
-  pub broken : new.broken.items ≡ old.broken.items ++ rules_of old.number reading
-  pub files :
-      rules_of old.number reading ≡ []
-      → plain_files new.files.items
-      ≡ plain_files old.files.items ++ items_of old.number reading ∷ []
+-- A file, behind others of so many bytes, is too long by itself or together with them, or its items
+-- are these.
+abbrev pub FileReads : (bytes_before : ℕ) → List ℕ → Reading → Type 0
+FileReads n text None = (greatest_text < length text) ⊎ (greatest_sources < n + counted text)
+FileReads n text (Some vs) =
+    (length text ≤ greatest_text) × ((n + counted text ≤ greatest_sources) × Items text 0 vs)
 
--- The query is read, behind the files.
-pub record IsQueryRead (query : Option (List ℕ)) (goal : Option Term) (old new : Reader) : Type 0 where
-  pub rules : List Broken
-  pub reads : QueryReads old.number query goal rules
-  pub broken : new.broken.items ≡ old.broken.items ++ rules
-  pub files : new.files.items ≡ old.files.items
+-- the same of files one after another
+abbrev pub FilesRead : (bytes_before : ℕ) → List (List ℕ) → List Reading → Type 0
+FilesRead n [] [] = Unit {0}
+FilesRead n (t ∷ ts) (r ∷ rs) = FileReads n t r × FilesRead (n + counted t) ts rs
+FilesRead n _ _ = ⊥
 
--- Files are read that are the library's modules, numbered from one on.
-pub record IsLibraryRead (library : List (List ℕ)) (first : ℕ) (files : List (List Entry)) : Type 0 where
-  pub modules : List Reading
-  pub is_library : IsLibrary library modules
-  pub items : plain_files files ≡ items_from first modules
+abbrev pub rules_of : (file : ℕ) → Reading → List Broken
+rules_of k None = too_long_in k
+rules_of k (Some vs) = broken_in k vs
 
--- The sources are read, and break no rule of reading.
-pub record HasRead (texts : List (List ℕ)) (query : Option (List ℕ)) (read : Read) : Type 0 where
-  pub sources : AreRead texts query
-  pub sound : reading_rules sources ≡ []
-  pub items : plain_files read.files ≡ items_from 0 sources.files
-  pub same_goal : read.goal ≡ sources.goal
+-- the rules that files break, which are numbered from k on
+abbrev pub rules_from : (k : ℕ) → List Reading → List Broken
+rules_from k [] = []
+rules_from k (r ∷ rs) = rules_of k r ++ rules_from (k + 1) rs
 
--- why sources aren't read
-abbrev pub IsUnread : (texts : List (List ℕ)) → Option (List ℕ) → CompileFault → Type 0
-IsUnread texts query (C.Rejected bs) =
-    (r : AreRead texts query) × (bs ≡ reading_rules r) × (bs ≢ [])
-IsUnread texts query C.NotBuilt = ⊥
-IsUnread texts query C.Memory = Unit {0}
+abbrev pub items_of : (file : ℕ) → Reading → File
+items_of k None = []
+items_of k (Some vs) = kept_in k vs
+
+-- the items of files, which are numbered from k on
+abbrev pub items_from : (k : ℕ) → List Reading → List File
+items_from k [] = []
+items_from k (r ∷ rs) = items_of k r ∷ items_from (k + 1) rs
+
+-- A query, which has a number as files have, is this goal, or it is none and breaks one rule. Where
+-- there is no query there is no goal.
+abbrev pub QueryReads : (number : ℕ) → Option (List ℕ) → Option Term → List Broken → Type 0
+QueryReads k None None broken = broken ≡ []
+QueryReads k None (Some goal) broken = ⊥
+QueryReads k (Some text) (Some goal) broken = IsGoal text goal × (broken ≡ [])
+QueryReads k (Some text) None broken = IsQueryRefusal k text (I.Broken broken)
+
+-- What sources read as: files, which are numbered from 0 on, and a query, whose number follows
+-- theirs.
+pub record AreRead (texts : List (List ℕ)) (query : Option (List ℕ)) : Type 0 where
+  pub files : List Reading
+  pub goal : Option Term
+  pub goal_rules : List Broken
+  pub files_read : FilesRead 0 texts files
+  pub goal_reads : QueryReads (length texts) query goal goal_rules
+
+-- the rules of reading that sources break, file by file, and then the query's
+abbrev pub reading_rules :
+    {texts : List (List ℕ)} {query : Option (List ℕ)} → AreRead texts query → List Broken
+reading_rules sources = rules_from 0 sources.files ++ sources.goal_rules
+
+-- the items of each file, and the goal of the query where there is one
+pub record PlainRead : Type 0 where
+  pub files : List File
+  pub goal : Option PlainTerm
+
+abbrev pub plain_read : Read → PlainRead
+plain_read read = record { files = plain_files read.files; goal = plain_goal read.goal }
+
+-- what sources are, once they are read
+abbrev pub read_as :
+    {texts : List (List ℕ)} {query : Option (List ℕ)} → AreRead texts query → PlainRead
+read_as sources =
+    record { files = items_from 0 sources.files; goal = plain_goal sources.goal }
+
+-- The phase that reads: the items of the files and the goal, unless a rule of reading is broken.
+pub record Reads (sources : Sources) (result : Result PlainRead Refusal) : Type 0 where
+  pub read : AreRead sources.texts sources.query
+  pub is : result ≡ unless_broken (reading_rules read) (read_as read)

@@ -1,58 +1,56 @@
-ghost use Rattle.std.specs.Prelude.{◌≡◌, false, ◌||◌, IfOk, IfErr, OnOk};
+ghost use Rattle.std.specs.Prelude.{List};
 ghost use Rattle.std.specs.Option.{option_copied};
-ghost use Rattle.mc_compile.specs.Library.{library_texts};
-ghost use Rattle.mc_compile.specs.Reading.{texts_of, text_of};
-ghost use Rattle.mc_compile.specs.Compiled.{is_first, IsCompiled, IsFault};
+ghost use Rattle.mc_compile.specs.declared.given.Given.{Given};
+ghost use Rattle.mc_compile.specs.Phases.{Tells, Then};
+ghost use Rattle.mc_compile.specs.Sources.{sources_of};
+ghost use Rattle.mc_compile.specs.Reading.{plain_read};
+ghost use Rattle.mc_compile.specs.Linking.{Links};
+ghost use Rattle.mc_compile.specs.Forming.{Forms, IsProgramOf};
+ghost use Rattle.mc_compile.specs.Compiling.{Compiles};
 
-use crate::facts::program_of;
-use crate::given::{CompileFault, Compiled, Given, Query};
-use crate::phases::named;
+use crate::forming::form;
+use crate::given::{CompileFault, Given, Query};
+use crate::named::Named;
+use crate::reading::Read;
 use mc_base::Row;
+use mc_ground_form::Compiled;
 use std::alloc::Global;
 
-/// Compiles files and a query: to a program, where they are modules of facts and one call of a predicate.
+/// Compiles files and a query, phase by phase: they are read, linked with the library's modules, and formed.
 ///
 /// # Errors
 ///
-/// `Rejected` with the rules that are broken of the first phase that has a fault. `NotBuilt` where none is broken, and a
-/// run of `main`, the first answer alone or a form that isn't compiled yet is asked for.
-#[tactic(auto, using(crate::proofs::Compilation::given_inside, crate::proofs::Compilation::compiled_is, crate::proofs::Compilation::not_of_form, crate::proofs::Compilation::not_built, crate::proofs::Compilation::illegal_is))]
+/// `Rejected` with the rules that are broken of the first phase that has a fault: one for each faulty item, in the
+/// order of the files, and the query's last. `NotBuilt` where none is broken, and a run of `main`, the first answer
+/// alone or a form that isn't compiled yet is asked for.
 pub fn compile(
     alloc: Global,
     files: &Row<Given>,
     query: Option<&Query>,
     want_main: bool,
 ) -> Result<Compiled, CompileFault>
-    ensures compiled { IfOk result
-        (IsCompiled library_texts (texts_of files.now) (text_of (option_copied query.entry))) }
-    ensures built { OnOk result ((want_main || is_first (option_copied query.entry)) ≡ false) }
-    ensures fault { IfErr result
-        (IsFault library_texts (texts_of files.now) (text_of (option_copied query.entry))
-        (want_main || is_first (option_copied query.entry))) }
+    ensures { Tells Compiles IsProgramOf
+        (sources_of files.now (option_copied query.entry) want_main) result }
 {
-    let named = named(alloc, files, query)?;
-    if want_main || is_first(query) {
-        return Err(CompileFault::NotBuilt);
-    }
-    let given = files.len() as usize;
-    match program_of(
-        alloc,
-        named.files.as_slice(),
-        given,
-        &named.names,
-        &named.goal,
-    )? {
-        Some(compiled) => Ok(compiled),
-        None => Err(CompileFault::NotBuilt),
+    match Read::of(alloc, files, query) {
+        Ok(read) => linked(alloc, read, query, want_main),
+        Err(fault) => Err(fault),
     }
 }
 
-// Whether the first answer alone is wanted.
-fn is_first(query: Option<&Query>) -> bool
-    ensures { result ≡ is_first (option_copied query.entry) }
+// The phases from linking on.
+fn linked(
+    alloc: Global,
+    read: Read,
+    query: Option<&Query>,
+    want_main: bool,
+) -> Result<Compiled, CompileFault>
+    ensures { (files : List Given)
+        → Tells (Then Links (Forms (sources_of files (option_copied query.entry) want_main)))
+        IsProgramOf (plain_read read) result }
 {
-    match query {
-        Some(query) => query.first,
-        None => false,
+    match Named::of(alloc, read) {
+        Ok(named) => form(alloc, &named, query, want_main),
+        Err(fault) => Err(fault),
     }
 }

@@ -1,5 +1,4 @@
 use mc_base::{Memory, Row, Text};
-use mc_program::program::Program;
 use mc_source::rule::Broken;
 
 /// A file, by its name and its bytes.
@@ -14,15 +13,6 @@ pub struct Given {
 pub struct Query {
     pub text: Text,
     pub first: bool,
-}
-
-/// A program, the number of its goal's predicate, and the names of the goal's variables. Without a query the number is 0
-/// and there are no variables.
-#[derive(Drop)]
-pub struct Compiled {
-    pub program: Program,
-    pub goal: u32,
-    pub vars: Row<Text>,
 }
 
 /// Why sources aren't compiled.

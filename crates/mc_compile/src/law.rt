@@ -1,38 +1,47 @@
-ghost use Rattle.mc_compile.specs.Laws.{AtMostOneBreaks};
-ghost use Rattle.mc_compile.specs.FactsLaws.{CompiledOnce, FactsFit, NotBoth, QuestionAsks};
+ghost use Rattle.mc_compile.specs.Phases.{AtMostOne};
+ghost use Rattle.mc_compile.specs.Sources.{Sources};
+ghost use Rattle.mc_compile.specs.Reading.{Reads};
+ghost use Rattle.mc_compile.specs.Linking.{Links};
+ghost use Rattle.mc_compile.specs.Forming.{Forms};
+ghost use Rattle.mc_compile.specs.Compiling.{Compiles};
+ghost use Rattle.mc_compile.specs.Laws.{CompiledFits, CompiledAsks, CompiledNumbers};
 
 use mc_items::{at_most_one_goal, at_most_one_list};
 
-/// Sources break one list of rules at most: a law, and nothing to run.
-pub fn at_most_one_breach()
-    ensures { AtMostOneBreaks }
+/// Each phase answers one thing at most: a law, and nothing to run.
+pub fn at_most_one_phase()
+    ensures reads { AtMostOne Reads }
+    ensures links { AtMostOne Links }
+    ensures forms { (sources : Sources) → AtMostOne (Forms sources) }
 {
     at_most_one_list();
     at_most_one_goal();
 }
 
-/// Legal sources are one program and one query at most: a law, and nothing to run.
-pub fn compiled_once()
-    ensures { CompiledOnce }
+/// Sources are compiled to one program at most, or refused for one reason: a law, and nothing to run.
+pub fn at_most_one_program()
+    ensures { AtMostOne Compiles }
 {
-    at_most_one_list();
-    at_most_one_goal();
+    at_most_one_phase();
 }
 
-/// Legal sources break no rule: a law, and nothing to run.
-pub fn not_both()
-    ensures { NotBoth }
-{
-    at_most_one_list();
-    at_most_one_goal();
-}
-
-/// The facts of modules of the form have constants of their predicates' types: a law, and nothing to run.
+/// The facts of what sources are compiled to have constants of their predicates' types: a law, and nothing to run.
 pub fn facts_fit()
-    ensures { FactsFit }
-{}
+    ensures { CompiledFits }
+{
+    mc_ground_form::facts_fit();
+}
 
-/// The query of a goal of the form asks a predicate of the modules: a law, and nothing to run.
+/// The query of what sources are compiled to asks one of its predicates: a law, and nothing to run.
 pub fn question_asks()
-    ensures { QuestionAsks }
-{}
+    ensures { CompiledAsks }
+{
+    mc_ground_form::question_asks();
+}
+
+/// What sources are compiled to has the numbers of names: a law, and nothing to run.
+pub fn numbers_are_those_of_names()
+    ensures { CompiledNumbers }
+{
+    mc_ground_form::numbers_are_those_of_names();
+}

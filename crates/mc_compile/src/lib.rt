@@ -2,23 +2,21 @@
 #![tactic(auto)]
 
 mod compiling;
-mod facts;
+mod forming;
 mod given;
 mod law;
 mod library;
-mod naming;
-mod phases;
+mod linking;
+mod named;
 mod reader;
 mod reading;
-#[cfg(test)]
-mod tests;
-#[cfg(test)]
-mod tests_form;
 
 pub use compiling::compile;
-pub use given::{CompileFault, Compiled, Given, Query};
-pub use law::{at_most_one_breach, compiled_once, facts_fit, not_both, question_asks};
+pub use given::{CompileFault, Given, Query};
+pub use law::{
+    at_most_one_phase, at_most_one_program, facts_fit, numbers_are_those_of_names, question_asks,
+};
 pub use library::LIBRARY;
-pub use naming::Named;
-pub use phases::named;
+pub use mc_ground_form::Compiled;
+pub use named::Named;
 pub use reading::Read;

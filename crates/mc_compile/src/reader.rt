@@ -1,6 +1,7 @@
 ghost use Rattle.std.specs.Prelude.{◌≡◌, ◌+◌, ◌<◌, ◌≤◌, ◌^◌, ◌++◌, [], IfOk, IfErr, OnOk};
 ghost use Rattle.std.specs.Option.{option_copied};
-ghost use Rattle.mc_compile.specs.Reading.{IsOneMore, IsQueryRead, IsRejected, text_of};
+ghost use Rattle.mc_compile.specs.Sources.{text_of};
+ghost use Rattle.mc_compile.specs.code.Reader.{IsOneMore, IsQueryRead, IsRejected};
 
 use crate::given::{CompileFault, Query};
 use mc_base::{Memory, Row};

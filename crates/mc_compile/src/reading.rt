@@ -1,6 +1,3 @@
-ghost use Rattle.std.specs.Prelude.{◌≡◌, IfOk, IfErr};
-ghost use Rattle.std.specs.Option.{option_copied};
-
 use crate::given::{CompileFault, Given, Query};
 use crate::reader::Reader;
 use mc_base::Row;
@@ -16,7 +13,11 @@ pub struct Read {
 }
 
 impl Read {
-    ghost use Rattle.mc_compile.specs.Reading.{texts_of, text_of, HasRead, IsUnread};
+    ghost use Rattle.std.specs.Prelude.{Bool};
+    ghost use Rattle.std.specs.Option.{option_copied};
+    ghost use Rattle.mc_compile.specs.Phases.{Tells, Viewed};
+    ghost use Rattle.mc_compile.specs.Sources.{sources_of};
+    ghost use Rattle.mc_compile.specs.Reading.{Reads, plain_read};
 
     /// Reads files, which are numbered from 0 on, and a query, whose number follows theirs.
     ///
@@ -30,15 +31,18 @@ impl Read {
         files: &Row<Given>,
         query: Option<&Query>,
     ) -> Result<Read, CompileFault>
-        ensures read { IfOk result (HasRead (texts_of files.now) (text_of (option_copied query.entry))) }
-        ensures refusal { IfErr result (IsUnread (texts_of files.now) (text_of (option_copied query.entry))) }
+        ensures { (wants_main : Bool)
+            → Tells Reads (Viewed plain_read)
+            (sources_of files.now (option_copied query.entry) wants_main) result }
     {
         let mut reader = Reader::new(alloc, 0);
         for given in files.as_slice() {
             reader.read(alloc, given.bytes.bytes())?;
         }
         let goal = reader.read_goal(alloc, query)?;
-        let files = reader.answer()?;
-        Ok(Read { files, goal })
+        match reader.answer() {
+            Ok(files) => Ok(Read { files, goal }),
+            Err(fault) => Err(fault),
+        }
     }
 }

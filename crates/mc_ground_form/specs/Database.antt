@@ -59,7 +59,12 @@ constant_of s = con s no_vals
 
 -- the constructor that a constant is
 abbrev pub constructor_of : Constant → Constructor
-constructor_of c = record { name = record { module_name = c.module_name; bytes = c.name; arity = 0 }; of_type = c.of_type; args = [] }
+constructor_of c =
+    record {
+      name = record { module_name = c.module_name; bytes = c.name; arity = 0 };
+      of_type = c.of_type;
+      args = [];
+    }
 
 abbrev pub no_constant : Constant
 no_constant = record { module_name = []; name = []; of_type = 0 }
@@ -93,7 +98,12 @@ query_predicate p us =
     record {
       name = record { module_name = []; bytes = []; arity = length us };
       types = the_types us;
-      clauses = record { head = variables_from 0 (length us); body = Call p (expressions (variables_from 0 (length us))) } ∷ [];
+      clauses =
+          record {
+            head = variables_from 0 (length us);
+            body = Call p (expressions (variables_from 0 (length us)));
+          }
+          ∷ [];
       builtin = None;
     }
 

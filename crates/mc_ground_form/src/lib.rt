@@ -1,8 +1,16 @@
-//! Programs of ground facts in the terms of the language, that their runs are good, and the bytes of their queries.
+//! The form of facts, which is compiled so far: whether linked files are of it and the program that they are, that the
+//! runs of such a program are good, and the bytes of its queries.
 #![tactic(auto)]
 
+mod compiled;
+mod facts;
+
 ghost use Rattle.mc_ground_form.specs.Laws.{FactsAreGood, QueriesAreGood, FactsAreAnswered, QueriesEnd};
+ghost use Rattle.mc_ground_form.specs.FormLaws.{FactsFit, NumbersAreThoseOfNames, QuestionAsks};
 ghost use Rattle.mc_ground_form.specs.Lines.{AnswersAreLines, BareAnswersAreLines};
+
+pub use compiled::Compiled;
+pub use facts::program_of;
 
 /// Every run of a program of ground facts is good, with a query beside it or without one: answers are true in the
 /// completion, and none is omitted.
@@ -34,4 +42,20 @@ pub fn answers_are_lines()
 /// The same where the names of the constants are bare: the lines hold these names as they are.
 pub fn bare_answers_are_lines()
     ensures { BareAnswersAreLines }
+{}
+
+/// The facts of modules of the form have constants of their predicates' types.
+pub fn facts_fit()
+    ensures { FactsFit }
+{}
+
+/// The query of a goal of the form asks a predicate of the modules.
+pub fn question_asks()
+    ensures { QuestionAsks }
+{}
+
+/// The types, constants and predicates of modules of the form have the numbers that they have among the names of all
+/// files.
+pub fn numbers_are_those_of_names()
+    ensures { NumbersAreThoseOfNames }
 {}

@@ -1,6 +1,6 @@
 use Rattle.std.proofs.Common.{arith, refl, sym, ap, subst, ◌∙◌, ◌≡◌, ◌+◌, ◌≤◌}
 use Rattle.mc_compile.specs.declared.reader.Reader.{Reader}
-use Rattle.mc_compile.specs.Sources.{counted, greatest_sources}
+use Rattle.mc_compile.specs.Reading.{counted, greatest_sources}
 use Rattle.mc_compile.proofs.ReadFiles.{whole_file, faulty_file}
 use Rattle.mc_compile.proofs.reader.Reader.read.Goals as goal
 

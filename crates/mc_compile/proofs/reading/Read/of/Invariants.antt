@@ -1,5 +1,5 @@
 use Rattle.std.proofs.Common.{take}
-use Rattle.mc_compile.specs.Reading.{texts_of}
+use Rattle.mc_compile.specs.Sources.{texts_of}
 use Rattle.mc_compile.proofs.ReadFiles.{AreDone}
 use Rattle.mc_compile.proofs.reading.Read.of.Given as goal
 

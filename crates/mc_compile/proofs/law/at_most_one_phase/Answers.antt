@@ -1,0 +1,11 @@
+use Rattle.mc_compile.proofs.OnePhase as O
+use Rattle.mc_compile.proofs.law.at_most_one_phase.Goals as goal
+
+pub returns-clause-reads : goal.returns-clause-reads
+returns-clause-reads c = let g = c.at_most_one_goal.ensures in O.one_read c.at_most_one_list.ensures g.one_goal g.not_both g.one_refusal
+
+pub returns-clause-links : goal.returns-clause-links
+returns-clause-links c = O.one_link c.at_most_one_list.ensures
+
+pub returns-clause-forms : goal.returns-clause-forms
+returns-clause-forms c = O.one_form

@@ -1,0 +1,65 @@
+-- The phase that links: the library's modules behind the given files, what names mean, and the
+-- rules of linking that are broken (this project's rules; the Mercury manual: The module system).
+use Rattle.std.specs.Prelude.{◌≡◌, ℕ, ◌+◌, List, [], ◌++◌, length, Option, Some, None, Result}
+use Rattle.mc_term_data.specs.Plain.{PlainTerm}
+use Rattle.mc_source.specs.declared.rule.Broken.{Broken}
+use Rattle.mc_source.specs.Rules.{broken_at}
+use Rattle.mc_linking.specs.Files.{File}
+use Rattle.mc_linking.specs.Faults.{link_faults, goal_fault}
+use Rattle.mc_ground_form.specs.Facts.{LinkedFiles, with_library}
+use Rattle.mc_ground_form.specs.Program.{plain_goal, line_of}
+use Rattle.mc_ground_form.specs.Answered.{linked_files}
+use Rattle.mc_compile.specs.declared.named.Named.{Named}
+use Rattle.mc_compile.specs.Phases.{Refusal, unless_broken}
+use Rattle.mc_compile.specs.Library.{library_texts}
+use Rattle.mc_compile.specs.Reading.{Reading, FilesRead, PlainRead, rules_from, items_from}
+
+-- What the library's modules read as, which break no rule.
+pub record IsLibrary (library : List (List ℕ)) (modules : List Reading) : Type 0 where
+  pub read : FilesRead 0 library modules
+  pub whole : rules_from 0 modules ≡ []
+
+-- the library's modules, which are numbered after the files and the query
+abbrev pub library_behind : (given : List File) → List Reading → List File
+library_behind given modules = items_from (length given + 1) modules
+
+-- the rule of linking that the goal of a query breaks, where there is one
+abbrev pub goal_rules_in : List File → (number : ℕ) → Option PlainTerm → List Broken
+goal_rules_in files k None = []
+goal_rules_in files k (Some goal) =
+    broken_at (record { file = k; line = line_of goal }) (goal_fault files goal)
+
+-- the rules of linking that files break, the library's last, and the goal of a query: file by file,
+-- and then the query's
+abbrev pub linking_rules_of : (files library : List File) → Option PlainTerm → List Broken
+linking_rules_of files library goal =
+    link_faults (files ++ library) ++ goal_rules_in (files ++ library) (length files) goal
+
+-- the given files and all with the library's behind, with their names, and the goal
+pub record PlainNamed : Type 0 where
+  pub files : LinkedFiles
+  pub goal : Option PlainTerm
+
+abbrev pub plain_named : Named → PlainNamed
+plain_named named =
+    record {
+      files = linked_files named.files named.given named.names;
+      goal = plain_goal named.goal;
+    }
+
+-- what is read, once it is linked with these modules behind it
+abbrev pub linked_with : PlainRead → (library : List File) → PlainNamed
+linked_with read library =
+    record {
+      files = with_library read.files library;
+      goal = read.goal;
+    }
+
+-- The phase that links: what names mean, unless a rule of linking is broken.
+pub record Links (read : PlainRead) (result : Result PlainNamed Refusal) : Type 0 where
+  pub modules : List Reading
+  pub is_library : IsLibrary library_texts modules
+  pub is :
+      result
+      ≡ unless_broken (linking_rules_of read.files (library_behind read.files modules) read.goal)
+      (linked_with read (library_behind read.files modules))

@@ -1,0 +1,52 @@
+ghost use Rattle.std.specs.Prelude.{◌≡◌, List};
+ghost use Rattle.std.specs.Option.{option_copied};
+ghost use Rattle.mc_compile.specs.declared.given.Given.{Given};
+ghost use Rattle.mc_compile.specs.Phases.{Tells};
+ghost use Rattle.mc_compile.specs.Sources.{is_first, sources_of};
+ghost use Rattle.mc_compile.specs.Linking.{plain_named};
+ghost use Rattle.mc_compile.specs.Forming.{Forms, IsProgramOf};
+
+use crate::given::{CompileFault, Query};
+use crate::named::Named;
+use mc_ground_form::{Compiled, program_of};
+use std::alloc::Global;
+
+/// The program that linked files are, with the query that the goal is.
+///
+/// # Errors
+///
+/// `NotBuilt` where a run of `main`, the first answer alone or a form that isn't compiled yet is asked for.
+pub fn form(
+    alloc: Global,
+    named: &Named,
+    query: Option<&Query>,
+    want_main: bool,
+) -> Result<Compiled, CompileFault>
+    ensures { (files : List Given)
+        → Tells (Forms (sources_of files (option_copied query.entry) want_main)) IsProgramOf
+        (plain_named named.now) result }
+{
+    if want_main || is_first(query) {
+        return Err(CompileFault::NotBuilt);
+    }
+    match program_of(
+        alloc,
+        named.files.as_slice(),
+        named.given as usize,
+        &named.names,
+        &named.goal,
+    )? {
+        Some(compiled) => Ok(compiled),
+        None => Err(CompileFault::NotBuilt),
+    }
+}
+
+// Whether the first answer alone is wanted.
+fn is_first(query: Option<&Query>) -> bool
+    ensures { result ≡ is_first (option_copied query.entry) }
+{
+    match query {
+        Some(query) => query.first,
+        None => false,
+    }
+}
