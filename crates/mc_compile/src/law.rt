@@ -45,3 +45,8 @@ pub fn numbers_are_those_of_names()
 {
     mc_ground_form::numbers_are_those_of_names();
 }
+
+/// Something is asked of what sources are compiled to exactly where there is a query: a law, and nothing to run.
+pub fn query_is_asked()
+    ensures { QueryIsAsked }
+{}
