@@ -3,6 +3,5 @@ pub mod Determined
 pub mod Inclusion
 pub mod Normal
 pub mod Ordered
-pub mod PlainGoals
 pub mod Scope
 pub mod Typing

@@ -3,12 +3,8 @@
 use Rattle.std.specs.Prelude.{ℕ, suc, ◌+◌, List, [], ◌∷◌, ◌++◌, map, length, Bool, true, false, nat_eq, Option, Some, None, if◌then◌else◌}
 use Rattle.mc_program.specs.Programs.{Expression, variable, constant, made, applied, Expressions, no_expressions, expression_then, expressions, Formula, Equal, Call, And, Or, If, Not, Exists, Formulas, no_formulas, formula_then, ClauseForm}
 use Rattle.mc_model.specs.Flat as F
-use Rattle.mc_model.specs.Flat.{Flat_goal, Flat_goals, no_flat, flat_then, is_in, without}
+use Rattle.mc_model.specs.Flat.{Flat_goal, Flat_goals, no_flat, flat_then, flats, is_in, without}
 use Rattle.mc_accepted.specs.Scope.{occurring, variables_in_all, once}
-
-abbrev pub flats : List Flat_goal → Flat_goals
-flats [] = no_flat
-flats (g ∷ gs) = flat_then g (flats gs)
 
 abbrev pub listed_flats : Flat_goals → List Flat_goal
 listed_flats no_flat = []
@@ -72,10 +68,20 @@ abbrev mutual
       record { variables = n ∷ []; goals = F.Is n c ∷ []; made_variables = n ∷ []; next = n + 1 }
   name_term names n (made f ts) =
       let r = name_terms names n ts in
-      record { variables = r.next ∷ []; goals = r.goals ++ F.Made r.next f r.variables ∷ []; made_variables = r.made_variables ++ r.next ∷ []; next = r.next + 1 }
+      record {
+        variables = r.next ∷ [];
+        goals = r.goals ++ F.Made r.next f r.variables ∷ [];
+        made_variables = r.made_variables ++ r.next ∷ [];
+        next = r.next + 1;
+      }
   name_term names n (applied f ts) =
       let r = name_terms names n ts in
-      record { variables = r.next ∷ []; goals = r.goals ++ F.Call f (r.variables ++ r.next ∷ []) ∷ []; made_variables = r.made_variables ++ r.next ∷ []; next = r.next + 1 }
+      record {
+        variables = r.next ∷ [];
+        goals = r.goals ++ F.Call f (r.variables ++ r.next ∷ []) ∷ [];
+        made_variables = r.made_variables ++ r.next ∷ [];
+        next = r.next + 1;
+      }
 
   pub name_terms : (names : ℕ → ℕ) → ℕ → Expressions → Named_terms
   name_terms names n no_expressions =
@@ -83,7 +89,12 @@ abbrev mutual
   name_terms names n (expression_then t ts) =
       let r = name_term names n t in
       let rs = name_terms names r.next ts in
-      record { variables = r.variables ++ rs.variables; goals = r.goals ++ rs.goals; made_variables = r.made_variables ++ rs.made_variables; next = rs.next }
+      record {
+        variables = r.variables ++ rs.variables;
+        goals = r.goals ++ rs.goals;
+        made_variables = r.made_variables ++ rs.made_variables;
+        next = rs.next;
+      }
 
 -- goals as conjuncts, with the variables that were made for them and the next number for one
 pub record Conjuncts : Type 0 where
@@ -99,10 +110,18 @@ equate names n x (variable y) =
 equate names n x (constant c) = record { goals = F.Is x c ∷ []; made_variables = []; next = n }
 equate names n x (made f ts) =
     let r = name_terms names n ts in
-    record { goals = r.goals ++ F.Made x f r.variables ∷ []; made_variables = r.made_variables; next = r.next }
+    record {
+      goals = r.goals ++ F.Made x f r.variables ∷ [];
+      made_variables = r.made_variables;
+      next = r.next;
+    }
 equate names n x (applied f ts) =
     let r = name_terms names n ts in
-    record { goals = r.goals ++ F.Call f (r.variables ++ x ∷ []) ∷ []; made_variables = r.made_variables; next = r.next }
+    record {
+      goals = r.goals ++ F.Call f (r.variables ++ x ∷ []) ∷ [];
+      made_variables = r.made_variables;
+      next = r.next;
+    }
 
 -- goals before others
 abbrev pub before : List Flat_goal → List ℕ → Conjuncts → Conjuncts
@@ -129,7 +148,11 @@ abbrev mutual
   conjuncts_of names n (Equal a b) = equation names n a b
   conjuncts_of names n (Call p ts) =
       let r = name_terms names n ts in
-      record { goals = r.goals ++ F.Call p r.variables ∷ []; made_variables = r.made_variables; next = r.next }
+      record {
+        goals = r.goals ++ F.Call p r.variables ∷ [];
+        made_variables = r.made_variables;
+        next = r.next;
+      }
   conjuncts_of names n (And gs) = conjuncts_of_all names n gs
   conjuncts_of names n (Or gs) =
       let r = disjuncts_of names n gs in

@@ -308,7 +308,14 @@ module _ (S : System) (T : ℕ → TypeTerm) where
 
   -- the bound inst of one symbol over these insts
   abbrev pub IsSymbolOver : ℕ → ℕ → List ℕ → Type 0
-  IsSymbolOver i s is = S.insts i ≡ bound (record { name = (S.world.source.symbols s).name.bytes; arity = (S.world.source.symbols s).name.arity; args = is } ∷ [])
+  IsSymbolOver i s is =
+      S.insts i
+      ≡ bound
+      (record {
+        name = (S.world.source.symbols s).name.bytes;
+        arity = (S.world.source.symbols s).name.arity;
+        args = is;
+      } ∷ [])
 
   -- A mode is usable where each argument with an initial inst that isn't free is included in it. A
   -- variable at an input place whose final inst is dead stands at no other place of the call.
@@ -374,24 +381,30 @@ module _ (S : System) (T : ℕ → TypeTerm) where
     -- s, whose variables outside are Q, with the insts b before and o after, where None is an
     -- unreachable point.
     pub data Ordered : (O Q : List ℕ) → Insts → Flat_goal → Scheduled → Option Insts → Type 0 where
-      assign : {O Q : List ℕ} {b : Insts} {x y : ℕ} → b x ≡ 0 → b y ≢ 0 → NoneDead (x ∷ y ∷ []) b →
-          Ordered O Q b (F.Same x y) (Assign x y)
+      assign :
+          {O Q : List ℕ} {b : Insts} {x y : ℕ} → b x ≡ 0 → b y ≢ 0 → NoneDead (x ∷ y ∷ []) b
+          → Ordered O Q b (F.Same x y) (Assign x y)
           (Some (also x (b y) (if is_state (T y) then also y 3 b else b)))
-      assign_back : {O Q : List ℕ} {b : Insts} {x y : ℕ} → b x ≡ 0 → b y ≢ 0 → NoneDead (x ∷ y ∷ []) b →
-          Ordered O Q b (F.Same y x) (Assign x y)
+      assign_back :
+          {O Q : List ℕ} {b : Insts} {x y : ℕ} → b x ≡ 0 → b y ≢ 0 → NoneDead (x ∷ y ∷ []) b
+          → Ordered O Q b (F.Same y x) (Assign x y)
           (Some (also x (b y) (if is_state (T y) then also y 3 b else b)))
       test :
           {O Q : List ℕ} {b : Insts} {x y : ℕ} → b x ≢ 0 → b y ≢ 0 → is_state (T x) ≡ false
           → NoneDead (x ∷ y ∷ []) b → Ordered O Q b (F.Same x y) (Test x y) (Some b)
-      build : {O Q : List ℕ} {b : Insts} {x s i : ℕ} {ys : List ℕ} → b x ≡ 0 → AllBound ys b → NoneState ys → NoneDead ys b → IsSymbolOver i s (map b ys) →
-          Ordered O Q b (F.Made x s ys) (Build x s ys) (Some (also x i b))
-      take : {O Q : List ℕ} {b : Insts} {x s i : ℕ} {ys is : List ℕ} → b x ≢ 0 → NoneDead (x ∷ ys) b →
-          AllowsSymbol S.world.source (S.insts (b x)) (b x) s (λ js. js ≡ is) → IsSymbolOver i s is
-          →
-          Ordered O Q b (F.Made x s ys) (Take x s ys) (Some (take_all ys is (also x i b)))
-      take_never : {O Q : List ℕ} {b : Insts} {x s : ℕ} {ys : List ℕ} → b x ≢ 0 → NoneDead (x ∷ ys) b →
-          (AllowsSymbol S.world.source (S.insts (b x)) (b x) s (λ js. Unit {0}) → ⊥) →
-          Ordered O Q b (F.Made x s ys) (Take x s ys) None
+      build :
+          {O Q : List ℕ} {b : Insts} {x s i : ℕ} {ys : List ℕ} → b x ≡ 0 → AllBound ys b
+          → NoneState ys → NoneDead ys b → IsSymbolOver i s (map b ys)
+          → Ordered O Q b (F.Made x s ys) (Build x s ys) (Some (also x i b))
+      take :
+          {O Q : List ℕ} {b : Insts} {x s i : ℕ} {ys is : List ℕ} → b x ≢ 0 → NoneDead (x ∷ ys) b
+          → AllowsSymbol S.world.source (S.insts (b x)) (b x) s (λ js. js ≡ is)
+          → IsSymbolOver i s is
+          → Ordered O Q b (F.Made x s ys) (Take x s ys) (Some (take_all ys is (also x i b)))
+      take_never :
+          {O Q : List ℕ} {b : Insts} {x s : ℕ} {ys : List ℕ} → b x ≢ 0 → NoneDead (x ∷ ys) b
+          → (AllowsSymbol S.world.source (S.insts (b x)) (b x) s (λ js. Unit {0}) → ⊥)
+          → Ordered O Q b (F.Made x s ys) (Take x s ys) None
       put :
           {O Q : List ℕ} {b : Insts} {x : ℕ} {v : Val} → b x ≡ 0
           → Ordered O Q b (F.Is x v) (Const x v) (Some (also x 1 b))
@@ -401,17 +414,19 @@ module _ (S : System) (T : ℕ → TypeTerm) where
       test_never :
           {O Q : List ℕ} {b : Insts} {x : ℕ} {v : Val} → b x ≢ 0 → NoneDead (x ∷ []) b
           → (AllowsConstants (S.insts (b x)) → ⊥) → Ordered O Q b (F.Is x v) (TestConst x v) None
-      call : {O Q : List ℕ} {b c : Insts} {p : ℕ} {xs : List ℕ} {last : Bool} → p < S.count →
-          Usable (modes_of_procedure (S.procs p)) xs b → NoneDead xs b
-          → After (modes_of_procedure (S.procs p)) xs b c →
-          Ordered O Q b (F.Call (S.procs p).pred xs)
-          (Call p xs (implied_places 0 (modes_of_procedure (S.procs p)) xs (λ x. is_bound (b x)))
-          last) (unless_never (S.procs p).det.most c)
-      apply : {O Q : List ℕ} {b c : Insts} {p : ℕ} {op : Builtin} {xs : List ℕ} → (S.world.source.preds p).builtin ≡ Some op →
-          Usable (modes_of op) xs b → NoneDead xs b
+      call :
+          {O Q : List ℕ} {b c : Insts} {p : ℕ} {xs : List ℕ} {last : Bool} → p < S.count
+          → Usable (modes_of_procedure (S.procs p)) xs b → NoneDead xs b
+          → After (modes_of_procedure (S.procs p)) xs b c
+          → Ordered O Q b (F.Call (S.procs p).pred xs)
+          (Call p xs (implied_places 0 (modes_of_procedure (S.procs p)) xs (λ x. is_bound (b x))) last)
+          (unless_never (S.procs p).det.most c)
+      apply :
+          {O Q : List ℕ} {b c : Insts} {p : ℕ} {op : Builtin} {xs : List ℕ}
+          → (S.world.source.preds p).builtin ≡ Some op → Usable (modes_of op) xs b → NoneDead xs b
           → implied_places 0 (modes_of op) xs (λ x. is_bound (b x)) ≡ []
-          → After (modes_of op) xs b c →
-          Ordered O Q b (F.Call p xs)
+          → After (modes_of op) xs b c
+          → Ordered O Q b (F.Call p xs)
           (Apply op (at_inputs (inputs_of op) xs) (at_outputs (inputs_of op) xs))
           (unless_never (builtin_most op) c)
       conj :
@@ -425,21 +440,22 @@ module _ (S : System) (T : ℕ → TypeTerm) where
           → b x ≢ 0 → OrderedArms O Q b x gs arms o → Ordered O Q b (F.Or gs) (Switch x arms) o
       -- a condition binds nothing that occurs outside it and its then part, and its own variables
       -- are quantified
-      ite : {O Q : List ℕ} {b c : Insts} {vs : List ℕ} {g h k : Flat_goal} {n t u : Node} {o o' o'' : Option Insts} →
-          Apart vs O → Among (without (free_in g) vs) O →
-          OrderedNode (O ++ (vs ++ variables_of h)) (Q ++ (vs ++ variables_of_node t)) b g n
-          (Some c)
-          → BindsNone (without (free_in g) vs) b (Some c) →
-          OrderedNode (O ++ (vs ++ variables_of g)) (Q ++ (vs ++ variables_of_node n)) c h t o
-          → OrderedNode O Q b k u o' → Joined O o o' o'' →
-          Ordered O Q b (F.If vs g h k) (Ite vs n t u) o''
+      ite :
+          {O Q : List ℕ} {b c : Insts} {vs : List ℕ} {g h k : Flat_goal} {n t u : Node}
+          {o o' o'' : Option Insts} → Apart vs O → Among (without (free_in g) vs) O
+          → OrderedNode (O ++ (vs ++ variables_of h)) (Q ++ (vs ++ variables_of_node t)) b g n
+          (Some c) → BindsNone (without (free_in g) vs) b (Some c)
+          → OrderedNode (O ++ (vs ++ variables_of g)) (Q ++ (vs ++ variables_of_node n)) c h t o
+          → OrderedNode O Q b k u o' → Joined O o o' o''
+          → Ordered O Q b (F.If vs g h k) (Ite vs n t u) o''
       -- where the point after a condition is unreachable, its then part stands as the empty
       -- conjunction
-      ite_never : {O Q : List ℕ} {b : Insts} {vs : List ℕ} {g h k : Flat_goal} {n t u : Node} {o o'' : Option Insts} →
-          Apart vs O → Among (without (free_in g) vs) O →
-          OrderedNode (O ++ (vs ++ variables_of h)) (Q ++ vs) b g n None → IsEmpty t
-          → OrderedNode O Q b k u o → Joined O None o o'' →
-          Ordered O Q b (F.If vs g h k) (Ite vs n t u) o''
+      ite_never :
+          {O Q : List ℕ} {b : Insts} {vs : List ℕ} {g h k : Flat_goal} {n t u : Node}
+          {o o'' : Option Insts} → Apart vs O → Among (without (free_in g) vs) O
+          → OrderedNode (O ++ (vs ++ variables_of h)) (Q ++ vs) b g n None → IsEmpty t
+          → OrderedNode O Q b k u o → Joined O None o o''
+          → Ordered O Q b (F.If vs g h k) (Ite vs n t u) o''
       neg :
           {O Q : List ℕ} {b : Insts} {g : Flat_goal} {n : Node} {o : Option Insts}
           → Among (free_in g) O → OrderedNode O Q b g n o → BindsNone (free_in g) b o
@@ -450,8 +466,9 @@ module _ (S : System) (T : ℕ → TypeTerm) where
 
     -- with the kept changes and the mark for pruned goals
     pub data OrderedNode : (O Q : List ℕ) → Insts → Flat_goal → Node → Option Insts → Type 0 where
-      kept : {O Q : List ℕ} {b : Insts} {g : Flat_goal} {s : Scheduled} {changes : List (ℕ × ℕ)} {det : Det} {o : Option Insts} →
-          Ordered O Q b g s o → KeepsChanges b o changes
+      kept :
+          {O Q : List ℕ} {b : Insts} {g : Flat_goal} {s : Scheduled} {changes : List (ℕ × ℕ)}
+          {det : Det} {o : Option Insts} → Ordered O Q b g s o → KeepsChanges b o changes
           → OrderedNode O Q b g (node s changes det (is_pruned Q b o)) o
 
     -- the parts of a conjunction in the order in which they run; after an unreachable point the
@@ -462,31 +479,36 @@ module _ (S : System) (T : ℕ → TypeTerm) where
           {O Q : List ℕ} {b : Insts} {g : Flat_goal} {gs rest : Flat_goals} {n : Node}
           → Picks gs g rest → OrderedNode (O ++ variables_of_all rest) Q b g n None
           → OrderedAll O Q b gs (node_then n no_nodes) None
-      next : {O Q : List ℕ} {b c : Insts} {g : Flat_goal} {gs rest : Flat_goals} {n : Node} {ns : Nodes} {o : Option Insts} →
-          Picks gs g rest
+      next :
+          {O Q : List ℕ} {b c : Insts} {g : Flat_goal} {gs rest : Flat_goals} {n : Node}
+          {ns : Nodes} {o : Option Insts} → Picks gs g rest
           → OrderedNode (O ++ variables_of_all rest) (Q ++ variables_of_nodes ns) b g n (Some c)
-          →
-          OrderedAll (O ++ variables_of g) (Q ++ variables_of_node n) c rest ns o
+          → OrderedAll (O ++ variables_of g) (Q ++ variables_of_node n) c rest ns o
           → OrderedAll O Q b gs (node_then n ns) o
       -- an implied output of a builtin stands as a fresh variable, with a test after the builtin
-      implied_outputs : {O Q : List ℕ} {b : Insts} {p : ℕ} {op : Builtin} {xs zs : List ℕ} {gs rest : Flat_goals} {ns : Nodes} {o : Option Insts} (tests : Flat_goals) →
-          Picks gs (F.Call p xs) rest → (S.world.source.preds p).builtin ≡ Some op
-          → Freshened 0 (implied_places 0 (modes_of op) xs (λ x. is_bound (b x))) xs zs tests →
-          Apart (without zs xs) (O ++ variables_of_all gs)
+      implied_outputs :
+          {O Q : List ℕ} {b : Insts} {p : ℕ} {op : Builtin} {xs zs : List ℕ} {gs rest : Flat_goals}
+          {ns : Nodes} {o : Option Insts} (tests : Flat_goals) → Picks gs (F.Call p xs) rest
+          → (S.world.source.preds p).builtin ≡ Some op
+          → Freshened 0 (implied_places 0 (modes_of op) xs (λ x. is_bound (b x))) xs zs tests
+          → Apart (without zs xs) (O ++ variables_of_all gs)
           → OrderedAll O Q b (flat_then (F.Call p zs) (before_goals tests rest)) ns o
           → OrderedAll O Q b gs ns o
 
     pub data OrderedAny : (O Q : List ℕ) → Insts → Flat_goals → Nodes → Option Insts → Type 0 where
       no_other : {O Q : List ℕ} {b : Insts} → OrderedAny O Q b no_flat no_nodes None
-      either : {O Q : List ℕ} {b : Insts} {g : Flat_goal} {gs : Flat_goals} {n : Node} {ns : Nodes} {o o' o'' : Option Insts} →
-          OrderedNode O Q b g n o → OrderedAny O Q b gs ns o' → Joined O o o' o''
-          → OrderedAny O Q b (flat_then g gs) (node_then n ns) o''
+      either :
+          {O Q : List ℕ} {b : Insts} {g : Flat_goal} {gs : Flat_goals} {n : Node} {ns : Nodes}
+          {o o' o'' : Option Insts} → OrderedNode O Q b g n o → OrderedAny O Q b gs ns o'
+          → Joined O o o' o'' → OrderedAny O Q b (flat_then g gs) (node_then n ns) o''
 
     -- the arms of a switch on a variable: the disjuncts of one symbol or constant share an arm, in
     -- order
-    pub data OrderedArms : (O Q : List ℕ) → Insts → ℕ → Flat_goals → Arms → Option Insts → Type 0 where
+    pub data OrderedArms :
+        (O Q : List ℕ) → Insts → ℕ → Flat_goals → Arms → Option Insts → Type 0 where
       no_arm : {O Q : List ℕ} {b : Insts} {x : ℕ} → OrderedArms O Q b x no_flat no_arms None
-      arm : {O Q : List ℕ} {b : Insts} {x : ℕ} {gs hs ks : Flat_goals} {l : Label} {n : Node} {arms : Arms} {o o' o'' : Option Insts} →
-          Parts gs hs ks → Opens x l n → AbsentFrom l arms → OrderedNode O Q b (arm_goal hs) n o
-          → OrderedArms O Q b x ks arms o' → Joined O o o' o''
+      arm :
+          {O Q : List ℕ} {b : Insts} {x : ℕ} {gs hs ks : Flat_goals} {l : Label} {n : Node}
+          {arms : Arms} {o o' o'' : Option Insts} → Parts gs hs ks → Opens x l n → AbsentFrom l arms
+          → OrderedNode O Q b (arm_goal hs) n o → OrderedArms O Q b x ks arms o' → Joined O o o' o''
           → OrderedArms O Q b x gs (arm_then l n arms) o''

@@ -21,10 +21,10 @@ mutual
     term_then : Unresolved → Unresolved_terms → Unresolved_terms
 
 -- what is typed in a clause: its equations, and its atoms, the head among them
-pub data Judged : Type 0 where
-  equation : Unresolved → Unresolved → Judged
-  atom : (candidates : List Candidate) → (args : Unresolved_terms) → Judged
-  head : (pred : ℕ) → (args : Unresolved_terms) → Judged
+pub data Constraint : Type 0 where
+  equation : Unresolved → Unresolved → Constraint
+  atom : (candidates : List Candidate) → (args : Unresolved_terms) → Constraint
+  head : (pred : ℕ) → (args : Unresolved_terms) → Constraint
 
 -- The types of a constructor's arguments where its term is of a type. A term of a type variable is
 -- no constructor's, though any value is of a type variable.
@@ -49,11 +49,13 @@ module _ (P : Source) (τ : ℕ → TypeTerm) where
       of_variable : {v : ℕ} {ps : List Candidate} → Typed (variable v) (τ v) ps ps
       of_number : {n : ℤ} {ps : List Candidate} → Typed (number n) int_type ps ps
       of_text : {bytes : List ℕ} {ps : List Candidate} → Typed (text bytes) string_type ps ps
-      of_name : {cs ps rest : List Candidate} {args : Unresolved_terms} {ts : List TypeTerm} {t : TypeTerm} (c : Candidate) →
-          AllTyped args ts ps (c ∷ rest) → Contains cs c → CandidateFits c ts t
-          → Typed (name cs args) t ps rest
+      of_name :
+          {cs ps rest : List Candidate} {args : Unresolved_terms} {ts : List TypeTerm}
+          {t : TypeTerm} (c : Candidate) → AllTyped args ts ps (c ∷ rest) → Contains cs c
+          → CandidateFits c ts t → Typed (name cs args) t ps rest
 
-    pub data AllTyped : Unresolved_terms → List TypeTerm → (picks rest : List Candidate) → Type 0 where
+    pub data AllTyped :
+        Unresolved_terms → List TypeTerm → (picks rest : List Candidate) → Type 0 where
       none : {ps : List Candidate} → AllTyped no_terms [] ps ps
       one_more :
           {e : Unresolved} {es : Unresolved_terms} {t : TypeTerm} {ts : List TypeTerm}
@@ -62,30 +64,31 @@ module _ (P : Source) (τ : ℕ → TypeTerm) where
 
   -- both sides of an equation have one type; an atom's arguments have the types of its predicate,
   -- renamed apart; the head's arguments have the declared types, whose type variables are rigid
-  pub data Judgement : Judged → (picks rest : List Candidate) → Type 0 where
+  pub data Holds : Constraint → (picks rest : List Candidate) → Type 0 where
     equal :
         {a b : Unresolved} {ps mid rest : List Candidate} (t : TypeTerm) → Typed a t ps mid
-        → Typed b t mid rest → Judgement (equation a b) ps rest
-    called : {cs ps rest : List Candidate} {args : Unresolved_terms} (p : ℕ) (σ : ℕ → TypeTerm) →
-        AllTyped args (map (instance_of σ) (P.preds p).types) ps (C.Pred p ∷ rest)
-        → Contains cs (C.Pred p) → Judgement (atom cs args) ps rest
+        → Typed b t mid rest → Holds (equation a b) ps rest
+    called :
+        {cs ps rest : List Candidate} {args : Unresolved_terms} (p : ℕ) (σ : ℕ → TypeTerm)
+        → AllTyped args (map (instance_of σ) (P.preds p).types) ps (C.Pred p ∷ rest)
+        → Contains cs (C.Pred p) → Holds (atom cs args) ps rest
     declared :
         {p : ℕ} {ps rest : List Candidate} {args : Unresolved_terms}
-        → AllTyped args (P.preds p).types ps rest → Judgement (head p args) ps rest
+        → AllTyped args (P.preds p).types ps rest → Holds (head p args) ps rest
 
-  pub data AllJudged : List Judged → (picks rest : List Candidate) → Type 0 where
-    done : {ps : List Candidate} → AllJudged [] ps ps
+  pub data AllHold : List Constraint → (picks rest : List Candidate) → Type 0 where
+    done : {ps : List Candidate} → AllHold [] ps ps
     and_then :
-        {j : Judged} {js : List Judged} {ps mid rest : List Candidate} → Judgement j ps mid
-        → AllJudged js mid rest → AllJudged (j ∷ js) ps rest
+        {j : Constraint} {js : List Constraint} {ps mid rest : List Candidate} → Holds j ps mid
+        → AllHold js mid rest → AllHold (j ∷ js) ps rest
 
--- A resolution picks one candidate for each occurrence of a name. PlainDecl types a clause where
--- the clause's variables have types with which each equation and each atom is typed.
-abbrev pub Resolves : Source → List Judged → List Candidate → Type 0
-Resolves P clause picks = (τ : ℕ → TypeTerm) × AllJudged P τ clause picks []
+-- A resolution picks one candidate for each occurrence of a name. It types a clause where the
+-- clause's variables have types with which each equation and each atom is typed.
+abbrev pub Resolves : Source → List Constraint → List Candidate → Type 0
+Resolves P clause picks = (τ : ℕ → TypeTerm) × AllHold P τ clause picks []
 
 -- A clause is well typed where exactly one resolution types it.
-pub record WellTyped (P : Source) (clause : List Judged) : Type 0 where
+pub record WellTyped (P : Source) (clause : List Constraint) : Type 0 where
   pub picks : List Candidate
   pub resolves : Resolves P clause picks
   pub alone : (others : List Candidate) → Resolves P clause others → others ≡ picks

@@ -1,20 +1,19 @@
 -- Uses that are added one after another.
 use Rattle.std.proofs.Common.{◌≡◌, ℕ, ◌-◌, ◌≤◌, Bool, List, [], ◌∷◌, ◌++◌, length, map, take, drop, get_or, refl, ap, ◌∙◌, append_assoc, arith}
-use Rattle.std.proofs.lemmas.List.{take_all}
+use Rattle.std.proofs.lemmas.List.{append-nil, take_all}
 use Rattle.mc_term_data.specs.Plain.{PlainTerm, PlainTerms, no_term, more_terms, plain_term, tms}
 use Rattle.mc_term_data.specs.declared.term.Term.{Term}
-use Rattle.mc_clause_syntax.specs.declared.connective.Stand.{Stand}
-use Rattle.mc_clause_syntax.specs.declared.connective.Parts.TheVariants.{Goals}
+use Rattle.mc_clause_syntax.specs.declared.goal_form.Stand.{Stand}
+use Rattle.mc_clause_syntax.specs.declared.goal_form.Parts.TheVariants.{Goals}
 use Rattle.mc_decl_syntax.specs.Plain.{Path}
 use Rattle.mc_defs_uses.specs.declared.definition.Kind.TheVariants as K
 use Rattle.mc_defs_uses.specs.declared.occurrence.Occurrence.{Occurrence}
 use Rattle.mc_defs_uses.specs.Plain.{PlainOccurrence, plain_occurrence}
 use Rattle.mc_defs_uses.specs.Occurrences.{used, cell_path, nil_path, terms_in, terms_over, cells_in, elements_in, between, call_by, all_goals, goal_by}
-use Rattle.mc_defs_uses.specs.Steps.{behind}
+use Rattle.mc_defs_uses.specs.code.Steps.{behind}
 
 pub append_none : (us : List PlainOccurrence) → us ++ [] ≡ us
-append_none [] = refl
-append_none (u ∷ us) = ap (λ us. u ∷ us) (append_none us)
+append_none = append-nil
 
 pub one_pushed : (us : List Occurrence) (u : Occurrence) → map plain_occurrence (us ++ u ∷ []) ≡ map plain_occurrence us ++ plain_occurrence u ∷ []
 one_pushed [] u = refl

@@ -1,11 +1,13 @@
 -- What the keys of a set and the elements of a list stand for.
 use Rattle.std.proofs.Common.{◌≡◌, Bool, true, false, cond, List, [], ◌∷◌, ◌++◌, ◌&&◌, ◌||◌, map, nat_eq, refl, ap, append_assoc, if◌then◌else◌}
+use Rattle.std.proofs.lemmas.List.{append-nil}
+use Rattle.std.proofs.Math.Bool.{and_comm}
 use Rattle.std.specs.List.{list_any}
 use Rattle.std.specs.Set.{is_member}
 use Rattle.std.specs.Str.{bytes_eq}
-use Rattle.mc_defs_uses.specs.contracts.definition.IndicatorPartialEq.TheImpl as NameArityEq
+use Rattle.mc_defs_uses.specs.contracts.definition.NameArityPartialEq.TheImpl as NameArityEq
 use Rattle.mc_defs_uses.specs.contracts.definition.KindPartialEq.TheImpl as KindEq
-use Rattle.mc_defs_uses.specs.contracts.definition.ThingPartialEq.TheImpl as DefinitionEq
+use Rattle.mc_defs_uses.specs.contracts.definition.DefinitionPartialEq.TheImpl as DefinitionEq
 use Rattle.mc_defs_uses.specs.declared.definition.Kind.{Kind}
 use Rattle.mc_defs_uses.specs.declared.definition.Kind.TheVariants as K
 use Rattle.mc_defs_uses.specs.declared.definition.Definition.{Definition}
@@ -39,8 +41,7 @@ pub appended_definitions : (ts us vs : List PlainDefinition) → (ts ++ us) ++ v
 appended_definitions = append_assoc
 
 pub no_more_definitions : (ts : List PlainDefinition) → ts ++ [] ≡ ts
-no_more_definitions [] = refl
-no_more_definitions (t ∷ ts) = ap (λ us. t ∷ us) (no_more_definitions ts)
+no_more_definitions = append-nil
 
 pub same_kind : (k j : Kind) → KindEq.eq-value.it k j ≡ is_kind k j
 same_kind K.AbstractType K.AbstractType = refl
@@ -57,12 +58,6 @@ same_kind K.Func K.Func = refl
 same_kind K.Func _ = refl
 same_kind K.Symbol K.Symbol = refl
 same_kind K.Symbol _ = refl
-
-and_comm : (a b : Bool) → (a && b) ≡ (b && a)
-and_comm true true = refl
-and_comm true false = refl
-and_comm false true = refl
-and_comm false false = refl
 
 pub same_id : IsSame plain_name_arity NameArityEq.eq-value.it is_name_arity
 same_id x y = and_comm (bytes_eq x.name.now y.name.now) (nat_eq x.arity y.arity)

@@ -4,9 +4,8 @@ use Rattle.std.specs.Prelude.{Bool, true, false, not, ◌&&◌, ◌||◌, [], �
 use Rattle.std.specs.Option.{is_some}
 use Rattle.mc_term_data.specs.Plain.{PlainTerm, at, App}
 use Rattle.mc_clause_syntax.specs.Limits.{argument_count}
-use Rattle.mc_clause_syntax.specs.Clauses.{operands}
+use Rattle.mc_term_data.specs.Shapes.{operands, has_none}
 use Rattle.mc_decl_syntax.specs.Plain.{PlainDecl, Pred, Mode, Clause}
-use Rattle.mc_decl_syntax.specs.Terms.{pair, has_none}
 use Rattle.mc_decl_syntax.specs.Declarations.{are_moded}
 use Rattle.mc_defs_uses.specs.declared.definition.Kind.TheVariants as K
 use Rattle.mc_defs_uses.specs.Plain.{PlainNameArity, id, PlainDefinition, definition}
@@ -37,7 +36,7 @@ of_mode t (Some p) = definition K.Func (head_name p.0)
 
 -- the predicate or function that a further mode is of
 abbrev pub mode_of : PlainDecl → Option PlainDefinition
-mode_of (Mode t d) = Some (of_mode t (pair (codes "=") t))
+mode_of (Mode t d) = Some (of_mode t (operands (codes "=") t))
 mode_of i = None
 
 -- whether the declaration of a predicate is a mode of it too

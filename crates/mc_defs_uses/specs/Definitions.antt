@@ -4,7 +4,7 @@ use Rattle.std.specs.Prelude.{List, [], ◌∷◌, Option, Some, None, codes}
 use Rattle.mc_term_data.specs.Plain.{PlainTerm, PlainTerms, at, no_term, more_terms, App, Items, Tailed}
 use Rattle.mc_term_data.specs.Names.{count}
 use Rattle.mc_decl_syntax.specs.Plain.{PlainDecl, AbstractType, UnionType, SameType, SameInst, BoundInst, ModeDef, Pred, Func}
-use Rattle.mc_decl_syntax.specs.Terms.{pair}
+use Rattle.mc_term_data.specs.Shapes.{operands}
 use Rattle.mc_defs_uses.specs.declared.definition.Kind.TheVariants as K
 use Rattle.mc_defs_uses.specs.Plain.{PlainNameArity, id, PlainDefinition, definition, last_part}
 
@@ -45,5 +45,5 @@ definitions (SameInst h t) = definition K.Inst (head_name h) ∷ []
 definitions (BoundInst h ts) = definition K.Inst (head_name h) ∷ []
 definitions (ModeDef h t) = definition K.Mode (head_name h) ∷ []
 definitions (Pred t d) = definition K.Pred (head_name t) ∷ []
-definitions (Func t d) = definition K.Func (func_name (pair (codes "=") t)) ∷ []
+definitions (Func t d) = definition K.Func (func_name (operands (codes "=") t)) ∷ []
 definitions _ = []

@@ -4,4 +4,4 @@ pub mod Occurrences
 pub mod Twice
 pub mod Clauses
 pub mod Sets
-pub mod Steps
+pub mod code

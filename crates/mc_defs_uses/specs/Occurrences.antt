@@ -1,17 +1,17 @@
 -- The names that an item uses, in the order of its text (the Mercury manual: Types; Modes; Clauses;
 -- Goals).
-use Rattle.std.specs.Prelude.{ℕ, Bool, true, false, nat_eq, ◌&&◌, ◌||◌, List, [], ◌∷◌, ◌++◌, Option, Some, None, codes, if◌then◌else◌}
+use Rattle.std.specs.Prelude.{ℕ, Bool, true, false, nat_eq, ◌&&◌, List, [], ◌∷◌, ◌++◌, Option, Some, None, codes, if◌then◌else◌}
 use Rattle.std.specs.Option.{is_some}
 use Rattle.mc_term_data.specs.Plain.{PlainTerm, PlainTerms, at, no_term, more_terms, App, Items, Tailed, Conj, Disj}
 use Rattle.mc_term_data.specs.Names.{count}
 use Rattle.mc_term_parser.specs.Table.{infix_row}
-use Rattle.mc_clause_syntax.specs.declared.connective.Parts.{Parts}
-use Rattle.mc_clause_syntax.specs.declared.connective.Parts.TheVariants.{Goals, Quantified, Sides, Arguments}
-use Rattle.mc_clause_syntax.specs.Goals.{connective, parts, is_state}
+use Rattle.mc_clause_syntax.specs.declared.goal_form.Parts.{Parts}
+use Rattle.mc_clause_syntax.specs.declared.goal_form.Parts.TheVariants.{Nothing, Goals, Quantified, Sides, Arguments}
+use Rattle.mc_clause_syntax.specs.GoalForms.{goal_form, parts}
+use Rattle.mc_clause_syntax.specs.StateVariables.{is_state}
 use Rattle.mc_clause_syntax.specs.Limits.{argument_count}
-use Rattle.mc_clause_syntax.specs.Clauses.{operands}
+use Rattle.mc_term_data.specs.Shapes.{operands, is_the_word}
 use Rattle.mc_decl_syntax.specs.Plain.{Path, PlainDecl, UnionType, SameType, SameInst, BoundInst, ModeDef, Pred, Func, Mode, Clause}
-use Rattle.mc_decl_syntax.specs.Terms.{pair, is_the_word}
 use Rattle.mc_defs_uses.specs.declared.definition.Kind.{Kind}
 use Rattle.mc_defs_uses.specs.declared.definition.Kind.TheVariants as K
 use Rattle.mc_defs_uses.specs.Plain.{PlainOccurrence, id, qualifiers, last_part}
@@ -91,7 +91,7 @@ parameter_by t None = types_in t
 parameter_by t (Some p) = types_in p.0 ++ modes_in p.1
 
 abbrev pub parameter_in : PlainTerm → List PlainOccurrence
-parameter_in t = parameter_by t (pair (codes "::") t)
+parameter_in t = parameter_by t (operands (codes "::") t)
 
 abbrev pub all_parameters : PlainTerms → List PlainOccurrence
 all_parameters no_term = []
@@ -120,11 +120,11 @@ field_by t (Some p) = types_in p.1
 
 abbrev pub all_fields : PlainTerms → List PlainOccurrence
 all_fields no_term = []
-all_fields (more_terms t ts) = field_by t (pair (codes "::") t) ++ all_fields ts
+all_fields (more_terms t ts) = field_by t (operands (codes "::") t) ++ all_fields ts
 
 abbrev pub constructor_in : PlainTerm → List PlainOccurrence
 constructor_in (at (App w ts) l) = all_fields ts
-constructor_in (at (Tailed ts t) l) = all_fields ts ++ field_by t (pair (codes "::") t)
+constructor_in (at (Tailed ts t) l) = all_fields ts ++ field_by t (operands (codes "::") t)
 constructor_in _ = []
 
 abbrev pub all_constructors : PlainTerms → List PlainOccurrence
@@ -186,25 +186,19 @@ call_by between_parts name no_term = name
 call_by between_parts name (more_terms t ts) =
     in_order between_parts name (terms_in t) (all_terms ts)
 
--- `true`, `fail` and `false` are goals of the language
-abbrev pub is_truth : Path → PlainTerms → Bool
-is_truth w no_term =
-    is_the_word (codes "true") w || (is_the_word (codes "fail") w || is_the_word (codes "false") w)
-is_truth w _ = false
-
 abbrev mutual
   -- the predicates in a goal, and what its terms use
   pub goals_in : PlainTerm → List PlainOccurrence
   goals_in (at (Conj ts) l) = all_goals ts
   goals_in (at (Disj ts) l) = all_goals ts
-  goals_in (at (App w ts) l) = goal_by w (parts (connective w (count ts))) ts
+  goals_in (at (App w ts) l) = goal_by w (parts (goal_form w (count ts))) ts
   goals_in _ = []
 
   pub goal_by : Path → Parts → PlainTerms → List PlainOccurrence
+  goal_by w Nothing ts = []
   goal_by w Sides ts = all_terms ts
   goal_by w Arguments ts =
-      if is_truth w ts then []
-      else call_by (nat_eq (count ts) 2 && is_infix w) (used K.Pred w (argument_count true ts)) ts
+      call_by (nat_eq (count ts) 2 && is_infix w) (used K.Pred w (argument_count true ts)) ts
   goal_by w (Goals a b) no_term = []
   goal_by w (Goals a b) (more_terms t ts) = goals_in t ++ all_goals ts
   goal_by w Quantified no_term = []
@@ -238,7 +232,7 @@ uses (SameInst h t) = insts_in t
 uses (BoundInst h ts) = all_symbols ts
 uses (ModeDef h t) = modes_in t
 uses (Pred t d) = parameters_of t
-uses (Func t d) = func_by (pair (codes "=") t)
-uses (Mode t d) = further_by t (pair (codes "=") t)
+uses (Func t d) = func_by (operands (codes "=") t)
+uses (Mode t d) = further_by t (operands (codes "=") t)
 uses (Clause t) = clause_by t (operands (codes ":-") t)
 uses _ = []

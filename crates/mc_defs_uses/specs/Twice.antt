@@ -5,7 +5,7 @@ use Rattle.std.specs.Set.{is_member}
 use Rattle.mc_term_data.specs.Plain.{PlainTerm, PlainTerms, at, no_term, more_terms, App, Tailed, Disj}
 use Rattle.mc_term_data.specs.Names.{count}
 use Rattle.mc_decl_syntax.specs.Plain.{PlainDecl, UnionType, SameInst, BoundInst, ModeDef, Pred, Func, Mode}
-use Rattle.mc_decl_syntax.specs.Terms.{pair, is_the_word}
+use Rattle.mc_term_data.specs.Shapes.{operands, is_the_word}
 use Rattle.mc_defs_uses.specs.Plain.{PlainNameArity, is_name_arity}
 use Rattle.mc_defs_uses.specs.Definitions.{symbol_name}
 
@@ -55,7 +55,7 @@ again_in_mode (Some p) = again_in p.1
 abbrev pub again_in_parameters : PlainTerms → Option PlainNameArity
 again_in_parameters no_term = None
 again_in_parameters (more_terms t ts) =
-    option_or (again_in_mode (pair (codes "::") t)) (again_in_parameters ts)
+    option_or (again_in_mode (operands (codes "::") t)) (again_in_parameters ts)
 
 abbrev pub again_in_signature : PlainTerm → Option PlainNameArity
 again_in_signature (at (App w ts) l) = again_in_parameters ts
@@ -63,7 +63,8 @@ again_in_signature _ = None
 
 abbrev pub again_in_func : Option (PlainTerm × PlainTerm) → Option PlainNameArity
 again_in_func None = None
-again_in_func (Some p) = option_or (again_in_signature p.0) (again_in_mode (pair (codes "::") p.1))
+again_in_func (Some p) =
+    option_or (again_in_signature p.0) (again_in_mode (operands (codes "::") p.1))
 
 abbrev pub again_in_modes : PlainTerm → Option (PlainTerm × PlainTerm) → Option PlainNameArity
 again_in_modes t None = again_in t
@@ -76,6 +77,6 @@ twice_in (SameInst h t) = again_in t
 twice_in (BoundInst h ts) = again_symbols [] ts
 twice_in (ModeDef h t) = again_in t
 twice_in (Pred t d) = again_in_signature t
-twice_in (Func t d) = again_in_func (pair (codes "=") t)
-twice_in (Mode t d) = again_in_modes t (pair (codes "=") t)
+twice_in (Func t d) = again_in_func (operands (codes "=") t)
+twice_in (Mode t d) = again_in_modes t (operands (codes "=") t)
 twice_in i = None

@@ -1,14 +1,13 @@
 ghost use Rattle.std.specs.Prelude.{◌≡◌, ◌++◌, codes, map, OnOk};
 ghost use Rattle.mc_term_data.specs.Plain.{plain_term, tms};
-ghost use Rattle.mc_decl_syntax.specs.Terms.{pair};
+ghost use Rattle.mc_term_data.specs.Shapes.{operands};
 ghost use Rattle.mc_defs_uses.specs.Plain.{plain_occurrence};
 ghost use Rattle.mc_defs_uses.specs.Occurrences.{field_by, all_fields, constructor_in, all_constructors};
 
 use crate::occurrence::Occurrence;
 use crate::types::add_types;
 use mc_base::Memory;
-use mc_decl_syntax::pair;
-use mc_term_data::{Node, Term};
+use mc_term_data::{Node, Term, operands};
 
 /// Adds the types in the constructors of a union.
 pub fn add_all_constructors<'a>(
@@ -47,7 +46,7 @@ fn add_fields_and<'a>(
         (map plain_occurrence uses.new.items
         ≡ map plain_occurrence uses.old.items
         ++ (all_fields (tms (map plain_term fields.now))
-        ++ field_by (plain_term last.now) (pair (codes "::") (plain_term last.now)))) }
+        ++ field_by (plain_term last.now) (operands (codes "::") (plain_term last.now)))) }
 {
     add_all_fields(uses, fields)?;
     add_field(uses, last)
@@ -69,9 +68,9 @@ fn add_field<'a>(uses: &mut Vec<Occurrence<'a>>, term: &'a Term) -> Result<(), M
     ensures { OnOk result
         (map plain_occurrence uses.new.items
         ≡ map plain_occurrence uses.old.items
-        ++ field_by (plain_term term.now) (pair (codes "::") (plain_term term.now))) }
+        ++ field_by (plain_term term.now) (operands (codes "::") (plain_term term.now))) }
 {
-    match pair(b"::", term) {
+    match operands(b"::", term) {
         Some((_, of_type)) => add_types(uses, of_type),
         None => add_types(uses, term),
     }

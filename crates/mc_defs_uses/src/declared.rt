@@ -1,20 +1,22 @@
 ghost use Rattle.std.specs.Prelude.{◌≡◌, ◌∷◌, ◌++◌, [], codes, map, IfOk, OnOk};
 ghost use Rattle.mc_term_data.specs.Plain.{plain_term, tms};
 ghost use Rattle.mc_decl_syntax.specs.Plain.{plain_item};
-ghost use Rattle.mc_decl_syntax.specs.Terms.{pair};
+ghost use Rattle.mc_term_data.specs.Shapes.{operands};
 ghost use Rattle.mc_defs_uses.specs.Plain.{plain_name_arity, plain_definition, definition};
 ghost use Rattle.mc_defs_uses.specs.Definitions as T;
 
 use crate::definition::{Definition, Kind, NameArity};
 use crate::head::{head_name, symbol_name};
 use mc_base::Memory;
-use mc_decl_syntax::{Decl, pair};
-use mc_term_data::Term;
+use mc_decl_syntax::Decl;
+use mc_term_data::{Term, operands};
 use std::alloc::Global;
 
 /// What an item declares or defines, in order.
 pub fn definitions<'a>(alloc: Global, decl: &'a Decl) -> Result<Vec<Definition<'a>>, Memory>
-    ensures { IfOk result (λ all. map plain_definition all.items ≡ T.definitions (plain_item decl.now)) }
+    ensures {
+        IfOk result (λ all. map plain_definition all.items ≡ T.definitions (plain_item decl.now))
+    }
 {
     let mut definitions = Vec::new(alloc);
     add_definitions(&mut definitions, decl)?;
@@ -45,9 +47,9 @@ fn add_definitions<'a>(definitions: &mut Vec<Definition<'a>>, decl: &'a Decl) ->
 
 // The name of a function that is declared.
 fn func_name(term: &Term) -> NameArity<'_>
-    ensures { plain_name_arity result ≡ T.func_name (pair (codes "=") (plain_term term.now)) }
+    ensures { plain_name_arity result ≡ T.func_name (operands (codes "=") (plain_term term.now)) }
 {
-    match pair(b"=", term) {
+    match operands(b"=", term) {
         Some((function, _)) => head_name(function),
         None => NameArity::none(),
     }

@@ -17,7 +17,7 @@ pub enum Kind {
     Symbol,
 }
 
-/// A name without qualifiers, with the number of its arguments; a function's result is no argument. PlainDecl is written
+/// A name without qualifiers, with the number of its arguments; a function's result is no argument. It is written
 /// `name/arity`.
 #[derive(Clone, Copy, Debug, PartialEq, Eq, Hash)]
 pub struct NameArity<'a> {

@@ -1,16 +1,15 @@
 ghost use Rattle.std.specs.Prelude.{◌≡◌, ◌++◌, map, OnOk};
 ghost use Rattle.mc_term_data.specs.Plain.{plain_term, tms};
 ghost use Rattle.mc_term_data.specs.Names.{count};
-ghost use Rattle.mc_clause_syntax.specs.Goals.{connective, parts};
+ghost use Rattle.mc_clause_syntax.specs.GoalForms.{goal_form, parts};
 ghost use Rattle.mc_defs_uses.specs.Plain.{plain_occurrence};
-ghost use Rattle.mc_defs_uses.specs.Occurrences.{is_truth, goals_in, goal_by, all_goals};
+ghost use Rattle.mc_defs_uses.specs.Occurrences.{goals_in, goal_by, all_goals};
 
 use crate::definition::Kind;
 use crate::occurrence::Occurrence;
 use crate::terms::{add_all_terms, add_over};
 use mc_base::{Memory, Row, Text};
-use mc_clause_syntax::{Connective, Parts};
-use mc_decl_syntax::{has_none, is_the_word};
+use mc_clause_syntax::{GoalForm, Parts};
 use mc_term_data::{Node, Term, arity};
 
 /// Adds the predicates in a goal, and what its terms use.
@@ -23,8 +22,8 @@ pub fn add_goals<'a>(uses: &mut Vec<Occurrence<'a>>, goal: &'a Term) -> Result<(
     match &goal.node {
         Node::Conj(goals) | Node::Disj(goals) => add_all_goals(uses, goals.as_slice()),
         Node::App(name, parts) => {
-            let connective = Connective::of(name.as_slice(), arity(parts.as_slice()));
-            add_parts(uses, name, connective.parts(), parts)
+            let form = GoalForm::of(name.as_slice(), arity(parts.as_slice()));
+            add_parts(uses, name, form.parts(), parts)
         }
         Node::Var(_) | Node::Int(_) | Node::Str(_) | Node::List(_, _) => Ok(()),
     }
@@ -45,13 +44,14 @@ fn add_parts<'a>(
         ++ goal_by name.now form (tms (map plain_term parts.now))) }
 {
     match form {
+        Parts::Nothing => Ok(()),
         Parts::Goals(_, _) => add_all_goals(uses, parts.as_slice()),
         Parts::Quantified => match parts.as_slice() {
             [_, goals @ ..] => add_all_goals(uses, goals),
             [] => Ok(()),
         },
         Parts::Sides => add_all_terms(uses, parts.as_slice()),
-        Parts::Arguments => add_call(uses, name, parts),
+        Parts::Arguments => add_over(uses, Kind::Pred, name, parts),
     }
 }
 
@@ -65,29 +65,4 @@ fn add_all_goals<'a>(uses: &mut Vec<Occurrence<'a>>, goals: &'a [Term]) -> Resul
         add_goals(uses, goal)?;
     }
     Ok(())
-}
-
-fn add_call<'a>(
-    uses: &mut Vec<Occurrence<'a>>,
-    name: &'a Row<Text>,
-    arguments: &'a Row<Term>,
-) -> Result<(), Memory>
-    ensures { OnOk result
-        (map plain_occurrence uses.new.items
-        ≡ map plain_occurrence uses.old.items
-        ++ goal_by name.now Parts.Arguments (tms (map plain_term arguments.now))) }
-{
-    if is_truth(name, arguments) {
-        Ok(())
-    } else {
-        add_over(uses, Kind::Pred, name, arguments)
-    }
-}
-
-/// Whether a call is a goal of the language, `true`, `fail` or `false`.
-pub fn is_truth(name: &Row<Text>, arguments: &Row<Term>) -> bool
-    ensures { result ≡ is_truth name.now (tms (map plain_term arguments.now)) }
-{
-    has_none(arguments)
-        && (is_the_word(b"true", name) || is_the_word(b"fail", name) || is_the_word(b"false", name))
 }

@@ -1,15 +1,14 @@
 ghost use Rattle.std.specs.Prelude.{◌≡◌, ◌++◌, [], cond, codes, false, nat_eq, ◌&&◌, map, OnOk};
 ghost use Rattle.mc_term_data.specs.Plain.{plain_term, tms};
 ghost use Rattle.mc_term_data.specs.Names.{count};
-ghost use Rattle.mc_decl_syntax.specs.Terms.{is_the_word};
+ghost use Rattle.mc_term_data.specs.Shapes.{is_the_word};
 ghost use Rattle.mc_defs_uses.specs.Plain.{plain_occurrence};
 ghost use Rattle.mc_defs_uses.specs.Occurrences.{used, is_infix, insts_in, insts_over, all_insts, symbols_in, all_symbols, modes_in, all_modes};
 
 use crate::definition::Kind;
 use crate::occurrence::{Occurrence, stands_between};
 use mc_base::{Memory, Row, Text};
-use mc_decl_syntax::is_the_word;
-use mc_term_data::{Node, Term, arity};
+use mc_term_data::{Node, Term, arity, is_the_word};
 
 /// Adds the insts in an inst; the symbols that `bound` lists aren't looked up.
 #[cycle(insts)]
@@ -69,15 +68,15 @@ fn add_named_inst<'a>(
         (count (tms (map plain_term arguments.now)))
         (tms (map plain_term arguments.now))) }
 {
-    let used = Occurrence::of(Kind::Inst, name, arity(arguments));
+    let occurrence = Occurrence::of(Kind::Inst, name, arity(arguments));
     match arguments {
         [first, others @ ..] if stands_between(name, arity(arguments)) => {
             add_insts(uses, first)?;
-            uses.push(used)?;
+            uses.push(occurrence)?;
             add_all_insts(uses, others)
         }
         _ => {
-            uses.push(used)?;
+            uses.push(occurrence)?;
             add_all_insts(uses, arguments)
         }
     }

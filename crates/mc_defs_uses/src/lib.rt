@@ -20,12 +20,8 @@ mod types;
 pub use declared::definitions;
 pub use definition::{Definition, Kind, NameArity};
 pub use definition_set::DefinitionSet;
-pub use goals::is_truth;
 pub use head::{head_name, last_part, symbol_name};
 pub use occurrence::Occurrence;
 pub use occurrences::{goal_uses, uses};
 pub use subject::{clause_of, mode_of, without_mode};
 pub use twice::twice_in;
-
-#[cfg(test)]
-mod tests;

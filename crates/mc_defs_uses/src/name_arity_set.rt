@@ -1,7 +1,7 @@
 ghost use Rattle.std.specs.Prelude.{◌≡◌, [], not, IfOk, OnOk};
 ghost use Rattle.std.specs.Set.{is_member};
 ghost use Rattle.mc_defs_uses.specs.Plain.{is_name_arity, plain_name_arity};
-ghost use Rattle.mc_defs_uses.specs.Steps.{put_id};
+ghost use Rattle.mc_defs_uses.specs.code.Steps.{with_name_arity};
 
 use crate::definition::NameArity;
 use indexmap::IndexSet;
@@ -39,7 +39,9 @@ impl<'a> NameAritySet<'a> {
         ensures added { IfOk result
             (λ added.
             added ≡ not (is_member is_name_arity self.old (plain_name_arity name.entry))) }
-        ensures ok { OnOk result (self.new ≡ put_id self.old (plain_name_arity name.entry)) }
+        ensures ok {
+            OnOk result (self.new ≡ with_name_arity self.old (plain_name_arity name.entry))
+        }
     {
         let added = self.names.insert(name)?;
         Ok(added)

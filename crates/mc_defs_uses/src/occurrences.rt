@@ -1,6 +1,6 @@
 ghost use Rattle.std.specs.Prelude.{◌≡◌, ◌++◌, codes, map, IfOk, OnOk};
 ghost use Rattle.mc_term_data.specs.Plain.{plain_term};
-ghost use Rattle.mc_clause_syntax.specs.Clauses.{operands};
+ghost use Rattle.mc_term_data.specs.Shapes.{operands};
 ghost use Rattle.mc_decl_syntax.specs.Plain.{plain_item};
 ghost use Rattle.mc_defs_uses.specs.Plain.{plain_occurrence};
 ghost use Rattle.mc_defs_uses.specs.Occurrences.{goals_in, arguments_of, head_in, clause_by};
@@ -14,12 +14,11 @@ use crate::signatures::{add_func, add_further, add_parameters_of};
 use crate::terms::{add_all_terms, add_terms};
 use crate::types::add_types;
 use mc_base::Memory;
-use mc_clause_syntax::operands;
 use mc_decl_syntax::Decl;
-use mc_term_data::{Node, Term};
+use mc_term_data::{Node, Term, operands};
 use std::alloc::Global;
 
-/// The names that an item uses, in the order of its text. PlainDecl takes stack for each level of a term.
+/// The names that an item uses, in the order of its text. It takes stack for each level of a term.
 pub fn uses<'a>(alloc: Global, decl: &'a Decl) -> Result<Vec<Occurrence<'a>>, Memory>
     ensures { IfOk result (λ all. map plain_occurrence all.items ≡ O.uses (plain_item decl.now)) }
 {
@@ -28,7 +27,7 @@ pub fn uses<'a>(alloc: Global, decl: &'a Decl) -> Result<Vec<Occurrence<'a>>, Me
     Ok(uses)
 }
 
-/// The names that a goal uses, in the order of its text. PlainDecl takes stack for each level of the term.
+/// The names that a goal uses, in the order of its text. It takes stack for each level of the term.
 pub fn goal_uses<'a>(alloc: Global, goal: &'a Term) -> Result<Vec<Occurrence<'a>>, Memory>
     ensures { IfOk result (λ all. map plain_occurrence all.items ≡ goals_in (plain_term goal.now)) }
 {

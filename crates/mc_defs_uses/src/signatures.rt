@@ -1,6 +1,6 @@
 ghost use Rattle.std.specs.Prelude.{◌≡◌, ◌++◌, codes, map, OnOk};
 ghost use Rattle.mc_term_data.specs.Plain.{plain_term, tms};
-ghost use Rattle.mc_decl_syntax.specs.Terms.{pair};
+ghost use Rattle.mc_term_data.specs.Shapes.{operands};
 ghost use Rattle.mc_defs_uses.specs.Plain.{plain_occurrence};
 ghost use Rattle.mc_defs_uses.specs.Occurrences.{parameter_in, all_parameters, parameters_of, func_by, modes_of, further_by};
 
@@ -8,8 +8,7 @@ use crate::insts::{add_all_modes, add_modes};
 use crate::occurrence::Occurrence;
 use crate::types::add_types;
 use mc_base::Memory;
-use mc_decl_syntax::pair;
-use mc_term_data::{Node, Term};
+use mc_term_data::{Node, Term, operands};
 
 /// Adds the types and modes of a predicate's or a function's arguments.
 pub fn add_parameters_of<'a>(uses: &mut Vec<Occurrence<'a>>, term: &'a Term) -> Result<(), Memory>
@@ -41,7 +40,7 @@ fn add_parameter<'a>(uses: &mut Vec<Occurrence<'a>>, term: &'a Term) -> Result<(
         (map plain_occurrence uses.new.items
         ≡ map plain_occurrence uses.old.items ++ parameter_in (plain_term term.now)) }
 {
-    match pair(b"::", term) {
+    match operands(b"::", term) {
         Some((of_type, mode)) => {
             add_types(uses, of_type)?;
             add_modes(uses, mode)
@@ -55,9 +54,9 @@ pub fn add_func<'a>(uses: &mut Vec<Occurrence<'a>>, term: &'a Term) -> Result<()
     ensures { OnOk result
         (map plain_occurrence uses.new.items
         ≡ map plain_occurrence uses.old.items
-        ++ func_by (pair (codes "=") (plain_term term.now))) }
+        ++ func_by (operands (codes "=") (plain_term term.now))) }
 {
-    match pair(b"=", term) {
+    match operands(b"=", term) {
         Some((function, answer)) => {
             add_parameters_of(uses, function)?;
             add_parameter(uses, answer)
@@ -71,9 +70,9 @@ pub fn add_further<'a>(uses: &mut Vec<Occurrence<'a>>, term: &'a Term) -> Result
     ensures { OnOk result
         (map plain_occurrence uses.new.items
         ≡ map plain_occurrence uses.old.items
-        ++ further_by (plain_term term.now) (pair (codes "=") (plain_term term.now))) }
+        ++ further_by (plain_term term.now) (operands (codes "=") (plain_term term.now))) }
 {
-    match pair(b"=", term) {
+    match operands(b"=", term) {
         Some((function, mode)) => {
             add_modes_of(uses, function)?;
             add_modes(uses, mode)

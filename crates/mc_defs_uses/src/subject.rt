@@ -1,20 +1,19 @@
 ghost use Rattle.std.specs.Prelude.{◌≡◌, codes};
 ghost use Rattle.std.specs.Option.{option_map};
 ghost use Rattle.mc_term_data.specs.Plain.{plain_term};
-ghost use Rattle.mc_clause_syntax.specs.Clauses.{operands};
+ghost use Rattle.mc_term_data.specs.Shapes.{operands};
 ghost use Rattle.mc_decl_syntax.specs.Plain.{plain_item};
-ghost use Rattle.mc_decl_syntax.specs.Terms.{pair};
 ghost use Rattle.mc_defs_uses.specs.Plain.{plain_name_arity, plain_definition};
 ghost use Rattle.mc_defs_uses.specs.Clauses.{clause_head, of_head, of_rule, clause_of, of_mode, mode_of, is_mode_too, without_mode};
 
 use crate::definition::{Definition, Kind, NameArity};
 use crate::head::head_name;
-use mc_clause_syntax::{argument_count, operands};
-use mc_decl_syntax::{Decl, are_moded, has_none, pair};
-use mc_term_data::{Node, Term};
+use mc_clause_syntax::argument_count;
+use mc_decl_syntax::{Decl, are_moded};
+use mc_term_data::{Node, Term, has_none, operands};
 use std::alloc::Global;
 
-/// The predicate or function that a clause is of; None where the item is no clause. PlainDecl takes no memory.
+/// The predicate or function that a clause is of; None where the item is no clause. It takes no memory.
 pub fn clause_of<'a>(decl: &'a Decl) -> Option<Definition<'a>>
     ensures { option_map plain_definition result ≡ clause_of (plain_item decl.now) }
 {
@@ -67,7 +66,7 @@ fn clause_head(head: &Term) -> NameArity<'_>
     }
 }
 
-/// The predicate or function that a further mode is of; None where the item is no such mode. PlainDecl takes no memory.
+/// The predicate or function that a further mode is of; None where the item is no such mode. It takes no memory.
 pub fn mode_of<'a>(decl: &'a Decl) -> Option<Definition<'a>>
     ensures { option_map plain_definition result ≡ mode_of (plain_item decl.now) }
 {
@@ -79,9 +78,9 @@ pub fn mode_of<'a>(decl: &'a Decl) -> Option<Definition<'a>>
 
 fn of_mode(term: &Term) -> Definition<'_>
     ensures { plain_definition result
-        ≡ of_mode (plain_term term.now) (pair (codes "=") (plain_term term.now)) }
+        ≡ of_mode (plain_term term.now) (operands (codes "=") (plain_term term.now)) }
 {
-    match pair(b"=", term) {
+    match operands(b"=", term) {
         Some((function, _)) => Definition {
             kind: Kind::Func,
             id: head_name(function),
@@ -93,7 +92,7 @@ fn of_mode(term: &Term) -> Definition<'_>
     }
 }
 
-/// The predicate that an item declares without a mode; None where it declares none, or with a mode. PlainDecl takes no memory.
+/// The predicate that an item declares without a mode; None where it declares none, or with a mode. It takes no memory.
 pub fn without_mode<'a>(alloc: Global, decl: &'a Decl) -> Option<NameArity<'a>>
     ensures { option_map plain_name_arity result ≡ without_mode (plain_item decl.now) }
 {

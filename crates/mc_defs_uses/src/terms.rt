@@ -4,7 +4,7 @@ ghost use Rattle.mc_term_data.specs.Names.{count};
 ghost use Rattle.mc_clause_syntax.specs.Limits.{argument_count};
 ghost use Rattle.mc_defs_uses.specs.Plain.{plain_occurrence};
 ghost use Rattle.mc_defs_uses.specs.Occurrences.{used, is_infix, terms_in, all_terms, cells_in, elements_in, between, call_by};
-ghost use Rattle.mc_defs_uses.specs.Steps.{behind};
+ghost use Rattle.mc_defs_uses.specs.code.Steps.{behind};
 
 use crate::definition::Kind;
 use crate::occurrence::{Occurrence, stands_between};
@@ -55,15 +55,15 @@ pub fn add_over<'a>(
 {
     let name = name.as_slice();
     let arguments = arguments.as_slice();
-    let used = Occurrence::of(kind, name, argument_count(arguments, true));
+    let occurrence = Occurrence::of(kind, name, argument_count(arguments, true));
     match arguments {
         [first, others @ ..] if stands_between(name, arity(arguments)) => {
             add_terms(uses, first)?;
-            uses.push(used)?;
+            uses.push(occurrence)?;
             add_all_terms(uses, others)
         }
         _ => {
-            uses.push(used)?;
+            uses.push(occurrence)?;
             add_all_terms(uses, arguments)
         }
     }

@@ -3,7 +3,7 @@ ghost use Rattle.std.specs.Option.{option_map, option_or};
 ghost use Rattle.mc_term_data.specs.Plain.{plain_term, tms};
 ghost use Rattle.mc_term_data.specs.Names.{count};
 ghost use Rattle.mc_decl_syntax.specs.Plain.{plain_item};
-ghost use Rattle.mc_decl_syntax.specs.Terms.{pair, is_the_word};
+ghost use Rattle.mc_term_data.specs.Shapes.{operands, is_the_word};
 ghost use Rattle.mc_defs_uses.specs.Plain.{plain_name_arity};
 ghost use Rattle.mc_defs_uses.specs.Twice as T;
 
@@ -12,14 +12,16 @@ use crate::head::symbol_name;
 use crate::insts::is_bound;
 use crate::name_arity_set::NameAritySet;
 use mc_base::{Memory, Row, Text};
-use mc_decl_syntax::{Decl, pair};
-use mc_term_data::{Node, Term};
+use mc_decl_syntax::Decl;
+use mc_term_data::{Node, Term, operands};
 use std::alloc::Global;
 
-/// The first name in the text of an item that stands twice in one union or in one bound inst. PlainDecl takes stack for each
+/// The first name in the text of an item that stands twice in one union or in one bound inst. It takes stack for each
 /// level of a term.
 pub fn twice_in<'a>(alloc: Global, decl: &'a Decl) -> Result<Option<NameArity<'a>>, Memory>
-    ensures { IfOk result (λ found. option_map plain_name_arity found ≡ T.twice_in (plain_item decl.now)) }
+    ensures {
+        IfOk result (λ found. option_map plain_name_arity found ≡ T.twice_in (plain_item decl.now))
+    }
 {
     match decl {
         Decl::UnionType(_, constructors) => again_among(alloc, constructors.as_slice()),
@@ -52,7 +54,9 @@ fn again_among<'a>(alloc: Global, terms: &'a [Term]) -> Result<Option<NameArity<
 // The first symbol of a bound inst in an inst whose name stands before it too, in the same bound inst.
 #[cycle(again)]
 fn again_in<'a>(alloc: Global, term: &'a Term) -> Result<Option<NameArity<'a>>, Memory>
-    ensures { IfOk result (λ found. option_map plain_name_arity found ≡ T.again_in (plain_term term.now)) }
+    ensures {
+        IfOk result (λ found. option_map plain_name_arity found ≡ T.again_in (plain_term term.now))
+    }
 {
     match &term.node {
         Node::App(name, arguments) => again_over(alloc, name, arguments.as_slice()),
@@ -178,9 +182,9 @@ fn again_in_mode<'a>(alloc: Global, term: &'a Term) -> Result<Option<NameArity<'
     ensures { IfOk result
         (λ found.
         option_map plain_name_arity found
-        ≡ T.again_in_mode (pair (codes "::") (plain_term term.now))) }
+        ≡ T.again_in_mode (operands (codes "::") (plain_term term.now))) }
 {
-    match pair(b"::", term) {
+    match operands(b"::", term) {
         Some((_, mode)) => again_in(alloc, mode),
         None => Ok(None),
     }
@@ -190,9 +194,9 @@ fn again_in_func<'a>(alloc: Global, term: &'a Term) -> Result<Option<NameArity<'
     ensures { IfOk result
         (λ found.
         option_map plain_name_arity found
-        ≡ T.again_in_func (pair (codes "=") (plain_term term.now))) }
+        ≡ T.again_in_func (operands (codes "=") (plain_term term.now))) }
 {
-    match pair(b"=", term) {
+    match operands(b"=", term) {
         Some((function, answer)) => match again_in_signature(alloc, function)? {
             Some(found) => Ok(Some(found)),
             None => again_in_mode(alloc, answer),
@@ -205,9 +209,9 @@ fn again_in_modes<'a>(alloc: Global, term: &'a Term) -> Result<Option<NameArity<
     ensures { IfOk result
         (λ found.
         option_map plain_name_arity found
-        ≡ T.again_in_modes (plain_term term.now) (pair (codes "=") (plain_term term.now))) }
+        ≡ T.again_in_modes (plain_term term.now) (operands (codes "=") (plain_term term.now))) }
 {
-    match pair(b"=", term) {
+    match operands(b"=", term) {
         Some((function, mode)) => match again_in(alloc, function)? {
             Some(found) => Ok(Some(found)),
             None => again_in(alloc, mode),

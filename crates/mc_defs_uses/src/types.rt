@@ -38,15 +38,15 @@ fn add_types_over<'a>(
         (count (tms (map plain_term arguments.now)))
         (tms (map plain_term arguments.now))) }
 {
-    let used = Occurrence::of(Kind::DefinedType, name, arity(arguments));
+    let occurrence = Occurrence::of(Kind::DefinedType, name, arity(arguments));
     match arguments {
         [first, others @ ..] if stands_between(name, arity(arguments)) => {
             add_types(uses, first)?;
-            uses.push(used)?;
+            uses.push(occurrence)?;
             add_all_types(uses, others)
         }
         _ => {
-            uses.push(used)?;
+            uses.push(occurrence)?;
             add_all_types(uses, arguments)
         }
     }

@@ -11,7 +11,8 @@ use Rattle.mc_items.specs.declared.entry.ItemsFault.{ItemsFault}
 use Rattle.mc_items.specs.declared.entry.ItemsFault.TheVariants as I
 use Rattle.mc_items.specs.declared.next.Next.{Next}
 use Rattle.mc_items.specs.Verdicts.{PlainVerdict, kept, breaks}
-use Rattle.mc_items.specs.Files.{IsItem, Items, over, item, kept_in, broken_in, plain_entry, IsWhole, IsFaulty, IsBrokenIn, IsRefusal, greatest_text}
+use Rattle.mc_items.specs.Files.{IsItem, Items, over, item, kept_in, broken_in, plain_entry, IsWhole, IsFaulty, IsRefusal, greatest_text}
+use Rattle.mc_items.specs.code.Faults.{IsBrokenIn}
 
 pub kept_append : (file : ℕ) (vs ws : List (PlainVerdict × ℕ)) → kept_in file (vs ++ ws) ≡ kept_in file vs ++ kept_in file ws
 kept_append file [] ws = refl
@@ -42,10 +43,6 @@ one_more file text at line next v es fs bs cs d i e b = record {
   kept_so_far = e ∙ ap (λ xs. xs ++ kept_in file ((v, line) ∷ [])) d.kept_so_far ∙ sym (kept_append file d.verdicts ((v, line) ∷ []));
   broken_so_far = b ∙ ap (λ xs. xs ++ broken_in file ((v, line) ∷ [])) d.broken_so_far ∙ sym (broken_append file d.verdicts ((v, line) ∷ []));
 }
-
-append_nothing : {A : Type 0} (xs : List A) → xs ++ [] ≡ xs
-append_nothing [] = refl
-append_nothing (x ∷ xs) = ap (λ ys. x ∷ ys) (append_nothing xs)
 
 -- at the end of the text
 pub whole : (file : ℕ) (text : List ℕ) (at : ℕ) (entries : List Entry) (bs : List Broken) → length text ≤ greatest_text → Done file text at (map plain_entry entries) bs → IsOver text at → bs ≡ [] → IsWhole file text entries

@@ -10,7 +10,8 @@ use Rattle.mc_terms.specs.Answers.{IsOver, IsItem, IsRefused, StandsAt, item_lin
 use Rattle.mc_items.specs.declared.entry.ItemsFault.{ItemsFault}
 use Rattle.mc_items.specs.declared.entry.ItemsFault.TheVariants as I
 use Rattle.mc_items.specs.Verdicts.{unread, breaks}
-use Rattle.mc_items.specs.Files.{greatest_text, place, IsBrokenIn}
+use Rattle.mc_items.specs.Files.{greatest_text, place}
+use Rattle.mc_items.specs.code.Faults.{IsBrokenIn}
 use Rattle.mc_items.specs.Queries.{query_verdict, Breaks, IsQueryRefusal}
 use Rattle.mc_items.specs.Queries as Q
 use Rattle.mc_items.specs.Words as W

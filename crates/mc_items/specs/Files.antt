@@ -3,6 +3,7 @@ use Rattle.std.specs.Prelude.{◌≡◌, ◌≢◌, ℕ, ◌<◌, ◌≤◌, ◌
 use Rattle.mc_source.specs.declared.place.Place.{Place}
 use Rattle.mc_source.specs.declared.rule.Broken.{Broken}
 use Rattle.mc_source.specs.declared.rule.Rule.TheVariants as R
+use Rattle.mc_source.specs.Rules.{first_rules}
 use Rattle.mc_term_parser.specs.Tree.{Tree, depth, too_large, term}
 use Rattle.mc_terms.specs.declared.fault.ReadKind.{ReadKind}
 use Rattle.mc_terms.specs.declared.fault.ReadKind.TheVariants.{Memory}
@@ -11,7 +12,7 @@ use Rattle.mc_decl_syntax.specs.Plain.{PlainDecl, plain_item}
 use Rattle.mc_items.specs.declared.entry.Entry.{Entry}
 use Rattle.mc_items.specs.declared.entry.ItemsFault.{ItemsFault}
 use Rattle.mc_items.specs.declared.entry.ItemsFault.TheVariants as I
-use Rattle.mc_items.specs.Verdicts.{PlainVerdict, kept, breaks, judged, unread}
+use Rattle.mc_items.specs.Verdicts.{PlainVerdict, kept, breaks, judged, unread, rule_of}
 use Rattle.mc_items.specs.Words as W
 
 -- the greatest length of one file's text, in bytes: 4 MiB
@@ -60,10 +61,7 @@ kept_in file ((breaks r w, line) ∷ vs) = kept_in file vs
 
 -- the rules that are broken, with their places
 abbrev pub broken_in : ℕ → List (PlainVerdict × ℕ) → List Broken
-broken_in file [] = []
-broken_in file ((kept i, line) ∷ vs) = broken_in file vs
-broken_in file ((breaks r w, line) ∷ vs) =
-    record { rule = r; at = place file line; what = w } ∷ broken_in file vs
+broken_in file vs = first_rules (λ v. place file v.1) (λ v. rule_of v.0) vs
 
 -- an entry as plain data
 abbrev pub plain_entry : Entry → PlainDecl × Place
@@ -98,8 +96,3 @@ pub record IsTooLong (file : ℕ) (text : List ℕ) (broken : List Broken) : Typ
 abbrev pub IsRefusal : ℕ → List ℕ → ItemsFault → Type 0
 IsRefusal file text (I.Broken bs) = IsTooLong file text bs ⊎ IsFaulty file text bs
 IsRefusal file text I.Memory = Unit {0}
-
--- the same of the rules that are found
-abbrev pub IsBrokenIn : List Broken → ItemsFault → Type 0
-IsBrokenIn found (I.Broken bs) = (bs ≡ found) × (bs ≢ [])
-IsBrokenIn found I.Memory = Unit {0}

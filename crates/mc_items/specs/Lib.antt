@@ -1,6 +1,6 @@
 pub mod Words
 pub mod Verdicts
-pub mod VerdictViews
 pub mod Files
 pub mod Queries
 pub mod Laws
+pub mod code

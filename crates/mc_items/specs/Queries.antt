@@ -6,6 +6,7 @@ use Rattle.mc_term_data.specs.declared.term.Term.{Term}
 use Rattle.mc_source.specs.declared.rule.Broken.{Broken}
 use Rattle.mc_source.specs.declared.rule.Rule.{Rule}
 use Rattle.mc_source.specs.declared.rule.Rule.TheVariants as R
+use Rattle.mc_source.specs.Rules.{Fault}
 use Rattle.mc_term_parser.specs.Tree.{Tree, depth, too_large, term}
 use Rattle.mc_terms.specs.Answers.{IsOver, ItemReads, item_line}
 use Rattle.mc_unsupported.specs.declared.reason.LeftOut.{LeftOut}
@@ -19,7 +20,7 @@ use Rattle.mc_items.specs.Files.{greatest_text, place, IsUnread, IsTooLong}
 use Rattle.mc_items.specs.Words as W
 
 -- the rule that a term breaks, with what is said of it, where it is no goal or too large a one
-abbrev pub form_rule : PlainTerm → Option (Rule × List ℕ)
+abbrev pub form_rule : PlainTerm → Option Fault
 form_rule t =
     if is_query t
     then (if too_many_arguments true t then Some (R.L3, W.too_many_arguments)
@@ -27,13 +28,13 @@ form_rule t =
     else None)
     else Some (R.S6, W.not_an_item)
 
-abbrev pub unless_left_out : PlainTerm → Option LeftOut → Option (Rule × List ℕ)
+abbrev pub unless_left_out : PlainTerm → Option LeftOut → Option Fault
 unless_left_out t (Some form) = Some (R.X1, W.left_out form)
 unless_left_out t None = form_rule t
 
 -- The first rule that a query's term breaks, with what is said of it: what is left out comes first,
 -- then the form, then the limits. None where the term is a goal.
-abbrev pub query_verdict : PlainTerm → Option (Rule × List ℕ)
+abbrev pub query_verdict : PlainTerm → Option Fault
 query_verdict t = unless_left_out t (goal_left_out t)
 
 -- The item at the text's start reads as a term, and `next` is the place behind its end.

@@ -4,6 +4,7 @@ use Rattle.std.specs.Prelude.{ℕ, Bool, true, false, List, Option, Some, None, 
 use Rattle.mc_term_data.specs.Plain.{PlainTerm}
 use Rattle.mc_source.specs.declared.rule.Rule.{Rule}
 use Rattle.mc_source.specs.declared.rule.Rule.TheVariants as R
+use Rattle.mc_source.specs.Rules.{Fault}
 use Rattle.mc_tokens.specs.declared.token.FaultKind.TheVariants as F
 use Rattle.mc_terms.specs.declared.fault.ReadKind.{ReadKind}
 use Rattle.mc_terms.specs.declared.fault.ReadKind.TheVariants as K
@@ -21,6 +22,11 @@ use Rattle.mc_items.specs.Words as W
 pub data PlainVerdict : Type 0 where
   kept : PlainDecl → PlainVerdict
   breaks : Rule → (what : List ℕ) → PlainVerdict
+
+-- the rule that is broken, where one is
+abbrev pub rule_of : PlainVerdict → Option Fault
+rule_of (kept i) = None
+rule_of (breaks r w) = Some (r, w)
 
 -- a declaration that has this form or none, and a name with too many arguments or not
 abbrev pub declaration_verdict : (too_many : Bool) → Option PlainDecl → PlainVerdict

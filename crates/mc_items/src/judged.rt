@@ -5,7 +5,7 @@ ghost use Rattle.std.specs.Option.{option_map};
 ghost use Rattle.mc_decl_syntax.specs.Declarations as D;
 ghost use Rattle.mc_decl_syntax.specs.Terms as T;
 ghost use Rattle.mc_decl_syntax.specs.Plain.{plain_item};
-ghost use Rattle.mc_items.specs.VerdictViews.{verdict};
+ghost use Rattle.mc_items.specs.code.VerdictViews.{plain_verdict};
 
 use crate::messages::left_out;
 use mc_base::{Memory, Text};
@@ -28,7 +28,7 @@ pub enum Verdict {
 }
 
 fn breaks(alloc: Global, rule: Rule, words: &[u8]) -> Result<Verdict, Memory>
-    ensures { IfOk result (λ j. verdict j ≡ V.breaks rule words.now) }
+    ensures { IfOk result (λ v. plain_verdict v ≡ V.breaks rule words.now) }
 {
     Ok(Verdict::Breaks(rule, Text::new(alloc, words)?))
 }
@@ -40,8 +40,8 @@ fn declaration_judged(
     declared: Option<Decl>,
 ) -> Result<Verdict, Memory>
     ensures { IfOk result
-        (λ j.
-        verdict j ≡ V.declaration_verdict too_many_arguments (option_map plain_item declared)) }
+        (λ v.
+        plain_verdict v ≡ V.declaration_verdict too_many_arguments (option_map plain_item declared)) }
 {
     match declared {
         None => breaks(alloc, Rule::S6, b"not an item"),
@@ -52,7 +52,7 @@ fn declaration_judged(
 
 // What a clause is.
 fn clause_judged(alloc: Global, term: Term) -> Result<Verdict, Memory>
-    ensures { IfOk result (λ j. verdict j ≡ V.clause_verdict (plain_term term)) }
+    ensures { IfOk result (λ v. plain_verdict v ≡ V.clause_verdict (plain_term term)) }
 {
     if !is_clause(alloc, &term)? {
         return breaks(alloc, Rule::S6, b"not an item");
@@ -69,8 +69,8 @@ fn clause_judged(alloc: Global, term: Term) -> Result<Verdict, Memory>
 // What a term is behind `:-`.
 fn declared_judged(alloc: Global, too_many_arguments: bool, term: Term) -> Result<Verdict, Memory>
     ensures { IfOk result
-        (λ j.
-        verdict j ≡ V.declaration_verdict too_many_arguments (D.declaration (plain_term term))) }
+        (λ v.
+        plain_verdict v ≡ V.declaration_verdict too_many_arguments (D.declaration (plain_term term))) }
 {
     let declared = declaration(alloc, term)?;
     declaration_judged(alloc, too_many_arguments, declared)
@@ -79,7 +79,7 @@ fn declared_judged(alloc: Global, too_many_arguments: bool, term: Term) -> Resul
 // What an item is in which nothing is left out.
 fn form_judged(alloc: Global, term: Term) -> Result<Verdict, Memory>
     ensures { IfOk result
-        (λ j. verdict j ≡ V.form_verdict (plain_term term) (T.declared_part (plain_term term))) }
+        (λ v. plain_verdict v ≡ V.form_verdict (plain_term term) (T.declared_part (plain_term term))) }
 {
     if !is_declaration(&term) {
         return clause_judged(alloc, term);
@@ -93,7 +93,7 @@ fn form_judged(alloc: Global, term: Term) -> Result<Verdict, Memory>
 
 // What an item is, by its term.
 pub fn judged(alloc: Global, term: Term) -> Result<Verdict, Memory>
-    ensures { IfOk result (λ j. verdict j ≡ V.judged (plain_term term)) }
+    ensures { IfOk result (λ v. plain_verdict v ≡ V.judged (plain_term term)) }
 {
     match item_left_out(&term) {
         Some(form) => Ok(Verdict::Breaks(Rule::X1, left_out(alloc, form)?)),

@@ -2,7 +2,7 @@ ghost use Rattle.std.specs.Prelude.{◌≡◌, ◌<◌, ◌≤◌, ◌^◌, ◌-
 ghost use Rattle.mc_terms.specs.Lines.{line_at};
 ghost use Rattle.mc_terms.specs.Answers.{IsOver, IsRefused, IsOnward, StandsAt};
 ghost use Rattle.mc_items.specs.Files.{IsItem, IsUnread};
-ghost use Rattle.mc_items.specs.VerdictViews.{verdict};
+ghost use Rattle.mc_items.specs.code.VerdictViews.{plain_verdict};
 
 use crate::judged::{Verdict, judged};
 use crate::messages::fault_rule;
@@ -23,10 +23,14 @@ pub struct Next {
 fn refused(alloc: Global, walk: &mut Walk, from: Position, fault: ItemFault) -> Result<Next, Memory>
     requires line { from.line ≡ line_at walk.old from.at }
     requires small { length walk.old < 2 ^ 32 - 1 }
-    requires refused { IsRefused walk.old from.at fault.fault.kind fault.fault.line fault.fault.next }
+    requires refused {
+        IsRefused walk.old from.at fault.fault.kind fault.fault.line fault.fault.next
+    }
     requires stands { StandsAt walk.old from.at fault.fault.kind fault.at }
     requires onward { IsOnward walk.old from.at fault.fault.kind fault.fault.next }
-    ensures item { IfOk result (λ n. IsUnread walk.old from.at (verdict n.verdict) n.line n.end.at) }
+    ensures item {
+        IfOk result (λ n. IsUnread walk.old from.at (plain_verdict n.verdict) n.line n.end.at)
+    }
     ensures place { IfOk result
         (λ n.
         (n.end.line ≡ line_at walk.old n.end.at)
@@ -51,7 +55,7 @@ pub fn next_item(alloc: Global, walk: &mut Walk, from: Position) -> Result<Optio
     ensures over { IfOk result (λ answer. IfNone answer (IsOver walk.old from.at)) }
     ensures item { IfOk result
         (λ answer.
-        IfSome answer (λ n. IsItem walk.old from.at (verdict n.verdict) n.line n.end.at)) }
+        IfSome answer (λ n. IsItem walk.old from.at (plain_verdict n.verdict) n.line n.end.at)) }
     ensures place { IfOk result
         (λ answer.
         IfSome answer

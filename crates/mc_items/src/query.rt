@@ -1,6 +1,7 @@
 ghost use Rattle.std.specs.Prelude.{◌≡◌, ◌≤◌, [], ◌∷◌, length, false, IfOk, IfErr, IsTrue};
 ghost use Rattle.mc_terms.specs.Answers.{IsOver, IsItem, IsRefused, StandsAt, item_line};
-ghost use Rattle.mc_items.specs.Files.{IsBrokenIn, greatest_text};
+ghost use Rattle.mc_items.specs.Files.{greatest_text};
+ghost use Rattle.mc_items.specs.code.Faults.{IsBrokenIn};
 ghost use Rattle.mc_items.specs.Queries.{IsGoal, IsQueryRefusal};
 ghost use Rattle.mc_items.specs.Words as W;
 

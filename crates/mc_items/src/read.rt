@@ -1,6 +1,7 @@
 ghost use Rattle.std.specs.Prelude.{◌≡◌, ◌++◌, IfOk, IfErr, OnOk, [], ◌∷◌, map, length, ◌≤◌};
-ghost use Rattle.mc_items.specs.Files.{IsWhole, IsBrokenIn, IsRefusal, plain_entry, kept_in, broken_in, too_long_in};
-ghost use Rattle.mc_items.specs.VerdictViews.{verdict};
+ghost use Rattle.mc_items.specs.Files.{IsWhole, IsRefusal, plain_entry, kept_in, broken_in, too_long_in};
+ghost use Rattle.mc_items.specs.code.Faults.{IsBrokenIn};
+ghost use Rattle.mc_items.specs.code.VerdictViews.{plain_verdict};
 
 use crate::entry::{Entry, ItemsFault};
 use crate::judged::Verdict;
@@ -38,10 +39,10 @@ impl Found {
         ensures entries { OnOk result
             (map plain_entry self.new.entries.items
             ≡ map plain_entry self.old.entries.items
-            ++ kept_in at.file ((verdict verdict, at.line) ∷ [])) }
+            ++ kept_in at.file ((plain_verdict verdict, at.line) ∷ [])) }
         ensures broken { OnOk result
             (self.new.broken.items
-            ≡ self.old.broken.items ++ broken_in at.file ((verdict verdict, at.line) ∷ [])) }
+            ≡ self.old.broken.items ++ broken_in at.file ((plain_verdict verdict, at.line) ∷ [])) }
     {
         match verdict {
             Verdict::Kept(decl) => self.entries.push(Entry { decl, at })?,
@@ -52,7 +53,9 @@ impl Found {
 
     // The items, or the rules that are broken.
     fn answer(self) -> Result<Row<Entry>, ItemsFault>
-        ensures entries { IfOk result (λ entries. (entries ≡ self.entries.items) × (self.broken.items ≡ [])) }
+        ensures entries {
+            IfOk result (λ entries. (entries ≡ self.entries.items) × (self.broken.items ≡ []))
+        }
         ensures broken { IfErr result (IsBrokenIn self.broken.items) }
     {
         let Found { entries, broken } = self;

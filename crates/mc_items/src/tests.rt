@@ -388,47 +388,6 @@ fn words(rt: HostRuntime) -> Result<(), Fail> {
     Ok(())
 }
 
-const MODULES: [&str; 3] = [
-    ":- module family.\n:- interface.\n:- type person ---> ann ; bob ; cid.\n\
-     :- pred parent(person::out, person::out) is nondet.\n:- implementation.\n\
-     parent(ann, bob).\nparent(ann, cid).\nparent(bob, cid).\n",
-    ":- module order.\n:- interface.\n:- pred p(int::in, int::out) is nondet.\n\
-     :- implementation.\n:- pred q(int::in, int::out) is nondet.\nq(1, 3).\n\
-     p(X, Z) :- r(Y, Z), q(X, Y).\n",
-    ":- module deep.\n:- interface.\n:- pred depth(int::in, int::out) is det.\n\
-     :- implementation.\n:- import_module int.\n\
-     depth(N, D) :- ( if N = 0 then D = 0 else depth(N - 1, D0), D = D0 + 1 ).\n",
-];
-
-// Whether a text's items, or rules that it breaks, are answered.
-fn is_answered(alloc: Global, text: &[u8]) -> bool {
-    match read_items(alloc, 0, text) {
-        Ok(_) => true,
-        Err(ItemsFault::Broken(all)) => !all.is_empty(),
-        Err(ItemsFault::Memory) => false,
-    }
-}
-
-#[test]
-fn prefixes_and_quotes(rt: HostRuntime) -> Result<(), Fail> {
-    let alloc = rt.alloc();
-    for module in MODULES {
-        let text = module.as_bytes();
-        for end in 0..text.len() {
-            if let Some(prefix) = text.get(..end) {
-                assert!(rt; is_answered(alloc, prefix));
-            }
-            let mut quoted = text.to_vec(alloc)?;
-            if let Some(byte) = quoted.get_mut(end) {
-                *byte = b'\'';
-            }
-            assert!(rt; is_answered(alloc, quoted.as_slice()));
-        }
-        assert!(rt; read_items(alloc, 0, text).is_ok());
-    }
-    Ok(())
-}
-
 #[test]
 fn each_faulty_item_has_its_line(rt: HostRuntime) -> Result<(), Fail> {
     let alloc = rt.alloc();
@@ -494,72 +453,6 @@ if a then b ~ 1 S6\n";
 #[test]
 fn queries(rt: HostRuntime) -> Result<(), Fail> {
     assert_eq!(rt; rows_hold(&rt, rt.alloc(), Reader::Query, QUERIES)?, 40);
-    Ok(())
-}
-
-#[test]
-fn query_limits(rt: HostRuntime) -> Result<(), Fail> {
-    let alloc = rt.alloc();
-    let comments = "%23456789012345\n";
-    let cases: [(Vec<u8>, &str); 11] = [
-        (repeated(alloc, "p(a", ", a", 254, ")")?, "goal"),
-        (repeated(alloc, "p(a", ", a", 255, ")")?, "1 L3"),
-        (repeated(alloc, "\n1, p(a", ", a", 255, ")")?, "2 S6"),
-        (repeated(alloc, "some [!A] p(!A", ", a", 253, ")")?, "goal"),
-        (repeated(alloc, "some [!A] p(!A", ", a", 254, ")")?, "1 L3"),
-        (repeated(alloc, "p([A, _", ", _", 4_094, "])")?, "goal"),
-        (repeated(alloc, "\np([A, _", ", _", 4_095, "])")?, "2 L4"),
-        (repeated(alloc, "p([A, _", ", A", 9_000, "])")?, "goal"),
-        (repeated(alloc, "", "\\+ ", 300, "b")?, "1 L2"),
-        (
-            repeated(alloc, "", comments, 262_143, "p, q(X) % 345678")?,
-            "goal",
-        ),
-        (repeated(alloc, "", comments, 262_144, "p")?, "1 L1"),
-    ];
-    for (text, wanted) in &cases {
-        let answer = query_shown(alloc, text.as_slice())?;
-        assert_eq!(rt; answer.as_slice(), wanted.as_bytes());
-    }
-    Ok(())
-}
-
-// The rules that a query's text breaks; none where its goal is answered, or there is no room.
-fn query_broken(alloc: Global, text: &[u8]) -> Row<Broken> {
-    match read_query(alloc, 7, text) {
-        Ok(_goal) => Row::new(alloc),
-        Err(fault) => match fault {
-            ItemsFault::Broken(all) => all,
-            ItemsFault::Memory => Row::new(alloc),
-        },
-    }
-}
-
-#[test]
-fn query_words(rt: HostRuntime) -> Result<(), Fail> {
-    let alloc = rt.alloc();
-    let long = repeated(alloc, "", "%23456789012345\n", 262_144, "p")?;
-    let arguments = repeated(alloc, "p(a", ", a", 255, ")")?;
-    let variables = repeated(alloc, "p([_", ", _", 4_096, "])")?;
-    let cases: [(&[u8], &str); 9] = [
-        (b"p \x01", "bad character"),
-        (b"", "not a term"),
-        (b"p q", "not a term"),
-        (b"p. q", "not a term"),
-        (b"1", "not an item"),
-        (b"X", "left out of this profile: higher-order"),
-        (long.as_slice(), "sources are too long"),
-        (arguments.as_slice(), "more than 255 arguments"),
-        (variables.as_slice(), "more than 4096 variables"),
-    ];
-    for (text, wanted) in cases {
-        let all = query_broken(alloc, text);
-        assert_eq!(rt; all.len(), 1);
-        for broken in all.as_slice() {
-            assert_eq!(rt; broken.what.bytes(), wanted.as_bytes());
-            assert_eq!(rt; broken.at, Place { file: 7, line: 1 });
-        }
-    }
     Ok(())
 }
 

@@ -8,12 +8,12 @@ use Rattle.mc_accepted.specs.Inclusion.{Tip, symbol_tip, constant_tip, state_tip
 use Rattle.mc_accepted.specs.Ordered.{Insts, also, change_at, here, there, no_part, to_part, to_rest, keeps, output, no_more, assign, take, build, call, conj, switch, OrderedNode, kept, next, done, arm, no_arm}
 use Rattle.mc_accepted.specs.Accepted.{entered, type_of, AcceptedProcedure}
 use Rattle.mc_model.specs.Flat as F
-use Rattle.mc_accepted.specs.Normal.{flats}
+use Rattle.mc_model.specs.Flat.{flats}
 use Rattle.mc_model.specs.Scheduled.{Procedure}
-use Rattle.mc_laws.specs.Examples.{det, nil, cell}
+use Rattle.mc_laws.specs.code.Examples.{det, nil, cell}
 use Rattle.mc_source.specs.declared.det.Det.{Det}
-use Rattle.mc_laws.specs.ExamplesOfGoals.{append, append_goal}
-use Rattle.mc_laws.specs.ExamplesOfProcedures.{list_source, list_insts, nil_listed, cell_listed, empty_arm, cell_arm, append_body, append_system, append_procedure, AppendIsAccepted}
+use Rattle.mc_laws.specs.code.ExamplesOfGoals.{append, append_goal}
+use Rattle.mc_laws.specs.code.ExamplesOfProcedures.{list_source, list_insts, nil_listed, cell_listed, empty_arm, cell_arm, append_body, append_system, append_procedure, AppendIsAccepted}
 use Rattle.mc_laws.proofs.ListInsts.{swapped, entered_off, on_types, on_either, apart, differ, bound_below_ground, included_ground, both_ground, ground_or_cell}
 
 abbrev P : Source

@@ -12,9 +12,9 @@ use Rattle.mc_accepted.specs.Scope.{Apart, Among}
 use Rattle.mc_model.specs.Scheduled.{Node, Nodes}
 use Rattle.mc_accepted.specs.Ordered.{Insts, also, change_at, binds_one, take_all, Joined, is_state, assign, assign_back, test, take, take_never, build, conj, ite, ite_never, neg, some, OrderedNode, OrderedAll, kept, next, done, dropped, implied_outputs}
 use Rattle.mc_accepted.specs.Accepted.{entered, type_of, Accepted, AcceptedProcedure}
-use Rattle.mc_laws.specs.Examples.{cell}
-use Rattle.mc_laws.specs.ExamplesOfProcedures.{list_insts, cell_listed}
-use Rattle.mc_laws.specs.ExamplesOfBranches.{first_condition, first_then, first_else, first_or_procedure, taken, some_taken, is_empty_procedure, binding_procedure, missing_procedure, branch_source, branch_system, BranchesAreAccepted}
+use Rattle.mc_laws.specs.code.Examples.{cell}
+use Rattle.mc_laws.specs.code.ExamplesOfProcedures.{list_insts, cell_listed}
+use Rattle.mc_laws.specs.code.ExamplesOfBranches.{first_condition, first_then, first_else, first_or_procedure, taken, some_taken, is_empty_procedure, binding_procedure, missing_procedure, branch_source, branch_system, BranchesAreAccepted}
 use Rattle.mc_laws.proofs.FlatWhole.{is_in_true, in_list}
 use Rattle.mc_laws.proofs.ListInsts.{swapped, entered_off, apart, differ, bound_below_ground, included_ground, both_ground}
 

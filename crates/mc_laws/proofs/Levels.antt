@@ -6,7 +6,7 @@ use Rattle.mc_model.specs.Scheduled.{Node, node, Scheduled, Conj, Disj, Switch, 
 use Rattle.mc_model.specs.Stream.{Bindings, Calls, below, at_height, pruned_to, stream, stream_of, stream_all, stream_any, stream_arms, ready, enter, body_items, calls}
 use Rattle.mc_laws.specs.Laws.{Meaning, Procedures, LevelsSuffice, LevelsSufficeForCalls, LevelsSufficeForQueries, OneLevelMore}
 
--- the same items before the call number n + 1; there, or at the stop at the budget, either may stop
+-- the same events before the call number n + 1; there, or at the stop at the budget, either may stop
 pub data Alike {A : Type 0} : ℕ → Items A → Items A → Type 0 where
   at_end : {n : ℕ} → Alike n End End
   at_stuck : {n : ℕ} → Alike n Stuck Stuck

@@ -7,7 +7,7 @@ use Rattle.mc_model.specs.Truth.{In}
 use Rattle.mc_model.specs.Insts.{Listed, bound, Graph, Lists, AllowsSymbol}
 use Rattle.mc_accepted.specs.Inclusion.{Tip, AllowsTip, symbol_tip, constant_tip, state_tip, Path, OnTypes, Allows, NoMore, Merged}
 use Rattle.mc_accepted.specs.Accepted.{entered}
-use Rattle.mc_laws.specs.ExamplesOfProcedures.{list_insts, cell_listed}
+use Rattle.mc_laws.specs.code.ExamplesOfProcedures.{list_insts, cell_listed}
 
 -- two variables get their insts in either order
 pub swapped : {A : Type 0} (x a b : ℕ) (p q r : A) → a ≢ b → cond (nat_eq x a) p (cond (nat_eq x b) q r) ≡ cond (nat_eq x b) q (cond (nat_eq x a) p r)

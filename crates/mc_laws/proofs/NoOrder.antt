@@ -5,7 +5,7 @@ use Rattle.mc_program.specs.Values.{Val}
 use Rattle.mc_model.specs.Flat as F
 use Rattle.mc_model.specs.Stream.{is_bound}
 use Rattle.mc_accepted.specs.Ordered.{Insts, also, assign, assign_back, test, build, take, take_never, put, test_constant, test_never, neg, kept}
-use Rattle.mc_laws.specs.ExamplesOfModes.{HasNoOrder, GoalsWithoutOrder}
+use Rattle.mc_laws.specs.code.ExamplesOfModes.{HasNoOrder, GoalsWithoutOrder}
 
 both_free : (b : Insts) (x y : ℕ) → b x ≡ 0 → b y ≡ 0 → HasNoOrder b (F.Same x y)
 both_free b x y e f S T O Q s o (assign bx by nd) = by f

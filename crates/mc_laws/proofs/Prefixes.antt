@@ -1,4 +1,4 @@
--- The items of a run are a prefix of those of a larger budget.
+-- The events of a run are a prefix of those of a larger budget.
 use Rattle.std.proofs.Common.{◌≡◌, ℕ, zero, suc, ◌≤◌, map, None, refl, subst, arith}
 use Rattle.mc_model.specs.EventList.{Halt, budget, too_deep, thrown, Items, End, Stuck, Stopped, Answer, Called, Wrote, Read, cut}
 use Rattle.mc_model.specs.Stream.{below, stream, body_items, calls, run, run_call, run_query}
@@ -21,7 +21,7 @@ cut_prefix zero n l (Called c xs) = tt
 cut_prefix (suc m) zero l (Called c xs) = absurd (omega arith)
 cut_prefix (suc m) (suc n) l (Called c xs) = (cut n xs, refl, cut_prefix m n (omega arith) xs)
 
--- runs that are cuts of one list of items
+-- runs that are cuts of one list of events
 extend : {A : Type 0} (m n : ℕ) → m ≤ n → (xs r : Items A) → cut m xs ≡ r → IsPrefix r (cut n xs)
 extend m n l xs r e = subst (λ z. IsPrefix z (cut n xs)) e (cut_prefix m n l xs)
 

@@ -2,8 +2,8 @@
 use Rattle.std.proofs.Common.{◌≡◌, ℕ, zero, suc, ◌<◌, List, [], ◌∷◌, get_or, Some, None, refl, sym, ap, ◌∙◌, subst, arith}
 use Rattle.std.specs.List.{Contains}
 use Rattle.mc_program.specs.Programs.{TypeTerm, variable_type, union_type, no_types}
-use Rattle.mc_accepted.specs.Typing.{CandidateFits, of_variable, of_name, none, one_more, equal, declared, done, and_then, AllJudged, Resolves, WellTyped}
-use Rattle.mc_laws.specs.ExamplesOfTypes.{two_types, over, amb, Typings}
+use Rattle.mc_accepted.specs.Typing.{CandidateFits, of_variable, of_name, none, one_more, equal, declared, done, and_then, AllHold, Resolves, WellTyped}
+use Rattle.mc_laws.specs.code.ExamplesOfTypes.{two_types, over, amb, Typings}
 use Rattle.mc_source.specs.declared.name.Candidate.{Candidate}
 use Rattle.mc_source.specs.declared.name.Candidate.TheVariants.{Con}
 
@@ -31,10 +31,10 @@ module _ (τ : ℕ → TypeTerm) (c : Candidate) (ts : List TypeTerm) where
 abbrev at : ℕ → ℕ → TypeTerm
 at u v = union_type u no_types
 
-pa_alone : (τ : ℕ → TypeTerm) (picks : List Candidate) → AllJudged two_types τ (over 1) picks [] → picks ≡ Con 0 ∷ []
+pa_alone : (τ : ℕ → TypeTerm) (picks : List Candidate) → AllHold two_types τ (over 1) picks [] → picks ≡ Con 0 ∷ []
 pa_alone τ picks (and_then (declared (one_more (of_name c none h f) none)) done) = ap (λ d. d ∷ []) (first_alone τ c [] h f)
 
-any_never : (τ : ℕ → TypeTerm) (picks : List Candidate) → AllJudged two_types τ (over 2) picks [] → ⊥
+any_never : (τ : ℕ → TypeTerm) (picks : List Candidate) → AllHold two_types τ (over 2) picks [] → ⊥
 any_never τ picks (and_then (declared (one_more (of_name c none h f) none)) done) = none_fits τ c [] h f
 
 pa_typed : WellTyped two_types (over 1)

@@ -70,7 +70,7 @@ OneLevelMore =
     (B : Meaning) (P : Procedures) (n h : ℕ) (goal : Node) (e : Bindings)
     → cut n (stream B (calls B P (suc (suc n))) h goal e) ≡ run B P n h goal e
 
--- The items of one run are those of another up to the first one's stop at the budget. Without such
+-- The events of one run are those of another up to the first one's stop at the budget. Without such
 -- a stop they are the same.
 abbrev pub IsPrefix : {A : Type 0} → Items A → Items A → Type 0
 IsPrefix End ys = ys ≡ End

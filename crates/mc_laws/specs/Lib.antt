@@ -1,14 +1,6 @@
 pub mod DeterminismLaws
-pub mod Examples
-pub mod ExamplesOfBranches
-pub mod ExamplesOfBuiltins
-pub mod ExamplesOfGoals
-pub mod ExamplesOfLists
-pub mod ExamplesOfModes
-pub mod ExamplesOfProcedures
-pub mod ExamplesOfRuns
-pub mod ExamplesOfTypes
 pub mod FlatLaws
 pub mod Laws
 pub mod PredicateLaws
 pub mod Proper
+pub mod code

@@ -21,7 +21,8 @@ HeadsHave arity (c ∷ cs) = (length c.head ≡ arity) × HeadsHave arity cs
 -- An answer of the normal goal at these arguments makes a clause true of them; and where the goal
 -- is false for all values of its other variables, each clause is false of them. (The goal
 -- quantifies none of its variables at its top.)
-pub record PredicateCarries (C : Facts) (arity : ℕ) (cls : List ClauseForm) (ws : List Val) : Type 0 where
+pub record PredicateCarries
+    (C : Facts) (arity : ℕ) (cls : List ClauseForm) (ws : List Val) : Type 0 where
   pub yes :
       (u : Assignment)
       → AtHead ws u → FlatYes C (normal_goal arity cls).body u → SomeClause C cls ws

@@ -1,13 +1,13 @@
 //! Computed examples of the definitions: programs written out as scheduled procedures, and what their runs do. Each is
 //! the contract of a function that does nothing, and each group has an equation that does not hold.
-ghost use Rattle.mc_laws.specs.ExamplesOfBranches.{BranchesAreAccepted};
-ghost use Rattle.mc_laws.specs.ExamplesOfBuiltins.{NumbersWrap, DivisionRounds, DivisionAtItsEnds, Comparisons, NumbersInTexts, CharactersInTexts, Writing, Reading, InPrograms};
-ghost use Rattle.mc_laws.specs.ExamplesOfGoals.{NegationsQuantify, ConditionsQuantify, ScopesAreWritten, NormalGoals};
-ghost use Rattle.mc_laws.specs.ExamplesOfLists.{Facts, Appends, Members, Queens};
-ghost use Rattle.mc_laws.specs.ExamplesOfModes.{Determinisms, CommittedCalls, IoGoals, GoalsWithoutOrder};
-ghost use Rattle.mc_laws.specs.ExamplesOfProcedures.{AppendIsAccepted};
-ghost use Rattle.mc_laws.specs.ExamplesOfTypes.{Typings};
-ghost use Rattle.mc_laws.specs.ExamplesOfRuns.{Order, Budgets, Depths, Throws, Output};
+ghost use Rattle.mc_laws.specs.code.ExamplesOfBranches.{BranchesAreAccepted};
+ghost use Rattle.mc_laws.specs.code.ExamplesOfBuiltins.{NumbersWrap, DivisionRounds, DivisionAtItsEnds, Comparisons, NumbersInTexts, CharactersInTexts, Writing, Reading, InPrograms};
+ghost use Rattle.mc_laws.specs.code.ExamplesOfGoals.{NegationsQuantify, ConditionsQuantify, ScopesAreWritten, NormalGoals};
+ghost use Rattle.mc_laws.specs.code.ExamplesOfLists.{Facts, Appends, Members, Queens};
+ghost use Rattle.mc_laws.specs.code.ExamplesOfModes.{Determinisms, CommittedCalls, IoGoals, GoalsWithoutOrder};
+ghost use Rattle.mc_laws.specs.code.ExamplesOfProcedures.{AppendIsAccepted};
+ghost use Rattle.mc_laws.specs.code.ExamplesOfTypes.{Typings};
+ghost use Rattle.mc_laws.specs.code.ExamplesOfRuns.{Order, Budgets, Depths, Throws, Output};
 
 /// What builtins do at some inputs.
 pub fn builtins()

@@ -25,7 +25,7 @@ pub fn levels_suffice()
     ensures one_more { OneLevelMore }
 {}
 
-/// The items of a run are a prefix of those of any run with a larger budget.
+/// The events of a run are a prefix of those of any run with a larger budget.
 pub fn budgets_extend()
     ensures goals { BudgetsExtend }
     ensures calls { BudgetsExtendCalls }

@@ -1,19 +1,17 @@
-//! Small goals of each kind, built and dropped.
+//! Small goals of each kind, built and dropped, all of them by the paths that mc_model passes on.
 ghost use Rattle.std.specs.Prelude.{◌≡◌, [], ◌∷◌, IfOk};
 
-use mc_base::{Memory, Row, Text};
+use mc_model::builtin::Builtin;
+use mc_model::det::{Det, Most};
+use mc_model::expr::Expr;
 use mc_model::flat::Flat;
 use mc_model::inst::{Choice, InstRef, ModeDecl, Sig};
+use mc_model::program::{Clause, Goal, Name, Place, Pred, Program, Resolved, Symbol, TypeDef};
+use mc_model::rule::{Broken, Rule};
 use mc_model::sched::{Arm, GoalNode, On, Proc, Sched};
-use mc_program::builtin::Builtin;
-use mc_program::expr::Expr;
-use mc_program::program::{Clause, Goal, Pred, Program, Resolved, Symbol, TypeDef};
-use mc_program::ty::Ty;
-use mc_program::value::Value;
-use mc_source::det::{Det, Most};
-use mc_source::name::Name;
-use mc_source::place::Place;
-use mc_source::rule::{Broken, Rule};
+use mc_model::ty::Ty;
+use mc_model::value::Value;
+use mc_model::{Memory, Row, Text};
 use std::alloc::Global;
 
 const DET: Det = Det {

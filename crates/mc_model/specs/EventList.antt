@@ -21,8 +21,8 @@ pub record Made_call : Type 0 where
   pub proc : ℕ
   pub args : List (Option Val)
 
--- The items of a run with answers of a type. A list ends by End, by a stop, or by Stuck, where an
--- unbound variable would be read.
+-- The events of a run in order, with answers of a type. A list ends by End, by a stop, or by Stuck,
+-- where an unbound variable would be read.
 pub data Items (A : Type 0) : Type 0 where
   End : Items A
   Stuck : Items A

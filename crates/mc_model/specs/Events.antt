@@ -1,5 +1,5 @@
--- The items of an event list as a program keeps them: without the arguments of its calls. (This
--- project's profile of strict sequential execution.)
+-- The events of a run as a program keeps them: without the arguments of its calls. (This project's
+-- profile of strict sequential execution.)
 use Rattle.std.specs.Prelude.{ℕ, List, [], ◌∷◌, map, Option, Some, None}
 use Rattle.mc_program.specs.Values.{Val, plain_value}
 use Rattle.mc_model.specs.EventList.{Items, End, Stuck, Stopped, Answer, Called, Wrote, Read}
@@ -26,7 +26,7 @@ bound_values [] = []
 bound_values (None ∷ os) = bound_values os
 bound_values (Some v ∷ os) = v ∷ bound_values os
 
--- the items of a list, in order
+-- the events of a list, in order
 abbrev pub events_of : Items (List (Option Val)) → List Event
 events_of End = []
 events_of Stuck = []

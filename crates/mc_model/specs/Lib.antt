@@ -6,6 +6,7 @@ pub mod Good
 pub mod Insts
 pub mod Outcomes
 pub mod Output
+pub mod PlainGoals
 pub mod Scheduled
 pub mod Stream
 pub mod Truth

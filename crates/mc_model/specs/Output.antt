@@ -11,7 +11,8 @@ texts_of text [] = []
 texts_of text (None ∷ os) = [] ∷ texts_of text os
 texts_of text (Some v ∷ os) = text v ∷ texts_of text os
 
--- the bytes of the items: each text that is written, and each answer's line by the variables' names
+-- the bytes of the events: each text that is written, and each answer's line by the variables'
+-- names
 abbrev pub bytes_of :
     (text : Val → List ℕ) → (names : List (List ℕ)) → Items (List (Option Val)) → List ℕ
 bytes_of text names End = []

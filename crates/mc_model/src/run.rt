@@ -23,7 +23,7 @@ pub enum Stop {
     Throw(Exception),
 }
 
-/// An item of a run: a call of a procedure, a text written, an answer, or a reading from an input byte on.
+/// An event of a run: a call of a procedure, a text written, an answer, or a reading from an input byte on.
 #[derive(Drop)]
 pub enum Item {
     Call(u32),

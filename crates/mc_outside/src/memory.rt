@@ -38,9 +38,7 @@ impl MemFiles {
     /// from 1, will fail.
     pub fn new(files: Vec<(String, Vec<u8>)>, fail: Vec<u64>) -> MemFiles
         requires { HaveDistinctNames files.items }
-        ensures {
-            result ≡ record { held = by_name files.items; calls = fresh fail.items; absents = 0 }
-        }
+        ensures { result ≡ record { held = by_name files.items; calls = fresh fail.items; absents = 0 } }
     {
         MemFiles {
             files,

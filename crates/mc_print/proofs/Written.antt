@@ -1,6 +1,6 @@
 -- How the text of a value falls into what is written from its front.
 use Rattle.std.proofs.Common.{◌≡◌, ℕ, ◌<◌, List, [], ◌∷◌, ◌++◌, Bool, true, false, refl, ap, sym, ◌∙◌, nat_eq, reverse, append_assoc, map, subst, if◌then◌else◌}
-use Rattle.std.proofs.lemmas.List.{map-append, reverse-append}
+use Rattle.std.proofs.lemmas.List.{append-nil, map-append, reverse-append}
 use Rattle.mc_program.specs.Values.{plain_value}
 use Rattle.mc_program.specs.declared.value.Value.{Value, Con}
 use Rattle.mc_program.proofs.Views.{plain_value-Con}
@@ -10,11 +10,7 @@ use Rattle.mc_program.specs.Values.{Val, con, vals}
 use Rattle.mc_program.specs.Printed.{printed, printed_tail, printed_tails, printed_more, name_at, name_text, is_cell, SymbolsBelow, AllSymbolsBelow}
 use Rattle.mc_print.specs.declared.value.Place.{Place}
 use Rattle.mc_print.specs.declared.value.Place.TheVariants.{Whole, Tail}
-use Rattle.mc_print.specs.Places.{lead, at_place, opening, fronts_text, last_place, closing, is_list_front}
-
-append-nil : (xs : List ℕ) → xs ++ [] ≡ xs
-append-nil [] = refl
-append-nil (x ∷ xs) = ap (λ l. x ∷ l) (append-nil xs)
+use Rattle.mc_print.specs.code.Places.{lead, at_place, opening, fronts_text, last_place, closing, is_list_front}
 
 -- the arguments after the first end with the last one
 more_fronts : (names : List (List ℕ)) (x : Val) (ws : List Val) (w : Val) → printed names x ++ printed_more names (vals (ws ++ (w ∷ []))) ≡ fronts_text names false (x ∷ ws) ++ printed names w

@@ -8,6 +8,3 @@ mod value;
 pub use line::{answer_line, broken_line};
 pub use name::write_constant;
 pub use value::{printed, value_text};
-
-#[cfg(test)]
-mod tests;

@@ -99,7 +99,8 @@ fn rule_name(rule: Rule) -> &'static [u8; 2]
 
 /// The line of a broken rule, `FILE:LINE: RULE TEXT`, with a line end.
 pub fn broken_line(alloc: Global, file: &Text, b: &Broken) -> Result<Text, Memory>
-    ensures { IfOk result (λ line. line ≡ broken_text file.now b.now.at.line b.now.rule b.now.what) }
+    ensures { IfOk result
+        (λ line. line ≡ broken_text file.now b.now.at.line b.now.rule b.now.what) }
 {
     let mut out = Text::new(alloc, file.bytes())?;
     out.extend(b":")?;

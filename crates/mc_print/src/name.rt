@@ -1,6 +1,6 @@
 ghost use Rattle.std.specs.Prelude.{◌≡◌, ◌<◌, ◌++◌, OnOk};
 ghost use Rattle.std.specs.List.{list_all};
-ghost use Rattle.mc_program.specs.Printed.{hex_digit, escaped, in_quotes, is_bare, is_word_byte, name_text, constant_text};
+ghost use Rattle.mc_program.specs.Printed.{hex_digit, escaped, in_quotes, is_bare, is_word_byte, name_text, is_nil, constant_text};
 
 use mc_base::{Memory, Text};
 
@@ -79,11 +79,18 @@ pub fn write_name(out: &mut Text, name: &[u8]) -> Result<(), Memory>
     }
 }
 
+/// Whether a name is the empty list's.
+pub fn is_nil(name: &[u8]) -> bool
+    ensures { result ≡ is_nil name.now }
+{
+    name == b"[]".as_slice()
+}
+
 /// Writes a name without arguments.
 pub fn write_constant(out: &mut Text, name: &[u8]) -> Result<(), Memory>
     ensures { OnOk result (out.new ≡ out.old ++ constant_text name.now) }
 {
-    if name == b"[]".as_slice() {
+    if is_nil(name) {
         out.extend(name)
     } else {
         write_name(out, name)

@@ -2,10 +2,10 @@ ghost use Rattle.std.specs.Prelude.{◌≡◌, ◌<◌, ◌++◌, ◌∷◌, [],
 ghost use Rattle.mc_program.specs.Values.{Val, plain_value, vals};
 ghost use Rattle.mc_program.specs.Printed.{Names, names_of, name_at, printed, AllSymbolsBelow};
 ghost use Rattle.mc_values.specs.Heap.{IsLive, value_at};
-ghost use Rattle.mc_print.specs.Splits.{IsSplit};
-ghost use Rattle.mc_print.specs.Places.{lead, at_place, opening, separator, fronts_text, last_place, closing, last_constant, IsEnd, is_list_front};
+ghost use Rattle.mc_print.specs.code.Splits.{IsSplit};
+ghost use Rattle.mc_print.specs.code.Places.{lead, at_place, opening, separator, fronts_text, last_place, closing, last_constant, IsEnd, is_list_front};
 
-use crate::name::{write_constant, write_name, write_quoted};
+use crate::name::{is_nil, write_constant, write_name, write_quoted};
 use itoa::Buffer;
 use mc_base::{Memory, Text};
 use mc_program::program::Program;
@@ -45,7 +45,8 @@ pub fn printed(alloc: Global, v: &Value, program: &Program) -> Result<Text, Memo
 #[cycle(write)]
 fn write_value(alloc: Global, out: &mut Text, v: &Value, program: &Program) -> Result<(), Memory>
     requires { Names program.now (plain_value v.now) }
-    ensures { OnOk result (out.new ≡ out.old ++ printed (names_of program.now) (plain_value v.now)) }
+    ensures { OnOk result
+        (out.new ≡ out.old ++ printed (names_of program.now) (plain_value v.now)) }
 {
     let mut closers = Vec::new(alloc);
     let mut place = Place::Whole;
@@ -95,8 +96,9 @@ fn write_separator(out: &mut Text, is_list: bool) -> Result<(), Memory>
 }
 
 /// A constructor that has arguments, as its symbol, the arguments before the last one, and the last one.
-pub fn split(v: &Value) -> Option<(u32, &[Value], &Value)>
-    ensures { MatchOption result (IsEnd (plain_value v.now)) (λ p. IsSplit v.now p.0 p.1.now p.2.now) }
+fn split(v: &Value) -> Option<(u32, &[Value], &Value)>
+    ensures { MatchOption result (IsEnd (plain_value v.now))
+        (λ p. IsSplit v.now p.0 p.1.now p.2.now) }
 {
     match v {
         Value::Con(symbol, args) => match args.as_slice() {
@@ -163,7 +165,8 @@ fn last_place(is_list: bool) -> Place
 fn write_end(out: &mut Text, place: Place, v: &Value, program: &Program) -> Result<(), Memory>
     requires ends { IsEnd (plain_value v.now) }
     requires named { Names program.now (plain_value v.now) }
-    ensures { OnOk result (out.new ≡ out.old ++ at_place (names_of program.now) place (plain_value v.now)) }
+    ensures { OnOk result
+        (out.new ≡ out.old ++ at_place (names_of program.now) place (plain_value v.now)) }
 {
     match v {
         Value::Con(symbol, _) => write_last_constant(out, place, symbol_name(program, *symbol)),
@@ -191,7 +194,7 @@ fn write_last_constant(out: &mut Text, place: Place, name: &[u8]) -> Result<(), 
     ensures { OnOk result (out.new ≡ out.old ++ last_constant place name.now) }
 {
     match place {
-        Place::Tail if name == b"[]".as_slice() => Ok(()),
+        Place::Tail if is_nil(name) => Ok(()),
         _ => {
             write_lead(out, place)?;
             write_constant(out, name)

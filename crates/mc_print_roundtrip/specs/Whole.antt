@@ -55,7 +55,10 @@ PrintedValuesReadBack =
 -- By the reader's definition the text's first item is no term: nothing stands there, or it is
 -- refused.
 abbrev pub IsUnread : List ℕ → Type 0
-IsUnread text = IsOver text 0 ⊎ ((kind : ReadKind) × (line : ℕ) × (next : ℕ) × IsRefused text 0 kind line next × (kind ≢ Memory))
+IsUnread text =
+    IsOver text 0
+    ⊎ ((kind : ReadKind) × (line : ℕ) × (next : ℕ)
+    × IsRefused text 0 kind line next × (kind ≢ Memory))
 
 -- the term of a value is no deeper than the value
 abbrev pub TermsNoDeeper : Type 0

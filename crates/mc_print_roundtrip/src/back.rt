@@ -19,7 +19,9 @@ use std::alloc::Global;
 /// own term, where its strings and names are UTF-8 and that term is at most 256 deep.
 pub fn read_back(alloc: Global, v: &Value, program: &Program) -> Result<Option<Term>, Memory>
     requires { Names program.now (plain_value v.now) }
-    ensures item { IfOk result (λ answer. IfSome answer (λ term. (next : ℕ) × IsItem (item_text (names_of program.now) (plain_value v.now)) 0 term next)) }
+    ensures item { IfOk result
+        (λ answer. IfSome answer (λ term. (next : ℕ)
+        × IsItem (item_text (names_of program.now) (plain_value v.now)) 0 term next)) }
     ensures refused { IfOk result
         (λ answer.
         IfNone answer (IsUnread (item_text (names_of program.now) (plain_value v.now)))) }

@@ -3,7 +3,7 @@
 
 ghost use Rattle.mc_print_roundtrip.specs.Laws.{StringsReadBack, QuotedNamesReadBack, BareNamesReadBack, NumbersReadBack, MinusSignsReadBack};
 ghost use Rattle.mc_print_roundtrip.specs.Whole.{ValuesReadBack, PrintedValuesReadBack, TermsNoDeeper};
-ghost use Rattle.mc_print_roundtrip.specs.Examples.{OpenList, Quotes, NoOthers};
+ghost use Rattle.mc_print_roundtrip.specs.code.Examples.{OpenList, Quotes, NoOthers};
 
 mod back;
 #[cfg(test)]

@@ -5,11 +5,14 @@ ghost use Rattle.mc_program.specs.Printed.{SymbolsBelow, AllSymbolsBelow};
 
 use crate::read_back;
 use mc_base::{Memory, Row, Text};
-use mc_print::printed;
+use mc_print::{answer_line, broken_line, printed, value_text, write_constant};
 use mc_program::program::{Program, Symbol};
 use mc_program::value::Value;
 use mc_source::name::Name;
+use mc_source::place::Place;
+use mc_source::rule::{Broken, Rule};
 use mc_term_data::{Node, Term};
+use mc_values::Heap;
 use std::alloc::Global;
 use std::process::Abort;
 use std::test::Fail;
@@ -341,5 +344,51 @@ fn depths(rt: HostRuntime) -> Result<(), Fail> {
         let v = nested(alloc, levels, over(alloc, NOT, Value::Int(-1))?)?;
         assert_eq!(&rt; is_read_back(&rt, alloc, v, &program)?, wanted);
     }
+    Ok(())
+}
+
+#[test]
+fn values_of_a_heap(rt: HostRuntime) -> Result<(), Fail> {
+    let alloc = rt.alloc();
+    let program = program(alloc)?;
+    let mut heap = Heap::new(alloc);
+    let r = heap.int(7)?;
+    let v = heap.value(r)?;
+    assert!(rt; is_named(&v, program.symbols.len()));
+    let text = value_text(alloc, &heap, r, &program)?;
+    assert_eq!(rt; text.bytes(), b"7".as_slice());
+    Ok(())
+}
+
+#[test]
+fn lines(rt: HostRuntime) -> Result<(), Fail> {
+    let alloc = rt.alloc();
+    let mut names = Row::new(alloc);
+    let mut values = Row::new(alloc);
+    let none = answer_line(alloc, &names, &values)?;
+    assert_eq!(rt; none.bytes(), b"true.\n".as_slice());
+    names.push(Text::new(alloc, b"X")?)?;
+    values.push(Text::new(alloc, b"ann")?)?;
+    let one = answer_line(alloc, &names, &values)?;
+    assert_eq!(rt; one.bytes(), b"X = ann.\n".as_slice());
+    names.push(Text::new(alloc, b"Y")?)?;
+    values.push(Text::new(alloc, b"bob")?)?;
+    let two = answer_line(alloc, &names, &values)?;
+    assert_eq!(rt; two.bytes(), b"X = ann, Y = bob.\n".as_slice());
+    let broken = Broken {
+        rule: Rule::E1,
+        at: Place { file: 0, line: 4 },
+        what: Text::new(alloc, b"declared det, inferred semidet")?,
+    };
+    let mut line = broken_line(alloc, &Text::new(alloc, b"h.m")?, &broken)?;
+    assert_eq!(rt;
+        line.bytes(),
+        b"h.m:4: E1 declared det, inferred semidet\n".as_slice()
+    );
+    write_constant(&mut line, b"it's")?;
+    assert_eq!(rt;
+        line.bytes(),
+        b"h.m:4: E1 declared det, inferred semidet\n'it\\'s'".as_slice()
+    );
     Ok(())
 }

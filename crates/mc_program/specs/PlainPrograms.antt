@@ -75,7 +75,13 @@ abbrev pub plain_clause : Clause → ClauseForm
 plain_clause c = record { head = map plain_expression c.head; body = plain_goal c.body }
 
 abbrev pub plain_pred : Pred → Predicate
-plain_pred p = record { name = plain_name p.name; types = map plain_type p.types; clauses = map plain_clause p.clauses; builtin = p.builtin }
+plain_pred p =
+    record {
+      name = plain_name p.name;
+      types = map plain_type p.types;
+      clauses = map plain_clause p.clauses;
+      builtin = p.builtin;
+    }
 
 -- what stands at a number that a program doesn't have
 abbrev pub no_name : FullName

@@ -99,7 +99,8 @@ abbrev mutual
   printed names (state written taken) = codes "state"
   printed names (con symbol no_vals) = constant_text (name_at names symbol)
   printed names (con symbol (val_then v vs)) =
-      if is_cell (name_at names symbol) vs then codes "[" ++ (printed names v ++ (printed_tails names vs ++ codes "]"))
+      if is_cell (name_at names symbol) vs
+      then codes "[" ++ (printed names v ++ (printed_tails names vs ++ codes "]"))
       else name_text (name_at names symbol)
       ++ (codes "(" ++ (printed names v ++ (printed_more names vs ++ codes ")")))
 
@@ -118,7 +119,8 @@ abbrev mutual
       if is_nil (name_at names symbol) then []
       else codes " | " ++ constant_text (name_at names symbol)
   printed_tail names (con symbol (val_then v vs)) =
-      if is_cell (name_at names symbol) vs then codes ", " ++ (printed names v ++ printed_tails names vs)
+      if is_cell (name_at names symbol) vs
+      then codes ", " ++ (printed names v ++ printed_tails names vs)
       else codes " | "
       ++ (name_text (name_at names symbol)
       ++ (codes "(" ++ (printed names v ++ (printed_more names vs ++ codes ")"))))

@@ -53,9 +53,12 @@ impl Drop for Expr {
 impl Expr {
     /// The arguments of a constructor or of a function's application; None of any other term.
     pub fn into_args(self) -> Option<Row<Expr>>
-        ensures made { (symbol : ℕ) (args : List Expr) → self ≡ Expr.Con symbol args → result ≡ Some args }
-        ensures applied { (function : ℕ) (args : List Expr) → self ≡ Expr.Apply function args → result ≡ Some args }
-        ensures no_other { IfSome result (λ args. ((symbol : ℕ) × (self ≡ Expr.Con symbol args)) ⊎ ((function : ℕ) × (self ≡ Expr.Apply function args))) }
+        ensures made { (symbol : ℕ) (args : List Expr) → self ≡ Expr.Con symbol args
+            → result ≡ Some args }
+        ensures applied { (function : ℕ) (args : List Expr) → self ≡ Expr.Apply function args
+            → result ≡ Some args }
+        ensures no_other { IfSome result (λ args. ((symbol : ℕ) × (self ≡ Expr.Con symbol args))
+            ⊎ ((function : ℕ) × (self ≡ Expr.Apply function args))) }
     {
         match self {
             Expr::Con(_, args) => Some(args),
@@ -82,7 +85,8 @@ impl Head {
     /// The term of this head and these arguments.
     fn over(self, args: Row<Expr>) -> Expr
         ensures made { (symbol : ℕ) → self ≡ Head.Con symbol → result ≡ Expr.Con symbol args }
-        ensures applied { (function : ℕ) → self ≡ Head.Apply function → result ≡ Expr.Apply function args }
+        ensures applied { (function : ℕ) → self ≡ Head.Apply function
+            → result ≡ Expr.Apply function args }
     {
         match self {
             Head::Con(symbol) => Expr::Con(symbol, args),

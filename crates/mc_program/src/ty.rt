@@ -41,7 +41,8 @@ impl Drop for Ty {
 impl Ty {
     /// The arguments of a union type; None of any other type.
     pub fn into_args(self) -> Option<Row<Ty>>
-        ensures arguments { (number : ℕ) (args : List Ty) → self ≡ Ty.Union number args → result ≡ Some args }
+        ensures arguments { (number : ℕ) (args : List Ty) → self ≡ Ty.Union number args
+            → result ≡ Some args }
         ensures no_other { IfSome result (λ args. (number : ℕ) × (self ≡ Ty.Union number args)) }
     {
         match self {

@@ -47,7 +47,8 @@ impl Drop for Value {
 impl Value {
     /// The arguments of a constructor; None of any other value.
     pub fn into_args(self) -> Option<Row<Value>>
-        ensures arguments { (symbol : ℕ) (args : List Value) → self ≡ Value.Con symbol args → result ≡ Some args }
+        ensures arguments { (symbol : ℕ) (args : List Value) → self ≡ Value.Con symbol args
+            → result ≡ Some args }
         ensures no_other { IfSome result (λ args. (symbol : ℕ) × (self ≡ Value.Con symbol args)) }
     {
         match self {

@@ -9,7 +9,7 @@ use Rattle.mc_program.specs.Values.{Val, plain_value}
 use Rattle.mc_values.specs.Parts.{arguments}
 use Rattle.mc_values.proofs.Arguments.{is_con, arguments-Con}
 use Rattle.mc_values.specs.declared.cell.Cell.{Cell}
-use Rattle.mc_values.specs.Cells.{owned_at, held_in, IsCell, IsHeld, AreCells}
+use Rattle.mc_values.specs.code.Cells.{owned_at, held_in, IsCell, IsHeld, AreCells}
 
 -- functions that agree below n agree over numbers below n
 map_same : {X : Type 0} (f g : ℕ → X) (n : ℕ) (xs : List ℕ) → ((r : ℕ) → r < n → f r ≡ g r) → All (λ r. r < n) xs → map f xs ≡ map g xs

@@ -6,7 +6,7 @@ use Rattle.std.proofs.lemmas.Simd.{map-map}
 use Rattle.mc_program.specs.Values.{plain_value, con, vals}
 use Rattle.mc_program.specs.declared.value.Value.{Value, Int, Con}
 use Rattle.mc_values.specs.declared.cell.Cell.{Cell}
-use Rattle.mc_values.specs.Cells.{owned_at, held_in, IsHeld, AreCells}
+use Rattle.mc_values.specs.code.Cells.{owned_at, held_in, IsHeld, AreCells}
 use Rattle.mc_values.specs.Heap.{height, IsLive, IsBelow, value_at, values_at, StandsFor, Extends, KeepsBelow}
 use Rattle.mc_values.proofs.CellLaws.{held_more, held_first, owned_before, owned_first, AreCells-push, AreCells-take}
 use Rattle.mc_program.proofs.Views.{plain_value-Con}

@@ -1,9 +1,10 @@
--- What a heap holds: which Refs are live, the value that each stands for, and what a mark keeps.
--- Contracts cite these and no more, so that a heap of another make has the same contracts.
-use Rattle.std.specs.Prelude.{◌≡◌, ℕ, ◌≤◌, ◌<◌, List, map, length}
+-- What a heap holds, as a list of values: which Refs are live, the value that each stands for, and
+-- what a mark keeps. Contracts cite these and no more, so that a heap of another make has the same
+-- contracts.
+use Rattle.std.specs.Prelude.{◌≡◌, ℕ, pos, ◌≤◌, ◌<◌, List, map, length, slice_index_or}
 use Rattle.mc_program.specs.Values.{Val, plain_value}
+use Rattle.mc_program.specs.declared.value.Value.{Int}
 use Rattle.mc_values.specs.declared.heap.Heap.{Heap}
-use Rattle.mc_values.specs.Cells.{owned_at}
 
 -- how many cells are in use
 unfoldable pub height : Heap → ℕ
@@ -13,9 +14,9 @@ height h = length h
 unfoldable pub IsLive : Heap → ℕ → Type 0
 IsLive h r = r < length h
 
--- the value that a live r stands for
+-- the value that a live r stands for, and 0 for any other number
 unfoldable pub value_at : Heap → ℕ → Val
-value_at h r = plain_value (owned_at h r)
+value_at h r = plain_value (slice_index_or h r (Int (pos 0)))
 
 -- the values that these stand for
 abbrev pub values_at : Heap → List ℕ → List Val

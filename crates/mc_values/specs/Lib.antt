@@ -1,3 +1,3 @@
-pub mod Cells
 pub mod Heap
 pub mod Parts
+pub mod code

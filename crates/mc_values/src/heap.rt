@@ -28,7 +28,7 @@ pub struct Heap {
 impl Model for Heap {
     ghost use Rattle.std.specs.Prelude.{List};
     ghost use Rattle.mc_program.specs.declared.value.Value.{Value as Owned};
-    ghost use Rattle.mc_values.specs.Cells.{held_in, AreCells};
+    ghost use Rattle.mc_values.specs.code.Cells.{held_in, AreCells};
 
     ghost Value = { List Owned };
 
@@ -49,7 +49,7 @@ pub fn marks_rise()
 
 impl Heap {
     ghost use Rattle.mc_program.specs.declared.value.Value.{Value, Con};
-    ghost use Rattle.mc_values.specs.Cells.{owned_at, IsCell, IsHeld};
+    ghost use Rattle.mc_values.specs.code.Cells.{owned_at, IsCell, IsHeld};
     ghost use Rattle.mc_values.specs.Heap.{height, IsLive, IsBelow, value_at, values_at, StandsFor, Extends, KeepsBelow};
 
     /// The heap with no cells, which takes no room yet.
@@ -123,8 +123,10 @@ impl Heap {
     pub fn io_took(&mut self, before: Ref, more: u64) -> Result<Ref, Memory>
         requires live { IsLive self.old before }
         requires state { IsState (value_at self.old before) }
-        requires fits { ForSome (taken_of (value_at self.old before)) (λ taken. taken + more < 2 ^ 64) }
-        ensures ok { IfOk result (λ r. StandsFor self.new r (with_taken (value_at self.old before) more)) }
+        requires fits { ForSome (taken_of (value_at self.old before))
+            (λ taken. taken + more < 2 ^ 64) }
+        ensures ok { IfOk result
+            (λ r. StandsFor self.new r (with_taken (value_at self.old before) more)) }
         ensures keeps { Extends self.old self.new }
         ensures err { OnErr result (self.new ≡ self.old) }
     {

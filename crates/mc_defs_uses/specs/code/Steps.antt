@@ -13,5 +13,5 @@ behind w no_term = []
 behind w (more_terms t ts) = used K.Symbol w 2 ++ (terms_in t ++ behind w ts)
 
 -- the names with one more put in
-abbrev pub put_id : List PlainNameArity → PlainNameArity → List PlainNameArity
-put_id xs x = if is_member is_name_arity xs x then xs else xs ++ x ∷ []
+abbrev pub with_name_arity : List PlainNameArity → PlainNameArity → List PlainNameArity
+with_name_arity xs x = if is_member is_name_arity xs x then xs else xs ++ x ∷ []

@@ -4,7 +4,7 @@ use Rattle.mc_term_data.specs.Plain.{plain_term, tms}
 use Rattle.mc_term_data.specs.declared.term.Term.{size-Term}
 use Rattle.mc_defs_uses.specs.Plain.{plain_occurrence}
 use Rattle.mc_defs_uses.specs.Occurrences.{all_terms}
-use Rattle.mc_defs_uses.specs.Steps.{behind}
+use Rattle.mc_defs_uses.specs.code.Steps.{behind}
 use Rattle.mc_defs_uses.proofs.terms.+terms.Given as goal
 
 abbrev pub decreases-add_terms : goal.decreases-add_terms

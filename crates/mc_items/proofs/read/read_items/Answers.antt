@@ -2,7 +2,7 @@ use Rattle.std.proofs.Common.{map, subst, arith, ◌∙◌}
 use Rattle.std.specs.Prelude.{IfSome}
 use Rattle.std.proofs.lemmas.Grind.{common_steps}
 use Rattle.mc_items.specs.Files.{plain_entry, IsItem}
-use Rattle.mc_items.specs.VerdictViews.{verdict}
+use Rattle.mc_items.specs.code.VerdictViews.{plain_verdict}
 use Rattle.mc_items.proofs.Done.{answered, refusal, one_more_at}
 use Rattle.mc_items.proofs.read.read_items.Goals as goal
 
@@ -24,8 +24,8 @@ items-preserved c =
       within = grind (arith, common_steps);
       line = grind (arith, common_steps);
       done =
-          one_more_at c.args.file c.args.text.now c.items.walk c.items.from.at n.line n.end.at (verdict n.verdict) (map plain_entry c.items.found.entries.items) _ c.items.found.broken.items _
+          one_more_at c.args.file c.args.text.now c.items.walk c.items.from.at n.line n.end.at (plain_verdict n.verdict) (map plain_entry c.items.found.entries.items) _ c.items.found.broken.items _
           c.items.invariant.same c.items.invariant.done
-          (subst (λ o. IfSome o (λ n. IsItem c.items.walk c.items.from.at (verdict n.verdict) n.line n.end.at)) c.in-Some.is c.in_ok-next_item.ensures.item)
+          (subst (λ o. IfSome o (λ n. IsItem c.items.walk c.items.from.at (plain_verdict n.verdict) n.line n.end.at)) c.in-Some.is c.in_ok-next_item.ensures.item)
           c.in_ok-put-in-Some.ensures.entries c.in_ok-put-in-Some.ensures.broken;
     }

@@ -3,7 +3,7 @@ use denote.Param.Weighed.{most}
 use Rattle.mc_program.specs.Values.{plain_value, vals}
 use Rattle.mc_program.specs.Printed.{printed, names_of, SymbolsBelow, AllSymbolsBelow}
 use Rattle.mc_program.specs.declared.value.Value.{size-Value}
-use Rattle.mc_print.specs.Places.{at_place, fronts_text}
+use Rattle.mc_print.specs.code.Places.{at_place, fronts_text}
 use Rattle.mc_print.proofs.value.+write.Given as goal
 
 abbrev pub decreases-write_value : goal.decreases-write_value

@@ -2,7 +2,7 @@ use Rattle.std.proofs.Common.{◌≡◌, ◌∙◌, IfOk, ℕ, List, map, sym, s
 use Rattle.std.specs.List.{All}
 use Rattle.mc_program.specs.Values.{plain_value}
 use Rattle.mc_program.specs.declared.value.Value.{Value, Con}
-use Rattle.mc_values.specs.Cells.{owned_at, IsHeld}
+use Rattle.mc_values.specs.code.Cells.{owned_at, IsHeld}
 use Rattle.mc_values.specs.Heap.{IsLive, StandsFor}
 use Rattle.mc_program.proofs.Views.{Con-args}
 use Rattle.mc_values.proofs.Grown.{plain_value-held}

@@ -1,5 +1,5 @@
 use Rattle.std.proofs.Common.{ap, length, rules, subst, sym}
-use Rattle.mc_values.specs.Cells.{AreCells}
+use Rattle.mc_values.specs.code.Cells.{AreCells}
 use Rattle.mc_values.proofs.CellLaws.{length-held_in}
 use Rattle.mc_values.proofs.Grown.{grown, AreCells-grown, extends, stands}
 use Rattle.mc_values.proofs.heap.Heap.push.Goals as goal

@@ -1,0 +1,2 @@
+pub mod VerdictViews
+pub mod Faults
