@@ -204,10 +204,10 @@ module _ (words : List (List ℕ)) (store : Option Held) (f0 f1 a0 a1 : ℕ) (ou
           AnswersWhole words held bo be s out.after err.after
       at (Ok u) w v c i e = (
         t,
-        (
-          is_defined laws words held f0 f1 h.decision (decided_told held told.files) h.faults none.files (λ m. n (e ∙ i ∙ m)),
-          (e ∙ i, (wrote_told out.before out.after bo t.out told.output w, wrote_told err.before err.after be t.err told.errors v)),
-        ),
+        is_defined laws words held f0 f1 h.decision (decided_told held told.files) h.faults none.files (λ m. n (e ∙ i ∙ m)),
+        e ∙ i,
+        wrote_told out.before out.after bo t.out told.output w,
+        wrote_told err.before err.after be t.err told.errors v,
       )
       at (Err put.Failed) w v (inl c) i e = absurd (none.errors c.1)
       at (Err put.Failed) w v (inr c) i e = absurd (none.output c.0)
@@ -319,11 +319,11 @@ module _ (words : List (List ℕ)) (store : Option Held) (f0 f1 a0 a1 : ℕ) (ou
             means = x.means;
             texts = x.texts;
             holds = x.holds;
-            so = (a.formed, (a.compiles, subst (λ (o : Option Question). IfSome o (λ q. Ends (query_run a.formed.database q (bounds_of x.command).budget (bounds_of x.command).depth))) (sym a.asked) tt));
+            so = (a.formed, a.compiles, subst (λ (o : Option Question). IfSome o (λ q. Ends (query_run a.formed.database q (bounds_of x.command).budget (bounds_of x.command).depth))) (sym a.asked) tt);
           }
       at (D.Answers b c) x t =
           let a = x.understood in
-          record { command = x.command; means = x.means; texts = x.texts; holds = x.holds; so = (a.formed, (a.compiles, ended_run laws words x.command x.texts b c a x.means)) }
+          record { command = x.command; means = x.means; texts = x.texts; holds = x.holds; so = (a.formed, a.compiles, ended_run laws words x.command x.texts b c a x.means) }
       at D.Memory x t = cc
 
   pub rejected_cause : s ≡ S.Rejected → OfSources words store BreaksRules
@@ -373,7 +373,7 @@ module _ (words : List (List ℕ)) (store : Option Held) (f0 f1 a0 a1 : ℕ) (ou
     where
       at : (d : Decision) → IsDecided words store d → (told_of d).status ≡ S.Absent → OfFiles words (LacksOne store)
       at D.Usage x t = cc
-      at (D.Absent line) x t = (x.command, (x.means, (x.stops.0, x.stops.1.0)))
+      at (D.Absent line) x t = (x.command, x.means, (x.stops.0, x.stops.1.0))
       at (D.Unreadable line) x t = cc
       at (D.Rejected files broken) x t = cc
       at D.NotBuilt x t = cc
@@ -406,7 +406,7 @@ module _ (words : List (List ℕ)) (store : Option Held) (f0 f1 a0 a1 : ℕ) (ou
       at (Ok u) (D.Absent line) x w v i t = let z : S.Absent ≡ S.ReadFault = sym i ∙ t in cc
       at (Ok u) (D.Unreadable line) x w v i t =
           let y = x.stops in
-          (x.command, (x.means, (y.0, (y.1.0, (w, subst (λ (bs : List ℕ). Wrote err.before err.after bs) y.1.1 v)))))
+          (x.command, x.means, (y.0, y.1.0, w, subst (λ (bs : List ℕ). Wrote err.before err.after bs) y.1.1 v))
       at (Ok u) (D.Rejected files broken) x w v i t = let z : S.Rejected ≡ S.ReadFault = sym i ∙ t in cc
       at (Ok u) D.NotBuilt x w v i t = let z : S.NotBuilt ≡ S.ReadFault = sym i ∙ t in cc
       at (Ok u) D.Checked x w v i t = let z : S.Done ≡ S.ReadFault = sym i ∙ t in cc

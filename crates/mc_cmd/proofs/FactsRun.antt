@@ -83,9 +83,9 @@ written_agrees law d q c b p f a n h =
     ∙ ap (λ (vs : List (List ℕ)). written_run b (printed (names_of d)) vs (left_of (rows_asked c))) p.vars
     ∙ sym (ap (written_run b (printed (names_of d)) q.variables) (run_there law d q c b p f a n h))
 
-answers_end : (as : List (List (Option Val))) → Ends (answers_of as)
+answers_end : (answers : List (List (Option Val))) → Ends (answers_of answers)
 answers_end [] = tt
-answers_end (a ∷ as) = answers_end as
+answers_end (a ∷ more) = answers_end more
 
 -- and the run ends
 pub run_ends : FactsAreAnswered → (d : Database) (q : Question) (c : Compiled) (b : Bounds) → IsProgram d (Some q) c → Fits d d.relations → Asks d q → 1 ≤ b.budget → 1 ≤ b.depth → Ends (query_run d q b.budget b.depth)

@@ -126,3 +126,12 @@ pub counted_out : {T : Type 0} (r : Result T PutFault) (o0 o1 e : ℕ) → PutFa
 counted_out (Ok u) o0 o1 e p = (sym p, refl)
 counted_out (Err put.Failed) o0 o1 e p = inr (p, refl)
 counted_out (Err put.Memory) o0 o1 e p = (sym p, refl)
+
+-- a front part of what follows on what was put
+pub front_behind : (w0 w1 w2 : Option (List ℕ)) (a b : List ℕ) → Wrote w0 w1 a → PutsFront w1 w2 b → PutsFront w0 w2 (a ++ b)
+front_behind w0 w1 w2 a b x y = subst (λ (bs : List ℕ). PutsFront w0 w2 (a ++ bs)) (append-nil b) (front_more w0 w1 w2 a b [] x y)
+
+-- what was put whole stands, whatever came of the puts on another sink
+pub stands : {T : Type 0} (w0 w1 : Option (List ℕ)) (r : Result T PutFault) (bytes : List ℕ) → Wrote w0 w1 bytes → Writes w0 w1 r bytes
+stands w0 w1 (Ok u) bytes e = e
+stands w0 w1 (Err f) bytes e = wrote_front w0 w1 bytes e

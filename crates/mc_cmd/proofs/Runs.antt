@@ -1,6 +1,7 @@
 -- What is put of a run, step by step.
-use Rattle.std.proofs.Common.{◌≡◌, ℕ, zero, suc, ◌<◌, ◌≤◌, Bool, true, false, List, [], ◌∷◌, ◌++◌, map, length, Option, Some, None, refl, sym, ap, ◌∙◌, subst, arith, append_assoc}
+use Rattle.std.proofs.Common.{◌≡◌, ℕ, zero, suc, ◌<◌, ◌≤◌, Bool, true, false, List, [], ◌∷◌, ◌++◌, map, length, codes, Option, Some, None, Result, Ok, Err, refl, sym, ap, ◌∙◌, subst, arith, append_assoc}
 use Rattle.std.specs.Prelude.{All}
+use Rattle.std.specs.Result.{IsErrAnd}
 use Rattle.std.proofs.lemmas.List.{length-map}
 use Rattle.mc_program.specs.Values.{Val, plain_value}
 use Rattle.mc_program.specs.declared.value.Value.{Value}
@@ -8,10 +9,12 @@ use Rattle.mc_program.specs.Printed.{SymbolsBelow, answer_text}
 use Rattle.mc_model.specs.EventList.{Items, End, Stuck, Stopped, Answer, Called, Wrote, Read, Each, Halt}
 use Rattle.mc_model.specs.Output.{bytes_of, no_answer, texts_of}
 use Rattle.mc_outside.specs.Meaning.{PutsFront}
+use Rattle.mc_outside.specs.declared.traits.PutFault.{PutFault}
+use Rattle.mc_cmd.specs.declared.run.Went.{Went}
 use Rattle.mc_cmd.specs.Call as call
 use Rattle.mc_cmd.specs.Ends.{stop_of}
-use Rattle.mc_cmd.specs.code.Runs.{QueryItems, from_next, bound, AreNamed, IsPrintable, ArePrintable, size, last_line, rest_bytes, GoesOn}
-use Rattle.mc_cmd.proofs.Puts.{front_longer}
+use Rattle.mc_cmd.specs.code.Runs.{QueryItems, from_next, bound, AreNamed, IsPrintable, ArePrintable, size, last_line, rest_bytes, GoesOn, IsPut}
+use Rattle.mc_cmd.proofs.Puts.{front_longer, wrote_nothing}
 
 bytes_next : (text : Val → List ℕ) (vs : List (List ℕ)) (xs : QueryItems) → bytes_of text vs xs ≡ bytes_of text vs (from_next xs)
 bytes_next text vs End = refl
@@ -140,3 +143,37 @@ values_named n (v ∷ vs) a = all_then (λ (v : Value). SymbolsBelow n (plain_va
 -- and there are as many as variables
 pub values_wide : (n width : ℕ) (values : List Value) → IsPrintable n width (bound values) → width ≡ length values
 values_wide n width values p = p.0 ∙ length-map values (λ (v : Value). Some (plain_value v))
+
+-- a fault of a put is passed on by a `?`
+pub passed_put : (Q : PutFault → Type 0) (text : Val → List ℕ) (vs : List (List ℕ)) (P : List (Option Val) → Type 0) (a : Bool) (xs ys : QueryItems) (w0 w1 : Option (List ℕ)) (r : Result Went PutFault) → IsErrAnd r Q → PutsFront w0 w1 (rest_bytes text vs a xs) → IsPut text vs P a xs ys w0 w1 r
+passed_put Q text vs P a xs ys w0 w1 (Ok y) e p = absurd e
+passed_put Q text vs P a xs ys w0 w1 (Err f) e p = p
+
+end_unanswered : (text : Val → List ℕ) (vs : List (List ℕ)) (a : Bool) → a ≡ false → codes "false.\n" ≡ rest_bytes text vs a End
+end_unanswered text vs true e = cc
+end_unanswered text vs false e = refl
+
+end_answered : (text : Val → List ℕ) (vs : List (List ℕ)) (a : Bool) → a ≡ true → [] ≡ rest_bytes text vs a End
+end_answered text vs true e = refl
+end_answered text vs false e = cc
+
+stop_nothing : (text : Val → List ℕ) (vs : List (List ℕ)) (a : Bool) (h : Halt) → [] ≡ rest_bytes text vs a (Stopped h)
+stop_nothing text vs true h = refl
+stop_nothing text vs false h = refl
+
+module _ (text : Val → List ℕ) (vs : List (List ℕ)) (a : Bool) (xs : QueryItems) (w0 w1 : Option (List ℕ)) where
+  -- at the end `false.` was put, where no answer came
+  pub end_said : from_next xs ≡ End → a ≡ false → call.Wrote w0 w1 (codes "false.\n") → call.Wrote w0 w1 (rest_bytes text vs a xs) × (stop_of xs ≡ None)
+  end_said e n w = (subst (λ (bs : List ℕ). call.Wrote w0 w1 bs) (end_unanswered text vs a n ∙ sym (rest_next text vs a xs End e)) w, stop_next xs ∙ ap stop_of e)
+
+  -- or a front part of it
+  pub end_breaks : from_next xs ≡ End → a ≡ false → PutsFront w0 w1 (codes "false.\n") → PutsFront w0 w1 (rest_bytes text vs a xs)
+  end_breaks e n f = subst (λ (bs : List ℕ). PutsFront w0 w1 bs) (end_unanswered text vs a n ∙ sym (rest_next text vs a xs End e)) f
+
+  -- or nothing, where one came
+  pub end_quiet : from_next xs ≡ End → a ≡ true → w1 ≡ w0 → call.Wrote w0 w1 (rest_bytes text vs a xs) × (stop_of xs ≡ None)
+  end_quiet e n w = (subst (λ (bs : List ℕ). call.Wrote w0 w1 bs) (end_answered text vs a n ∙ sym (rest_next text vs a xs End e)) (wrote_nothing w0 w1 w), stop_next xs ∙ ap stop_of e)
+
+  -- at a stop nothing is put
+  pub stop_quiet : (h : Halt) → from_next xs ≡ Stopped h → w1 ≡ w0 → call.Wrote w0 w1 (rest_bytes text vs a xs) × (stop_of xs ≡ Some h)
+  stop_quiet h e w = (subst (λ (bs : List ℕ). call.Wrote w0 w1 bs) (stop_nothing text vs a h ∙ sym (rest_next text vs a xs (Stopped h) e)) (wrote_nothing w0 w1 w), stop_next xs ∙ ap stop_of e)

@@ -51,9 +51,7 @@ fn with_first<'a>(
     parser: Command<'a>,
     has_first: bool,
 ) -> Result<Command<'a>, AllocError>
-    ensures {
-        IfOk result (λ command. app_of command ≡ with_first_rule has_first (app_of parser.entry))
-    }
+    ensures { IfOk result (λ command. app_of command ≡ with_first_rule has_first (app_of parser.entry)) }
 {
     if !has_first {
         return Ok(parser);
@@ -70,9 +68,7 @@ fn with_limits<'a>(
     parser: Command<'a>,
     has_bounds: bool,
 ) -> Result<Command<'a>, AllocError>
-    ensures {
-        IfOk result (λ command. app_of command ≡ with_limit_rules has_bounds (app_of parser.entry))
-    }
+    ensures { IfOk result (λ command. app_of command ≡ with_limit_rules has_bounds (app_of parser.entry)) }
 {
     if !has_bounds {
         return Ok(parser);

@@ -113,9 +113,7 @@ fn commanded<'a>(
 
 /// The command that the words mean; none where they mean no command. The first word names the program and says nothing.
 pub fn read_words<'a>(alloc: Global, words: &'a Vec<String>) -> Result<Option<Command<'a>>, Memory>
-    ensures {
-        IfOk result (λ c. option_map plain_command c ≡ meaning (map string_bytes words.now.items))
-    }
+    ensures { IfOk result (λ c. option_map plain_command c ≡ meaning (map string_bytes words.now.items)) }
 {
     match words.as_slice() {
         [_, command, behind @ ..] => commanded(alloc, command.as_str(), behind),

@@ -85,9 +85,7 @@ fn read_to_limit<R: Read>(reader: &mut R, alloc: Global) -> Result<Vec<u8>, File
     ensures limit { IfOk result (λ bytes. vec_len bytes ≤ READ_LIMIT) }
     ensures bytes { IfOk result
         (λ bytes. Consumes (R.remaining reader.old) (R.remaining reader.new) bytes.items) }
-    ensures whole {
-        IfOk result (λ bytes. vec_len bytes < READ_LIMIT → IsAtEnd (R.remaining reader.new))
-    }
+    ensures whole { IfOk result (λ bytes. vec_len bytes < READ_LIMIT → IsAtEnd (R.remaining reader.new)) }
 {
     let mut bytes = Vec::new(alloc);
     let mut piece = [0; 8192];
@@ -158,9 +156,7 @@ fn read_some<R: Read>(reader: &mut R, buf: &mut [u8]) -> Result<usize, Failed>
     ensures room { IfOk result (λ count. count ≤ length buf.new) }
     ensures bytes { IfOk result
         (λ count. Consumes (R.remaining reader.old) (R.remaining reader.new) (take count buf.new)) }
-    ensures end {
-        IfOk result (λ count. count ≡ 0 → 0 < length buf.new → IsAtEnd (R.remaining reader.new))
-    }
+    ensures end { IfOk result (λ count. count ≡ 0 → 0 < length buf.new → IsAtEnd (R.remaining reader.new)) }
 {
     for _ in 0..RETRIES {
         match reader.read(buf) {
