@@ -9,20 +9,18 @@ use Rattle.mc_program.specs.Printed.{printed, names_of}
 use Rattle.mc_model.specs.EventList.{Ends}
 use Rattle.mc_model.specs.Good.{GoodQuery}
 use Rattle.mc_command_line.specs.Words.{Meaning, Check, Run, Query, Bounds, meaning}
-use Rattle.mc_command_line.specs.Plain.{plain_bounds}
 use Rattle.mc_command_line.specs.declared.limits.Bounds.{Bounds as RunBounds}
-use Rattle.mc_ground_form.specs.Database.{Database, Question, query_procedure, query_run, system_of}
+use Rattle.mc_ground_form.specs.Database.{Question, query_procedure, query_run, system_of}
 use Rattle.mc_ground_form.specs.Laws.{FactsAreAnswered, FactsAreGood, QueriesAreGood}
 use Rattle.mc_ground_form.specs.declared.compiled.Compiled.{Compiled}
 use Rattle.mc_ground_form.specs.Program.{IsProgram}
-use Rattle.mc_compile.specs.Phases.{Breaks, Unbuilt}
 use Rattle.mc_compile.specs.Sources.{Sources}
 use Rattle.mc_compile.specs.Forming.{Formed}
 use Rattle.mc_compile.specs.Compiling.{Compiles}
 use Rattle.mc_compile.specs.Laws.{CompiledFits, CompiledAsks, QueryIsAsked}
 use Rattle.mc_cmd.specs.Messages.{usage_line, unreadable_line, broken_lines}
 use Rattle.mc_cmd.specs.Ends.{Outcome, said, end_status, written_run}
-use Rattle.mc_cmd.specs.Outcome.{files_of, bounds_of, query_of, sources_of, written_of, written, Answers, refused, ran, Texts, These, Missing, texts_in, AnswersOver, DefinedFor, Defined}
+use Rattle.mc_cmd.specs.Outcome.{files_of, bounds_of, sources_of, written_of, written, Answers, refused, ran, Texts, These, Missing, texts_in, AnswersOver, DefinedFor, Defined}
 use Rattle.mc_cmd.specs.Call.{Told, NoneRose, AnswersWhole, Wrote, LacksOne, CannotRead, OfFiles, OfSources, BreaksRules, IsUnbuilt, RunsToEnd, IsTrueProgram, SaidUnreadable, SaysUnreadable, PutsDefined, CanCome, HoldTexts}
 use Rattle.mc_cmd.specs.Laws.{AtMostOneAnswer}
 use Rattle.mc_cmd.specs.declared.status.Status.{Status}

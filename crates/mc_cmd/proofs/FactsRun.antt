@@ -4,7 +4,7 @@ use Rattle.std.proofs.lemmas.List.{get_or_append_left, length-map, get_or-map, t
 use Rattle.std.proofs.Math.Seq.{get_or-append_seam}
 use Rattle.mc_program.specs.declared.program.Symbol.{Symbol}
 use Rattle.mc_program.specs.Values.{Val}
-use Rattle.mc_program.specs.Programs.{made, no_expressions, Constructor, ClauseForm, Predicate}
+use Rattle.mc_program.specs.Programs.{Constructor, Predicate}
 use Rattle.mc_program.specs.declared.expr.Expr.{Expr}
 use Rattle.mc_program.specs.PlainPrograms.{no_pred, plain_symbol, plain_expression}
 use Rattle.mc_program.specs.Printed.{printed}
@@ -16,7 +16,7 @@ use Rattle.mc_ground_form.specs.Laws.{RowFits, RowsFit, Fits, Asks, answers_of, 
 use Rattle.mc_ground_form.specs.Lines.{names_of}
 use Rattle.mc_ground_form.specs.declared.compiled.Compiled.{Compiled}
 use Rattle.mc_ground_form.specs.Program.{IsProgram}
-use Rattle.mc_cmd.specs.Ends.{Outcome, stop_of, written_run}
+use Rattle.mc_cmd.specs.Ends.{stop_of, written_run}
 use Rattle.mc_cmd.specs.code.Runs.{AreNamed, ArePrintable}
 use Rattle.mc_cmd.specs.code.Facts.{called_by, clauses_of, facts_asked, facts_of, symbol_in, row_of, rows_asked, left_of}
 

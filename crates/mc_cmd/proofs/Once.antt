@@ -1,6 +1,6 @@
 -- Of words and of what files hold there is one defined answer at most, since sources are compiled
 -- to one program at most.
-use Rattle.std.proofs.Common.{◌≡◌, ℕ, List, Option, Some, None, Result, Ok, Err, refl, sym, ap, ◌∙◌}
+use Rattle.std.proofs.Common.{◌≡◌, ℕ, List, Option, Some, None, Result, Ok, Err, sym, ap, ◌∙◌}
 use Rattle.mc_outside.specs.Meaning.{Held}
 use Rattle.mc_command_line.specs.Words.{Meaning, meaning}
 use Rattle.mc_compile.specs.Phases.{Refusal, AtMostOne}

@@ -1,19 +1,19 @@
 -- What is put of a run, step by step.
-use Rattle.std.proofs.Common.{◌≡◌, ℕ, zero, suc, ◌<◌, ◌≤◌, Bool, true, false, List, [], ◌∷◌, ◌++◌, map, length, codes, Option, Some, None, Result, Ok, Err, refl, sym, ap, ◌∙◌, subst, arith, append_assoc}
+use Rattle.std.proofs.Common.{◌≡◌, ℕ, zero, suc, ◌≤◌, Bool, true, false, List, [], ◌∷◌, ◌++◌, map, length, codes, Option, Some, None, Result, Ok, Err, refl, sym, ap, ◌∙◌, subst, arith, append_assoc}
 use Rattle.std.specs.Prelude.{All}
 use Rattle.std.specs.Result.{IsErrAnd}
 use Rattle.std.proofs.lemmas.List.{length-map}
 use Rattle.mc_program.specs.Values.{Val, plain_value}
 use Rattle.mc_program.specs.declared.value.Value.{Value}
 use Rattle.mc_program.specs.Printed.{SymbolsBelow, answer_text}
-use Rattle.mc_model.specs.EventList.{Items, End, Stuck, Stopped, Answer, Called, Wrote, Read, Each, Halt}
+use Rattle.mc_model.specs.EventList.{End, Stuck, Stopped, Answer, Called, Wrote, Read, Each, Halt}
 use Rattle.mc_model.specs.Output.{bytes_of, no_answer, texts_of}
 use Rattle.mc_outside.specs.Meaning.{PutsFront}
 use Rattle.mc_outside.specs.declared.traits.PutFault.{PutFault}
 use Rattle.mc_cmd.specs.declared.run.Went.{Went}
 use Rattle.mc_cmd.specs.Call as call
 use Rattle.mc_cmd.specs.Ends.{stop_of}
-use Rattle.mc_cmd.specs.code.Runs.{QueryItems, from_next, bound, AreNamed, IsPrintable, ArePrintable, size, last_line, rest_bytes, GoesOn, IsPut}
+use Rattle.mc_cmd.specs.code.Runs.{QueryItems, from_next, bound, AreNamed, IsPrintable, size, last_line, rest_bytes, GoesOn, IsPut}
 use Rattle.mc_cmd.proofs.Puts.{front_longer, wrote_nothing}
 
 bytes_next : (text : Val → List ℕ) (vs : List (List ℕ)) (xs : QueryItems) → bytes_of text vs xs ≡ bytes_of text vs (from_next xs)

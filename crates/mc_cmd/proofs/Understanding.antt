@@ -1,12 +1,12 @@
 -- What is decided of a command by what its sources are compiled to.
-use Rattle.std.proofs.Common.{◌≡◌, ℕ, Bool, true, false, List, Option, Some, None, Ok, refl, sym, ap, ◌∙◌, subst}
+use Rattle.std.proofs.Common.{◌≡◌, ℕ, Bool, true, false, List, Option, Some, None, Ok, refl, sym, subst}
 use Rattle.std.specs.Prelude.{is_some}
 use Rattle.mc_command_line.specs.Words.{Meaning, Check, Run, Query}
 use Rattle.mc_ground_form.specs.Database.{Question}
 use Rattle.mc_ground_form.specs.declared.compiled.Compiled.{Compiled}
 use Rattle.mc_compile.specs.declared.given.Given.{Given}
 use Rattle.mc_compile.specs.declared.given.Query.{Query as GivenQuery}
-use Rattle.mc_compile.specs.Sources.{Sources, texts_of, text_of}
+use Rattle.mc_compile.specs.Sources.{texts_of, text_of}
 use Rattle.mc_compile.specs.Sources.{sources_of as given_sources, is_first as is_first_wanted}
 use Rattle.mc_compile.specs.Forming.{Formed, IsProgramOf}
 use Rattle.mc_compile.specs.Compiling.{Compiles}
@@ -14,7 +14,7 @@ use Rattle.mc_compile.specs.Laws.{QueryIsAsked}
 use Rattle.mc_cmd.specs.Outcome.{sources_of, query_of, is_first, is_run}
 use Rattle.mc_cmd.specs.declared.decision.Decision.{Decision}
 use Rattle.mc_cmd.specs.declared.decision.Decision.TheVariants as D
-use Rattle.mc_cmd.specs.code.Decisions.{IsAnswered, IsAsked, IsChecked, Understood}
+use Rattle.mc_cmd.specs.code.Decisions.{IsAnswered, IsChecked, Understood}
 
 -- what the compiler was given is the sources of the command
 pub same_sources : (m : Meaning) (files : List Given) (q v : Option GivenQuery) (run : Bool) → v ≡ q → text_of q ≡ query_of m → is_first_wanted q ≡ is_first m → run ≡ is_run m → given_sources files v run ≡ sources_of m (texts_of files)
@@ -48,4 +48,3 @@ understood_ok law (Query first b goal files) texts x c d k p a = at d a
         let there = one_asked x.question (law (sources_of (Query first b goal files) texts) x k) in
         record { formed = x; compiles = k; question = there.0; asked = there.1; bounds = a.0; program = subst (λ (e : Compiled). IsProgramOf e x) (sym a.1) p }
     at D.Memory a = absurd a
-

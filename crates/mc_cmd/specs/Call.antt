@@ -5,8 +5,8 @@ use Rattle.mc_outside.specs.Meaning.{Held, PutsFront}
 use Rattle.mc_source.specs.declared.rule.Broken.{Broken}
 use Rattle.mc_model.specs.EventList.{Ends}
 use Rattle.mc_model.specs.Good.{System, GoodProcedures, GoodQuery}
-use Rattle.mc_command_line.specs.Words.{Meaning, Bounds, meaning}
-use Rattle.mc_ground_form.specs.Database.{Database, Question, query_procedure, query_run, system_of}
+use Rattle.mc_command_line.specs.Words.{Meaning, meaning}
+use Rattle.mc_ground_form.specs.Database.{query_procedure, query_run, system_of}
 use Rattle.mc_compile.specs.Phases.{Breaks, Unbuilt}
 use Rattle.mc_compile.specs.Sources.{Sources}
 use Rattle.mc_compile.specs.Forming.{Formed}
@@ -125,7 +125,7 @@ RunsToEnd m s =
     (x : Formed)
     × Compiles s (Ok x)
     × IfSome x.question
-      (λ q. Ends (query_run x.database q (bounds_of m).budget (bounds_of m).depth))
+    (λ q. Ends (query_run x.database q (bounds_of m).budget (bounds_of m).depth))
 
 -- There is a system whose bare form is what sources are compiled to, so that its runs are those
 -- which are written. Every run of its procedures is good, and so is every run of the query, where

@@ -1,6 +1,6 @@
 -- What a call of the command answers: the bytes on its output and on its error output, and the
 -- status. (This project's profile.)
-use Rattle.std.specs.Prelude.{◌≡◌, ℕ, Bool, true, false, List, [], ◌∷◌, Option, Some, None, Result, Ok, Err}
+use Rattle.std.specs.Prelude.{◌≡◌, ℕ, Bool, true, false, List, [], ◌∷◌, Option, Some, None, Ok, Err}
 use Rattle.std.specs.FinMap as finmap
 use Rattle.mc_outside.specs.Meaning.{Held, first_part}
 use Rattle.mc_command_line.specs.Words.{Meaning, Check, Run, Query, Bounds, meaning, query_text}

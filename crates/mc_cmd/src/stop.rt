@@ -42,9 +42,19 @@ fn stop_line(alloc: Global, bounds: Bounds, stop: &Stop) -> Result<Text, Memory>
 {
     match stop {
         Stop::Budget => {
-            number_line(alloc, messages::BUDGET_OF, bounds.budget, messages::CALLS_SPENT)
+            number_line(
+                alloc,
+                messages::BUDGET_OF,
+                bounds.budget,
+                messages::CALLS_SPENT,
+            )
         }
-        Stop::TooDeep => number_line(alloc, messages::DEPTH_OF, bounds.depth, messages::IS_REACHED),
+        Stop::TooDeep => number_line(
+            alloc,
+            messages::DEPTH_OF,
+            bounds.depth,
+            messages::IS_REACHED,
+        ),
         Stop::Throw(Exception::ZeroDivide) => Text::new(alloc, messages::ZERO_DIVISOR),
         Stop::Throw(Exception::Error(text)) => text_line(alloc, messages::EXCEPTION, text, b"\n"),
     }

@@ -42,32 +42,32 @@ pub fn merc<F: Files, I: Source, O: Sink, E: Sink>(
     ensures whole_answer { (held : Held) (before_out before_err : List ℕ)
         → Told (F.held files.old) held (O.written out.old) before_out (E.written err.old) before_err
         → NoneRose (F.faults files.old) (F.faults files.new) (O.faults out.old) (O.faults out.new)
-          (E.faults err.old) (E.faults err.new)
+        (E.faults err.old) (E.faults err.new)
         → result ≢ Status.Memory
         → AnswersWhole (map string_bytes words.now.items) held before_out before_err result
-          (O.written out.new) (E.written err.new) }
+        (O.written out.new) (E.written err.new) }
     // Where a sink failed or memory was wanting, each sink was given a front part of the defined bytes.
     ensures prefix { (held : Held) (before_out before_err : List ℕ)
         → Told (F.held files.old) held (O.written out.old) before_out (E.written err.old) before_err
         → (Rose (F.faults files.old) (F.faults files.new) → ⊥)
         → (o : Outcome) → Defined (map string_bytes words.now.items) held o
         → PutsFront (O.written out.old) (O.written out.new) o.out
-          × PutsFront (E.written err.old) (E.written err.new) o.err }
+        × PutsFront (E.written err.old) (E.written err.new) o.err }
     // There is such an answer, and each sink was given a front part of it, also where a sink failed; at want of
     // memory it may be that nothing was put.
     ensures defined { (held : Held) (before_out before_err : List ℕ)
         → Told (F.held files.old) held (O.written out.old) before_out (E.written err.old) before_err
         → (Rose (F.faults files.old) (F.faults files.new) → ⊥)
         → PutsDefined (map string_bytes words.now.items) held (O.written out.old) (O.written out.new)
-          (E.written err.old) (E.written err.new)
-          ⊎ ((result ≡ Status.Memory)
-          × (Wrote (O.written out.old) (O.written out.new) []
-          × Wrote (E.written err.old) (E.written err.new) [])) }
+        (E.written err.old) (E.written err.new)
+        ⊎ ((result ≡ Status.Memory)
+        × (Wrote (O.written out.old) (O.written out.new) []
+        × Wrote (E.written err.old) (E.written err.new) [])) }
     // Where a file could not be read, nothing was put on `out`, and on `err` a front part of its line.
     ensures unreadable { (m : Meaning) → meaning (map string_bytes words.now.items) ≡ Some m
         → F.faults files.old < F.faults files.new
         → Wrote (O.written out.old) (O.written out.new) []
-          × SaysUnreadable (F.held files.old) (E.written err.old) (E.written err.new) (files_of m) }
+        × SaysUnreadable (F.held files.old) (E.written err.old) (E.written err.new) (files_of m) }
     // What any sources compile to is a program of which every run is good, and so is every run of the query, where
     // there is one: each printed answer is true in the completion, and each assignment that is not printed is false.
     ensures truth { (s : Sources) (x : Formed) → Compiles s (Ok x) → IsTrueProgram x }
@@ -92,8 +92,8 @@ pub fn merc<F: Files, I: Source, O: Sink, E: Sink>(
     ensures read { result ≡ Status.ReadFault → Rose (F.faults files.old) (F.faults files.new) }
     ensures read_told { result ≡ Status.ReadFault
         → OfFiles (map string_bytes words.now.items)
-          (SaidUnreadable (F.held files.old) (O.written out.old) (O.written out.new)
-          (E.written err.old) (E.written err.new)) }
+        (SaidUnreadable (F.held files.old) (O.written out.old) (O.written out.new)
+        (E.written err.old) (E.written err.new)) }
     // No file that can't be read is passed over.
     ensures read_seen { F.faults files.old < F.faults files.new
         → (result ≡ Status.ReadFault) ⊎ ((result ≡ Status.WriteFault) ⊎ (result ≡ Status.Memory)) }

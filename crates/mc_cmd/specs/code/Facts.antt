@@ -1,6 +1,6 @@
 -- The run of a query over facts, as it is read off the program: the query is one clause that calls
 -- a predicate, and each clause of that predicate is an answer.
-use Rattle.std.specs.Prelude.{◌≡◌, ℕ, List, [], ◌∷◌, map, get_or, Option, Some, None}
+use Rattle.std.specs.Prelude.{ℕ, List, [], ◌∷◌, map, get_or, Option, Some, None}
 use Rattle.mc_program.specs.Programs.{Expression, made, Formula, Call, ClauseForm, Predicate}
 use Rattle.mc_program.specs.PlainPrograms.{no_pred, plain_pred}
 use Rattle.mc_ground_form.specs.Laws.{answer_of, answers_of}

@@ -65,4 +65,3 @@ returns-clause-not_built g c = λ e. not_built_cause _ _ _ _ _ _ _ _ _ c.carry_o
 
 pub returns-clause-others : goal.returns-clause-others
 returns-clause-others g c = can_come _ _ _ _ _ _ _ _ _ c.carry_out.ensures.happened
-
