@@ -7,7 +7,7 @@ use Rattle.mc_ground_form.specs.declared.compiled.Compiled.{Compiled}
 use Rattle.mc_ground_form.specs.Laws.{Fits, Asks}
 use Rattle.mc_ground_form.specs.FormLaws.{FactsFit, QuestionAsks, HaveTheirNumbers, NumbersAreThoseOfNames}
 use Rattle.mc_ground_form.specs.Facts.{LinkedFiles, Fact, facts, database, question}
-use Rattle.mc_ground_form.specs.Program.{form_of, over_facts, asked_of, with_question}
+use Rattle.mc_ground_form.specs.Program.{form_of, over_facts, with_question}
 use Rattle.mc_ground_form.specs.Answered.{IsAnswered}
 use Rattle.mc_compile.specs.declared.given.CompileFault.TheVariants as F
 use Rattle.mc_compile.specs.Phases.{Refusal, Unbuilt, Then, stopped, went_on, Tells}
@@ -26,6 +26,10 @@ unbuilt_where false r e = cc
 built_where : (b : Bool) (r : Result Formed Refusal) → b ≡ false → r ≡ cond b (Err Unbuilt) r
 built_where false r e = refl
 built_where true r e = cc
+
+pub neither : (a b : Bool) → a ≡ false → b ≡ false → a || b ≡ false
+neither false b e f = f
+neither true b e f = cc
 
 -- what isn't built
 pub is_unbuilt : (s : Sources) (named : PlainNamed) → s.wants_main || s.first ≡ true → Tells (Forms s) IsProgramOf named (Err F.NotBuilt)
@@ -74,26 +78,32 @@ compiled_form : (s : Sources) (form : Formed) (r : Result Formed Refusal) → r 
 compiled_form s form _ e (stopped f) = cc
 compiled_form s form r e (went_on {b = read} f g) = linked_form s read form r e g
 
+-- the two parts of a form, where there is one
+abbrev database_in : Database → Option (Database × Option Question) → Database
+database_in d None = d
+database_in d (Some form) = form.0
+
+abbrev question_in : Option (Database × Option Question) → Option Question
+question_in None = None
+question_in (Some form) = form.1
+
 fits_over : FactsFit → (P : LinkedFiles) (goal : Option PlainTerm) (o : Option (List Fact)) (d : Database) (q : Option Question) → facts P ≡ o → over_facts P goal o ≡ Some (d, q) → Fits d d.relations
 fits_over fit P goal None d q e f = cc
-fits_over fit P None (Some fs) d q e f = let same : database P fs ≡ d = cc in subst (λ x. Fits x x.relations) same (fit P fs e)
+fits_over fit P None (Some fs) d q e f = subst (λ (x : Database). Fits x x.relations) (ap (database_in (database P fs)) f) (fit P fs e)
 fits_over fit P (Some t) (Some fs) d q e f = asked (question P t) f
   where
     asked : (o : Option Question) → with_question (database P fs) o ≡ Some (d, q) → Fits d d.relations
     asked None g = cc
-    asked (Some p) g = let same : database P fs ≡ d = cc in subst (λ x. Fits x x.relations) same (fit P fs e)
+    asked (Some p) g = subst (λ (x : Database). Fits x x.relations) (ap (database_in (database P fs)) g) (fit P fs e)
 
 asks_over : QuestionAsks → (P : LinkedFiles) (goal : Option PlainTerm) (o : Option (List Fact)) (d : Database) (q : Question) → facts P ≡ o → over_facts P goal o ≡ Some (d, Some q) → Asks d q
 asks_over ask P goal None d q e f = cc
-asks_over ask P None (Some fs) d q e f = cc
+asks_over ask P None (Some fs) d q e f = let none : None ≡ Some q = ap question_in f in cc
 asks_over ask P (Some t) (Some fs) d q e f = asked (question P t) refl f
   where
     asked : (o : Option Question) → question P t ≡ o → with_question (database P fs) o ≡ Some (d, Some q) → Asks d q
     asked None h g = cc
-    asked (Some p) h g =
-        let same : database P fs ≡ d = cc in
-        let one : p ≡ q = cc in
-        subst (λ x. Asks x q) same (ask P fs t q e (h ∙ ap Some one))
+    asked (Some p) h g = subst (λ (x : Database). Asks x q) (ap (database_in (database P fs)) g) (ask P fs t q e (h ∙ ap question_in g))
 
 pub compiled_fits : FactsFit → CompiledFits
 compiled_fits fit s form compiles =

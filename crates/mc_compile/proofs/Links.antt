@@ -1,8 +1,7 @@
 -- What is known of files that are linked.
-use Rattle.std.proofs.Common.{◌≡◌, ℕ, ◌+◌, List, [], ◌++◌, length, take, Option, Some, None, Ok, Err, refl, sym, ap, ap₂, ◌∙◌, subst}
-use Rattle.std.proofs.lemmas.List.{append-nil, length-map, take-map}
+use Rattle.std.proofs.Common.{◌≡◌, ℕ, ◌+◌, List, [], ◌∷◌, ◌++◌, map, length, take, Option, Ok, Err, refl, sym, ap, ap₂, ◌∙◌, subst}
+use Rattle.std.proofs.lemmas.List.{length-map, take-map}
 use Rattle.std.proofs.Math.Seq.{take-append_seam}
-use Rattle.mc_term_data.specs.declared.term.Term.{Term}
 use Rattle.mc_term_data.specs.Plain.{PlainTerm}
 use Rattle.mc_source.specs.declared.rule.Broken.{Broken}
 use Rattle.mc_items.specs.declared.entry.Entry.{Entry}
@@ -11,17 +10,16 @@ use Rattle.mc_linking.specs.Files.{File, plain_files}
 use Rattle.mc_linking.specs.Faults.{link_faults}
 use Rattle.mc_modules.specs.declared.names.Names.{Names}
 use Rattle.mc_modules.specs.Linked.{Linked, linked, plain_names}
-use Rattle.mc_ground_form.specs.Facts.{LinkedFiles}
 use Rattle.mc_ground_form.specs.Program.{plain_goal}
-use Rattle.mc_ground_form.specs.Answered.{linked_files}
 use Rattle.mc_compile.specs.declared.given.CompileFault.TheVariants as F
 use Rattle.mc_compile.specs.declared.named.Named.{Named}
 use Rattle.mc_compile.specs.declared.reading.Read.{Read}
 use Rattle.mc_compile.specs.Phases.{Breaks, unless_broken, Tells, Viewed}
 use Rattle.mc_compile.specs.Library.{library_texts}
-use Rattle.mc_compile.specs.Reading.{Reading, PlainRead, plain_read}
-use Rattle.mc_compile.specs.Linking.{library_behind, goal_rules_in, linking_rules_of, PlainNamed, plain_named, linked_with, Links}
+use Rattle.mc_compile.specs.Reading.{PlainRead, plain_read}
+use Rattle.mc_compile.specs.Linking.{library_behind, goal_rules_in, linking_rules_of, PlainNamed, plain_named, AreLinked, linked_with, Links}
 use Rattle.mc_compile.specs.code.Reader.{IsWithLibrary}
+use Rattle.mc_compile.proofs.Once.{ok_same}
 use Rattle.mc_compile.proofs.Chains.{broken_up, none_broken}
 
 abbrev made : Option PlainTerm → List File → List File → Linked → PlainNamed
@@ -32,8 +30,13 @@ made_same goal g h a b m n e f i = rw (e, f, i) refl
 
 -- what the phase answers is linked with these modules
 pub answer_is : (rules : List Broken) (read : PlainRead) (library : List File) (named : PlainNamed) → Ok named ≡ unless_broken rules (linked_with read library) → linked_with read library ≡ named
-answer_is [] read library named e = cc
+answer_is [] read library named e = sym (ok_same named (linked_with read library) e)
 answer_is (rule ∷ rules) read library named e = cc
+
+pub are_linked : (read : PlainRead) (named : Named) → Tells Links (Viewed plain_named) read (Ok named) → AreLinked (plain_named named)
+are_linked read named t =
+    let library = library_behind read.files t.2.modules in
+    subst AreLinked (answer_is (linking_rules_of read.files library read.goal) read library t.0 t.2.is ∙ sym t.1) refl
 
 module _ (read : Read) (all : List (List Entry)) (w : IsWithLibrary library_texts read.files all) where
   abbrev library : List File

@@ -1,8 +1,8 @@
 -- Phases answer one thing at most where each of them does.
-use Rattle.std.proofs.Common.{◌≡◌, Result, Ok, Err, refl, sym, ap, ◌∙◌, subst}
+use Rattle.std.proofs.Common.{◌≡◌, Result, Ok, Err, ap, subst}
 use Rattle.mc_compile.specs.Phases.{Refusal, Then, stopped, went_on, AtMostOne}
 
-ok_same : {B : Type 0} (x y : B) → ◌≡◌ {A = Result B Refusal} (Ok x) (Ok y) → x ≡ y
+pub ok_same : {B : Type 0} (x y : B) → ◌≡◌ {A = Result B Refusal} (Ok x) (Ok y) → x ≡ y
 ok_same x y e = cc
 
 not_both : {B : Type 0} (x : B) (r : Refusal) → ◌≡◌ {A = Result B Refusal} (Ok x) (Err r) → ⊥

@@ -8,7 +8,7 @@ use Rattle.mc_ground_form.specs.Program.{plain_goal}
 use Rattle.mc_compile.specs.Phases.{Refusal, unless_broken, AtMostOne}
 use Rattle.mc_compile.specs.Sources.{Sources}
 use Rattle.mc_compile.specs.Library.{library_texts}
-use Rattle.mc_compile.specs.Reading.{Reading, FileReads, FilesRead, QueryReads, counted, rules_from, items_from, AreRead, PlainRead, reading_rules, read_as, Reads}
+use Rattle.mc_compile.specs.Reading.{Reading, FileReads, FilesRead, QueryReads, counted, rules_from, items_from, PlainRead, Reads}
 use Rattle.mc_compile.specs.Linking.{PlainNamed, library_behind, linking_rules_of, linked_with, Links}
 use Rattle.mc_compile.specs.Forming.{Forms}
 

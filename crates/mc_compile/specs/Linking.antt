@@ -6,6 +6,7 @@ use Rattle.mc_source.specs.declared.rule.Broken.{Broken}
 use Rattle.mc_source.specs.Rules.{broken_at}
 use Rattle.mc_linking.specs.Files.{File}
 use Rattle.mc_linking.specs.Faults.{link_faults, goal_fault}
+use Rattle.mc_modules.specs.Linked.{linked}
 use Rattle.mc_ground_form.specs.Facts.{LinkedFiles, with_library}
 use Rattle.mc_ground_form.specs.Program.{plain_goal, line_of}
 use Rattle.mc_ground_form.specs.Answered.{linked_files}
@@ -46,6 +47,10 @@ plain_named named =
       files = linked_files named.files named.given named.names;
       goal = plain_goal named.goal;
     }
+
+-- the names are those of all the files
+abbrev pub AreLinked : PlainNamed → Type 0
+AreLinked named = named.files.names ≡ linked named.files.all
 
 -- what is read, once it is linked with these modules behind it
 abbrev pub linked_with : PlainRead → (library : List File) → PlainNamed

@@ -3,7 +3,7 @@ ghost use Rattle.std.specs.Option.{option_copied};
 ghost use Rattle.mc_compile.specs.declared.given.Given.{Given};
 ghost use Rattle.mc_compile.specs.Phases.{Tells};
 ghost use Rattle.mc_compile.specs.Sources.{is_first, sources_of};
-ghost use Rattle.mc_compile.specs.Linking.{plain_named};
+ghost use Rattle.mc_compile.specs.Linking.{plain_named, AreLinked};
 ghost use Rattle.mc_compile.specs.Forming.{Forms, IsProgramOf};
 
 use crate::given::{CompileFault, Query};
@@ -22,6 +22,7 @@ pub fn form(
     query: Option<&Query>,
     want_main: bool,
 ) -> Result<Compiled, CompileFault>
+    requires { AreLinked (plain_named named.now) }
     ensures { (files : List Given)
         → Tells (Forms (sources_of files (option_copied query.entry) want_main)) IsProgramOf
         (plain_named named.now) result }

@@ -1,7 +1,3 @@
-ghost use Rattle.std.specs.Prelude.{◌≡◌};
-ghost use Rattle.mc_linking.specs.Files.{plain_files};
-ghost use Rattle.mc_modules.specs.Linked.{linked, plain_names};
-
 use mc_base::Row;
 use mc_items::Entry;
 use mc_modules::Names;
@@ -15,5 +11,4 @@ pub struct Named {
     pub given: u32,
     pub names: Names,
     pub goal: Option<Term>,
-    ghost are_linked: { plain_names names ≡ linked (plain_files files) },
 }

@@ -1,18 +1,16 @@
 -- The types, constants and predicates of modules of the form have the numbers of names.
-use Rattle.std.proofs.Common.{◌≡◌, ℕ, ◌+◌, Bool, true, false, cond, ◌&&◌, List, [], ◌∷◌, ◌++◌, map, length, take, Option, Some, None, refl, sym, ap, ap₂, ◌∙◌, subst, append_assoc}
+use Rattle.std.proofs.Common.{◌≡◌, ℕ, ◌+◌, Bool, true, false, List, [], ◌∷◌, ◌++◌, map, length, take, Some, None, refl, sym, ap, ap₂, ◌∙◌, append_assoc}
 use Rattle.std.proofs.lemmas.List.{append-nil, map-append, length-map}
 use Rattle.mc_base.proofs.Booleans.{left_true, right_true}
 use Rattle.mc_term_data.specs.Plain.{PlainTerm, PlainTerms, at, no_term, more_terms, Var, Int, Str, App, Items, Tailed, Conj, Disj}
 use Rattle.mc_term_data.specs.Shapes.{has_none}
 use Rattle.mc_decl_syntax.specs.Plain.{PlainDecl, ModuleStart, ModuleEnd, Interface, Implementation, Imports, UseOnly, AbstractType, UnionType, SameType, SameInst, BoundInst, ModeDef, Pred, Func, Mode, Pragma, Clause}
-use Rattle.mc_decl_syntax.specs.Terms.{is_distinct}
 use Rattle.mc_defs_uses.specs.Definitions.{symbol_name}
 use Rattle.mc_source.specs.declared.name.Name.{Name}
 use Rattle.mc_linking.specs.Files.{File, Section, PlainItemInFile, section_after, items_in_file, items_in_file_from, is_empty}
-use Rattle.mc_modules.specs.Linked.{Defined, name_in, constructors, symbols_by, symbols_in, symbols_of, types_by, types_in, types_of, preds_of, name_of as module_name_of, each, flat, linked}
-use Rattle.mc_ground_form.specs.Database.{Constant}
-use Rattle.mc_ground_form.specs.Facts.{LinkedFiles, with_library, Fact, facts, facts_from, given_types, given_preds, constants, constants_in, constants_by, constants_from, names_of, is_constant, are_constants, has_no_parameters}
-use Rattle.mc_ground_form.specs.FormLaws.{name_of, HaveTheirNumbers, NumbersAreThoseOfNames}
+use Rattle.mc_modules.specs.Linked.{Defined, name_in, constructors, symbols_by, symbols_in, symbols_of, types_by, types_in, types_of, preds_of, name_of as module_name_of, each, flat}
+use Rattle.mc_ground_form.specs.Facts.{LinkedFiles, with_library, Fact, facts, given_types, constants, constants_in, constants_by, constants_from, is_constant, are_constants}
+use Rattle.mc_ground_form.specs.FormLaws.{name_of, NumbersAreThoseOfNames}
 use Rattle.mc_ground_form.specs.code.Passes.{every, everywhere, is_plain, all_plain}
 use Rattle.mc_ground_form.proofs.Forms.{refuted, plain_none}
 use Rattle.mc_ground_form.proofs.Builds.{first_of, no_facts}
@@ -88,7 +86,7 @@ item_names : (m : List ℕ) (all : List PlainItemInFile) (s : PlainItemInFile) (
 item_names m all s (UnionType h ts) plain e =
     constructors_named m s h ts (right_true _ _ plain)
     ∙ ap (λ j. map name_of (constants_by m 0 j)) (sym e)
-    ∙ append-nil (map name_of (constants_by m 0 s.item))
+    ∙ sym (append-nil (map name_of (constants_by m 0 s.item)))
 item_names m all s (ModuleStart w) plain e = refl
 item_names m all s (ModuleEnd w) plain e = refl
 item_names m all s Interface plain e = refl
@@ -106,14 +104,14 @@ item_names m all s (Mode t d) plain e = cc
 item_names m all s Pragma plain e = refl
 item_names m all s (Clause t) plain e = refl
 
-file_names : (m : List ℕ) (all : List PlainItemInFile) (b : Bool) (section : Section) (es : File) → every is_plain es ≡ true
-    → names (symbols_in m (items_in_file_from b section es)) ≡ by_types (types_in m all (items_in_file_from b section es))
-file_names m all b section [] plain = refl
-file_names m all b section (e ∷ es) plain =
-    let s : PlainItemInFile = record { item = e.0; at = e.1; section = section; is_first = b; is_last = is_empty es } in
-    let rest = items_in_file_from false (section_after section e.0) es in
+file_names : (m : List ℕ) (all : List PlainItemInFile) (b : Bool) (current : Section) (es : File) → every is_plain es ≡ true
+    → names (symbols_in m (items_in_file_from b current es)) ≡ by_types (types_in m all (items_in_file_from b current es))
+file_names m all b current [] plain = refl
+file_names m all b current (e ∷ es) plain =
+    let s : PlainItemInFile = record { item = e.0; at = e.1; section = current; is_first = b; is_last = is_empty es } in
+    let rest = items_in_file_from false (section_after current e.0) es in
     map-append (λ (d : Defined). d.name) (symbols_by m s e.0) (symbols_in m rest)
-    ∙ ap₂ (λ xs ys. xs ++ ys) (item_names m all s e.0 (left_true _ _ plain) refl) (file_names m all false (section_after section e.0) es (right_true _ _ plain))
+    ∙ ap₂ (λ xs ys. xs ++ ys) (item_names m all s e.0 (left_true _ _ plain) refl) (file_names m all false (section_after current e.0) es (right_true _ _ plain))
     ∙ sym (by_types_append (types_by m all s e.0) (types_in m all rest))
 
 files_names : (k : ℕ) (fs : List File) → everywhere (λ own i. is_plain i) k fs ≡ true → names (flat (each symbols_of fs)) ≡ by_types (flat (each types_of fs))

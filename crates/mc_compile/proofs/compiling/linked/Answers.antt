@@ -5,7 +5,11 @@ use Rattle.mc_compile.specs.Reading.{plain_read}
 use Rattle.mc_compile.specs.Linking.{Links, plain_named}
 use Rattle.mc_compile.specs.Forming.{Forms, IsProgramOf}
 use Rattle.mc_compile.proofs.Chains.{stops, goes_on_by}
+use Rattle.mc_compile.proofs.Links.{are_linked}
 use Rattle.mc_compile.proofs.compiling.linked.Goals as goal
+
+pub form-requires : goal.form-requires
+form-requires c = are_linked (plain_read c.args.read) c.in-Ok.named (c.in-Ok.ensures {u = tt})
 
 pub returns-in-Ok : goal.returns-in-Ok
 returns-in-Ok c = λ files.
