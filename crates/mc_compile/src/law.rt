@@ -4,7 +4,7 @@ ghost use Rattle.mc_compile.specs.Reading.{Reads};
 ghost use Rattle.mc_compile.specs.Linking.{Links};
 ghost use Rattle.mc_compile.specs.Forming.{Forms};
 ghost use Rattle.mc_compile.specs.Compiling.{Compiles};
-ghost use Rattle.mc_compile.specs.Laws.{CompiledFits, CompiledAsks, CompiledNumbers};
+ghost use Rattle.mc_compile.specs.Laws.{CompiledFits, CompiledAsks, CompiledNumbers, QueryIsAsked};
 
 use mc_items::{at_most_one_goal, at_most_one_list};
 
