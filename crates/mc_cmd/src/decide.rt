@@ -60,7 +60,8 @@ fn read_file<F: Files>(alloc: Global, name: &str, files: &mut F) -> Result<Given
         (λ _.
         (F.faults files.new ≡ F.faults files.old)
         × (F.absents files.new ≡ F.absents files.old)) }
-    ensures faults { IfErr result (λ decision. CountsFaults decision (F.faults files.old) (F.faults files.new)) }
+    ensures faults { IfErr result
+        (λ decision. CountsFaults decision (F.faults files.old) (F.faults files.new)) }
     ensures absents { IfErr result
         (λ decision. CountsAbsents decision (F.absents files.old) (F.absents files.new)) }
 {
@@ -90,7 +91,8 @@ fn read_files<F: Files>(
         (λ _.
         (F.faults files.new ≡ F.faults files.old)
         × (F.absents files.new ≡ F.absents files.old)) }
-    ensures faults { IfErr result (λ decision. CountsFaults decision (F.faults files.old) (F.faults files.new)) }
+    ensures faults { IfErr result
+        (λ decision. CountsFaults decision (F.faults files.old) (F.faults files.new)) }
     ensures absents { IfErr result
         (λ decision. CountsAbsents decision (F.absents files.old) (F.absents files.new)) }
 {

@@ -58,8 +58,8 @@ pub fn merc<F: Files, I: Source, O: Sink, E: Sink>(
     ensures defined { (held : Held) (before_out before_err : List ℕ)
         → Told (F.held files.old) held (O.written out.old) before_out (E.written err.old) before_err
         → (Rose (F.faults files.old) (F.faults files.new) → ⊥)
-        → PutsDefined (map string_bytes words.now.items) held (O.written out.old) (O.written out.new)
-        (E.written err.old) (E.written err.new)
+        → PutsDefined (map string_bytes words.now.items) held (O.written out.old)
+        (O.written out.new) (E.written err.old) (E.written err.new)
         ⊎ ((result ≡ Status.Memory)
         × (Wrote (O.written out.old) (O.written out.new) []
         × Wrote (E.written err.old) (E.written err.new) [])) }
@@ -100,7 +100,8 @@ pub fn merc<F: Files, I: Source, O: Sink, E: Sink>(
     // WriteFault comes exactly where a put failed in this call.
     ensures write { result ≡ Status.WriteFault
         → Rose (O.faults out.old) (O.faults out.new) ⊎ Rose (E.faults err.old) (E.faults err.new) }
-    ensures write_seen { (O.faults out.old < O.faults out.new) ⊎ (E.faults err.old < E.faults err.new)
+    ensures write_seen { (O.faults out.old < O.faults out.new)
+        ⊎ (E.faults err.old < E.faults err.new)
         → result ≡ Status.WriteFault }
     // NotBuilt comes only where the sources break no rule, and ask for what isn't built.
     ensures not_built { result ≡ Status.NotBuilt
