@@ -6,7 +6,8 @@ use Rattle.mc_items.specs.Laws.{AtMostOneList, AtMostOneGoal, NotGoalAndBroken, 
 use Rattle.mc_linking.specs.Files.{File}
 use Rattle.mc_modules.specs.Linked.{linked}
 use Rattle.mc_ground_form.specs.Database.{Database}
-use Rattle.mc_linking.specs.Faults.{broken_by, goal_fault, link_faults}
+use Rattle.mc_source.specs.Rules.{broken_at}
+use Rattle.mc_linking.specs.Faults.{goal_fault, link_faults}
 use Rattle.mc_compile.specs.Sources.{Reading, FileReads, FilesRead, QueryReads, counted, rules_from, items_from}
 use Rattle.mc_compile.specs.Rejected.{AreRead, AreLegal, IsLibrary, Breaks, in_reading, in_linking, reading_rules, linking_rules, linking_rules_of, goal_rules_in, line_of}
 use Rattle.mc_compile.specs.Laws.{AtMostOneBreaks}
@@ -54,7 +55,7 @@ module _ (one_goal : AtMostOneGoal) (not_both : NotGoalAndBroken) (one_refusal :
   one_goal_rule k (Some text) None (Some h) bs cs a b files number = absurd (not_both k text h bs b.0 a)
   one_goal_rule k (Some text) (Some g) None bs cs a b files number = absurd (not_both k text g cs a.0 b)
   one_goal_rule k (Some text) (Some g) (Some h) bs cs a b files number =
-      ap (λ t. broken_by (record { file = number; line = line_of t }) (goal_fault files t)) (one_goal text g h a.0 b.0)
+      ap (λ t. broken_at (record { file = number; line = line_of t }) (goal_fault files t)) (one_goal text g h a.0 b.0)
 
 module _ (one_list : AtMostOneList) (one_goal : AtMostOneGoal) (not_both : NotGoalAndBroken) (one_refusal : AtMostOneQueryRefusal) (library texts : List (List ℕ)) (query : Option (List ℕ)) where
   same_reading_rules : (r s : AreRead texts query) → reading_rules r ≡ reading_rules s

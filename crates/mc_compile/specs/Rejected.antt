@@ -5,7 +5,8 @@ use Rattle.mc_term_data.specs.Plain.{PlainTerm, at, plain_term}
 use Rattle.mc_term_data.specs.declared.term.Term.{Term}
 use Rattle.mc_source.specs.declared.rule.Broken.{Broken}
 use Rattle.mc_linking.specs.Files.{File}
-use Rattle.mc_linking.specs.Faults.{link_faults, broken_by, goal_fault}
+use Rattle.mc_source.specs.Rules.{broken_at}
+use Rattle.mc_linking.specs.Faults.{link_faults, goal_fault}
 use Rattle.mc_compile.specs.Sources.{Reading, FilesRead, QueryReads, rules_from, items_from}
 
 -- What sources read as: files, which are numbered from 0 on, and a query, whose number follows
@@ -34,7 +35,7 @@ line_of (at node line) = line
 abbrev pub goal_rules_in : List File → (number : ℕ) → Option Term → List Broken
 goal_rules_in files k None = []
 goal_rules_in files k (Some goal) =
-    broken_by (record { file = k; line = line_of (plain_term goal) })
+    broken_at (record { file = k; line = line_of (plain_term goal) })
     (goal_fault files (plain_term goal))
 
 -- the rules of the phase that links files, the library's last, and the goal of a query: file by
