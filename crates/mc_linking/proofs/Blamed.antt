@@ -10,6 +10,8 @@ use Rattle.mc_decl_syntax.specs.Plain.{PlainDecl}
 use Rattle.mc_items.specs.declared.entry.Entry.{Entry}
 use Rattle.mc_items.specs.Files.{plain_entry}
 use Rattle.mc_source.specs.declared.rule.Broken.{Broken}
+use Rattle.mc_linking.specs.declared.item_in_file.ItemInFile.{ItemInFile}
+use Rattle.mc_linking.specs.Kept.{plain_item_in_file}
 use Rattle.mc_linking.specs.Files.{File, PlainItemInFile, items_in_file, plain_files}
 use Rattle.mc_linking.specs.Visible.{is_library, file_at}
 use Rattle.mc_linking.specs.Faults.{again, double_fault, fault, with_before, faults_of, faults_from}
@@ -36,26 +38,33 @@ faults_behind-is files own all before (s ∷ ss) =
     ∙ ap (λ b. broken_at s.at (fault files own all before s) ++ faults_behind files own all (with_set b ss)) (sym (put_all-append [] before (definitions s.item)))
     ∙ ap (λ bs. broken_at s.at (fault files own all before s) ++ bs) (faults_behind-is files own all (before ++ definitions s.item) ss)
 
-module _ (files : List (List Entry)) (own : ℕ) (ss : List PlainItemInFile) (r : ss ≡ items_in_file (file_at (plain_files files) own)) where
-  pub empty-file : length ss ≡ 0 → file_at (plain_files files) own ≡ []
-  empty-file t = nothing (file_at (plain_files files) own) (ap length (sym r) ∙ t)
+module _ (files : List (List Entry)) (own : ℕ) (items : List ItemInFile) (r : map plain_item_in_file items ≡ items_in_file (file_at (plain_files files) own)) where
+  pub empty-file : true ≡ (length items == 0) → file_at (plain_files files) own ≡ []
+  empty-file t = of_nothing (file_at (plain_files files) own) (sym r ∙ nothing items t)
     where
-      nothing : (f : File) → length (items_in_file f) ≡ 0 → f ≡ []
+      nothing : (es : List ItemInFile) → true ≡ (length es == 0) → map plain_item_in_file es ≡ []
       nothing [] h = refl
-      nothing (e ∷ es) h = absurd (omega (arith, h))
+      nothing (e ∷ es) h = absurd (true≢false (h ∙ eqb-suc-zero (length es)))
 
-  some : (f : File) → (length (items_in_file f) ≡ 0 → ⊥) → faults_behind (plain_files files) own (items_in_file f) (with_before [] (items_in_file f)) ≡ faults_of (plain_files files) own f
-  some [] h = absurd (h refl)
-  some (e ∷ es) h = refl
+      of_nothing : (f : File) → items_in_file f ≡ [] → f ≡ []
+      of_nothing [] h = refl
+      of_nothing (e ∷ es) h = cc
+
+  some : (f : File) (es : List ItemInFile) → map plain_item_in_file es ≡ items_in_file f → false ≡ (length es == 0)
+      → faults_behind (plain_files files) own (items_in_file f) (with_before [] (items_in_file f)) ≡ faults_of (plain_files files) own f
+  some [] [] e h = absurd (true≢false (sym h))
+  some [] (x ∷ es) e h = absurd (let g : plain_item_in_file x ∷ map plain_item_in_file es ≡ [] = e in cc)
+  some (f ∷ fs) es e h = refl
 
   -- a file with items: the rules that they break
-  pub some-file : (old new : List Broken) → (length ss ≡ 0 → ⊥)
-      → new ≡ old ++ faults_behind (plain_files files) own (items_in_file (file_at (plain_files files) own)) (with_set [] ss) → new ≡ old ++ faults_of (plain_files files) own (file_at (plain_files files) own)
+  pub some-file : (old new : List Broken) → false ≡ (length items == 0)
+      → new ≡ old ++ faults_behind (plain_files files) own (items_in_file (file_at (plain_files files) own)) (with_set [] (map plain_item_in_file items))
+      → new ≡ old ++ faults_of (plain_files files) own (file_at (plain_files files) own)
   some-file old new t h =
       h ∙ ap (λ s. old ++ faults_behind (plain_files files) own (items_in_file (file_at (plain_files files) own)) (with_set [] s)) r
       ∙ ap (λ bs. old ++ bs)
       (faults_behind-is (plain_files files) own (items_in_file (file_at (plain_files files) own)) [] (items_in_file (file_at (plain_files files) own))
-      ∙ some (file_at (plain_files files) own) (λ e. t (ap length r ∙ e)))
+      ∙ some (file_at (plain_files files) own) items r t)
 
 -- the last file before the library's
 pub faults_from-over : (files : List (List Entry)) (k : ℕ) → length files - 9 ≤ k → faults_from (plain_files files) k (plain_files (drop k files)) ≡ []

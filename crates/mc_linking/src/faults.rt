@@ -39,9 +39,11 @@ impl<'a> Linking<'a> {
     {
         let items = self.items(own);
         if items.is_empty() {
-            return add_empty(alloc, own, broken);
+            add_empty(alloc, own, broken)?;
+            return Ok(());
         }
-        self.item_faults(alloc, own, items, broken)
+        self.item_faults(alloc, own, items, broken)?;
+        Ok(())
     }
 
     fn item_faults(

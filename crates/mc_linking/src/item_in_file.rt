@@ -1,7 +1,7 @@
 ghost use Rattle.std.specs.Prelude.{◌≡◌, map};
 ghost use Rattle.mc_decl_syntax.specs.Plain.{plain_item};
 ghost use Rattle.mc_defs_uses.specs.Plain.{plain_definition};
-ghost use Rattle.mc_defs_uses.specs.Definitions.{definitions};
+ghost use Rattle.mc_defs_uses.specs.Definitions as spec;
 
 use crate::section::Section;
 use mc_defs_uses::Definition;
@@ -15,5 +15,5 @@ pub struct ItemInFile<'a> {
     pub is_first: bool,
     pub is_last: bool,
     pub definitions: Vec<Definition<'a>>,
-    ghost defined: { map plain_definition definitions.items ≡ definitions (plain_item entry.now.decl) },
+    ghost defined: { map plain_definition definitions.items ≡ spec.definitions (plain_item entry.now.decl) },
 }

@@ -35,6 +35,11 @@ impl<'a> Model for Linking<'a> {
 
     ghost Value = { List (List Entry) };
 
+    ghost use Rattle.mc_term_data.specs.contracts.term.Node as node;
+    ghost use Rattle.std.specs.Coded.{codes};
+
+    ghost coded = { Prim.hlevel (codes, node.the_row.coded) };
+
     ghost use Rattle.mc_linking.specs.code.Tables.{IsKept};
 
     ghost view = { λ l. l.files.now };
