@@ -100,10 +100,7 @@ fn put_one<'a>(
 }
 
 /// The tables of files, each by its items.
-pub fn tables<'a>(
-    alloc: Global,
-    files: &[Row<ItemInFile<'a>>],
-) -> Result<Vec<Table<'a>>, Memory>
+pub fn tables<'a>(alloc: Global, files: &[Row<ItemInFile<'a>>]) -> Result<Vec<Table<'a>>, Memory>
     ensures { IfOk result
         (λ all. all.items ≡ tables (map (map plain_item_in_file) files.now)) }
 {

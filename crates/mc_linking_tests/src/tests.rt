@@ -127,7 +127,8 @@ fn goal(alloc: Global, name: &str) -> Result<Term, Memory> {
 #[test]
 fn a_goal_sees_what_the_first_file_sees(rt: HostRuntime) -> Result<(), Fail> {
     let alloc = rt.alloc();
-    let texts = "#module a.@#interface.@#pred p is det.@#implementation.@p.`#module b.@#interface.@#pred q is det.@#implementation.@q.";
+    let texts =
+        "#module a.@#interface.@#pred p is det.@#implementation.@p.`#module b.@#interface.@#pred q is det.@#implementation.@q.";
     let files = match files(alloc, texts) {
         Ok(files) => Row::of(files)?,
         Err(_) => panic!(rt; "not read"),

@@ -148,7 +148,11 @@ const NAMES: &[Meaning] = &[
 ];
 
 // What a module itself has of the four.
-const OWN: &[Meaning] = &[(0, "x", 0, "con 0 func 0 "), (1, "z", 0, "con 4 "), (99, "x", 0, "")];
+const OWN: &[Meaning] = &[
+    (0, "x", 0, "con 0 func 0 "),
+    (1, "z", 0, "con 4 "),
+    (99, "x", 0, ""),
+];
 
 // Types without qualifiers and with them.
 const TYPES_MEANT: &[TypeMeaning] = &[

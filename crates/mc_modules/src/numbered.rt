@@ -93,7 +93,7 @@ pub fn declared(
     linking: &Linking,
     columns: &Sorts<Column>,
 ) -> Result<Row<Row<Candidate>>, Memory>
-    requires columns { AreParts (plain_files linking.now) columns.now.types.has.items
+    requires { AreParts (plain_files linking.now) columns.now.types.has.items
         columns.now.symbols.has.items columns.now.preds.has.items columns.now.insts.has.items
         columns.now.modes.has.items }
     ensures { IfOk result

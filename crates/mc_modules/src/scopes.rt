@@ -64,7 +64,7 @@ pub fn scopes(
     linking: &Linking,
     columns: &Sorts<Column>,
 ) -> Result<Row<Scope>, Memory>
-    requires columns { AreParts (plain_files linking.now) columns.now.types.has.items
+    requires { AreParts (plain_files linking.now) columns.now.types.has.items
         columns.now.symbols.has.items columns.now.preds.has.items columns.now.insts.has.items
         columns.now.modes.has.items }
     ensures { IfOk result

@@ -36,12 +36,12 @@ tables fs = map table fs
 
 -- What is kept is that of these files.
 pub record IsKept
-  (files : List (List Entry))
-  (names : List (List ℕ × ℕ))
-  (visibilities : List Visibility)
-  (items : List (List ItemInFile))
-  (sets : List Table)
-  : Type 0 where
+    (files : List (List Entry))
+    (names : List (List ℕ × ℕ))
+    (visibilities : List Visibility)
+    (items : List (List ItemInFile))
+    (sets : List Table)
+    : Type 0 where
   pub few : length files < 2 ^ 32
   pub named : number_of names ≡ module_of (plain_files files)
   pub with_visibility : visibilities ≡ visibilities_from (plain_files files) 0 (plain_files files)
