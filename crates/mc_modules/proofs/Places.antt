@@ -1,5 +1,5 @@
 -- Files by their places.
-use Rattle.std.proofs.Common.{◌≡◌, ℕ, ◌+◌, ◌<◌, List, [], ◌∷◌, map, length, get_or, drop, refl, ap, sym, ◌∙◌, arith, add-one, drop-cons}
+use Rattle.std.proofs.Common.{◌≡◌, ℕ, suc, ◌+◌, ◌<◌, List, [], ◌∷◌, map, length, get_or, drop, refl, ap, sym, ◌∙◌, arith, add-one, drop-cons}
 use Rattle.std.proofs.lemmas.List.{length-map, get_or-map}
 use Rattle.mc_items.specs.declared.entry.Entry.{Entry}
 use Rattle.mc_items.specs.Files.{plain_entry}
@@ -23,8 +23,7 @@ as_many of has fs e =
 -- the files from one on are it and those behind it
 pub files_there : (fs : List (List Entry)) (k : ℕ) → k < length fs → plain_files (drop k fs) ≡ file_at (plain_files fs) k ∷ plain_files (drop (k + 1) fs)
 files_there fs k h =
-    ap plain_files (drop-cons fs k [] h)
-    ∙ rw add-one (ap (λ f. f ∷ plain_files (drop (k + 1) fs)) (sym (get_or-map (map plain_entry) fs k [] [] h)))
+    rw add-one (ap plain_files (drop-cons fs k [] h) ∙ ap (λ f. f ∷ plain_files (drop (suc k) fs)) (sym (get_or-map (map plain_entry) fs k [] [] h)))
 
 -- what one file more has
 pub each_more : (of : File → List Defined) (fs : List (List Entry)) (k : ℕ) → k < length fs

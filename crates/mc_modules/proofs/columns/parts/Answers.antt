@@ -11,9 +11,9 @@ loop-own-preserved c =
     let k = c.loop-own.own in
     let rest = plain_files (drop (k + 1) fs) in
     record {
-      types = moved _ _ _ _ (each types_of rest) _ (c.in_ok-put_part.ensures.types {u = tt}) (each_more types_of fs k (omega (arith, c.len-own-end.ensures))) c.loop-own.invariant.types;
-      symbols = moved _ _ _ _ (each symbols_of rest) _ (c.in_ok-put_part.ensures.symbols {u = tt}) (each_more symbols_of fs k (omega (arith, c.len-own-end.ensures))) c.loop-own.invariant.symbols;
-      preds = moved _ _ _ _ (each preds_of rest) _ (c.in_ok-put_part.ensures.preds {u = tt}) (each_more preds_of fs k (omega (arith, c.len-own-end.ensures))) c.loop-own.invariant.preds;
-      insts = moved _ _ _ _ (each insts_of rest) _ (c.in_ok-put_part.ensures.insts {u = tt}) (each_more insts_of fs k (omega (arith, c.len-own-end.ensures))) c.loop-own.invariant.insts;
-      modes = moved _ _ _ _ (each modes_defined rest) _ (c.in_ok-put_part.ensures.modes {u = tt}) (each_more modes_defined fs k (omega (arith, c.len-own-end.ensures))) c.loop-own.invariant.modes;
+      types = moved _ _ _ _ (each types_of rest) _ (c.in_ok-put_part.ensures.types) (each_more types_of fs k (omega (arith, c.len-own-end.ensures))) c.loop-own.invariant.types;
+      symbols = moved _ _ _ _ (each symbols_of rest) _ (c.in_ok-put_part.ensures.symbols) (each_more symbols_of fs k (omega (arith, c.len-own-end.ensures))) c.loop-own.invariant.symbols;
+      preds = moved _ _ _ _ (each preds_of rest) _ (c.in_ok-put_part.ensures.preds) (each_more preds_of fs k (omega (arith, c.len-own-end.ensures))) c.loop-own.invariant.preds;
+      insts = moved _ _ _ _ (each insts_of rest) _ (c.in_ok-put_part.ensures.insts) (each_more insts_of fs k (omega (arith, c.len-own-end.ensures))) c.loop-own.invariant.insts;
+      modes = moved _ _ _ _ (each modes_defined rest) _ (c.in_ok-put_part.ensures.modes) (each_more modes_defined fs k (omega (arith, c.len-own-end.ensures))) c.loop-own.invariant.modes;
     }

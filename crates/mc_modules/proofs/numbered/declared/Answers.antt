@@ -5,12 +5,12 @@ use Rattle.mc_modules.proofs.Puts.{moved}
 use Rattle.mc_modules.proofs.Places.{as_many, declared_more}
 use Rattle.mc_modules.proofs.numbered.declared.Goals as goal
 
-pub start-requires : goal.start-requires
-start-requires c =
+pub start-con-requires : goal.start-con-requires
+start-con-requires c =
     omega (arith, as_many symbols_of c.args.columns.now.symbols.has.items c.args.linking.now c.requires.symbols_are, c.loop-own-test.true, c.len-own-end.ensures)
 
-pub start-requires-2 : goal.start-requires-2
-start-requires-2 c =
+pub start-pred-requires : goal.start-pred-requires
+start-pred-requires c =
     omega (arith, as_many preds_of c.args.columns.now.preds.has.items c.args.linking.now c.requires.preds_are, c.loop-own-test.true, c.len-own-end.ensures)
 
 pub loop-own-preserved : goal.loop-own-preserved
