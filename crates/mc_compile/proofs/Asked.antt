@@ -80,7 +80,7 @@ reads_goal : (sources : Sources) (read : PlainRead) → Reads sources (Ok read) 
 reads_goal sources read r =
     ap (λ (p : PlainRead). is_some p.goal) (unbroken_made (reading_rules r.read) (read_as r.read) read r.is)
     ∙ goal_read (length sources.texts) sources.query r.read.goal r.read.goal_rules r.read.goal_reads
-      (appended_nothing (rules_from 0 r.read.files) r.read.goal_rules (unbroken (reading_rules r.read) (read_as r.read) read r.is))
+    (appended_nothing (rules_from 0 r.read.files) r.read.goal_rules (unbroken (reading_rules r.read) (read_as r.read) read r.is))
 
 pub query_asked : QueryIsAsked
 query_asked sources form (went_on {b = read} r (went_on {b = named} l f)) =

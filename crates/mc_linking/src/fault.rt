@@ -73,9 +73,7 @@ impl<'a> Linking<'a> {
         uses: &[Occurrence<'a>],
     ) -> Result<Fault, Memory>
         requires own { own < length self.now }
-        requires uses {
-            map plain_occurrence uses.now ≡ uses_of (plain_item item.now.entry.now.decl)
-        }
+        requires uses { map plain_occurrence uses.now ≡ uses_of (plain_item item.now.entry.now.decl) }
         ensures { IfOk result
             (λ f.
             f

@@ -31,9 +31,7 @@ pub fn goal_rule(
     goal: &Term,
 ) -> Result<Option<(Rule, Text)>, Memory>
     requires { 0 < length files.now }
-    ensures {
-        IfOk result (λ found. found ≡ goal_fault (plain_files files.now) (plain_term goal.now))
-    }
+    ensures { IfOk result (λ found. found ≡ goal_fault (plain_files files.now) (plain_term goal.now)) }
 {
     Linking::of(alloc, files.as_slice())?.goal_fault(alloc, goal)
 }

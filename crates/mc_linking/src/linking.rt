@@ -93,9 +93,7 @@ impl<'a> Linking<'a> {
     /// The items of a file, each as it stands there.
     pub fn items(&self, own: u32) -> &[ItemInFile<'a>]
         requires { own < length self.now }
-        ensures {
-            map plain_item_in_file result.now ≡ items_in_file (file_at (plain_files self.now) own)
-        }
+        ensures { map plain_item_in_file result.now ≡ items_in_file (file_at (plain_files self.now) own) }
     {
         self.items[own as usize].as_slice()
     }

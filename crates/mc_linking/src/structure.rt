@@ -56,9 +56,7 @@ fn is_misplaced(alloc: Global, file: &[Entry], item: &ItemInFile<'_>) -> Result<
 
 // Whether a name is that of the module that a file is.
 fn is_name_of(alloc: Global, file: &[Entry], name: &[Text]) -> Result<bool, Memory>
-    ensures {
-        IfOk result (λ is. is ≡ is_module_of (module_name (map plain_entry file.now)) name.now)
-    }
+    ensures { IfOk result (λ is. is ≡ is_module_of (module_name (map plain_entry file.now)) name.now) }
 {
     match module_name(file) {
         Some(own) => {

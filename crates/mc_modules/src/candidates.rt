@@ -170,9 +170,7 @@ impl Names {
 }
 
 fn fits_at(own: bool, id: NameArity, names: &Row<Named>, k: u32) -> bool
-    ensures {
-        result ≡ fits own (plain_name_arity id.entry) (slice_get (map plain_named names.now) k)
-    }
+    ensures { result ≡ fits own (plain_name_arity id.entry) (slice_get (map plain_named names.now) k) }
 {
     k < names.len() && fits_named(own, id, names.get(k))
 }

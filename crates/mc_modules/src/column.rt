@@ -62,9 +62,7 @@ impl Column {
 
     /// All of them, in the order of the files.
     pub fn flat(self, alloc: Global) -> Result<Row<Named>, Memory>
-        ensures {
-            IfOk result (λ all. map plain_named all ≡ flat (map (map plain_named) self.has.items))
-        }
+        ensures { IfOk result (λ all. map plain_named all ≡ flat (map (map plain_named) self.has.items)) }
     {
         let Column { has, starts: _ } = self;
         let mut all = Vec::new(alloc);
@@ -92,9 +90,7 @@ fn starts(alloc: Global, has: &[Row<Named>]) -> Result<Vec<u32>, Memory>
 
 // Puts in the numbers of those that a module sees, the first of which is `start`.
 fn put_numbers(own: bool, start: u32, names: &[Named], all: &mut Vec<u32>) -> Result<(), Memory>
-    ensures {
-        OnOk result (all.new.items ≡ all.old.items ++ numbers own start (map plain_named names.now))
-    }
+    ensures { OnOk result (all.new.items ≡ all.old.items ++ numbers own start (map plain_named names.now)) }
 {
     let mut number = start;
     for named in names {

@@ -38,9 +38,7 @@ impl Names {
     ///
     /// `Broken` where items of the given files break rules: one for each such item, its first, in the order of the files.
     pub fn legal(alloc: Global, linking: &Linking) -> Result<Names, ItemsFault>
-        ensures names {
-            IfOk result (λ names. plain_names names ≡ linked (plain_files linking.now))
-        }
+        ensures names { IfOk result (λ names. plain_names names ≡ linked (plain_files linking.now)) }
         ensures legal { IfOk result (λ _. link_faults (plain_files linking.now) ≡ []) }
         ensures refusal { IfErr result (IsRefusedLink (plain_files linking.now)) }
     {

@@ -60,9 +60,7 @@ impl Names {
     }
 
     fn has_arity(&self, found: u32, arity: usize) -> bool
-        ensures {
-            result ≡ passes (λ d. nat_eq d.name.arity arity) (slice_get self.now.types found)
-        }
+        ensures { result ≡ passes (λ d. nat_eq d.name.arity arity) (slice_get self.now.types found) }
     {
         found < self.types.len() && self.types.get(found).name.arity as usize == arity
     }
