@@ -1,6 +1,6 @@
 -- Which module a name means, and what each module sees, as it is computed: by one pass over the
 -- files.
-use Rattle.std.specs.Prelude.{ℕ, ◌+◌, List, [], ◌∷◌, Option, Some, None, if◌then◌else◌}
+use Rattle.std.specs.Prelude.{ℕ, ◌+◌, List, [], ◌∷◌, Option, Some, if◌then◌else◌}
 use Rattle.mc_decl_syntax.specs.Plain.{Path, PlainDecl, Imports, UseOnly}
 use Rattle.mc_linking.specs.declared.visibility.Visibility.{Visibility}
 use Rattle.mc_linking.specs.Files.{File, joined}

@@ -1,4 +1,4 @@
-use Rattle.std.proofs.Common.{◌∙◌, ap, arith}
+use Rattle.std.proofs.Common.{arith}
 use Rattle.mc_linking.proofs.Blamed.{faults_from-more, all-faults}
 use Rattle.mc_linking.proofs.linking.Linking.faults.Goals as goal
 
