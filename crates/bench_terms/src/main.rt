@@ -1,4 +1,5 @@
-//! Reads a module of ordinary clauses of a given size in KiB, keeps its terms, and says how many they are.
+//! Reads a module of ordinary clauses of a given size in KiB, keeps its terms, and says how many
+//! they are.
 #![tactic(auto)]
 
 use mc_term_data::Term;

@@ -116,7 +116,7 @@ with_word (Limits l None) w ws s next = next s (Some l)
 with_word (Limits l (Some v)) w ws s next = option_and_then (λ t. next t None) (with_limit l v s)
 with_word Unknown w ws s next = None
 
--- A value is no option: it doesn't begin with `-`, unless it is `-` alone. (PlainDecl would be no
+-- A value is no option: it doesn't begin with `-`, unless it is `-` alone. (It would be no
 -- number either way.)
 abbrev pub with_awaited :
     Options → Limit → List ℕ → Spoken → (next : Spoken → Option Limit → Option Spoken)

@@ -18,7 +18,7 @@ use Rattle.mc_terms.specs.declared.fault.ReadKind.{ReadKind}
 use Rattle.mc_terms.specs.declared.fault.ReadKind.TheVariants.{Token, NotATerm, IntTooLarge, TooNested, Memory}
 use Rattle.mc_terms.specs.Lines.{line_at}
 use Rattle.mc_terms.specs.Lexemes.{lexemes}
-use Rattle.mc_terms.specs.Answers.{ItemTokens, ItemReads, IsOver, BeginsOn, place_of, item_line, token_line, IsRefused, StandsAt}
+use Rattle.mc_terms.specs.Answers.{AreItemTokens, ItemReads, IsOver, BeginsOn, place_of, item_line, token_line, IsRefused, StandsAt}
 use Rattle.mc_items.specs.declared.entry.Entry.{Entry}
 use Rattle.mc_items.specs.declared.entry.ItemsFault.TheVariants as F
 use Rattle.mc_items.specs.Verdicts.{PlainVerdict, judged, unread}
@@ -50,10 +50,10 @@ kind_of (Fault f place) = Eof
 
 module _ (at_most_one : AtMostOne) (text : List ℕ) (from : ℕ) where
   -- an item has one list of tokens and one end
-  same_tokens : (ts us : List Lexeme) (next stop : ℕ) → ItemTokens text from ts next → ItemTokens text from us stop → (ts ≡ us) × (next ≡ stop)
+  same_tokens : (ts us : List Lexeme) (next stop : ℕ) → AreItemTokens text from ts next → AreItemTokens text from us stop → (ts ≡ us) × (next ≡ stop)
   same_tokens ts us next stop a b =
       let same = Item-unique a.1 b.1 in
-      (sym a.2 ∙ ap (lexemes text []) same.0 ∙ b.2, same.1)
+      (sym a.2 ∙ ap (lexemes text) same.0 ∙ b.2, same.1)
 
   -- and one tree
   pub same_tree : (t u : Tree) (next stop : ℕ) → ItemReads text from t next → ItemReads text from u stop → (t ≡ u) × (next ≡ stop)
@@ -66,7 +66,7 @@ module _ (at_most_one : AtMostOne) (text : List ℕ) (from : ℕ) where
   same_line line row a b = a.5 ∙ ap (λ l. line_at text (place_of l)) (sym a.3 ∙ b.3) ∙ sym b.5
 
   -- where no term stands for the tokens, the item has none
-  none_reads : (ts : List Lexeme) (t : Tree) (next stop : ℕ) → ItemTokens text from ts next → ((t : Tree) → ReadsTerm ts t 1200 → ⊥) → ItemReads text from t stop → ⊥
+  none_reads : (ts : List Lexeme) (t : Tree) (next stop : ℕ) → AreItemTokens text from ts next → ((t : Tree) → ReadsTerm ts t 1200 → ⊥) → ItemReads text from t stop → ⊥
   none_reads ts t next stop tokens none h = none t (subst (λ ts. ReadsTerm ts t 1200) (same_tokens h.0 ts stop next h.1 tokens).0 h.2)
 
   -- where the one tree holds no number that is too large, no tree of the item holds one
@@ -86,7 +86,7 @@ module _ (at_most_one : AtMostOne) (text : List ℕ) (from : ℕ) where
 
   -- where nothing is left, no item reads
   pub read_not_over : (t : Tree) (next : ℕ) → ItemReads text from t next → IsOver text from → ⊥
-  read_not_over t next h o = reads_some h.2.1 (sym h.1.2 ∙ ap (lexemes text []) (Item-unique h.1.1 (T.over o.2 refl)).0)
+  read_not_over t next h o = reads_some h.2.1 (sym h.1.2 ∙ ap (lexemes text) (Item-unique h.1.1 (T.over o.2 refl)).0)
 
   -- and none is refused
   pub refused_not_over : (kind : ReadKind) (line next : ℕ) → kind ≢ Memory → IsRefused text from kind line next → IsOver text from → ⊥

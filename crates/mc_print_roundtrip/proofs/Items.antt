@@ -20,7 +20,8 @@ use Rattle.mc_terms.specs.declared.fault.ReadKind.{ReadKind}
 use Rattle.mc_terms.specs.declared.fault.ReadKind.TheVariants.{Token, NotATerm, IntTooLarge, TooNested, Memory}
 use Rattle.mc_terms.specs.Lines.{line_at}
 use Rattle.mc_terms.specs.Lexemes.{lexemes}
-use Rattle.mc_terms.specs.Answers.{ItemTokens, ItemReads, IsRefused}
+use Rattle.mc_terms.specs.Answers.{AreItemTokens, ItemReads, IsRefused}
+use Rattle.mc_terms.proofs.Walked.{walked_is}
 use Rattle.mc_print_roundtrip.specs.Terms.{term_of, HasText, depth_of}
 use Rattle.mc_print_roundtrip.specs.Whole.{IsTheTerm}
 use Rattle.mc_print_roundtrip.proofs.Cursor.{Cursor, Spells}
@@ -37,7 +38,7 @@ item_reads names v text line place rest h e c =
     let w = (value_reads text line last names v h).whole (46 ∷ rest) [] (follows_stop rest e) refl in
     let stop : (p : ℕ) → Cursor text line p (46 ∷ rest) → p + 1 ≡ last = λ p d. ends_so p (length (printed names v)) (length (printed names v ++ (46 ∷ rest))) (length rest) (length text) place long c.counts d.counts in
     let spelled = w.spells place K.Eof refl c (λ k p d. subst (λ n. Spells text p k [] n) (stop p d) (spells_stop text line p k rest e d)) [] refl in
-    (w.tokens, (spelled.0, spelled.1, spelled.2), (closed (tree_of line names v), w.reads false 1200, omega arith, refl))
+    (w.tokens, (spelled.0, spelled.1, sym (walked_is text spelled.0) ∙ spelled.2), (closed (tree_of line names v), w.reads false 1200, omega arith, refl))
   where
     ends_so : (p n m k l place : ℕ) → m ≡ n + suc k → place + m ≡ l → p + suc k ≡ l → p + 1 ≡ place + n + 1
     ends_so p n m k l place e f g = omega arith
@@ -62,10 +63,10 @@ reads_some (R.chained h k l m) e = reads_some h e
 
 module _ (at_most_one : AtMostOne) (text : List ℕ) (place : ℕ) where
   -- an item has one list of tokens and one end
-  same_tokens : (ts us : List Lexeme) (stop next : ℕ) → ItemTokens text place ts stop → ItemTokens text place us next → (ts ≡ us) × (stop ≡ next)
+  same_tokens : (ts us : List Lexeme) (stop next : ℕ) → AreItemTokens text place ts stop → AreItemTokens text place us next → (ts ≡ us) × (stop ≡ next)
   same_tokens ts us stop next a b =
       let same = Item-unique a.1 b.1 in
-      (sym a.2 ∙ ap (lexemes text []) same.0 ∙ b.2, same.1)
+      (sym a.2 ∙ ap (lexemes text) same.0 ∙ b.2, same.1)
 
   -- and one tree
   same_tree : (t u : Tree) (stop next : ℕ) → ItemReads text place t stop → ItemReads text place u next → (t ≡ u) × (stop ≡ next)
@@ -79,7 +80,7 @@ module _ (at_most_one : AtMostOne) (text : List ℕ) (place : ℕ) where
     reads = (t, h, fits, deep, same);
     given = λ r e. (t, h, fits, deep, e ∙ sym same);
     alone = λ r stop i. let one = same_tree i.0 t stop next i.1 h in (i.4 ∙ ap term one.0 ∙ same, one.1);
-    not_over = λ over. reads_some h.2.1 (sym h.1.2 ∙ ap (lexemes text []) (Item-unique h.1.1 (I.over over.2 refl)).0);
+    not_over = λ over. reads_some h.2.1 (sym h.1.2 ∙ ap (lexemes text) (Item-unique h.1.1 (I.over over.2 refl)).0);
     not_refused = not_refused;
   }
     where

@@ -5,11 +5,12 @@ use Rattle.mc_term_parser.specs.declared.reading.Reading.{Reading}
 use Rattle.mc_term_parser.specs.Part.{Part}
 use Rattle.mc_term_parser.specs.Tree.{Tree}
 use Rattle.mc_term_parser.specs.Reads.{ReadsTerm}
-use Rattle.mc_term_parser.specs.Seen.{Seen, seen_making}
-use Rattle.mc_term_parser.specs.Machine.{Start, Done, Yes, No}
-use Rattle.mc_term_parser.specs.Machine as M
-use Rattle.mc_term_parser.specs.Leads as Run
-use Rattle.mc_term_parser.specs.Views.{StateSeen, Shows, reading}
+use Rattle.mc_term_parser.specs.code.Seen.{Seen, seen_making}
+use Rattle.mc_term_parser.specs.code.Machine.{Start, Done, Yes, No}
+use Rattle.mc_term_parser.specs.code.Machine as M
+use Rattle.mc_term_parser.specs.code.Leads as Run
+use Rattle.mc_term_parser.specs.code.Views.{StateSeen, reading}
+use Rattle.mc_term_parser.specs.Answers.{Shows}
 use Rattle.mc_term_parser.proofs.Trees.{State, Leads}
 use Rattle.mc_term_parser.proofs.Unique.{one_end, answers}
 use Rattle.mc_term_parser.proofs.Sound.{sound}
@@ -31,26 +32,36 @@ Runs ts s = Run.Leads seen_making (Start false 1200 [] ts) s
 abbrev pub Found : StateSeen → Option Reading → Type 0
 Found s r = IfSome r (λ r. (p : Part Seen) × (s ≡ Yes p) × (p.tree ≡ reading r))
 
-pub found_reads : (ts : List Lexeme) (s : StateSeen) (r : Option Reading) → Runs ts s → Found s r → IfSome r (λ r. (t : Tree) × ReadsTerm ts t 1200 × Shows t r)
+pub found_reads :
+    (ts : List Lexeme) (s : StateSeen) (r : Option Reading)
+      → Runs ts s → Found s r → IfSome r (λ r. (t : Tree) × ReadsTerm ts t 1200 × Shows t r)
 found_reads ts s None d h = tt
 found_reads ts s (Some r) d (p, e, f) = let (t, run, is) = leads_image d (Start false 1200 [] ts) refl in go t run (is ∙ e)
   where
-    go : (t : State) → Leads (Start false 1200 [] ts) t → image_state t ≡ Yes p → (t : Tree) × ReadsTerm ts t 1200 × Shows t r
+    go :
+        (t : State)
+          → Leads (Start false 1200 [] ts) t → image_state t ≡ Yes p
+          → (t : Tree) × ReadsTerm ts t 1200 × Shows t r
     go (Yes q) run is = let same : image_part q ≡ p = cc in (q.tree, sound ts q run, shows q.tree r (ap (λ (p : Part Seen). p.tree) same ∙ f))
     go (Start c limit stack us) run is = cc
     go (Done c limit stack q us) run is = cc
     go No run is = cc
 
-pub none_reads : (ts : List Lexeme) (s : StateSeen) → Runs ts s → s ≡ No → (t : Tree) → ReadsTerm ts t 1200 → ⊥
+pub none_reads :
+    (ts : List Lexeme) (s : StateSeen) → Runs ts s → s ≡ No → (t : Tree) → ReadsTerm ts t 1200 → ⊥
 none_reads ts s d e u reads = let (t, run, is) = leads_image d (Start false 1200 [] ts) refl in go t run (is ∙ e) reads
   where
-    go : (t : State) → Leads (Start false 1200 [] ts) t → image_state t ≡ No → ReadsTerm ts u 1200 → ⊥
+    go :
+        (t : State)
+          → Leads (Start false 1200 [] ts) t → image_state t ≡ No → ReadsTerm ts u 1200 → ⊥
     go No run is (q, k, l, g) = let same : No ≡ Yes q = one_end run (answers k l) refl refl in cc
     go (Start c limit stack us) run is z = cc
     go (Done c limit stack q us) run is z = cc
     go (Yes q) run is z = cc
 
-pub at_some : {A : Type 0} (r : Option Reading) (P : A → Reading → Type 0) (a : A) → IfSome r (λ r. (x : A) → P x r) → IfSome r (λ r. P a r)
+pub at_some :
+    {A : Type 0} (r : Option Reading) (P : A → Reading → Type 0) (a : A)
+      → IfSome r (λ r. (x : A) → P x r) → IfSome r (λ r. P a r)
 at_some None P a h = tt
 at_some (Some t) P a h = h a
 
@@ -58,9 +69,11 @@ pub at_none : (r : Option Reading) (P Q : Type 0) → (P → Q) → IfNone r P �
 at_none None P Q f h = f h
 at_none (Some t) P Q f h = tt
 
-run_on : {s t : StateSeen} → Run.Leads seen_making s t → Run.Leads seen_making s (M.step seen_making t)
+run_on :
+    {s t : StateSeen} → Run.Leads seen_making s t → Run.Leads seen_making s (M.step seen_making t)
 run_on Run.here = Run.onward Run.here
 run_on (Run.onward d) = Run.onward (run_on d)
 
-pub step_more : (ts : List Lexeme) (s t : StateSeen) → Runs ts s → t ≡ M.step seen_making s → Runs ts t
+pub step_more :
+    (ts : List Lexeme) (s t : StateSeen) → Runs ts s → t ≡ M.step seen_making s → Runs ts t
 step_more ts s t d e = subst (Runs ts) (sym e) (run_on d)

@@ -8,9 +8,9 @@ use Rattle.mc_term_parser.specs.declared.frame.Series.{Series}
 use Rattle.mc_term_parser.specs.Part.{Part}
 use Rattle.mc_term_parser.specs.Tree.{Tree, trees, line_of}
 use Rattle.mc_term_parser.specs.Tree as T
-use Rattle.mc_term_parser.specs.Machine as M
-use Rattle.mc_term_parser.specs.Machine.{Making}
-use Rattle.mc_term_parser.specs.Leads as Run
+use Rattle.mc_term_parser.specs.code.Machine as M
+use Rattle.mc_term_parser.specs.code.Machine.{Making}
+use Rattle.mc_term_parser.specs.code.Leads as Run
 
 abbrev pub tree_making : Making Tree (List Tree)
 tree_making = record {
@@ -81,16 +81,19 @@ next = M.next tree_making
 abbrev pub made_chain : Chain → ℕ → List Tree → Tree
 made_chain = M.chain tree_making
 
-abbrev pub on_chain : Chain → ℕ → List Tree → Bool → ℕ → List Frame → Bool → List Lexeme → Infix → List Lexeme → State
+abbrev pub on_chain :
+    Chain → ℕ → List Tree → Bool → ℕ → List Frame → Bool → List Lexeme → Infix → List Lexeme → State
 on_chain = M.on_chain tree_making
 
 abbrev pub parts : Series → ℕ → List Tree → Bool → ℕ → List Frame → Bool → List Lexeme → State
 parts = M.parts tree_making
 
-abbrev pub second : Bool → ℕ → ℕ → Tree → List (List ℕ) → Bool → ℕ → List Frame → List Lexeme → Infix → State
+abbrev pub second :
+    Bool → ℕ → ℕ → Tree → List (List ℕ) → Bool → ℕ → List Frame → List Lexeme → Infix → State
 second = M.second tree_making
 
-abbrev pub at_first : Bool → ℕ → ℕ → Tree → List (List ℕ) → Bool → ℕ → List Frame → List Lexeme → State
+abbrev pub at_first :
+    Bool → ℕ → ℕ → Tree → List (List ℕ) → Bool → ℕ → List Frame → List Lexeme → State
 at_first = M.at_first tree_making
 
 abbrev pub after_paren : Bool → ℕ → List Frame → ℕ → Tree → List Lexeme → State

@@ -22,7 +22,7 @@ abbrev pub rank : Chain → ℕ
 rank And = 1000
 rank Or = 1100
 
--- an joined_by operator by its kind: whether its operands are y operands
+-- an infix operator by its kind: whether its operands are y operands
 abbrev pub binary_of : ℕ → Fix → Infix
 binary_of n Xfx = Binary n false false
 binary_of n Xfy = Binary n false true
@@ -53,8 +53,8 @@ abbrev pub is_open_ct : List Lexeme → Bool
 is_open_ct (OpenCt l ∷ ts) = true
 is_open_ct _ = false
 
--- Whether the first of these tokens starts a term. A name does not where it is an joined_by and no
--- prefix operator, stands without quotes, and no bracket follows directly.
+-- Whether the first of these tokens starts a term. A name does not where it is an infix operator
+-- and no prefix operator, stands without quotes, and no bracket follows directly.
 abbrev pub starts : List Lexeme → Bool
 starts [] = false
 starts (Word w q l ∷ ts) =

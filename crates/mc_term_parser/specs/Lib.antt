@@ -3,8 +3,6 @@ pub mod Infixes
 pub mod Tree
 pub mod Part
 pub mod Reads
-pub mod Machine
-pub mod Leads
-pub mod Seen
-pub mod Views
+pub mod Answers
 pub mod Laws
+pub mod code

@@ -45,7 +45,8 @@ mutual
         → Reads c limit (L.Word w q l ∷ r) (closed (App l (w ∷ []) (trees []))) r
     path : {c : Bool} {limit l : ℕ} {ps : List (List ℕ)} {r : List Lexeme} →
         is_open_ct r ≡ false → Reads c limit (L.Path ps l ∷ r) (closed (App l ps (trees []))) r
-    compound : {c : Bool} {limit k : ℕ} {x : Lexeme} {ps : List (List ℕ)} {ts r : List Lexeme} {ms : List Tree} →
+    compound : {c : Bool} {limit k : ℕ} {x : Lexeme} {ps : List (List ℕ)} {ts r : List Lexeme}
+        {ms : List Tree} →
         callee x ≡ Some ps → Parts ByComma true 1200 ts ms (L.Close ∷ r) →
         Reads c limit (x ∷ L.OpenCt k ∷ ts) (closed (App (line x) ps (trees ms))) r
     paren : {c : Bool} {limit : ℕ} {x : Lexeme} {ts r : List Lexeme} {p : Part Tree} →
@@ -61,23 +62,27 @@ mutual
         Parts ByComma true 1200 ts es (L.Bar ∷ us) → Reads true 1200 us p (L.ListClose ∷ r)
         → p.number ≤ 1200 →
         Reads c limit (L.ListOpen l ∷ ts) (closed (Tailed l (trees es) p.tree)) r
-    prefix : {c : Bool} {limit n m l : ℕ} {w : List ℕ} {q : Bool} {ts r : List Lexeme} {p : Part Tree} →
+    prefix : {c : Bool} {limit n m l : ℕ} {w : List ℕ} {q : Bool} {ts r : List Lexeme}
+        {p : Part Tree} →
         role limit w ts ≡ Single n m → Reads c m ts p r → p.number ≤ m →
         Reads c limit (L.Word w q l ∷ ts) (over n m (App l (w ∷ []) (trees (p.tree ∷ [])))) r
-    quantified : {c : Bool} {limit n l : ℕ} {w : List ℕ} {q : Bool} {x : Lexeme} {ts us r : List Lexeme} {a b : Part Tree} →
+    quantified : {c : Bool} {limit n l : ℕ} {w : List ℕ} {q : Bool} {x : Lexeme}
+        {ts us r : List Lexeme} {a b : Part Tree} →
         role limit w ts ≡ Double n → Reads c (n - 1) ts a (x ∷ us) → a.number ≤ n - 1
         → joined_by c x ≡ Nothing →
         Reads c n (x ∷ us) b r → b.number ≤ n →
         Reads c limit (L.Word w q l ∷ ts) (over n n (App l (w ∷ []) (trees (a.tree ∷ b.tree ∷ []))))
         r
-    binary : {c : Bool} {limit n : ℕ} {x : Lexeme} {ly ry : Bool} {ts us r : List Lexeme} {a b : Part Tree} →
+    binary : {c : Bool} {limit n : ℕ} {x : Lexeme} {ly ry : Bool} {ts us r : List Lexeme}
+        {a b : Part Tree} →
         Reads c limit ts a (x ∷ us) → joined_by c x ≡ Binary n ly ry → a.number ≤ operand ly n
         → a.reach < n →
         Reads c (operand ry n) us b r → b.number ≤ operand ry n →
         Reads c limit ts
         (over n (operand ry n) (App (line_of a.tree) (name_of x) (trees (a.tree ∷ b.tree ∷ []))))
         r
-    chained : {c : Bool} {limit : ℕ} {k : Chain} {x : Lexeme} {ts us r : List Lexeme} {a : Part Tree} {ms : List Tree} →
+    chained : {c : Bool} {limit : ℕ} {k : Chain} {x : Lexeme} {ts us r : List Lexeme}
+        {a : Part Tree} {ms : List Tree} →
         Reads c limit ts a (x ∷ us) → joined_by c x ≡ Chains k → a.number < rank k →
         Parts (ByChain k) c (rank k - 1) us ms r →
         Reads c limit ts (over (rank k) (rank k) (chain k (line_of a.tree) (a.tree ∷ ms))) r
@@ -86,7 +91,8 @@ mutual
   pub data Parts : Between → Bool → ℕ → List Lexeme → List Tree → List Lexeme → Type 0 where
     last : {s : Between} {c : Bool} {limit : ℕ} {ts r : List Lexeme} {p : Part Tree} →
         Reads c limit ts p r → p.number ≤ limit → Parts s c limit ts (p.tree ∷ []) r
-    more : {s : Between} {c : Bool} {limit : ℕ} {x : Lexeme} {ts us r : List Lexeme} {p : Part Tree} {ms : List Tree} →
+    more : {s : Between} {c : Bool} {limit : ℕ} {x : Lexeme} {ts us r : List Lexeme}
+        {p : Part Tree} {ms : List Tree} →
         Reads c limit ts p (x ∷ us) → p.number ≤ limit → Separates s c x → Parts s c limit us ms r →
         Parts s c limit ts (p.tree ∷ ms) r
 

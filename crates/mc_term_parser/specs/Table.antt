@@ -132,7 +132,7 @@ abbrev pub or_row : Option (ℕ × Fix) → Option (ℕ × Fix) → Option (ℕ 
 or_row None other = other
 or_row (Some r) other = Some r
 
--- the joined_by operators
+-- the infix operators
 unfoldable pub infix_row : List ℕ → Option (ℕ × Fix)
 infix_row w =
     or_row (row_of arithmetic_rows w)

@@ -2,7 +2,8 @@ use crate::infixes::Chain;
 use crate::reading::{Reading, Readings};
 use mc_base::{Row, Text};
 
-// A term with its number, and the number up to which its last operand was read (0 where it ends in no operand).
+// A term with its number, and the number up to which its last operand was read (0 where it ends in
+// no operand).
 #[derive(Drop)]
 pub struct Part {
     pub reading: Reading,

@@ -1,6 +1,7 @@
 use mc_base::{Row, Text};
 
-/// A token of an item as the reader of terms sees it. What starts a term has its line, counted from 1.
+/// A token of an item as the reader of terms sees it. What starts a term has its line, counted from
+/// 1.
 #[derive(Debug, Drop)]
 pub enum Lexeme {
     /// A name; whether it stands in quotes; the line.

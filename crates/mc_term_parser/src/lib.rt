@@ -15,6 +15,3 @@ pub use lexeme::Lexeme;
 pub use reading::Reading;
 pub use starting::read;
 pub use table::{Fix, infix, prefix};
-
-#[cfg(test)]
-mod tests;

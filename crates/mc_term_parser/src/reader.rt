@@ -1,8 +1,8 @@
 ghost use Rattle.std.specs.Prelude.{◌≡◌, ◌-◌, ◌+◌, ◌≤◌, ◌<◌, ◌^◌, ◌∷◌, [], length, drop, IfOk, Some};
-ghost use Rattle.mc_term_parser.specs.Views.{state, frames, frame as frame_seen, part as part_seen, reading as seen, readings as seen_row, mark_of, infix_next, name_next, separates};
+ghost use Rattle.mc_term_parser.specs.code.Views.{state, frames, frame as frame_seen, part as part_seen, reading as seen, readings as seen_row, mark_of, infix_next, name_next, separates};
 ghost use Rattle.mc_term_parser.specs.Infixes.{joined_by, infix_of as infix_from, binary_of, operand, rank};
-ghost use Rattle.mc_term_parser.specs.Machine as M;
-ghost use Rattle.mc_term_parser.specs.Seen.{seen_making, seen_app};
+ghost use Rattle.mc_term_parser.specs.code.Machine as M;
+ghost use Rattle.mc_term_parser.specs.code.Seen.{seen_making, seen_app};
 ghost use Rattle.mc_term_parser.specs.Part as P;
 
 use crate::frame::{Context, Frame, Machine, Mark, Now, Operator, ParserStack, Part, Series};
@@ -398,7 +398,8 @@ fn after_part(
     }
 }
 
-// The first of two operands is read: the second begins, where nothing joins the first to what follows.
+// The first of two operands is read: the second begins, where nothing joins the first to what
+// follows.
 fn at_first(
     tokens: &[Lexeme],
     parser: ParserStack,

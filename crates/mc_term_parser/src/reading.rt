@@ -5,8 +5,9 @@ use mc_base::{Memory, Row, Text};
 use mc_term_data::{Node, Term};
 use std::alloc::Global;
 
-/// What was read of a term: the term, how deep it is, and the line of the first number that 64 bits don't hold.
-/// A depth of 257 stands for every depth above 256, and a number 0 is then kept in the term's place.
+/// What was read of a term: the term, how deep it is, and the line of the first number that 64 bits
+/// don't hold. A depth of 257 stands for every depth above 256, and a number 0 is then kept in the
+/// term's place.
 #[derive(Drop)]
 pub struct Reading {
     pub term: Term,
@@ -15,7 +16,8 @@ pub struct Reading {
     ghost counted: { depth ≤ 257 },
 }
 
-// Terms in a row, with the depth of the deepest and the line of the first number that 64 bits don't hold.
+// Terms in a row, with the depth of the deepest and the line of the first number that 64 bits don't
+// hold.
 #[derive(Drop)]
 pub struct Readings {
     pub terms: Vec<Term>,
@@ -27,11 +29,11 @@ pub struct Readings {
 impl Reading {
     ghost use Rattle.std.specs.Prelude.{◌≡◌, ◌≤◌, IfOk};
     ghost use Rattle.mc_term_data.specs.Plain.{plain_node, Var, Str};
-    ghost use Rattle.mc_term_parser.specs.Seen.{kept, leaf, seen_large, line_seen, node_seen, seen_int, seen_neg, seen_app, seen_items, seen_tailed, seen_conj, seen_disj, seen_inside, seen_making};
-    ghost use Rattle.mc_term_parser.specs.Machine.{chain};
-    ghost use Rattle.mc_term_parser.specs.Views.{reading, readings};
+    ghost use Rattle.mc_term_parser.specs.code.Seen.{kept, leaf, seen_large, line_seen, node_seen, seen_int, seen_neg, seen_app, seen_items, seen_tailed, seen_conj, seen_disj, seen_inside, seen_making};
+    ghost use Rattle.mc_term_parser.specs.code.Machine.{chain};
+    ghost use Rattle.mc_term_parser.specs.code.Views.{reading, readings};
 
-    #[tactic(auto, unfolding(crate::specs::Seen::leaf))]
+    #[tactic(auto, unfolding(crate::specs::code::Seen::leaf))]
     fn leaf(line: u32, node: Node) -> Reading
         ensures { reading result ≡ leaf line (plain_node node) }
     {
@@ -43,7 +45,7 @@ impl Reading {
     }
 
     // A number that 64 bits don't hold.
-    #[tactic(auto, unfolding(crate::specs::Seen::seen_large))]
+    #[tactic(auto, unfolding(crate::specs::code::Seen::seen_large))]
     fn large(line: u32) -> Reading
         ensures { reading result ≡ seen_large line }
     {
@@ -58,7 +60,7 @@ impl Reading {
     }
 
     // A term of this depth: it is kept where it is at most 256.
-    #[tactic(auto, unfolding(crate::specs::Seen::kept))]
+    #[tactic(auto, unfolding(crate::specs::code::Seen::kept))]
     fn kept(line: u32, node: Node, depth: u32, too_large: Option<u32>) -> Reading
         ensures { reading result ≡ kept line (plain_node node) depth too_large }
     {
@@ -91,7 +93,7 @@ impl Reading {
         Reading::leaf(line, Node::Str(bytes))
     }
 
-    #[tactic(auto, unfolding(crate::specs::Seen::seen_int))]
+    #[tactic(auto, unfolding(crate::specs::code::Seen::seen_int))]
     pub fn int(line: u32, value: u64) -> Reading
         ensures { reading result ≡ seen_int line value }
     {
@@ -103,7 +105,7 @@ impl Reading {
     }
 
     // A number behind a minus sign.
-    #[tactic(auto, unfolding(crate::specs::Seen::seen_neg))]
+    #[tactic(auto, unfolding(crate::specs::code::Seen::seen_neg))]
     pub fn neg(line: u32, value: u64) -> Reading
         ensures { reading result ≡ seen_neg line value }
     {
@@ -116,7 +118,7 @@ impl Reading {
         }
     }
 
-    #[tactic(auto, unfolding(crate::specs::Seen::seen_app))]
+    #[tactic(auto, unfolding(crate::specs::code::Seen::seen_app))]
     pub fn app(line: u32, name: Row<Text>, args: Readings) -> Result<Reading, Memory>
         ensures { IfOk result (λ r. reading r ≡ seen_app line name (readings args)) }
     {
@@ -124,7 +126,7 @@ impl Reading {
         Ok(Reading::kept(line, node, 1 + args.depth, args.too_large))
     }
 
-    #[tactic(auto, unfolding(crate::specs::Seen::seen_items))]
+    #[tactic(auto, unfolding(crate::specs::code::Seen::seen_items))]
     pub fn items(line: u32, items: Readings) -> Result<Reading, Memory>
         ensures { IfOk result (λ r. reading r ≡ seen_items line (readings items)) }
     {
@@ -133,7 +135,7 @@ impl Reading {
     }
 
     // A list with what follows its bar.
-    #[tactic(auto, unfolding(crate::specs::Seen::seen_tailed))]
+    #[tactic(auto, unfolding(crate::specs::code::Seen::seen_tailed))]
     pub fn tailed(
         alloc: Global,
         line: u32,
@@ -148,7 +150,10 @@ impl Reading {
         Ok(Reading::kept(line, node, depth, items.too_large.or(tail.too_large)))
     }
 
-    #[tactic(auto, unfolding(crate::specs::Seen::seen_conj, crate::specs::Seen::seen_disj))]
+    #[tactic(
+        auto,
+        unfolding(crate::specs::code::Seen::seen_conj, crate::specs::code::Seen::seen_disj)
+    )]
     pub fn chain(kind: Chain, line: u32, parts: Readings) -> Result<Reading, Memory>
         ensures { IfOk result (λ r. reading r ≡ chain seen_making kind line (readings parts)) }
     {
@@ -168,7 +173,7 @@ impl Reading {
     }
 
     // A term in brackets, of which the first stands on a line.
-    #[tactic(auto, unfolding(crate::specs::Seen::seen_inside))]
+    #[tactic(auto, unfolding(crate::specs::code::Seen::seen_inside))]
     pub fn inside(self, line: u32) -> Reading
         ensures { reading result ≡ seen_inside line (reading self) }
     {
@@ -178,10 +183,10 @@ impl Reading {
 
 impl Readings {
     ghost use Rattle.std.specs.Prelude.{◌≡◌, IfOk};
-    ghost use Rattle.mc_term_parser.specs.Seen.{no_seen, seen_then};
-    ghost use Rattle.mc_term_parser.specs.Views.{reading, readings};
+    ghost use Rattle.mc_term_parser.specs.code.Seen.{no_seen, seen_then};
+    ghost use Rattle.mc_term_parser.specs.code.Views.{reading, readings};
 
-    #[tactic(auto, unfolding(crate::specs::Seen::no_seen))]
+    #[tactic(auto, unfolding(crate::specs::code::Seen::no_seen))]
     pub fn none(alloc: Global) -> Readings
         ensures { readings result ≡ no_seen }
     {
@@ -193,7 +198,7 @@ impl Readings {
     }
 
     // One term, in just the room that it takes.
-    #[tactic(auto, unfolding(crate::specs::Seen::no_seen))]
+    #[tactic(auto, unfolding(crate::specs::code::Seen::no_seen))]
     pub fn one(alloc: Global, only: Reading) -> Result<Readings, Memory>
         ensures { IfOk result (λ r. readings r ≡ seen_then no_seen (reading only)) }
     {
@@ -206,7 +211,7 @@ impl Readings {
     }
 
     // Two terms, in just the room that they take.
-    #[tactic(auto, unfolding(crate::specs::Seen::no_seen))]
+    #[tactic(auto, unfolding(crate::specs::code::Seen::no_seen))]
     pub fn two(alloc: Global, left: Reading, right: Reading) -> Result<Readings, Memory>
         ensures { IfOk result
             (λ r. readings r ≡ seen_then (seen_then no_seen (reading left)) (reading right)) }
@@ -220,7 +225,11 @@ impl Readings {
     }
 
     // With one more behind them.
-    #[tactic(auto, using(crate::proofs::Rules::pushes), unfolding(crate::specs::Seen::seen_then))]
+    #[tactic(
+        auto,
+        using(crate::proofs::Rules::pushes),
+        unfolding(crate::specs::code::Seen::seen_then)
+    )]
     pub fn then(self, next: Reading) -> Result<Readings, Memory>
         ensures { IfOk result (λ r. readings r ≡ seen_then (readings self) (reading next)) }
     {

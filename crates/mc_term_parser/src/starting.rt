@@ -1,8 +1,9 @@
 ghost use Rattle.std.specs.Prelude.{◌≡◌, ◌+◌, ◌-◌, ◌≤◌, ◌<◌, ◌∷◌, [], length, drop, IfOk, IfSome, IfNone, Option, Some, List, Bool, true, false};
-ghost use Rattle.mc_term_parser.specs.Views.{state, frames, part as part_seen, reading as seen, mark_of, number_next, minus_next, is_over, Shows};
+ghost use Rattle.mc_term_parser.specs.code.Views.{state, frames, part as part_seen, reading as seen, mark_of, number_next, minus_next, is_over};
+ghost use Rattle.mc_term_parser.specs.Answers.{Shows};
 ghost use Rattle.mc_term_parser.specs.Infixes.{prefix_role, prefix_of, starts, role};
-ghost use Rattle.mc_term_parser.specs.Machine as M;
-ghost use Rattle.mc_term_parser.specs.Seen.{Seen, seen_making};
+ghost use Rattle.mc_term_parser.specs.code.Machine as M;
+ghost use Rattle.mc_term_parser.specs.code.Seen.{Seen, seen_making};
 ghost use Rattle.mc_term_parser.specs.Part as P;
 ghost use Rattle.mc_term_parser.specs.Reads.{ReadsTerm};
 ghost use Rattle.mc_term_parser.specs.Tree.{Tree};
@@ -330,7 +331,9 @@ fn start_at(
 
 // One step of the machine.
 fn step(alloc: Global, tokens: &[Lexeme], machine: Machine) -> Result<Machine, Memory>
-    ensures { IfOk result (λ m. state tokens.now m ≡ M.step seen_making (state tokens.now machine)) }
+    ensures {
+        IfOk result (λ m. state tokens.now m ≡ M.step seen_making (state tokens.now machine))
+    }
 {
     let Machine { phase, parser } = machine;
     let ParserStack { stack, at } = parser;
@@ -354,8 +357,14 @@ fn is_over(machine: &Machine) -> bool
 }
 
 fn answer(machine: Machine) -> Option<Reading>
-    ensures found { IfSome result (λ r. (tokens : List Lexeme) → (p : P.Part Seen) × (state tokens machine ≡ M.Yes p) × (p.tree ≡ seen r)) }
-    ensures none { IfNone result ((tokens : List Lexeme) → is_over (state tokens machine) ≡ true → state tokens machine ≡ M.No) }
+    ensures found { IfSome result
+        (λ r.
+        (tokens : List Lexeme)
+        → (p : P.Part Seen) × (state tokens machine ≡ M.Yes p) × (p.tree ≡ seen r)) }
+    ensures none { IfNone result
+        ((tokens : List Lexeme)
+        → is_over (state tokens machine) ≡ true
+        → state tokens machine ≡ M.No) }
 {
     let Machine { phase, .. } = machine;
     match phase {
@@ -368,7 +377,9 @@ fn answer(machine: Machine) -> Option<Reading>
 pub fn read(alloc: Global, tokens: &[Lexeme]) -> Result<Option<Reading>, Memory>
     ensures found { IfOk result
         (λ answer. IfSome answer (λ r. (t : Tree) × ReadsTerm tokens.now t 1200 × Shows t r)) }
-    ensures none { IfOk result (λ answer. IfNone answer ((t : Tree) → ReadsTerm tokens.now t 1200 → ⊥)) }
+    ensures none {
+        IfOk result (λ answer. IfNone answer ((t : Tree) → ReadsTerm tokens.now t 1200 → ⊥))
+    }
 {
     let parser = ParserStack {
         stack: Vec::new(alloc),

@@ -1,8 +1,8 @@
 ghost use Rattle.std.specs.Prelude.{◌≡◌};
 ghost use Rattle.mc_term_parser.specs.Table.{row_of, infix_row, prefix_row, arithmetic_rows, comparing_rows, joining_rows, declaring_rows, sign_rows, goal_rows, item_rows, left_out_rows};
 
-/// How an operator stands to its operands: an `x` operand has a smaller number than the operator, a `y`
-/// operand at most the same.
+/// How an operator stands to its operands: an `x` operand has a smaller number than the operator, a
+/// `y` operand at most the same.
 #[derive(Clone, Copy, Debug, PartialEq, Eq)]
 pub enum Fix {
     Xfx,
@@ -13,7 +13,7 @@ pub enum Fix {
     Fxy,
 }
 
-/// The number and the kind of an infix operator, None where the name is none. PlainDecl takes no memory.
+/// The number and the kind of an infix operator, None where the name is none. It takes no memory.
 #[tactic(auto, unfolding(crate::specs::Table::infix_row))]
 pub fn infix(name: &[u8]) -> Option<(u32, Fix)>
     ensures { result ≡ infix_row name.now }
@@ -89,7 +89,7 @@ fn declaring(name: &[u8]) -> Option<(u32, Fix)>
     }
 }
 
-/// The number and the kind of a prefix operator, None where the name is none. PlainDecl takes no memory.
+/// The number and the kind of a prefix operator, None where the name is none. It takes no memory.
 #[tactic(auto, unfolding(crate::specs::Table::prefix_row))]
 pub fn prefix(name: &[u8]) -> Option<(u32, Fix)>
     ensures { result ≡ prefix_row name.now }

@@ -10,7 +10,9 @@ use Rattle.mc_tokens.specs.Tokens.{lexed, Tok, Fault}
 use Rattle.mc_tokens.specs.Items.{Piece, ends, Item, Faulty}
 use Rattle.mc_tokens.specs.Items as I
 use Rattle.mc_terms.specs.Lines.{line_at}
-use Rattle.mc_terms.specs.Lexemes.{with_token, lexemes}
+use Rattle.mc_terms.specs.Lexemes.{lexemes}
+use Rattle.mc_terms.specs.code.Walked.{with_token, walked}
+use Rattle.mc_terms.proofs.Walked.{walked_is}
 use Rattle.mc_tokens.specs.Items.{Passes}
 use Rattle.mc_tokens.specs.declared.token.TokenFault.{TokenFault}
 use Rattle.mc_tokens.specs.declared.token.Token as D
@@ -19,43 +21,65 @@ use Rattle.mc_terms.specs.declared.fault.ReadKind.TheVariants.{Token, NotATerm}
 use Rattle.mc_term_parser.specs.Tree.{Tree}
 use Rattle.mc_term_parser.specs.Reads.{ReadsTerm}
 use Rattle.mc_terms.specs.declared.fault.ReadKind.{ReadKind}
-use Rattle.mc_terms.specs.Answers.{ItemTokens, IsRefused, StandsAt, item_line, token_line}
+use Rattle.mc_terms.specs.Answers.{AreItemTokens, IsRefused, StandsAt, item_line, token_line}
 
 -- the rest of the item, from a place after a token of a kind, completes the tokens so far
 pub record Continues (text : List ℕ) (from at : ℕ) (after : Kind) (tokens : List Lexeme) : Type 0 where
-  pub items : (ps : List Piece) (stop : ℕ) → Item text at after ps stop → (qs : List Piece) × Item text from Eof qs stop × (lexemes text [] qs ≡ lexemes text (reverse tokens) ps)
-  pub faults : (f : FaultKind) (place : ℕ) → Faulty text at after f place → Faulty text from Eof f place
+  pub items :
+      (ps : List Piece) (stop : ℕ)
+      → Item text at after ps stop
+      → (qs : List Piece)
+      × Item text from Eof qs stop
+      × (lexemes text qs ≡ walked text (reverse tokens) ps)
+  pub faults :
+      (f : FaultKind) (place : ℕ) → Faulty text at after f place → Faulty text from Eof f place
 
 pub begins : (text : List ℕ) (from : ℕ) → Continues text from from Eof []
-begins text from = record { items = λ ps stop d. (ps, d, refl); faults = λ f place d. d }
+begins text from =
+    record { items = λ ps stop d. (ps, d, sym (walked_is text ps)); faults = λ f place d. d }
+
+pub begins_with : (text : List ℕ) (from : ℕ) (tokens : List Lexeme) → tokens ≡ [] → Continues text from from Eof tokens
+begins_with text from tokens e = subst (λ ts. Continues text from from Eof ts) (sym e) (begins text from)
 
 -- at the item's end
-pub ended : (text : List ℕ) (from at : ℕ) (after e : Kind) (start stop : ℕ) (tokens : List Lexeme) → Continues text from at after tokens → lexed text at after ≡ Tok e start stop → ends e ≡ true → ItemTokens text from tokens stop
+pub ended :
+    (text : List ℕ) (from at : ℕ) (after e : Kind) (start stop : ℕ) (tokens : List Lexeme)
+    → Continues text from at after tokens → lexed text at after ≡ Tok e start stop → ends e ≡ true
+    → AreItemTokens text from tokens stop
 ended text from at after e start stop tokens c l h =
     let (qs, item, is) = c.items [] stop (I.over l h) in
     (qs, item, is ∙ reverse-reverse tokens)
 
 -- behind one more token
 pub goes_on : (text : List ℕ) (from at : ℕ) (after e : Kind) (start stop : ℕ) (tokens more : List Lexeme) → Continues text from at after tokens → lexed text at after ≡ Tok e start stop → ends e ≡ false
-    → reverse more ≡ with_token (reverse tokens) e (stands_for e (slice_range text start stop)) (line_at text start) → Continues text from stop e more
+    → reverse more
+    ≡ with_token (reverse tokens) e (stands_for e (slice_range text start stop))
+    (line_at text start)
+    → Continues text from stop e more
 goes_on text from at after e start stop tokens more c l h m = record {
   items = λ ps last d.
       let (qs, item, is) = c.items (record { kind = e; bytes = slice_range text start stop; place = start } ∷ ps) last (I.next l h d) in
-      (qs, item, is ∙ ap (λ done. lexemes text done ps) (sym m));
+      (qs, item, is ∙ ap (λ done. walked text done ps) (sym m));
   faults = λ f place d. c.faults f place (I.later l h d);
 }
 
 -- at a faulty token
-pub faulty : (text : List ℕ) (from at : ℕ) (after : Kind) (f : FaultKind) (place : ℕ) (tokens : List Lexeme) → Continues text from at after tokens → lexed text at after ≡ Fault f place → Faulty text from Eof f place
+pub faulty :
+    (text : List ℕ) (from at : ℕ) (after : Kind) (f : FaultKind) (place : ℕ) (tokens : List Lexeme)
+    → Continues text from at after tokens → lexed text at after ≡ Fault f place
+    → Faulty text from Eof f place
 faulty text from at after f place tokens c l = c.faults f place (I.here l)
 
 -- the same for the walk's answers, the text of which stays
 pub refused_by : (text before behind : List ℕ) (from at line : ℕ) (after : Kind) (f : TokenFault) (tokens : List Lexeme) (r : ReadFault) → before ≡ text → behind ≡ before → Continues before from at after tokens → Fault f.kind f.at ≡ lexed before at after
-    → line ≡ item_line text from → r.kind ≡ Token f.kind → r.line ≡ token_line f.kind line (line_at behind f.at) → Passes behind (f.at + 1) Eof r.next → IsRefused text from r.kind r.line r.next
+    → line ≡ item_line text from → r.kind ≡ Token f.kind
+    → r.line ≡ token_line f.kind line (line_at behind f.at)
+    → Passes behind (f.at + 1) Eof r.next → IsRefused text from r.kind r.line r.next
 refused_by text before behind from at line after f tokens r e g c l m k n p =
     subst (λ kind. IsRefused text from kind r.line r.next) (sym k) (
       f.at,
-      subst (λ t. Faulty t from Eof f.kind f.at) e (faulty before from at after f.kind f.at tokens c (sym l)),
+      subst (λ t. Faulty t from Eof f.kind f.at) e
+          (faulty before from at after f.kind f.at tokens c (sym l)),
       n ∙ (λ i. token_line f.kind (m i) (line_at ((g ∙ e) i) f.at)),
       subst (λ t. Passes t (f.at + 1) Eof r.next) (g ∙ e) p,
     )
@@ -69,14 +93,17 @@ stands_by text before from at place after f tokens kind e c l k p =
     (subst (λ t. Faulty t from Eof f.kind f.at) e (faulty before from at after f.kind f.at tokens c (sym l))))
 
 pub ended_at : (text before : List ℕ) (from at : ℕ) (after : Kind) (t : D.Token) (tokens : List Lexeme) (stop : ℕ) → before ≡ text → Continues before from at after tokens → Tok t.kind t.start t.end ≡ lexed before at after
-    → ends t.kind ≡ true → stop ≡ t.end → ItemTokens text from tokens stop
+    → ends t.kind ≡ true → stop ≡ t.end → AreItemTokens text from tokens stop
 ended_at text before from at after t tokens stop e c l h s =
-    subst (λ stop. ItemTokens text from tokens stop) (sym s)
-    (subst (λ u. ItemTokens u from tokens t.end) e (ended before from at after t.kind t.start t.end tokens c (sym l) h))
+    subst (λ stop. AreItemTokens text from tokens stop) (sym s)
+    (subst (λ u. AreItemTokens u from tokens t.end) e
+    (ended before from at after t.kind t.start t.end tokens c (sym l) h))
 
 pub goes_on_at : (behind before : List ℕ) (from at : ℕ) (after : Kind) (t : D.Token) (tokens more : List Lexeme) (line stop : ℕ) → behind ≡ before → Continues before from at after tokens → Tok t.kind t.start t.end ≡ lexed before at after
-    → ends t.kind ≡ false → t.text.now ≡ slice_range before t.start t.end → line ≡ line_at behind t.start → stop ≡ t.end
-    → reverse more ≡ with_token (reverse tokens) t.kind (stands_for t.kind t.text.now) line → Continues behind from stop t.kind more
+    → ends t.kind ≡ false → t.text.now ≡ slice_range before t.start t.end
+    → line ≡ line_at behind t.start → stop ≡ t.end
+    → reverse more ≡ with_token (reverse tokens) t.kind (stands_for t.kind t.text.now) line
+    → Continues behind from stop t.kind more
 goes_on_at behind before from at after t tokens more line stop g c l h w n s m =
     subst (λ stop. Continues behind from stop t.kind more) (sym s)
     (subst (λ u. Continues u from t.end t.kind more) (sym g)
@@ -84,11 +111,12 @@ goes_on_at behind before from at after t tokens more line stop g c l h w n s m =
     (m ∙ (λ i. with_token (reverse tokens) t.kind (stands_for t.kind (w i)) ((n ∙ ap (λ u. line_at u t.start) g) i)))))
 
 -- where nothing reads
-pub not_a_term : (text walk shown : List ℕ) (at : ℕ) (ts slice : List Lexeme) (stop line : ℕ) (first : D.Token) → walk ≡ text → ItemTokens walk at ts stop → slice ≡ ts → ((t : Tree) → ReadsTerm slice t 1200 → ⊥)
-    → Tok first.kind first.start first.end ≡ lexed text at Eof → (first.kind ≡ Eof → ⊥) → shown ≡ walk → line ≡ line_at shown first.start → IsRefused text at NotATerm line stop
+pub not_a_term : (text walk shown : List ℕ) (at : ℕ) (ts slice : List Lexeme) (stop line : ℕ) (first : D.Token) → walk ≡ text → AreItemTokens walk at ts stop → slice ≡ ts → ((t : Tree) → ReadsTerm slice t 1200 → ⊥)
+    → Tok first.kind first.start first.end ≡ lexed text at Eof → (first.kind ≡ Eof → ⊥)
+    → shown ≡ walk → line ≡ line_at shown first.start → IsRefused text at NotATerm line stop
 not_a_term text walk shown at ts slice stop line first e items s none l k w n = (
   ts,
-  subst (λ u. ItemTokens u at ts stop) e items,
+  subst (λ u. AreItemTokens u at ts stop) e items,
   subst (λ us. (t : Tree) → ReadsTerm us t 1200 → ⊥) s none,
   (first.kind, first.start, first.end, sym l, k, n ∙ ap (λ u. line_at u first.start) (w ∙ e)),
 )
@@ -101,5 +129,9 @@ Past from at after = ((at ≡ from) × (after ≡ Eof)) ⊎ (from < at)
 pub past_end : (text : List ℕ) (from at : ℕ) (after e : Kind) (start stop : ℕ) → ((start stop : ℕ) → lexed text from Eof ≢ Tok Eof start stop) → Past from at after → Tok e start stop ≡ lexed text at after
     → at ≤ start → start ≤ stop → (e ≢ Eof → start < stop) → from < stop
 past_end text from at after e start stop begun (inr b) l h i n = omega (arith, b, h, i)
-past_end text from at after Eof start stop begun (inl p) l h i n = absurd (begun start stop (subst (λ k. lexed text from k ≡ Tok Eof start stop) p.1 (subst (λ a. lexed text a after ≡ Tok Eof start stop) p.0 (sym l))))
+past_end text from at after Eof start stop begun (inl p) l h i n =
+    absurd
+    (begun start stop
+    (subst (λ k. lexed text from k ≡ Tok Eof start stop) p.1
+    (subst (λ a. lexed text a after ≡ Tok Eof start stop) p.0 (sym l))))
 past_end text from at after e start stop begun (inl p) l h i n = grind arith

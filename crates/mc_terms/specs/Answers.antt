@@ -1,5 +1,5 @@
 -- What the reader answers for the item that begins in a place of a text (this project's profile).
-use Rattle.std.specs.Prelude.{◌≡◌, ◌≢◌, ℕ, ◌+◌, ◌<◌, ◌≤◌, List, [], Some, None, length}
+use Rattle.std.specs.Prelude.{◌≡◌, ◌≢◌, ℕ, ◌+◌, ◌<◌, ◌≤◌, List, Some, None, length}
 use Rattle.mc_term_data.specs.Plain.{plain_term}
 use Rattle.mc_term_data.specs.declared.term.Term.{Term}
 use Rattle.mc_term_parser.specs.declared.lexeme.Lexeme.{Lexeme}
@@ -17,13 +17,13 @@ use Rattle.mc_terms.specs.Lines.{line_at}
 use Rattle.mc_terms.specs.Lexemes.{lexemes}
 
 -- the tokens of the item that begins in a place, and the place behind its end
-abbrev pub ItemTokens : List ℕ → ℕ → List Lexeme → ℕ → Type 0
-ItemTokens text at ts stop =
-    (ps : List Piece) × Item text at Eof ps stop × (lexemes text [] ps ≡ ts)
+abbrev pub AreItemTokens : List ℕ → ℕ → List Lexeme → ℕ → Type 0
+AreItemTokens text at ts stop =
+    (ps : List Piece) × Item text at Eof ps stop × (lexemes text ps ≡ ts)
 
 -- the item's tokens stand for a term, of which this is the tree
 abbrev pub ItemReads : List ℕ → ℕ → Tree → ℕ → Type 0
-ItemReads text at t stop = (ts : List Lexeme) × ItemTokens text at ts stop × ReadsTerm ts t 1200
+ItemReads text at t stop = (ts : List Lexeme) × AreItemTokens text at ts stop × ReadsTerm ts t 1200
 
 -- nothing but blanks and comments is left
 abbrev pub IsOver : List ℕ → ℕ → Type 0
@@ -72,7 +72,7 @@ IsRefused text at (Token f) line next =
     × Passes text (place + 1) Eof next
 IsRefused text at NotATerm line next =
     (ts : List Lexeme)
-    × ItemTokens text at ts next
+    × AreItemTokens text at ts next
     × ((t : Tree) → ReadsTerm ts t 1200 → ⊥)
     × BeginsOn text at line
 IsRefused text at IntTooLarge line next =

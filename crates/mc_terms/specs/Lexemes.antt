@@ -1,5 +1,5 @@
 -- The tokens of an item as the reader of terms takes them (the Mercury manual, Tokens and Terms).
-use Rattle.std.specs.Prelude.{ℕ, Bool, true, false, List, [], ◌∷◌, ◌++◌, reverse, Option, Some, None}
+use Rattle.std.specs.Prelude.{ℕ, Bool, true, false, List, [], ◌∷◌, Option, Some, None}
 use Rattle.mc_term_parser.specs.declared.lexeme.Lexeme.{Lexeme}
 use Rattle.mc_term_parser.specs.declared.lexeme.Lexeme.TheVariants as L
 use Rattle.mc_tokens.specs.declared.token.Kind.{Kind}
@@ -8,46 +8,41 @@ use Rattle.mc_tokens.specs.Contents.{stands_for}
 use Rattle.mc_tokens.specs.Items.{Piece}
 use Rattle.mc_terms.specs.Lines.{line_at}
 
--- The name that a dot goes on from, where the tokens so far, the last first, end so: its parts, its
--- line, and the tokens before it.
-abbrev pub qualifier : List Lexeme → Option (List (List ℕ) × ℕ × List Lexeme)
-qualifier (L.Dot ∷ L.Word w q l ∷ done) = Some (w ∷ [], l, done)
-qualifier (L.Dot ∷ L.Path ws l ∷ done) = Some (ws, l, done)
-qualifier _ = None
+-- Where a dot and a name come first, with which a name before them goes on: the parts of that name,
+-- and the tokens behind it.
+abbrev pub goes_on : List Lexeme → Option (List (List ℕ) × List Lexeme)
+goes_on (L.Dot ∷ L.Word w q l ∷ ts) = Some (w ∷ [], ts)
+goes_on (L.Dot ∷ L.Path ws l ∷ ts) = Some (ws, ts)
+goes_on _ = None
 
--- one more name: names with dots between them are one qualified name
-abbrev pub with_name :
-    Option (List (List ℕ) × ℕ × List Lexeme) → List Lexeme → List ℕ → Bool → ℕ → List Lexeme
-with_name None done w q l = L.Word w q l ∷ done
-with_name (Some r) done w q l = L.Path (r.0 ++ w ∷ []) r.1 ∷ r.2
+-- A name before these tokens: names with dots between them are one qualified name, which is on the
+-- line of its first part.
+abbrev pub name_by :
+    Option (List (List ℕ) × List Lexeme) → List ℕ → Bool → ℕ → List Lexeme → List Lexeme
+name_by None w q l ts = L.Word w q l ∷ ts
+name_by (Some r) w q l ts = L.Path (w ∷ r.0) l ∷ r.1
 
--- one more token, of a kind, that stands for these bytes and begins on a line
-abbrev pub with_token : List Lexeme → Kind → List ℕ → ℕ → List Lexeme
-with_token done K.Name w l = with_name (qualifier done) done w false l
-with_token done K.Quoted w l = with_name (qualifier done) done w true l
-with_token done K.Var w l = L.Var w l ∷ done
-with_token done (K.Int n) w l = L.Int n l ∷ done
-with_token done K.Str w l = L.Str w l ∷ done
-with_token done K.Open w l = L.Open l ∷ done
-with_token done K.OpenCt w l = L.OpenCt l ∷ done
-with_token done K.Close w l = L.Close ∷ done
-with_token done K.ListOpen w l = L.ListOpen l ∷ done
-with_token done K.ListClose w l = L.ListClose ∷ done
-with_token done K.Bar w l = L.Bar ∷ done
-with_token done K.Comma w l = L.Comma ∷ done
-with_token done _ w l = L.Dot ∷ done
+abbrev pub name_before : List ℕ → Bool → ℕ → List Lexeme → List Lexeme
+name_before w q l ts = name_by (goes_on ts) w q l ts
 
--- The tokens of an item, of which those that are done, the last first, come before the pieces.
-abbrev pub lexemes : List ℕ → List Lexeme → List Piece → List Lexeme
-lexemes text done [] = reverse done
-lexemes text done (p ∷ ps) =
-    lexemes text (with_token done p.kind (stands_for p.kind p.bytes) (line_at text p.place)) ps
+-- a token, of a kind, that stands for these bytes and begins on a line, before these tokens
+abbrev pub token_before : Kind → List ℕ → ℕ → List Lexeme → List Lexeme
+token_before K.Name w l ts = name_before w false l ts
+token_before K.Quoted w l ts = name_before w true l ts
+token_before K.Var w l ts = L.Var w l ∷ ts
+token_before (K.Int n) w l ts = L.Int n l ∷ ts
+token_before K.Str w l ts = L.Str w l ∷ ts
+token_before K.Open w l ts = L.Open l ∷ ts
+token_before K.OpenCt w l ts = L.OpenCt l ∷ ts
+token_before K.Close w l ts = L.Close ∷ ts
+token_before K.ListOpen w l ts = L.ListOpen l ∷ ts
+token_before K.ListClose w l ts = L.ListClose ∷ ts
+token_before K.Bar w l ts = L.Bar ∷ ts
+token_before K.Comma w l ts = L.Comma ∷ ts
+token_before _ w l ts = L.Dot ∷ ts
 
--- a kind of tokens that have no text of their own
-abbrev pub IsMark : Kind → Type 0
-IsMark K.Name = ⊥
-IsMark K.Quoted = ⊥
-IsMark K.Var = ⊥
-IsMark (K.Int n) = ⊥
-IsMark K.Str = ⊥
-IsMark _ = Unit {0}
+-- the tokens of an item, for its pieces in a text
+abbrev pub lexemes : List ℕ → List Piece → List Lexeme
+lexemes text [] = []
+lexemes text (p ∷ ps) =
+    token_before p.kind (stands_for p.kind p.bytes) (line_at text p.place) (lexemes text ps)

@@ -1,3 +1,4 @@
 pub mod Lines
 pub mod Lexemes
 pub mod Answers
+pub mod code

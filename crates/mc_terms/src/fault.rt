@@ -19,12 +19,12 @@ pub enum ReadKind {
 #[derive(Clone, Copy, Debug, PartialEq, Eq)]
 pub struct ReadFault {
     pub kind: ReadKind,
-    /// The line of the fault, counted from 1: of the faulty byte, of the first number that is too large, of the
-    /// place where the item begins after want of memory, else of the item's first token, also where a token is of
-    /// a form that is left out.
+    /// The line of the fault, counted from 1: of the faulty byte, of the first number that is too
+    /// large, of the place where the item begins after want of memory, else of the item's first
+    /// token, also where a token is of a form that is left out.
     pub line: u32,
-    /// The place in the text from which reading goes on: behind the item's end, or the text's length. After want
-    /// of memory it is the place where the item begins.
+    /// The place in the text from which reading goes on: behind the item's end, or the text's
+    /// length. After want of memory it is the place where the item begins.
     pub next: usize,
 }
 
@@ -32,6 +32,7 @@ pub struct ReadFault {
 #[derive(Clone, Copy, Debug, PartialEq, Eq)]
 pub struct ItemFault {
     pub fault: ReadFault,
-    /// The place of the faulty byte in the text; where no token is faulty, the place where the item begins.
+    /// The place of the faulty byte in the text; where no token is faulty, the place where the item
+    /// begins.
     pub at: usize,
 }

@@ -1,9 +1,9 @@
 ghost use Rattle.std.specs.Prelude.{◌≡◌, ◌≢◌, ◌+◌, ◌≤◌, ◌<◌, ◌^◌, ◌-◌, ◌∷◌, ◌++◌, [], length, reverse, OnOk, IfOk, IfErr, MatchOption, MatchResult, List, ℕ, IsTrue, false};
 ghost use Rattle.mc_tokens.specs.Contents.{stands_for};
 ghost use Rattle.mc_terms.specs.Lines.{line_at};
-ghost use Rattle.mc_terms.specs.Lexemes.{qualifier, with_name, with_token, IsMark};
+ghost use Rattle.mc_terms.specs.code.Walked.{qualifier, with_name, with_token, IsMark};
 ghost use Rattle.mc_term_parser.specs.declared.lexeme.Lexeme.{Lexeme};
-ghost use Rattle.mc_terms.specs.Answers.{ItemTokens, IsRefused, IsOnward, StandsAt, item_line};
+ghost use Rattle.mc_terms.specs.Answers.{AreItemTokens, IsRefused, IsOnward, StandsAt, item_line};
 ghost use Rattle.mc_tokens.specs.Tokens.{Tok, lexed};
 ghost use Rattle.mc_tokens.specs.Items.{Passes};
 ghost use Rattle.std.specs.Prelude.{None, Some};
@@ -17,14 +17,22 @@ use std::alloc::Global;
 
 // The tokens of an item, and the position behind its end.
 #[derive(Drop)]
-pub struct Item {
+pub struct ItemTokens {
     pub tokens: Vec<Lexeme>,
     pub end: Position,
 }
 
 // The parts and the line of a name that a dot goes on from, or the token where it is no name.
 fn name_parts(alloc: Global, token: Lexeme) -> Result<Result<(Row<Text>, u32), Lexeme>, Memory>
-    ensures { IfOk result (λ r. MatchResult r (λ q. (done : List Lexeme) → qualifier (Lexeme.Dot ∷ token ∷ done) ≡ Some (q.0, q.1, done)) (λ t. (t ≡ token) × ((done : List Lexeme) → qualifier (Lexeme.Dot ∷ token ∷ done) ≡ None))) }
+    ensures { IfOk result
+        (λ r.
+        MatchResult r
+        (λ q.
+        (done : List Lexeme)
+        → qualifier (Lexeme.Dot ∷ token ∷ done) ≡ Some (q.0, q.1, done))
+        (λ t.
+        (t ≡ token)
+        × ((done : List Lexeme) → qualifier (Lexeme.Dot ∷ token ∷ done) ≡ None))) }
 {
     match token {
         Lexeme::Word(name, _, line) => Ok(Ok((Row::one(alloc, name)?, line))),
@@ -170,7 +178,8 @@ pub fn want_of_memory(from: Position) -> ItemFault
     ItemFault { fault, at: from.at }
 }
 
-// The line that is told of a faulty token: that of its item, where its form is left out, else its own.
+// The line that is told of a faulty token: that of its item, where its form is left out, else its
+// own.
 fn token_line(kind: FaultKind, item: u32, own: u32) -> u32
     ensures { result ≡ Rattle.mc_terms.specs.Answers.token_line kind item own }
 {
@@ -180,7 +189,8 @@ fn token_line(kind: FaultKind, item: u32, own: u32) -> u32
     }
 }
 
-// The fault of a faulty token, that comes first from a position on, in an item that begins on a line.
+// The fault of a faulty token, that comes first from a position on, in an item that begins on a
+// line.
 pub fn faulty_token(walk: &mut Walk, from: Position, line: u32, fault: TokenFault) -> ItemFault
     requires order { from.at ≤ fault.at }
     requires within { fault.at < length walk.old }
@@ -210,13 +220,13 @@ pub fn item_tokens(
     walk: &mut Walk,
     from: Position,
     line: u32,
-) -> Result<Item, ItemFault>
+) -> Result<ItemTokens, ItemFault>
     requires within { from.at ≤ length walk.old }
     requires line { from.line ≡ line_at walk.old from.at }
     requires item { line ≡ item_line walk.old from.at }
     requires begun { (start stop : ℕ) → lexed walk.old from.at Kind.Eof ≢ Tok Kind.Eof start stop }
     requires small { length walk.old < 2 ^ 32 - 1 }
-    ensures tokens { IfOk result (λ item. ItemTokens walk.old from.at item.tokens.items item.end.at) }
+    ensures tokens { IfOk result (λ item. AreItemTokens walk.old from.at item.tokens.items item.end.at) }
     ensures end { IfOk result
         (λ item.
         (item.end.line ≡ line_at walk.old item.end.at)
@@ -238,7 +248,7 @@ pub fn item_tokens(
         let start = place.moved(walk.text(), token.start);
         let end = start.moved(walk.text(), token.end);
         if token.kind.ends_item() {
-            return Ok(Item { tokens, end });
+            return Ok(ItemTokens { tokens, end });
         }
         match push_token(alloc, &mut tokens, &token, start.line) {
             Err(_) => return Err(want_of_memory(from)),

@@ -12,7 +12,7 @@ impl Position {
     /// The start of a text.
     pub const START: Position = Position { at: 0, line: 1 };
 
-    /// The position of a later place. PlainDecl takes no memory.
+    /// The position of a later place. It takes no memory.
     pub fn moved(self, text: &[u8], to: usize) -> Position
         requires order { self.at ≤ to }
         requires within { to ≤ length text.now }

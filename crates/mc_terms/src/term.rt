@@ -58,9 +58,9 @@ fn judged(reading: Reading, line: u32, at: usize, end: Position) -> Result<ReadI
     Ok(ReadItem { term, line, end })
 }
 
-/// The item that begins in a position; None where only blanks and comments are left. To read all items of a
-/// text in linear time, pass one walk on from item to item, and after a fault go on at its `next`, to which
-/// [`Position::moved`] leads.
+/// The item that begins in a position; None where only blanks and comments are left. To read all
+/// items of a text in linear time, pass one walk on from item to item, and after a fault go on at
+/// its `next`, to which [`Position::moved`] leads.
 pub fn read_next(
     alloc: Global,
     walk: &mut Walk,
@@ -111,8 +111,8 @@ pub fn read_next(
     }
 }
 
-/// The term of the item that begins in a place of a text, and the place behind its end; None where only blanks
-/// and comments are left.
+/// The term of the item that begins in a place of a text, and the place behind its end; None where
+/// only blanks and comments are left.
 pub fn read_term(alloc: Global, text: &[u8], at: usize) -> Result<Option<(Term, usize)>, ReadFault>
     requires within { at ≤ length text.now }
     requires small { length text.now < 2 ^ 32 - 1 }

@@ -98,8 +98,8 @@ fn shown(alloc: Global, text: &[u8]) -> Result<Vec<u8>, AllocError> {
     Ok(out)
 }
 
-// A text, and what the reader answers for its first item: the term and the place behind it, or the fault with
-// its line and place.
+// A text, and what the reader answers for its first item: the term and the place behind it, or the
+// fault with its line and place.
 const TABLE: &str = "\
 a - b - c. ~ -(-(a,b),c) 10\n\
 - 1. ~ -1 4\n\

@@ -23,7 +23,7 @@ use Rattle.mc_tokens.specs.declared.token.Kind.TheVariants.{Name, Quoted, Var, I
 use Rattle.mc_tokens.proofs.Begun.{at_end, token_is}
 use Rattle.mc_tokens.proofs.CharLen.{drop-at}
 use Rattle.mc_tokens.proofs.Escapes.{by_bytes}
-use Rattle.mc_tokens.proofs.Quotes.{left_true}
+use Rattle.mc_base.proofs.Booleans.{left_true}
 
 -- each byte of a text is one
 abbrev pub Bytes : List ℕ → Type 0

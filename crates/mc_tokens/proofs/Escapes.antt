@@ -14,11 +14,12 @@ use Rattle.std.proofs.str.Laws.{order}
 use Rattle.mc_tokens.specs.declared.quoting.Escape.{Escape}
 use Rattle.mc_tokens.specs.declared.quoting.Halt.{Halt}
 use Rattle.mc_tokens.specs.declared.quoting.Halt.TheVariants.{Bad}
-use Rattle.mc_tokens.specs.Walks.{quote_walk, escape_goes_on, escape_contents}
+use Rattle.mc_tokens.specs.code.Walks.{quote_walk, escape_goes_on, escape_contents}
 use Rattle.mc_tokens.specs.declared.token.FaultKind.TheVariants.{BadChar}
 use Rattle.mc_tokens.proofs.CharLen.{drop-at}
 use Rattle.mc_tokens.proofs.Lanes.{each_below, each_below_at}
-use Rattle.mc_tokens.proofs.Quotes.{yes, no, left_true, right_true, on, halts, adds, simple_turn, x_turn, u_turn, long_turn, octal_turn, no_turn, digit_turn, end_turn, no_end_turn, more_turn, last_turn, bad_turn, no_digit_turn, nothing_more, scalar_cut}
+use Rattle.mc_tokens.proofs.Quotes.{yes, no, on, halts, adds, simple_turn, x_turn, u_turn, long_turn, octal_turn, no_turn, digit_turn, end_turn, no_end_turn, more_turn, last_turn, bad_turn, no_digit_turn, nothing_more, scalar_cut}
+use Rattle.mc_base.proofs.Booleans.{left_true, right_true}
 
 -- an option by a test
 pub some_if : {A : Type 0} (t : Bool) (v w : A) → Some w ≡ cond t (Some v) None → (t ≡ true) × (w ≡ v)

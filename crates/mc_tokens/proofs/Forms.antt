@@ -7,14 +7,14 @@ use Rattle.std.proofs.lemmas.List.Sums.{prefix_len_passes}
 use Rattle.std.proofs.lemmas.Bool.{eq-eqb, lt-ltb, le-ltb}
 use Rattle.std.proofs.Math.Nat.{mul-le-mul_left}
 use Rattle.mc_tokens.proofs.CharLen.{drop-at}
-use Rattle.mc_tokens.proofs.Quotes.{right_true}
-use Rattle.mc_tokens.specs.Seen.{TooLarge}
+use Rattle.mc_tokens.specs.code.Seen.{TooLarge}
 use Rattle.mc_tokens.specs.declared.token.FaultKind.TheVariants.{LeftOut, IntTooLarge}
 use Rattle.mc_tokens.specs.declared.token.Kind.TheVariants.{Int}
 use Rattle.mc_tokens.specs.Classes.{hex_value, is_digit_of}
 use Rattle.mc_tokens.specs.Utf8.{at}
 use Rattle.mc_tokens.specs.Tokens.{Tok, Fault, form, form_after_zero, starts_character, spelled, number, decimal, of_form, digits}
 use Rattle.mc_tokens.specs.declared.begins.Form.TheVariants.{Based, Character, Decimal}
+use Rattle.mc_base.proofs.Booleans.{right_true}
 
 -- the byte in place k of what stands from start on
 pub after : (start k : ℕ) (text : List ℕ) → get_or (drop start text) k 0 ≡ get_or text (start + k) 0

@@ -11,14 +11,7 @@ use Rattle.mc_tokens.specs.Utf8.{at, char_len}
 use Rattle.mc_tokens.specs.Spots.{At, Faulty, Turn, Go, Stop, char_turn, Layout, Between, Line, Block, layout, layout_turn, layout_end}
 use Rattle.mc_tokens.specs.declared.token.FaultKind.TheVariants.{NotUtf8, Unterminated}
 use Rattle.mc_tokens.proofs.Turns.{went, stopped, ended, ran, by_char, by_bad, ascii_turn}
-
-left_true : (a b : Bool) → a && b ≡ true → a ≡ true
-left_true true b h = refl
-left_true false b h = cc
-
-right_true : (a b : Bool) → a && b ≡ true → b ≡ true
-right_true true b h = h
-right_true false b h = cc
+use Rattle.mc_base.proofs.Booleans.{left_true, right_true}
 
 not_true : (a : Bool) → not a ≡ true → a ≡ false
 not_true true h = cc

@@ -9,18 +9,10 @@ use Rattle.mc_tokens.specs.Classes.{hex_digit, hex_value, is_digit_of}
 use Rattle.mc_tokens.specs.Utf8.{at, char_len}
 use Rattle.mc_tokens.specs.Spots.{Spot, At, Faulty, Turn, Go, Stop, char_turn, Quoting, Plain, Backslash, Digits, Exact, quote_turn, exact_turn, is_simple, unescaped}
 use Rattle.mc_tokens.specs.Contents.{says, contents}
-use Rattle.mc_tokens.specs.Walks.{quote_walk}
+use Rattle.mc_tokens.specs.code.Walks.{quote_walk}
 use Rattle.mc_tokens.specs.declared.token.FaultKind.TheVariants.{NotUtf8, Unterminated, BadChar}
 use Rattle.mc_tokens.proofs.CharLen.{drop-at}
 use Rattle.mc_tokens.proofs.Turns.{went, stopped, ended, by_char, by_bad}
-
-pub left_true : (a b : Bool) → a && b ≡ true → a ≡ true
-left_true true b h = refl
-left_true false b h = cc
-
-pub right_true : (a b : Bool) → a && b ≡ true → b ≡ true
-right_true true b h = h
-right_true false b h = cc
 
 pub yes : {A : Type 0} {t : Bool} {x : A} (y : A) → t ≡ true → cond t x y ≡ x
 yes {x = x} y e = ap (λ t. cond t x y) e
@@ -31,7 +23,8 @@ no x {y = y} e = ap (λ t. cond t x y) e
 pub next_is : (i : ℕ) (text : List ℕ) → at (drop (i + 1) text) 0 ≡ get_or text (i + 1) 0
 next_is i text = get_or-drop (i + 1) text 0 0 ∙ ap (λ k. get_or text k 0) (add-zero (i + 1))
 
--- The turns. s is the backslash of an escape, p the place of the byte b, and bs what stands after it.
+-- The turns. s is the backslash of an escape, p the place of the byte b, and bs what stands after
+-- it.
 module _ (q s p b : ℕ) (bs : List ℕ) where
   pub closing : b ≡ q → at bs 0 ≢ q → quote_turn q Plain p b bs ≡ Stop (At (p + 1))
   unfolding quote_turn

@@ -16,7 +16,8 @@ use Rattle.mc_tokens.specs.declared.token.Kind.{Kind}
 use Rattle.mc_tokens.specs.declared.token.Kind.TheVariants.{Name, Quoted, Var, Str}
 use Rattle.mc_tokens.specs.declared.token.FaultKind.TheVariants.{NotUtf8, BadChar}
 use Rattle.mc_tokens.proofs.Escapes.{escaped_small}
-use Rattle.mc_tokens.proofs.Quotes.{left_true, right_true, yes, no}
+use Rattle.mc_tokens.proofs.Quotes.{yes, no}
+use Rattle.mc_base.proofs.Booleans.{left_true, right_true}
 
 -- an ASCII byte is a text
 pub ascii_text : (x : ℕ) → x < 128 → IsUtf8 (x ∷ [])

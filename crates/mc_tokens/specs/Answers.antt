@@ -1,40 +1,21 @@
--- Answers of the lexer as the definitions have them.
-use Rattle.std.specs.Prelude.{◌≡◌, ◌≢◌, true, false, slice_index, ℕ, ◌≤◌, ◌<◌, ◌^◌, Option, Some, None, Result, Ok, Err, List, length}
+-- What the calls answer, and where their answers stand in the text.
+use Rattle.std.specs.Prelude.{◌≡◌, ◌≢◌, false, ℕ, ◌≤◌, ◌<◌, Result, Ok, Err, List, length}
 use Rattle.std.specs.Str.{IsAscii, IsUtf8}
-use Rattle.mc_tokens.specs.Classes.{is_digit_of}
-use Rattle.mc_tokens.specs.Tokens.{Lexed, Tok, Fault, spelled}
+use Rattle.mc_tokens.specs.Tokens.{Lexed, Tok, Fault}
 use Rattle.mc_tokens.specs.Items.{ends}
 use Rattle.mc_tokens.specs.declared.token.Kind.{Kind}
 use Rattle.mc_tokens.specs.declared.token.Kind.TheVariants.{Name, Quoted, Var, Str, Eof}
 use Rattle.mc_tokens.specs.declared.token.TokenFault.{TokenFault}
 use Rattle.mc_tokens.specs.declared.token.Token.{Token}
 
--- each byte is a digit of the base
-abbrev pub EachDigit : ℕ → List ℕ → Type 0
-EachDigit base ds = (k : ℕ) → k < length ds → is_digit_of base (slice_index ds k) ≡ true
-
--- the value of digits, where it is at most 2^63
-abbrev pub IsValue : ℕ → List ℕ → Option ℕ → Type 0
-IsValue base ds (Some v) = (v ≡ spelled base 0 ds) × (v ≤ 2 ^ 63)
-IsValue base ds None = 2 ^ 63 < spelled base 0 ds
-
--- a kind and an end, for a token that begins at start
-abbrev pub span : ℕ → Result (Kind × ℕ) TokenFault → Lexed
-span start (Ok t) = Tok t.0 start t.1
-span start (Err f) = Fault f.kind f.at
-
--- only Eof has no bytes
-abbrev pub NotEmpty : Kind → (start stop : ℕ) → Type 0
-NotEmpty kind start stop = kind ≢ Eof → start < stop
-
--- a token that begins in a place ends after it, in the text; only Eof has no bytes
-abbrev pub Ends : List ℕ → ℕ → Kind × ℕ → Type 0
-Ends text start t = (start ≤ t.1) × (t.1 ≤ length text) × NotEmpty t.0 start t.1
-
 -- the answer of a call, as the definition has it
 abbrev pub answer : Result Token TokenFault → Lexed
 answer (Ok t) = Tok t.kind t.start t.end
 answer (Err f) = Fault f.kind f.at
+
+-- only Eof has no bytes
+abbrev pub NotEmpty : Kind → (start stop : ℕ) → Type 0
+NotEmpty kind start stop = kind ≢ Eof → start < stop
 
 -- A token's span is in order and in the text, from a place on; one that ends no item has bytes.
 abbrev pub InOrder : List ℕ → ℕ → Token → Type 0
@@ -43,6 +24,14 @@ InOrder text at t =
     × (t.start ≤ t.end)
     × (t.end ≤ length text)
     × (ends t.kind ≡ false → t.start < t.end)
+
+-- a fault stands in the text, at the place or after it
+abbrev pub Placed : List ℕ → ℕ → TokenFault → Type 0
+Placed text from f = (from ≤ f.at) × (f.at < length text)
+
+-- a place that a walk from a place on comes to
+abbrev pub Within : List ℕ → ℕ → ℕ → Type 0
+Within text from i = (from ≤ i) × (i ≤ length text)
 
 -- the bytes of a name or a variable without quotes are ASCII
 abbrev pub AsciiName : Kind → List ℕ → Type 0

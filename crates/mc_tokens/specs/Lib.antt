@@ -1,9 +1,8 @@
 pub mod Classes
 pub mod Utf8
 pub mod Spots
-pub mod Contents
 pub mod Tokens
-pub mod Walks
-pub mod Answers
-pub mod Seen
+pub mod Contents
 pub mod Items
+pub mod Answers
+pub mod code

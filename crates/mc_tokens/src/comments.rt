@@ -1,8 +1,9 @@
 // The walk over blanks and comments.
 ghost use Rattle.std.specs.Prelude.{◌≡◌, ℕ, ◌+◌, ◌<◌, ◌≤◌, length, drop, IfOk, IfErr, is_some};
 ghost use Rattle.mc_tokens.specs.Spots.{Line, Block, Between, layout};
-ghost use Rattle.mc_tokens.specs.Walks.{spot, goes_on, comment_goes_on, Within, Placed, HaltPlaced};
-ghost use Rattle.mc_tokens.specs.Seen.{OpenComment};
+ghost use Rattle.mc_tokens.specs.Answers.{Within, Placed};
+ghost use Rattle.mc_tokens.specs.code.Walks.{spot, goes_on, comment_goes_on, HaltPlaced};
+ghost use Rattle.mc_tokens.specs.code.Seen.{OpenComment};
 
 use crate::chars::{byte_at, char_len};
 use crate::classes::{Class, skip_class};
@@ -61,7 +62,8 @@ fn block_rest(text: &[u8], from: usize) -> Result<usize, Halt>
     }
 }
 
-// Moves the place from which no */ follows on along the text, to the first character at or after `to`.
+// Moves the place from which no */ follows on along the text, to the first character at or after
+// `to`.
 fn open_comment(text: &[u8], known: Option<usize>, to: usize) -> Option<usize>
     requires { OpenComment text.now known }
     ensures holds { OpenComment text.now result }
@@ -81,8 +83,8 @@ fn open_comment(text: &[u8], known: Option<usize>, to: usize) -> Option<usize>
     Some(i)
 }
 
-// Passes a comment that began at start with a slash and a star; known is the place, if any, from which no end is
-// known to follow.
+// Passes a comment that began at start with a slash and a star; known is the place, if any, from
+// which no end is known to follow.
 fn comment_rest(text: &[u8], start: usize, known: &mut Option<usize>) -> Result<usize, TokenFault>
     requires inside { start + 1 < length text.now }
     requires known { OpenComment text.now known.old }

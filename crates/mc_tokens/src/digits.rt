@@ -2,7 +2,7 @@
 ghost use Rattle.std.specs.Prelude.{◌≡◌, ◌+◌, ◌<◌, ◌≤◌, length, drop, IfSome, is_some};
 ghost use Rattle.std.specs.List.{prefix_len};
 ghost use Rattle.mc_tokens.specs.Classes.{hex_digit, hex_value, is_digit_of};
-ghost use Rattle.mc_tokens.specs.Answers.{EachDigit, IsValue};
+ghost use Rattle.mc_tokens.specs.code.Values.{EachDigit, IsValue};
 
 // The value of a hexadecimal digit.
 pub fn hex_digit(x: u8) -> Option<u32>

@@ -4,9 +4,10 @@ ghost use Rattle.std.specs.List.{prefix_len};
 ghost use Rattle.mc_tokens.specs.Classes.{is_name_tail};
 ghost use Rattle.mc_tokens.specs.Tokens.{token, lexed, begun, names, is_int, word, quoted, paren, ends_item, dot, bang, other, first as first_of};
 ghost use Rattle.mc_tokens.specs.Spots.{quote_end};
-ghost use Rattle.mc_tokens.specs.Walks.{Placed, spot};
-ghost use Rattle.mc_tokens.specs.Answers.{span, answer, Ends, InOrder, NotEmpty, AsciiName};
-ghost use Rattle.mc_tokens.specs.Seen.{OpenQuote, Holds};
+ghost use Rattle.mc_tokens.specs.Answers.{Placed, answer, InOrder, NotEmpty, AsciiName};
+ghost use Rattle.mc_tokens.specs.code.Walks.{spot};
+ghost use Rattle.mc_tokens.specs.code.Values.{span, Ends};
+ghost use Rattle.mc_tokens.specs.code.Seen.{OpenQuote, Holds};
 
 use crate::begins::{First, begins, starts_var};
 use crate::chars::{byte_at, char_len};
@@ -39,8 +40,8 @@ fn word(text: &[u8], start: usize, before: Kind, kind: Kind) -> Span
     }
 }
 
-// The place after the quotes that begin at start; known is the place, if any, from which no end of them is known to
-// follow.
+// The place after the quotes that begin at start; known is the place, if any, from which no end of
+// them is known to follow.
 fn quotes_end(
     text: &[u8],
     start: usize,
@@ -229,15 +230,17 @@ pub fn next_seen<'a>(
     })
 }
 
-/// The next token from a place on, past blanks and comments, or the first fault that the walk meets. `after` is the
-/// kind of the token that ends exactly in that place, and `Eof` says that none ends there. Takes no memory.
+/// The next token from a place on, past blanks and comments, or the first fault that the walk
+/// meets. `after` is the kind of the token that ends exactly in that place, and `Eof` says that
+/// none ends there. Takes no memory.
 ///
-/// Each call begins anew: a walk over a text past its faults, token by token, is linear in the text's length by [`Walk`]
-/// alone.
+/// Each call begins anew: a walk over a text past its faults, token by token, is linear in the
+/// text's length by [`Walk`] alone.
 ///
 /// # Errors
 ///
-/// A fault stands in the text at the place or after it, so that the walk may go on at the byte after it.
+/// A fault stands in the text at the place or after it, so that the walk may go on at the byte
+/// after it.
 pub fn next_token<'a>(text: &'a [u8], at: usize, after: &Kind) -> Result<Token<'a>, TokenFault>
     requires { at ≤ length text.now }
     ensures value { answer result ≡ lexed text.now at after.now }

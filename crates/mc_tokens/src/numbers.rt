@@ -3,9 +3,9 @@ ghost use Rattle.std.specs.Prelude.{◌≡◌, ℕ, ◌+◌, ◌<◌, ◌≤◌,
 ghost use Rattle.std.specs.List.{prefix_len};
 ghost use Rattle.mc_tokens.specs.Classes.{is_digit_of};
 ghost use Rattle.mc_tokens.specs.Tokens.{number, decimal, of_form, digits};
-ghost use Rattle.mc_tokens.specs.Answers.{span, Ends, EachDigit};
-ghost use Rattle.mc_tokens.specs.Walks.{Placed};
-ghost use Rattle.mc_tokens.specs.Seen.{KnownRun, IsRun, TooLarge};
+ghost use Rattle.mc_tokens.specs.code.Values.{span, Ends, EachDigit};
+ghost use Rattle.mc_tokens.specs.Answers.{Placed};
+ghost use Rattle.mc_tokens.specs.code.Seen.{KnownRun, IsRun, TooLarge};
 
 use crate::begins::{Form, number_form};
 use crate::chars::byte_at;
@@ -72,8 +72,9 @@ fn is_too_large(text: &[u8], from: usize, end: usize) -> bool
     value_of(&text[from..end], 10).is_none()
 }
 
-// A place before which each place from start on begins too large a number, of the digits up to the end. From the first
-// digit other than 0 they spell the same number as from start; in a long run, mostly too large a one from nearly each place.
+// A place before which each place from start on begins too large a number, of the digits up to the
+// end. From the first digit other than 0 they spell the same number as from start; in a long run,
+// mostly too large a one from nearly each place.
 fn large_end(text: &[u8], start: usize, end: usize) -> usize
     requires range { (start < end) × (end ≤ length text.now) }
     requires digits { EachDigit 10 (slice_range text.now start end) }

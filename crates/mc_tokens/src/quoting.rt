@@ -4,8 +4,9 @@ ghost use lib.Utf8.{scalar};
 ghost use Rattle.mc_tokens.specs.Classes.{is_digit_of};
 ghost use Rattle.mc_tokens.specs.Spots.{Plain, Digits, Exact, Backslash, is_simple, unescaped};
 ghost use Rattle.mc_tokens.specs.Contents.{contents, escaped};
-ghost use Rattle.mc_tokens.specs.Walks.{halted, quote_walk, quote_ends, escape_goes_on, turn_goes_on, Within, HaltPlaced, escape_contents, StepsWithin};
-ghost use Rattle.mc_tokens.specs.Seen.{OpenQuote};
+ghost use Rattle.mc_tokens.specs.Answers.{Within};
+ghost use Rattle.mc_tokens.specs.code.Walks.{halted, quote_walk, quote_ends, escape_goes_on, turn_goes_on, HaltPlaced, escape_contents, StepsWithin};
+ghost use Rattle.mc_tokens.specs.code.Seen.{OpenQuote};
 
 use crate::chars::{byte_at, char_len};
 use crate::digits::{digit_of, hex_digit, is_digit_of};
@@ -62,7 +63,8 @@ pub fn no_text(i: usize) -> Halt
     })
 }
 
-// What isn't UTF-8 in place i, or else an escape that names no character and has its backslash in place at.
+// What isn't UTF-8 in place i, or else an escape that names no character and has its backslash in
+// place at.
 fn no_escape(text: &[u8], at: usize, i: usize) -> Halt
     requires { (at < i) × (i < length text.now) }
     ensures value { (start : ℕ) → halted start result ≡ unescaped at i (drop i text.now) }
@@ -93,7 +95,8 @@ fn simple(b: u8) -> Option<u8>
     }
 }
 
-// The rest of an escape with digits of a base and a closing backslash, whose digits stand from a place on.
+// The rest of an escape with digits of a base and a closing backslash, whose digits stand from a
+// place on.
 fn numeral(text: &[u8], base: u32, at: usize, from: usize) -> Result<Escape, Halt>
     requires base { base ≤ 16 }
     requires range { (at < from) × (from ≤ length text.now) }
@@ -121,7 +124,8 @@ fn numeral(text: &[u8], base: u32, at: usize, from: usize) -> Result<Escape, Hal
     Err(Halt::TextEnds)
 }
 
-// The end of such an escape, at the first byte that is no digit; some says whether there were digits.
+// The end of such an escape, at the first byte that is no digit; some says whether there were
+// digits.
 fn numeral_end(
     text: &[u8],
     base: u32,
@@ -293,7 +297,8 @@ pub fn quote_rest(text: &[u8], quote: u8, from: usize) -> Result<usize, Halt>
     Err(Halt::TextEnds)
 }
 
-// Moves the place from which no closing quote follows on along the walk, to the first place at or after `to`.
+// Moves the place from which no closing quote follows on along the walk, to the first place at or
+// after `to`.
 pub fn open_quote(text: &[u8], quote: u8, known: Option<usize>, to: usize) -> Option<usize>
     requires known { OpenQuote quote text.now known }
     requires quote { 0 < quote }

@@ -2,7 +2,7 @@
 ghost use Rattle.std.specs.Prelude.{◌≡◌, ◌<◌, ◌++◌, IfOk, OnOk, drop};
 ghost use Rattle.mc_tokens.specs.Spots.{Plain};
 ghost use Rattle.mc_tokens.specs.Contents.{contents, stands_for};
-ghost use Rattle.mc_tokens.specs.Walks.{escape_bytes};
+ghost use Rattle.mc_tokens.specs.code.Walks.{escape_bytes};
 ghost use Rattle.mc_tokens.specs.Answers.{IsUtf8Text};
 
 use crate::chars::{byte_at, char_len};
@@ -55,9 +55,9 @@ fn spoken(alloc: Global, bytes: &[u8], quote: u8) -> Result<Text, Memory>
     Ok(text)
 }
 
-/// The bytes that a name, a quoted name, a variable or a string stands for: those of the token, and in quotes each escape
-/// as its character in UTF-8, a doubled quote as one quote, and a backslash before a line end as nothing. Of any
-/// other token the answer is its own bytes.
+/// The bytes that a name, a quoted name, a variable or a string stands for: those of the token, and
+/// in quotes each escape as its character in UTF-8, a doubled quote as one quote, and a backslash
+/// before a line end as nothing. Of any other token the answer is its own bytes.
 ///
 /// # Errors
 ///

@@ -1,18 +1,17 @@
 // A walk over a text that remembers what it has found out.
 ghost use Rattle.std.specs.Prelude.{◌≡◌, ◌≤◌, length, IfOk, IfErr, slice_range};
 ghost use Rattle.mc_tokens.specs.Tokens.{lexed};
-ghost use Rattle.mc_tokens.specs.Walks.{Placed, Within};
+ghost use Rattle.mc_tokens.specs.Answers.{Placed, Within, answer, InOrder, NotEmpty, AsciiName};
 ghost use Rattle.mc_tokens.specs.Items.{Passes};
-ghost use Rattle.mc_tokens.specs.Seen.{Holds};
-ghost use Rattle.mc_tokens.specs.Answers.{answer, InOrder, NotEmpty, AsciiName};
+ghost use Rattle.mc_tokens.specs.code.Seen.{Holds};
 
 use crate::next::next_seen;
 use crate::seen::Seen;
 use crate::token::{Kind, Token, TokenFault};
 use std::marker::Model;
 
-/// A text that is walked token by token, which contracts see as its bytes. PlainDecl answers what [`next_token`] answers, and
-/// remembers what it found out past a fault.
+/// A text that is walked token by token, which contracts see as its bytes. It answers what
+/// [`next_token`] answers, and remembers what it found out past a fault.
 #[derive(Drop)]
 pub struct Walk<'a> {
     text: &'a [u8],
@@ -24,7 +23,7 @@ impl<'a> Model for Walk<'a> {
 
     ghost Value = { List ℕ };
 
-    ghost use Rattle.mc_tokens.specs.Seen.{Holds};
+    ghost use Rattle.mc_tokens.specs.code.Seen.{Holds};
 
     ghost view = { λ w. w.text.now };
 
@@ -67,8 +66,9 @@ impl<'a> Walk<'a> {
         next_seen(self.text, at, *after, &mut self.seen)
     }
 
-    /// The place after the item's end: after the next `End` token, or the text's length where none follows. After each
-    /// fault the walk goes on at the byte after its place, where no token ends. Takes no memory.
+    /// The place after the item's end: after the next `End` token, or the text's length where none
+    /// follows. After each fault the walk goes on at the byte after its place, where no token ends.
+    /// Takes no memory.
     pub fn item_end(&mut self, at: usize, after: &Kind) -> usize
         requires { at ≤ length self.old }
         ensures passes { Passes self.old at after.now result }

@@ -1,9 +1,9 @@
 use Rattle.std.proofs.Common.{sym, ap, ◌∙◌}
 use Rattle.mc_term_parser.specs.declared.frame.Series.TheVariants.{Arguments}
 use Rattle.mc_term_parser.specs.Part as P
-use Rattle.mc_term_parser.specs.Machine as M
-use Rattle.mc_term_parser.specs.Seen.{seen_making}
-use Rattle.mc_term_parser.specs.Views.{frames, readings}
+use Rattle.mc_term_parser.specs.code.Machine as M
+use Rattle.mc_term_parser.specs.code.Seen.{seen_making}
+use Rattle.mc_term_parser.specs.code.Views.{frames, readings}
 use Rattle.mc_term_parser.proofs.Steps.{start_past, done_past, close_next, comma_next}
 use Rattle.mc_term_parser.proofs.reader.after_argument.Goals as goal
 
@@ -11,12 +11,20 @@ pub returns-in_ok-with-in-Comma : goal.returns-in_ok-with-in-Comma
 returns-in_ok-with-in-Comma c =
     let tokens = c.args.tokens.now in
     let o = c.args.outer in
-    start_past tokens _ _ c.args.parser _ _ _ c.start.ensures c.in_ok-with-in-Comma.ensures.frames c.in_ok-with-in-Comma.ensures.at c.past.ensures
-    ∙ ap (M.parts seen_making (Arguments c.args.name) c.args.line (readings c.args.parts) o.commas o.limit (frames c.args.parser.stack.items) c.args.commas) (sym (comma_next tokens c.args.parser.at (sym c.mark.ensures ∙ c.in-Comma.is)))
+    start_past tokens _ _ c.args.parser _ _ _ c.start.ensures c.in_ok-with-in-Comma.ensures.frames
+      c.in_ok-with-in-Comma.ensures.at c.past.ensures
+    ∙ ap
+        (M.parts seen_making (Arguments c.args.name) c.args.line (readings c.args.parts) o.commas
+           o.limit (frames c.args.parser.stack.items) c.args.commas)
+        (sym (comma_next tokens c.args.parser.at (sym c.mark.ensures ∙ c.in-Comma.is)))
 
 pub returns-in_ok-term-in-Close : goal.returns-in_ok-term-in-Close
 returns-in_ok-term-in-Close c =
     let tokens = c.args.tokens.now in
     let o = c.args.outer in
-    done_past tokens _ o _ c.args.parser _ _ c.done.ensures c.past-in-Close.ensures (c.closed.ensures ∙ ap P.closed c.in_ok-term-in-Close.ensures)
-    ∙ ap (M.parts seen_making (Arguments c.args.name) c.args.line (readings c.args.parts) o.commas o.limit (frames c.args.parser.stack.items) c.args.commas) (sym (close_next tokens c.args.parser.at (sym c.mark.ensures ∙ c.in-Close.is)))
+    done_past tokens _ o _ c.args.parser _ _ c.done.ensures c.past-in-Close.ensures
+      (c.closed.ensures ∙ ap P.closed c.in_ok-term-in-Close.ensures)
+    ∙ ap
+        (M.parts seen_making (Arguments c.args.name) c.args.line (readings c.args.parts) o.commas
+           o.limit (frames c.args.parser.stack.items) c.args.commas)
+        (sym (close_next tokens c.args.parser.at (sym c.mark.ensures ∙ c.in-Close.is)))

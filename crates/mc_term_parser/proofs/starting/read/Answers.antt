@@ -1,9 +1,9 @@
 use Rattle.std.proofs.Common.{◌≡◌, ◌<◌, drop, false, sym, ap, ◌∙◌, subst}
-use Rattle.mc_term_parser.specs.Machine as M
+use Rattle.mc_term_parser.specs.code.Machine as M
 use Rattle.mc_term_parser.specs.Part as P
-use Rattle.mc_term_parser.specs.Seen.{Seen}
-use Rattle.mc_term_parser.specs.Leads as Run
-use Rattle.mc_term_parser.specs.Views.{state, frames, reading}
+use Rattle.mc_term_parser.specs.code.Seen.{Seen}
+use Rattle.mc_term_parser.specs.code.Leads as Run
+use Rattle.mc_term_parser.specs.code.Views.{state, frames, reading}
 use Rattle.mc_term_parser.proofs.Falls.{weight, falls}
 use Rattle.mc_term_parser.proofs.Ends.{Runs, found_reads, none_reads, at_some, at_none, step_more}
 use Rattle.mc_term_parser.proofs.starting.read.Goals as goal
@@ -11,13 +11,17 @@ use Rattle.mc_term_parser.proofs.starting.read.Goals as goal
 pub run-init : goal.run-init
 run-init c =
     let tokens = c.args.tokens.now in
-    subst (Runs (drop 0 tokens)) (sym (ap (state tokens) c.start-machine.ensures ∙ ap (λ xs. M.Start false 1200 (frames xs) (drop 0 tokens)) c.new.ensures.items)) Run.here
+    subst (Runs (drop 0 tokens))
+      (sym
+         (ap (state tokens) c.start-machine.ensures ∙ ap
+            (λ xs. M.Start false 1200 (frames xs) (drop 0 tokens)) c.new.ensures.items)) Run.here
 
 pub run-smaller : goal.run-smaller
 run-smaller c =
     let tokens = c.args.tokens.now in
     let s = state tokens c.run.machine in
-    subst (λ t. weight t < weight s) (sym c.in_ok-machine.ensures) (falls s (sym (c.is_over.ensures tokens) ∙ c.run-test.true))
+    subst (λ t. weight t < weight s) (sym c.in_ok-machine.ensures)
+      (falls s (sym (c.is_over.ensures tokens) ∙ c.run-test.true))
 
 pub run-preserved : goal.run-preserved
 run-preserved c =
@@ -33,4 +37,7 @@ returns-clause-found c =
 pub returns-clause-none : goal.returns-clause-none
 returns-clause-none c =
     let tokens = c.args.tokens.now in
-    at_none c.answer.result _ _ (λ f. none_reads (drop 0 tokens) (state tokens c.run.machine) c.run.invariant (f tokens (sym (c.is_over.ensures tokens) ∙ c.run-test.false))) c.answer.ensures.none
+    at_none c.answer.result _ _
+      (λ f.
+         none_reads (drop 0 tokens) (state tokens c.run.machine) c.run.invariant
+           (f tokens (sym (c.is_over.ensures tokens) ∙ c.run-test.false))) c.answer.ensures.none

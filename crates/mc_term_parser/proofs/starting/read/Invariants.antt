@@ -1,5 +1,5 @@
 use Rattle.std.proofs.Common.{drop}
-use Rattle.mc_term_parser.specs.Views.{state}
+use Rattle.mc_term_parser.specs.code.Views.{state}
 use Rattle.mc_term_parser.proofs.Falls.{weight}
 use Rattle.mc_term_parser.proofs.Ends.{Runs}
 use Rattle.mc_term_parser.proofs.starting.read.Given as goal

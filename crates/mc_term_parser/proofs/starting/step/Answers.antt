@@ -1,7 +1,7 @@
 use Rattle.std.proofs.Common.{◌≡◌, drop, sym, ap, ◌∙◌, subst, IfOk}
-use Rattle.mc_term_parser.specs.Machine as M
-use Rattle.mc_term_parser.specs.Seen.{seen_making}
-use Rattle.mc_term_parser.specs.Views.{state, frames, part, now}
+use Rattle.mc_term_parser.specs.code.Machine as M
+use Rattle.mc_term_parser.specs.code.Seen.{seen_making}
+use Rattle.mc_term_parser.specs.code.Views.{state, frames, part, now}
 use Rattle.mc_term_parser.proofs.Starts.{rest_cut}
 use Rattle.mc_term_parser.proofs.starting.step.Goals as goal
 
@@ -11,7 +11,9 @@ returns-in-Start c =
     let m = c.args.machine in
     let fs = frames m.parser.stack.items in
     subst (λ s. IfOk c.start_at.result (λ m. state tokens m ≡ s))
-    (ap (M.start seen_making c.in-Start.context.commas c.in-Start.context.limit fs) (ap (λ n. drop n tokens) c.min-at.ensures ∙ rest_cut tokens m.parser.at) ∙ ap (λ p. M.step seen_making (now fs (drop m.parser.at tokens) p)) (sym c.in-Start.is))
+    (ap (M.start seen_making c.in-Start.context.commas c.in-Start.context.limit fs)
+       (ap (λ n. drop n tokens) c.min-at.ensures ∙ rest_cut tokens m.parser.at) ∙ ap
+       (λ p. M.step seen_making (now fs (drop m.parser.at tokens) p)) (sym c.in-Start.is))
     c.start_at.ensures
 
 pub returns-in-Done : goal.returns-in-Done
@@ -20,5 +22,10 @@ returns-in-Done c =
     let m = c.args.machine in
     let fs = frames m.parser.stack.items in
     subst (λ s. IfOk c.step_done.result (λ m. state tokens m ≡ s))
-    (ap (λ ts. M.step seen_making (M.Done c.in-Done.context.commas c.in-Done.context.limit fs (part c.in-Done.part) ts)) (ap (λ n. drop n tokens) c.min-at.ensures ∙ rest_cut tokens m.parser.at) ∙ ap (λ p. M.step seen_making (now fs (drop m.parser.at tokens) p)) (sym c.in-Done.is))
+    (ap
+       (λ ts.
+          M.step seen_making
+            (M.Done c.in-Done.context.commas c.in-Done.context.limit fs (part c.in-Done.part) ts))
+       (ap (λ n. drop n tokens) c.min-at.ensures ∙ rest_cut tokens m.parser.at) ∙ ap
+       (λ p. M.step seen_making (now fs (drop m.parser.at tokens) p)) (sym c.in-Done.is))
     c.step_done.ensures

@@ -1,8 +1,8 @@
-use Rattle.std.proofs.Common.{inr, sym, ap, ◌∙◌, arith}
+use Rattle.std.proofs.Common.{inl, inr, refl, sym, ap, ◌∙◌, arith}
 use Rattle.std.proofs.lemmas.Grind.{common_steps}
 use Rattle.mc_terms.specs.Lines.{line_at}
 use Rattle.mc_tokens.specs.Tokens.{lexed}
-use Rattle.mc_terms.proofs.Items.{refused_by, stands_by, past_end, ended_at, goes_on_at}
+use Rattle.mc_terms.proofs.Items.{begins_with, refused_by, stands_by, past_end, ended_at, goes_on_at}
 use Rattle.mc_terms.proofs.item.item_tokens.Goals as goal
 
 pub returns-in-Err-clause-fault : goal.returns-in-Err-clause-fault
@@ -42,4 +42,14 @@ item-preserved c = record {
       goes_on_at c.next.new.self c.item.walk c.args.from.at c.item.place.at c.item.after c.in-Ok.token c.item.tokens.items c.push_token.new.tokens.items _ _
       c.next.ensures.same c.item.invariant.continues c.in-Ok.ensures.value (sym c.ends_item.ensures ∙ c.if-ends_item.false) c.in-Ok.ensures.text
       (c.moved-start.ensures.line ∙ ap (λ u. line_at u c.in-Ok.token.start) c.text.ensures) c.moved-end.ensures.at (c.in-Ok-push_token.ensures {u = tt});
+}
+
+pub item-init : goal.item-init
+item-init c = record {
+  same = refl;
+  order = omega arith;
+  within = c.requires.within;
+  line = c.requires.line;
+  past = inl (refl, refl);
+  continues = begins_with c.args.walk.now c.args.from.at _ c.new-tokens.ensures.items;
 }

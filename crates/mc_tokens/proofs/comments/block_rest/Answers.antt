@@ -1,5 +1,5 @@
 use Rattle.std.proofs.Common.{sym, ap, ◌∙◌, arith}
-use Rattle.mc_tokens.specs.Walks.{halted}
+use Rattle.mc_tokens.specs.code.Walks.{halted}
 use Rattle.mc_tokens.proofs.CharLen.{inside}
 use Rattle.mc_tokens.proofs.Layouts.{EndsNot, block_run, block_char, block_bad, block_stops, block_ends}
 use Rattle.mc_tokens.proofs.comments.block_rest.Goals as goal

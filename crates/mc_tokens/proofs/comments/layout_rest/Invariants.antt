@@ -1,6 +1,6 @@
 use Rattle.std.proofs.Common.{◌≡◌, ◌-◌, ◌≤◌, length, drop}
 use Rattle.mc_tokens.specs.Spots.{Between, layout}
-use Rattle.mc_tokens.specs.Seen.{OpenComment}
+use Rattle.mc_tokens.specs.code.Seen.{OpenComment}
 use Rattle.mc_tokens.proofs.comments.layout_rest.Given as goal
 
 abbrev pub invariant-loop-i : goal.invariant-loop-i

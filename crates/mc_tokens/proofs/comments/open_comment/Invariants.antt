@@ -1,5 +1,5 @@
 use Rattle.std.proofs.Common.{◌-◌, length, Some}
-use Rattle.mc_tokens.specs.Seen.{OpenComment}
+use Rattle.mc_tokens.specs.code.Seen.{OpenComment}
 use Rattle.mc_tokens.proofs.comments.open_comment.Given as goal
 
 abbrev pub invariant-loop-i : goal.invariant-loop-i

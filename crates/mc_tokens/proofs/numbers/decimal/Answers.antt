@@ -2,7 +2,7 @@ use Rattle.std.proofs.Common.{◌≡◌, ◌+◌, drop, sym, ap, ◌∙◌, arit
 use Rattle.std.specs.List.{prefix_len}
 use Rattle.std.specs.Prelude.{slice_range}
 use Rattle.mc_tokens.specs.Classes.{is_digit_of}
-use Rattle.mc_tokens.specs.Answers.{span}
+use Rattle.mc_tokens.specs.code.Values.{span}
 use Rattle.mc_tokens.proofs.Forms.{later_run, run_digits, decimal_float, decimal_number, number_large, number_small}
 use Rattle.mc_tokens.proofs.numbers.decimal.Goals as goal
 use Rattle.mc_tokens.proofs.numbers.decimal.Goals.{After-run_at-run}

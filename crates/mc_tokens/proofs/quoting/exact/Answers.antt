@@ -1,7 +1,7 @@
 use Rattle.std.proofs.Common.{◌≡◌, ◌+◌, ◌*◌, ◌<◌, min, get_or, sym, ap, ◌∙◌, arith}
 use Rattle.mc_tokens.specs.Classes.{hex_value}
 use Rattle.mc_tokens.specs.Spots.{Exact}
-use Rattle.mc_tokens.specs.Walks.{escape_goes_on, escape_contents}
+use Rattle.mc_tokens.specs.code.Walks.{escape_goes_on, escape_contents}
 use Rattle.mc_tokens.proofs.Escapes.{nothing_said, more_walk, more_says, no_digit_walk, no_digit_says, exact_walk, exact_says}
 use Rattle.mc_tokens.proofs.quoting.exact.Goals as goal
 use Rattle.mc_tokens.proofs.quoting.exact.Goals.{After-exact_end}

@@ -1,7 +1,7 @@
 use Rattle.std.proofs.Common.{◌≡◌, ℕ, ◌-◌, ◌≤◌, min, length, drop}
 use Rattle.mc_tokens.specs.Spots.{Exact}
 use Rattle.mc_tokens.specs.Contents.{contents}
-use Rattle.mc_tokens.specs.Walks.{quote_walk}
+use Rattle.mc_tokens.specs.code.Walks.{quote_walk}
 use Rattle.mc_tokens.proofs.quoting.exact.Given as goal
 
 -- v is the value of the digits so far

@@ -2,7 +2,7 @@ use Rattle.std.proofs.Common.{◌+◌, ◌*◌, min, get_or, drop, sym, ap, ap�
 use Rattle.mc_tokens.specs.Classes.{hex_value}
 use Rattle.mc_tokens.specs.Spots.{Digits}
 use Rattle.mc_tokens.specs.Contents.{contents}
-use Rattle.mc_tokens.specs.Walks.{quote_walk}
+use Rattle.mc_tokens.specs.code.Walks.{quote_walk}
 use Rattle.mc_tokens.proofs.Escapes.{nothing_said, cut_step, digit_walk, digit_says, cut_walk, cut_says}
 use Rattle.mc_tokens.proofs.quoting.numeral.Goals as goal
 

@@ -1,7 +1,7 @@
 use Rattle.std.proofs.Common.{◌≡◌, ℕ, ◌-◌, ◌≤◌, min, false, length, drop}
 use Rattle.mc_tokens.specs.Spots.{Digits}
 use Rattle.mc_tokens.specs.Contents.{contents}
-use Rattle.mc_tokens.specs.Walks.{quote_walk}
+use Rattle.mc_tokens.specs.code.Walks.{quote_walk}
 use Rattle.mc_tokens.proofs.quoting.numeral.Given as goal
 
 -- v is the value of the digits so far

@@ -1,5 +1,5 @@
 use Rattle.std.proofs.Common.{◌-◌, length, Some}
-use Rattle.mc_tokens.specs.Seen.{OpenQuote}
+use Rattle.mc_tokens.specs.code.Seen.{OpenQuote}
 use Rattle.mc_tokens.proofs.quoting.open_quote.Given as goal
 
 abbrev pub invariant-loop-i : goal.invariant-loop-i

@@ -1,6 +1,6 @@
 use Rattle.std.proofs.Common.{◌≡◌, ℕ, ◌-◌, ◌≤◌, length, drop}
 use Rattle.mc_tokens.specs.Spots.{Plain}
-use Rattle.mc_tokens.specs.Walks.{quote_walk}
+use Rattle.mc_tokens.specs.code.Walks.{quote_walk}
 use Rattle.mc_tokens.proofs.quoting.quote_rest.Given as goal
 
 abbrev pub invariant-loop-i : goal.invariant-loop-i

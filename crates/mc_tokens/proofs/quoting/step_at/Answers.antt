@@ -1,6 +1,6 @@
 use Rattle.std.proofs.Common.{◌≡◌, ◌+◌, ◌<◌, length, drop, get_or, sym, ap, ◌∙◌, arith}
 use Rattle.mc_tokens.specs.Spots.{At, Plain, Backslash}
-use Rattle.mc_tokens.specs.Walks.{halted}
+use Rattle.mc_tokens.specs.code.Walks.{halted}
 use Rattle.mc_tokens.proofs.CharLen.{inside}
 use Rattle.mc_tokens.proofs.Quotes.{next_is, on, halts, closing, doubling, escaping, plain_char, plain_bad}
 use Rattle.mc_tokens.proofs.quoting.step_at.Goals as goal

@@ -2,7 +2,7 @@ use Rattle.std.proofs.Common.{◌≡◌, ◌+◌, ◌<◌, ◌++◌, [], ◌∷�
 use Rattle.mc_tokens.specs.Spots.{Plain}
 use Rattle.std.specs.Prelude.{slice_range}
 use Rattle.mc_tokens.specs.Contents.{contents}
-use Rattle.mc_tokens.specs.Walks.{escape_bytes}
+use Rattle.mc_tokens.specs.code.Walks.{escape_bytes}
 use Rattle.mc_tokens.proofs.CharLen.{inside}
 use Rattle.mc_tokens.proofs.Sayings.{closing_says, doubled_says, backslash_says, plain_says, bad_says, joined}
 use Rattle.mc_tokens.proofs.spoken.spoken.Goals as goal

@@ -1,6 +1,6 @@
 use Rattle.std.proofs.Common.{ℕ, ◌-◌, ◌≤◌, length}
 use Rattle.mc_tokens.specs.Items.{Passes}
-use Rattle.mc_tokens.specs.Seen.{Holds}
+use Rattle.mc_tokens.specs.code.Seen.{Holds}
 use Rattle.mc_tokens.proofs.walker.pass_item.Given as goal
 
 abbrev pub invariant-loop-token : goal.invariant-loop-token

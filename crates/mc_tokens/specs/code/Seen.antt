@@ -3,7 +3,7 @@ use Rattle.std.specs.Prelude.{◌≡◌, ℕ, ◌+◌, ◌<◌, ◌≤◌, ◌^�
 use Rattle.std.specs.List.{prefix_len}
 use Rattle.mc_tokens.specs.Classes.{is_digit_of}
 use Rattle.mc_tokens.specs.Spots.{Faulty, Block, layout, Plain}
-use Rattle.mc_tokens.specs.Walks.{quote_walk}
+use Rattle.mc_tokens.specs.code.Walks.{quote_walk}
 use Rattle.mc_tokens.specs.Tokens.{spelled}
 use Rattle.mc_tokens.specs.declared.token.FaultKind.TheVariants.{Unterminated}
 use Rattle.mc_tokens.specs.declared.seen.Run.{Run}

@@ -1,4 +1,5 @@
-use super::*;
+// The tests of mc_tokens, which stand here so that that crate is proved once.
+use mc_tokens::{Class, FaultKind, Kind, TokenFault, Walk, next_token, skip_class, token_text};
 use std::test::Fail;
 
 // One text for each form of a token: the kind and the span of its first token.

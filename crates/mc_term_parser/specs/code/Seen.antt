@@ -4,7 +4,7 @@ use Rattle.std.specs.Prelude.{ℕ, ◌+◌, ◌^◌, max, pos, nat_lt, nat_le, L
 use Rattle.mc_term_data.specs.Plain as P
 use Rattle.mc_term_data.specs.Plain.{PlainTerm, PlainNode, PlainTerms, at, tms}
 use Rattle.mc_term_parser.specs.Tree.{or_else, minus}
-use Rattle.mc_term_parser.specs.Machine.{Making}
+use Rattle.mc_term_parser.specs.code.Machine.{Making}
 
 pub record Seen : Type 0 where
   pub value : PlainTerm
@@ -67,7 +67,11 @@ unfoldable pub no_seen : SeenRow
 no_seen = record { values = []; depth = 0; large = None }
 
 unfoldable pub seen_then : SeenRow → Seen → SeenRow
-seen_then ts t = record { values = ts.values ++ t.value ∷ []; depth = max ts.depth t.depth; large = or_else ts.large t.large }
+seen_then ts t = record {
+  values = ts.values ++ t.value ∷ [];
+  depth = max ts.depth t.depth;
+  large = or_else ts.large t.large;
+}
 
 -- how the reader makes what it keeps
 abbrev pub seen_making : Making Seen SeenRow

@@ -4,8 +4,8 @@ use Rattle.mc_term_data.specs.Plain.{plain_term}
 use Rattle.mc_term_parser.specs.Tree.{Tree, depth, too_large, term}
 use Rattle.mc_term_parser.specs.Infixes as J
 use Rattle.mc_term_parser.specs.Part as P
-use Rattle.mc_term_parser.specs.Machine as M
-use Rattle.mc_term_parser.specs.Seen.{Seen, SeenRow}
+use Rattle.mc_term_parser.specs.code.Machine as M
+use Rattle.mc_term_parser.specs.code.Seen.{Seen, SeenRow}
 use Rattle.mc_term_parser.specs.Table.{same_name}
 use Rattle.mc_term_parser.specs.declared.lexeme.Lexeme.{Lexeme}
 use Rattle.mc_term_parser.specs.declared.lexeme.Lexeme.TheVariants as L
@@ -98,12 +98,3 @@ abbrev pub is_over : StateSeen → Bool
 is_over (M.Yes p) = true
 is_over M.No = true
 is_over _ = false
-
--- What the reader answers for a term: its depth, where 257 stands for every depth above 256, the
--- line of the first number that 64 bits don't hold, and, where it is neither deeper nor holds such
--- a number, the term.
-abbrev pub Shows : Tree → Reading → Type 0
-Shows t r =
-    (r.depth ≡ min (depth t) 257)
-    × (r.too_large ≡ too_large t)
-    × (depth t ≤ 256 → too_large t ≡ None → plain_term r.term ≡ term t)

@@ -1,7 +1,8 @@
--- What the walks of the crate answer, as the definitions have it.
+-- What the walks inside comments and quotes answer, as the definitions have it.
 use Rattle.std.specs.Prelude.{ℕ, ◌<◌, ◌≤◌, Option, Some, None, Result, Ok, Err, List, length, drop, [], ◌++◌, encode_utf8}
 use Rattle.mc_tokens.specs.Spots.{Spot, At, Faulty, Between, Quoting, Plain, walk, layout, quote_turn}
 use Rattle.mc_tokens.specs.Contents.{contents}
+use Rattle.mc_tokens.specs.Answers.{Placed}
 use Rattle.mc_tokens.specs.declared.token.FaultKind.TheVariants.{Unterminated}
 use Rattle.mc_tokens.specs.declared.token.TokenFault.{TokenFault}
 use Rattle.mc_tokens.specs.declared.quoting.Halt.{Halt}
@@ -49,18 +50,10 @@ turn_goes_on q start text (Ok (On i)) = quote_walk q start Plain i (drop i text)
 turn_goes_on q start text (Ok (Closed i)) = At i
 turn_goes_on q start text (Err h) = halted start h
 
--- a place that a walk from a place on comes to
-abbrev pub Within : List ℕ → ℕ → ℕ → Type 0
-Within text from i = (from ≤ i) × (i ≤ length text)
-
 -- a step comes to a later place
 abbrev pub StepsWithin : List ℕ → ℕ → Step → Type 0
 StepsWithin text i (Closed j) = (i < j) × (j ≤ length text)
 StepsWithin text i (On j) = (i < j) × (j ≤ length text)
-
--- a fault stands in the text, at the place or after it
-abbrev pub Placed : List ℕ → ℕ → TokenFault → Type 0
-Placed text from f = (from ≤ f.at) × (f.at < length text)
 
 abbrev pub HaltPlaced : List ℕ → ℕ → Halt → Type 0
 HaltPlaced text from TextEnds = Unit {0}

@@ -1,4 +1,4 @@
--- A machine with a stack that reads a term from its tokens, one step a token or a frame. PlainDecl
+-- A machine with a stack that reads a term from its tokens, one step a token or a frame. It
 -- makes values of T for terms and of R for terms in a row, as a Making says.
 use Rattle.std.specs.Prelude.{ℕ, ◌-◌, Bool, true, false, ◌&&◌, nat_le, nat_lt, List, [], ◌∷◌, if◌then◌else◌}
 use Rattle.mc_term_parser.specs.declared.lexeme.Lexeme.{Lexeme}

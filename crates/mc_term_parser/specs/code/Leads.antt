@@ -1,5 +1,5 @@
 -- Runs of the machine.
-use Rattle.mc_term_parser.specs.Machine.{Making, State, step}
+use Rattle.mc_term_parser.specs.code.Machine.{Making, State, step}
 
 module _ {T R : Type 0} (A : Making T R) where
   pub data Leads : State T R → State T R → Type 0 where

@@ -1,6 +1,7 @@
-use crate::{Lexeme, Reading, infix, prefix, read};
+// The tests of mc_term_parser, which stand here so that that crate is proved once.
 use mc_base::{Memory, Row, Text};
 use mc_term_data::{Node, Term};
+use mc_term_parser::{Lexeme, Reading, infix, prefix, read};
 use std::alloc::{AllocError, Global};
 use std::test::Fail;
 
@@ -93,8 +94,8 @@ fn operators(rt: HostRuntime) -> Result<(), Fail> {
     Ok(())
 }
 
-// A token by its text, on a line. `<(` is a bracket directly behind a name, a name in quotes has just the first
-// one, and so has a string.
+// A token by its text, on a line. `<(` is a bracket directly behind a name, a name in quotes has
+// just the first one, and so has a string.
 fn lexeme(alloc: Global, piece: &str, line: u32) -> Result<Lexeme, Memory> {
     match piece {
         "(" => Ok(Lexeme::Open(line)),
@@ -133,7 +134,8 @@ fn path(alloc: Global, module: &str, name: &str, line: u32) -> Result<Lexeme, Me
     Ok(Lexeme::Path(parts, line))
 }
 
-// The tokens of a text with a blank between them, the first on line 1, each on the line after that of the one before.
+// The tokens of a text with a blank between them, the first on line 1, each on the line after that
+// of the one before.
 fn lexemes(alloc: Global, text: &str) -> Result<Vec<Lexeme>, Memory> {
     let mut tokens = Vec::new(alloc);
     let mut line = 0u32;
@@ -144,7 +146,8 @@ fn lexemes(alloc: Global, text: &str) -> Result<Vec<Lexeme>, Memory> {
     Ok(tokens)
 }
 
-// What is written of a term: the term without operators, and the lines of the terms in it, each before its parts'.
+// What is written of a term: the term without operators, and the lines of the terms in it, each
+// before its parts'.
 #[derive(Drop)]
 struct Written {
     text: Vec<u8>,
@@ -152,7 +155,7 @@ struct Written {
 }
 
 // Writes the terms with a comma between them.
-#[cycle(shown)]
+#[cycle(written)]
 fn write_all(alloc: Global, out: &mut Written, terms: &[Term]) -> Result<(), AllocError> {
     let mut first = true;
     for term in terms {
@@ -178,7 +181,7 @@ fn write_name(out: &mut Written, parts: &[Text]) -> Result<(), AllocError> {
 }
 
 // Writes a term; a conjunction is `&(..)`, a disjunction `|(..)`.
-#[cycle(shown)]
+#[cycle(written)]
 fn write_term(alloc: Global, out: &mut Written, term: &Term) -> Result<(), AllocError> {
     out.lines.push(term.line)?;
     match &term.node {

@@ -1,0 +1,4 @@
+-- What private contracts and proofs are stated by. No public contract needs it.
+pub mod Values
+pub mod Walks
+pub mod Seen
