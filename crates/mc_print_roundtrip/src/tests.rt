@@ -1,12 +1,15 @@
-ghost use Rattle.std.specs.Prelude.{length, map};
+ghost use Rattle.std.specs.Prelude.{◌≡◌, [], ◌∷◌, length, map, IfOk};
 ghost use Rattle.std.specs.Bool.{OnTrue};
 ghost use Rattle.mc_program.specs.Values.{plain_value, vals};
 ghost use Rattle.mc_program.specs.Printed.{SymbolsBelow, AllSymbolsBelow};
+ghost use Rattle.mc_program.specs.declared.value.Value.{Con};
 
 use crate::read_back;
 use mc_base::{Memory, Row, Text};
 use mc_print::{answer_line, broken_line, printed, value_text, write_constant};
+use mc_program::copy::copy_value;
 use mc_program::program::{Program, Symbol};
+use mc_program::same::same_value;
 use mc_program::value::Value;
 use mc_source::name::Name;
 use mc_source::place::Place;
@@ -103,7 +106,9 @@ fn are_named(values: &[Value], n: u32) -> bool
     true
 }
 
-fn constant(alloc: Global, symbol: u32) -> Value {
+fn constant(alloc: Global, symbol: u32) -> Value
+    ensures { result ≡ Con symbol [] }
+{
     Value::Con(symbol, Row::new(alloc))
 }
 
@@ -113,7 +118,9 @@ fn over(alloc: Global, symbol: u32, a: Value) -> Result<Value, Memory> {
     Ok(Value::Con(symbol, args))
 }
 
-fn over_two(alloc: Global, symbol: u32, a: Value, b: Value) -> Result<Value, Memory> {
+fn over_two(alloc: Global, symbol: u32, a: Value, b: Value) -> Result<Value, Memory>
+    ensures { IfOk result (λ v. v ≡ Con symbol (a ∷ b ∷ [])) }
+{
     let mut args = Row::new(alloc);
     args.push(a)?;
     args.push(b)?;
@@ -128,6 +135,17 @@ fn string(alloc: Global, text: &str) -> Result<Value, Memory> {
 fn numbers(alloc: Global, first: i64, last: i64, tail: Value) -> Result<Value, Memory> {
     let mut list = tail;
     for i in (first..=last).rev() {
+        list = over_two(alloc, CELL, Value::Int(i), list)?;
+    }
+    Ok(list)
+}
+
+/// A list of so many integers, whose symbols are the program's.
+fn long_list(alloc: Global, count: i64) -> Result<Value, Memory>
+    ensures { IfOk result (λ v. SymbolsBelow 16 (plain_value v)) }
+{
+    let mut list = constant(alloc, NIL);
+    for i in 0..count {
         list = over_two(alloc, CELL, Value::Int(i), list)?;
     }
     Ok(list)
@@ -390,5 +408,19 @@ fn lines(rt: HostRuntime) -> Result<(), Fail> {
         line.bytes(),
         b"h.m:4: E1 declared det, inferred semidet\n'it\\'s'".as_slice()
     );
+    Ok(())
+}
+
+/// A list of 1,000,000 elements is copied, compared, printed and dropped with no stack for each of them.
+#[test]
+fn a_long_list(rt: HostRuntime) -> Result<(), Fail> {
+    let alloc = rt.alloc();
+    let program = program(alloc)?;
+    assert!(rt; program.symbols.len() == 16);
+    let list = long_list(alloc, 1_000_000)?;
+    let copy = copy_value(alloc, &list)?;
+    assert!(rt; same_value(&copy, &list));
+    let text = printed(alloc, &list, &program)?;
+    assert_eq!(rt; text.len(), 7_888_890);
     Ok(())
 }
