@@ -1,6 +1,6 @@
 -- The last phase, until rules run: whether what is asked for is built. This is the one place that
 -- says so, and each further form changes it alone. (This project's profile.)
-use Rattle.std.specs.Prelude.{◌≡◌, ◌||◌, Option, Some, None, Result, Ok, Err}
+use Rattle.std.specs.Prelude.{◌≡◌, ◌||◌, Option, Some, None, Result, Ok, Err, if◌then◌else◌}
 use Rattle.mc_term_data.specs.Plain.{PlainTerm}
 use Rattle.mc_ground_form.specs.Database.{Database, Question}
 use Rattle.mc_ground_form.specs.declared.compiled.Compiled.{Compiled}
