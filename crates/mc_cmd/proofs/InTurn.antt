@@ -10,7 +10,7 @@ use Rattle.std.specs.declared.alloc.Global.{Global}
 use Rattle.mc_outside.specs.Meaning.{Held, Reads, ReadsEntry, first_part}
 use Rattle.mc_cmd.specs.Outcome.{These, Missing, texts_in, text_or_missing, with_text}
 use Rattle.mc_cmd.specs.Call.{CannotRead, HoldTexts, Lacks}
-use Rattle.mc_cmd.specs.Decisions.{IsHeld, IsNotHeld, StopsAt, Stops}
+use Rattle.mc_cmd.specs.code.Decisions.{IsHeld, IsNotHeld, StopsAt, Stops}
 use Rattle.mc_cmd.specs.declared.decision.Decision.{Decision}
 use Rattle.mc_cmd.specs.declared.decision.Decision.TheVariants as D
 use Rattle.mc_cmd.proofs.Puts.{taken_dropped}
@@ -61,7 +61,7 @@ stops_behind store fs ts f gs (D.Unreadable line) a s = (f, (record { before = f
 stops_behind store fs ts f gs (D.Rejected files broken) a s = absurd s
 stops_behind store fs ts f gs D.NotBuilt a s = absurd s
 stops_behind store fs ts f gs D.Checked a s = absurd s
-stops_behind store fs ts f gs (D.Answers c) a s = absurd s
+stops_behind store fs ts f gs (D.Answers b c) a s = absurd s
 stops_behind store fs ts f gs D.Memory a s = tt
 
 -- no file stands before the first

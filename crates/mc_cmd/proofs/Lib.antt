@@ -1,7 +1,8 @@
 pub mod Puts
-pub mod Answers
+pub mod Runs
+pub mod FactsRun
 pub mod InTurn
 pub mod Commands
-pub mod Legal
-pub mod OneAnswer
+pub mod Understanding
+pub mod Once
 pub mod Calls

@@ -1,28 +1,17 @@
 -- Several puts, one after another.
-use Rattle.std.proofs.Common.{◌≡◌, ℕ, zero, suc, ◌+◌, ◌<◌, ◌≤◌, List, [], ◌∷◌, ◌++◌, take, drop, get_or, length, map, Option, Some, None, Result, Ok, Err, refl, sym, ap, ◌∙◌, subst, arith, codes, nat_eq, false, append_assoc, length-append}
+use Rattle.std.proofs.Common.{◌≡◌, inl, inr, ℕ, zero, suc, ◌+◌, ◌<◌, List, [], ◌∷◌, ◌++◌, take, drop, get_or, length, Option, Some, None, Result, Ok, Err, refl, sym, ap, ◌∙◌, subst, arith, append_assoc, length-append}
 use Rattle.std.specs.List.{flat_map}
 use Rattle.std.specs.Result.{IsErrAnd}
-use Rattle.std.proofs.lemmas.List.{take-append-le, take_more, append-nil, take_all, length-map}
-use Rattle.std.proofs.lemmas.Simd.{map-map}
-use Rattle.std.proofs.Math.ListN.{get_or-map as get_or_mapped}
-use Rattle.std.specs.Prelude.{All}
+use Rattle.std.proofs.lemmas.List.{take-append-le, take_more, append-nil, take_all}
 use Rattle.std.proofs.lemmas.Grind.{flat_map-append}
+use Rattle.mc_outside.specs.Counts.{PutFaults}
 use Rattle.mc_outside.specs.Meaning.{Puts, PutsFront}
 use Rattle.mc_outside.specs.declared.traits.PutFault.{PutFault}
 use Rattle.mc_outside.specs.declared.traits.PutFault.TheVariants as put
-use Rattle.std.proofs.lemmas.List.Folds.{flat_map-map}
 use Rattle.mc_source.specs.declared.rule.Broken.{Broken}
-use Rattle.mc_program.specs.declared.program.Clause.{Clause}
-use Rattle.mc_program.specs.Programs.{ClauseForm}
-use Rattle.mc_program.specs.declared.expr.Expr.{Expr}
-use Rattle.mc_program.specs.PlainPrograms.{plain_clause, plain_expression}
-use Rattle.mc_program.specs.Printed.{names_of, answer_text}
-use Rattle.mc_ground_form.specs.Lines.{fact_lines}
-use Rattle.mc_compile.specs.declared.given.Compiled.{Compiled}
-use Rattle.mc_cmd.specs.Lines.{facts_of, fact_texts, fact_line, head_text, lines_of, AreWide}
-use Rattle.mc_cmd.specs.Outcome.{broken_line, broken_lines}
+use Rattle.mc_cmd.specs.Messages.{broken_line, broken_lines}
 use Rattle.mc_cmd.specs.Call.{Wrote}
-use Rattle.mc_cmd.specs.Decisions.{Writes}
+use Rattle.mc_cmd.specs.code.Decisions.{CountPuts, Writes}
 
 pub wrote_more : (w0 w1 w2 : Option (List ℕ)) (a b : List ℕ) → Wrote w0 w1 a → Wrote w1 w2 b → Wrote w0 w2 (a ++ b)
 wrote_more None w1 w2 a b x y = let z : Wrote None w2 b = subst (λ (w : Option (List ℕ)). Wrote w w2 b) x y in z
@@ -62,16 +51,16 @@ pub front_nothing : (w0 w1 : Option (List ℕ)) → PutsFront w0 w1 [] → Wrote
 front_nothing None w1 p = p
 front_nothing (Some before) w1 p = p.2 ∙ ap (λ (bs : List ℕ). Some (before ++ bs)) (take_all p.0 [] (omega arith))
 
-pub writes_front : (w0 w1 : Option (List ℕ)) (r : Result (Unit {0}) PutFault) (bytes : List ℕ) → Writes w0 w1 r bytes → PutsFront w0 w1 bytes
+pub writes_front : {T : Type 0} (w0 w1 : Option (List ℕ)) (r : Result T PutFault) (bytes : List ℕ) → Writes w0 w1 r bytes → PutsFront w0 w1 bytes
 writes_front w0 w1 (Ok u) bytes e = wrote_front w0 w1 bytes e
 writes_front w0 w1 (Err f) bytes e = e
 
-pub writes_nothing : (w0 w1 : Option (List ℕ)) (r : Result (Unit {0}) PutFault) → Wrote w0 w1 [] → Writes w0 w1 r []
+pub writes_nothing : {T : Type 0} (w0 w1 : Option (List ℕ)) (r : Result T PutFault) → Wrote w0 w1 [] → Writes w0 w1 r []
 writes_nothing w0 w1 (Ok u) e = e
 writes_nothing w0 w1 (Err f) e = wrote_front w0 w1 [] e
 
 -- one put is a writing
-pub put_writes : (w0 w1 : Option (List ℕ)) (r : Result (Unit {0}) PutFault) (bytes : List ℕ) → Puts w0 w1 r bytes → Writes w0 w1 r bytes
+pub put_writes : {T : Type 0} (w0 w1 : Option (List ℕ)) (r : Result T PutFault) (bytes : List ℕ) → Puts w0 w1 r bytes → Writes w0 w1 r bytes
 put_writes None w1 (Ok u) bytes e = e
 put_writes None w1 (Err f) bytes e = e
 put_writes (Some before) w1 (Ok u) bytes e = e
@@ -114,33 +103,35 @@ pub broken_pieces : (files : List (List ℕ)) (bs : List Broken) → broken_line
 broken_pieces files [] = refl
 broken_pieces files (b ∷ bs) = ap (λ (ls : List ℕ). broken_line files b ++ ls) (broken_pieces files bs)
 
--- the lines of a query's facts are pieces
-pub fact_pieces : (c : Compiled) (fs : List Clause) → map plain_clause fs ≡ facts_of c → (fs ≡ [] → ⊥) → lines_of c ≡ flat_map (λ (f : Clause). fact_line c (plain_clause f)) fs
-fact_pieces c [] e n = absurd (n refl)
-fact_pieces c (f ∷ fs) e n =
-    ap (λ (ks : List ClauseForm). fact_lines c.vars (map (fact_texts (names_of c.program)) ks)) (sym e)
-    ∙ flat_map-map (answer_text c.vars) (fact_texts (names_of c.program)) (map plain_clause (f ∷ fs))
-    ∙ flat_map-map (fact_line c) plain_clause (f ∷ fs)
-
-pub no_pieces : (c : Compiled) (fs : List Clause) → map plain_clause fs ≡ facts_of c → fs ≡ [] → lines_of c ≡ codes "false.\n"
-no_pieces c [] e n = ap (λ (ks : List ClauseForm). fact_lines c.vars (map (fact_texts (names_of c.program)) ks)) (sym e)
-no_pieces c (f ∷ fs) e n = cc
-
--- the texts of a fact's constants, one after another
-pub texts_whole : (names : List (List ℕ)) (items head : List Expr) (i : ℕ) → length items ≤ i → items ≡ head → map (λ (e : Expr). head_text names (plain_expression e)) (take i items) ≡ map (head_text names) (map plain_expression head)
-texts_whole names items head i h e =
-    ap (map (λ (e : Expr). head_text names (plain_expression e))) (take_all i items h ∙ e) ∙ sym (map-map (head_text names) plain_expression head)
-
--- as many arguments stand in each fact as there are variables
-pub each_wide : (c : Compiled) (fs : List Clause) → map plain_clause fs ≡ facts_of c → AreWide c → All (λ (f : Clause). length c.vars ≡ length f.head) fs
-each_wide c fs e w k d h =
-    let a : All (λ (f : ClauseForm). length c.vars ≡ length f.head) (map plain_clause fs) = subst (λ (ks : List ClauseForm). All (λ (f : ClauseForm). length c.vars ≡ length f.head) ks) (sym e) w in
-    a k (plain_clause d) (omega (arith, h, length-map fs plain_clause)) ∙ ap (λ (f : ClauseForm). length f.head) (get_or_mapped plain_clause fs k d) ∙ length-map (get_or fs k d).head plain_expression
-
-pub some_facts : (fs : List Clause) → nat_eq (length fs) 0 ≡ false → fs ≡ [] → ⊥
-some_facts fs e n = let z : nat_eq 0 0 ≡ false = subst (λ (ks : List Clause). nat_eq (length ks) 0 ≡ false) n e in cc
-
 -- a fault is passed on by a `?`
 pub passed_front : {Y : Type 0} (Q : PutFault → Type 0) (w0 w1 : Option (List ℕ)) (r : Result Y PutFault) (bytes : List ℕ) → IsErrAnd r Q → PutsFront w0 w1 bytes → Writes w0 w1 r bytes
 passed_front Q w0 w1 (Ok y) bytes e p = absurd e
 passed_front Q w0 w1 (Err f) bytes e p = p
+
+-- a sink that is as it was was given nothing, whatever came of the puts on another
+pub untouched : {T : Type 0} (w : Option (List ℕ)) (r : Result T PutFault) → Writes w w r []
+untouched w r = writes_nothing w w r (wrote_nothing w w refl)
+
+-- a front part of a text is one of each longer text
+pub front_longer : (w0 w1 : Option (List ℕ)) (text more : List ℕ) → PutsFront w0 w1 text → PutsFront w0 w1 (text ++ more)
+front_longer w0 w1 text more p = front_more w0 w0 w1 [] text more (wrote_nothing w0 w0 refl) p
+
+-- the counts of both sinks where one of them alone was put to
+pub counted_err : {T : Type 0} (r : Result T PutFault) (o e0 e1 : ℕ) → PutFaults r e0 e1 → CountPuts r o o e0 e1
+counted_err (Ok u) o e0 e1 p = (refl, sym p)
+counted_err (Err put.Failed) o e0 e1 p = inl (refl, p)
+counted_err (Err put.Memory) o e0 e1 p = (refl, sym p)
+
+pub counted_out : {T : Type 0} (r : Result T PutFault) (o0 o1 e : ℕ) → PutFaults r o0 o1 → CountPuts r o0 o1 e e
+counted_out (Ok u) o0 o1 e p = (sym p, refl)
+counted_out (Err put.Failed) o0 o1 e p = inr (p, refl)
+counted_out (Err put.Memory) o0 o1 e p = (sym p, refl)
+
+-- a front part of what follows on what was put
+pub front_behind : (w0 w1 w2 : Option (List ℕ)) (a b : List ℕ) → Wrote w0 w1 a → PutsFront w1 w2 b → PutsFront w0 w2 (a ++ b)
+front_behind w0 w1 w2 a b x y = subst (λ (bs : List ℕ). PutsFront w0 w2 (a ++ bs)) (append-nil b) (front_more w0 w1 w2 a b [] x y)
+
+-- what was put whole stands, whatever came of the puts on another sink
+pub stands : {T : Type 0} (w0 w1 : Option (List ℕ)) (r : Result T PutFault) (bytes : List ℕ) → Wrote w0 w1 bytes → Writes w0 w1 r bytes
+stands w0 w1 (Ok u) bytes e = e
+stands w0 w1 (Err f) bytes e = wrote_front w0 w1 bytes e

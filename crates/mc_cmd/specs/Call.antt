@@ -1,16 +1,21 @@
 -- How a call went: what it told, put and counted. (This project's profile.)
-use Rattle.std.specs.Prelude.{◌≡◌, ℕ, false, List, ◌∷◌, ◌++◌, Contains, Option, Some, None}
+use Rattle.std.specs.Prelude.{◌≡◌, ℕ, List, [], ◌∷◌, ◌++◌, Contains, Option, Some, None, Ok, Err, IfSome}
 use Rattle.mc_outside.specs.Counts.{Rose}
 use Rattle.mc_outside.specs.Meaning.{Held, PutsFront}
-use Rattle.mc_model.specs.Good.{GoodQuery}
+use Rattle.mc_source.specs.declared.rule.Broken.{Broken}
+use Rattle.mc_model.specs.EventList.{Ends}
+use Rattle.mc_model.specs.Good.{System, GoodProcedures, GoodQuery}
 use Rattle.mc_command_line.specs.Words.{Meaning, meaning}
-use Rattle.mc_ground_form.specs.Database.{Database, Question, query_procedure, system_of}
-use Rattle.mc_compile.specs.Library.{library_texts}
-use Rattle.mc_compile.specs.Rejected.{AreLegal}
-use Rattle.mc_compile.specs.Compiled.{asks}
+use Rattle.mc_ground_form.specs.Database.{query_procedure, query_run, system_of}
+use Rattle.mc_compile.specs.Phases.{Breaks, Unbuilt}
+use Rattle.mc_compile.specs.Sources.{Sources}
+use Rattle.mc_compile.specs.Forming.{Formed}
+use Rattle.mc_compile.specs.Compiling.{Compiles}
 use Rattle.mc_cmd.specs.declared.status.Status.{Status}
 use Rattle.mc_cmd.specs.declared.status.Status.TheVariants as S
-use Rattle.mc_cmd.specs.Outcome.{Outcome, Defined, RunEnds, texts_in, These, Missing, unreadable_line, files_of, query_of, is_unbuilt, bounds_of}
+use Rattle.mc_cmd.specs.Messages.{unreadable_line}
+use Rattle.mc_cmd.specs.Ends.{Outcome}
+use Rattle.mc_cmd.specs.Outcome.{Defined, texts_in, These, Missing, files_of, sources_of, bounds_of}
 
 -- the store tells what it holds, and the sinks what was written
 pub record Told (store : Option Held) (held : Held) (out : Option (List ℕ)) (before_out : List ℕ) (err : Option (List ℕ)) (before_err : List ℕ) : Type 0 where
@@ -29,10 +34,23 @@ abbrev pub Wrote : Option (List ℕ) → Option (List ℕ) → List ℕ → Type
 Wrote None after bytes = after ≡ None
 Wrote (Some before) after bytes = after ≡ Some (before ++ bytes)
 
--- where it is told what the files hold, the first of these that isn't there is this one
-abbrev pub Lacks : Option Held → List (List ℕ) → List ℕ → Type 0
-Lacks None files file = Contains files file
-Lacks (Some held) files file = texts_in held files ≡ Missing file
+-- behind what was written before, the sinks hold the bytes of a defined answer, and the status is
+-- its own
+abbrev pub AnswersWhole :
+    (words : List (List ℕ)) → Held → (before_out before_err : List ℕ)
+    → Status → (after_out after_err : Option (List ℕ)) → Type 0
+AnswersWhole words held before_out before_err status after_out after_err =
+    (o : Outcome)
+    × Defined words held o
+    × (status ≡ o.status)
+    × (after_out ≡ Some (before_out ++ o.out))
+    × (after_err ≡ Some (before_err ++ o.err))
+
+-- each sink was given a front part of a defined answer
+abbrev pub PutsDefined :
+    (words : List (List ℕ)) → Held → (out0 out1 err0 err1 : Option (List ℕ)) → Type 0
+PutsDefined words held out0 out1 err0 err1 =
+    (o : Outcome) × Defined words held o × PutsFront out0 out1 o.out × PutsFront err0 err1 o.err
 
 -- the status is one of those that can come at this stage
 abbrev pub CanCome : Status → Type 0
@@ -40,6 +58,19 @@ CanCome S.Threw = ⊥
 CanCome S.Budget = ⊥
 CanCome S.TooDeep = ⊥
 CanCome _ = Unit {0}
+
+-- the words mean a command, and P holds of the files that it names
+abbrev pub OfFiles : (words : List (List ℕ)) → (List (List ℕ) → Type 0) → Type 0
+OfFiles words P = (m : Meaning) × (meaning words ≡ Some m) × P (files_of m)
+
+-- where it is told what the files hold, the first of these that isn't there is this one
+abbrev pub Lacks : Option Held → List (List ℕ) → List ℕ → Type 0
+Lacks None files file = Contains files file
+Lacks (Some held) files file = texts_in held files ≡ Missing file
+
+-- one of the files isn't there
+abbrev pub LacksOne : Option Held → List (List ℕ) → Type 0
+LacksOne store files = (file : List ℕ) × Lacks store files file
 
 -- where it is told what the files hold, these are their texts
 abbrev pub HoldTexts : Option Held → (files texts : List (List ℕ)) → Type 0
@@ -61,27 +92,47 @@ abbrev pub SaysUnreadable :
 SaysUnreadable store before after files =
     (file : List ℕ) × CannotRead store files file × PutsFront before after (unreadable_line file)
 
--- each sink was given a front part of a defined answer
-abbrev pub PutsDefined :
-    (words : List (List ℕ)) → Held → (out0 out1 err0 err1 : Option (List ℕ)) → Type 0
-PutsDefined words held out0 out1 err0 err1 =
-    (o : Outcome) × Defined words held o × PutsFront out0 out1 o.out × PutsFront err0 err1 o.err
+-- on the error output was put the whole line that says of the file that can't be read, and nothing
+-- on the output
+abbrev pub SaidUnreadable :
+    Option Held → (out0 out1 err0 err1 : Option (List ℕ)) → (files : List (List ℕ)) → Type 0
+SaidUnreadable store out0 out1 err0 err1 files =
+    (file : List ℕ)
+    × CannotRead store files file
+    × Wrote out0 out1 []
+    × Wrote err0 err1 (unreadable_line file)
 
--- every run of the query, where there is one, is good
-abbrev pub QueryIsGood : Database → Option Question → Type 0
-QueryIsGood d None = Unit {0}
-QueryIsGood d (Some q) = (n h : ℕ) → GoodQuery (system_of d (Some q)) n h (query_procedure d q)
-
--- the words mean a command that is built, whose sources are legal and of the form that is answered;
--- and the run of its query, where it has one, ends
-pub record WasDone (words : List (List ℕ)) (store : Option Held) : Type 0 where
+-- The words mean a command, and P holds of it and of the sources that it compiles: its query, and
+-- the texts of its files, where it is told what these hold.
+pub record OfSources (words : List (List ℕ)) (store : Option Held) (P : Meaning → Sources → Type 0) : Type 0 where
   pub command : Meaning
   pub means : meaning words ≡ Some command
-  pub built : is_unbuilt command ≡ false
   pub texts : List (List ℕ)
   pub holds : HoldTexts store (files_of command) texts
-  pub legal : AreLegal library_texts texts (query_of command)
-  pub database : Database
-  pub question : Option Question
-  pub asked : asks legal ≡ Some (database, question)
-  pub ends : RunEnds question database (bounds_of command)
+  pub so : P command (sources_of command texts)
+
+-- the sources break rules
+abbrev pub BreaksRules : Meaning → Sources → Type 0
+BreaksRules m s = (broken : List Broken) × Compiles s (Err (Breaks broken))
+
+-- they break none, and something is asked for that isn't built yet
+abbrev pub IsUnbuilt : Meaning → Sources → Type 0
+IsUnbuilt m s = Compiles s (Err Unbuilt)
+
+-- they compile, and the run of the query, where there is one, comes to its end within its bounds
+abbrev pub RunsToEnd : Meaning → Sources → Type 0
+RunsToEnd m s =
+    (x : Formed)
+    × Compiles s (Ok x)
+    × IfSome x.question
+    (λ q. Ends (query_run x.database q (bounds_of m).budget (bounds_of m).depth))
+
+-- There is a system whose bare form is what sources are compiled to, so that its runs are those
+-- which are written. Every run of its procedures is good, and so is every run of the query, where
+-- there is one.
+pub record IsTrueProgram (x : Formed) : Type 0 where
+  pub system : System
+  pub bare : system ≡ system_of x.database x.question
+  pub procedures : GoodProcedures system
+  pub query :
+      IfSome x.question (λ q. (n h : ℕ) → GoodQuery system n h (query_procedure x.database q))

@@ -1,7 +1,8 @@
 -- Laws of the defined answer.
 use Rattle.std.specs.Prelude.{◌≡◌, ℕ, List}
 use Rattle.mc_outside.specs.Meaning.{Held}
-use Rattle.mc_cmd.specs.Outcome.{Outcome, Defined}
+use Rattle.mc_cmd.specs.Ends.{Outcome}
+use Rattle.mc_cmd.specs.Outcome.{Defined}
 
 -- of words and of what files hold there is one defined answer at most
 abbrev pub AtMostOneAnswer : Type 0

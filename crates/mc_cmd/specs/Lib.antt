@@ -1,6 +1,7 @@
 pub mod Codes
+pub mod Messages
+pub mod Ends
 pub mod Outcome
 pub mod Laws
 pub mod Call
-pub mod Lines
-pub mod Decisions
+pub mod code

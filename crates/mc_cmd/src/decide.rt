@@ -1,22 +1,24 @@
-ghost use Rattle.std.specs.Prelude.{◌≡◌, ◌≤◌, ◌||◌, length, map, option_map, string_bytes, IfOk, IfErr};
-ghost use Rattle.mc_command_line.specs.Plain.{plain_command, plain_text, plain_texts};
-ghost use Rattle.mc_compile.specs.Reading.{texts_of, text_of};
-ghost use Rattle.mc_compile.specs.Compiled.{is_first};
-ghost use Rattle.mc_cmd.specs.Outcome.{absent_line, unreadable_line, files_of, query_of, is_run, is_unbuilt};
+ghost use Rattle.std.specs.Prelude.{◌≡◌, ◌≤◌, length, map, string_bytes, IfOk, IfErr};
+ghost use Rattle.mc_command_line.specs.Plain.{plain_command, plain_texts};
+ghost use Rattle.mc_compile.specs.Sources.{texts_of, text_of};
+ghost use Rattle.mc_compile.specs.Sources.{is_first as is_first_wanted};
+ghost use Rattle.mc_cmd.specs.Messages.{absent_line, unreadable_line};
+ghost use Rattle.mc_cmd.specs.Outcome.{files_of, query_of, is_first, is_run};
 ghost use Rattle.mc_cmd.specs.Call.{HoldTexts};
-ghost use Rattle.mc_cmd.specs.Decisions.{CountsAbsents, CountsFaults, IsDecided, IsHeld, IsStopped, Stops, StopsAt, Understood, given_names};
+ghost use Rattle.mc_cmd.specs.code.Decisions.{CountsAbsents, CountsFaults, IsAnswered, IsDecided, IsHeld, IsStopped, Stops, StopsAt, Understood, given_names};
 
 use crate::decision::Decision;
+use crate::messages;
 use mc_base::{Memory, Row, Text};
 use mc_command_line::{Command, query_text, read_words};
-use mc_compile::{CompileFault, Given, Query, compile};
+use mc_compile::{CompileFault, Compiled, Given, Query, compile, query_is_asked};
 use mc_outside::{FileAnswer, Files};
 use std::alloc::{AllocError, Global};
 
 fn absent_line(alloc: Global, file: &str) -> Result<Vec<u8>, AllocError>
     ensures { IfOk result (λ line. line.items ≡ absent_line file.now) }
 {
-    let mut line = b"merc: no file ".to_vec(alloc)?;
+    let mut line = messages::NO_FILE.to_vec(alloc)?;
     line.extend_from_slice(file.as_bytes())?;
     line.extend_from_slice(b"\n")?;
     Ok(line)
@@ -25,7 +27,7 @@ fn absent_line(alloc: Global, file: &str) -> Result<Vec<u8>, AllocError>
 fn unreadable_line(alloc: Global, file: &str) -> Result<Vec<u8>, AllocError>
     ensures { IfOk result (λ line. line.items ≡ unreadable_line file.now) }
 {
-    let mut line = b"merc: cannot read ".to_vec(alloc)?;
+    let mut line = messages::CANNOT_READ.to_vec(alloc)?;
     line.extend_from_slice(file.as_bytes())?;
     line.extend_from_slice(b"\n")?;
     Ok(line)
@@ -58,7 +60,8 @@ fn read_file<F: Files>(alloc: Global, name: &str, files: &mut F) -> Result<Given
         (λ _.
         (F.faults files.new ≡ F.faults files.old)
         × (F.absents files.new ≡ F.absents files.old)) }
-    ensures faults { IfErr result (λ decision. CountsFaults decision (F.faults files.old) (F.faults files.new)) }
+    ensures faults { IfErr result
+        (λ decision. CountsFaults decision (F.faults files.old) (F.faults files.new)) }
     ensures absents { IfErr result
         (λ decision. CountsAbsents decision (F.absents files.old) (F.absents files.new)) }
 {
@@ -88,7 +91,8 @@ fn read_files<F: Files>(
         (λ _.
         (F.faults files.new ≡ F.faults files.old)
         × (F.absents files.new ≡ F.absents files.old)) }
-    ensures faults { IfErr result (λ decision. CountsFaults decision (F.faults files.old) (F.faults files.new)) }
+    ensures faults { IfErr result
+        (λ decision. CountsFaults decision (F.faults files.old) (F.faults files.new)) }
     ensures absents { IfErr result
         (λ decision. CountsAbsents decision (F.absents files.old) (F.absents files.new)) }
 {
@@ -113,10 +117,8 @@ fn files_of<'c, 'a>(command: &'c Command<'a>) -> &'c [&'a str]
 /// The query of a command, where it has one.
 fn query_of(alloc: Global, command: &Command<'_>) -> Result<Option<Query>, Memory>
     ensures text { IfOk result (λ query. text_of query ≡ query_of (plain_command command.now)) }
-    ensures unbuilt { IfOk result
-        (λ query.
-        (is_run (plain_command command.now) || is_first query)
-        ≡ is_unbuilt (plain_command command.now)) }
+    ensures first { IfOk result
+        (λ query. is_first_wanted query ≡ is_first (plain_command command.now)) }
 {
     let Command::Query { first, goal, .. } = command else {
         return Ok(None);
@@ -135,18 +137,28 @@ fn is_run(command: &Command<'_>) -> bool
     matches!(command, Command::Run(..))
 }
 
+/// What is decided of a command whose sources compile.
+fn asked(command: &Command<'_>, compiled: Compiled) -> Decision
+    ensures { IsAnswered (plain_command command.now) compiled result }
+{
+    match command {
+        Command::Query { bounds, .. } => Decision::Answers(*bounds, compiled),
+        Command::Check(_) | Command::Run(..) => Decision::Checked,
+    }
+}
+
 /// Compiles the files of a command, and decides by that.
 fn compiled(alloc: Global, command: &Command<'_>, sources: Row<Given>) -> Decision
     requires { given_names sources ≡ files_of (plain_command command.now) }
     ensures { Understood (plain_command command.now) (texts_of sources) result }
 {
+    query_is_asked();
     let query = match query_of(alloc, command) {
         Ok(query) => query,
         Err(Memory) => return Decision::Memory,
     };
     match compile(alloc, &sources, query.as_ref(), is_run(command)) {
-        Ok(compiled) if query.is_some() => Decision::Answers(compiled),
-        Ok(_) => Decision::Checked,
+        Ok(compiled) => asked(command, compiled),
         Err(CompileFault::Rejected(broken)) => Decision::Rejected(sources, broken),
         Err(CompileFault::NotBuilt) => Decision::NotBuilt,
         Err(CompileFault::Memory) => Decision::Memory,

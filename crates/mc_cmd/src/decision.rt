@@ -1,4 +1,5 @@
 use mc_base::{Memory, Row};
+use mc_command_line::Bounds;
 use mc_compile::{Compiled, Given};
 use mc_source::rule::Broken;
 
@@ -13,12 +14,12 @@ pub enum Decision {
     Unreadable(Vec<u8>),
     /// The files, and the rules that they and the query break.
     Rejected(Row<Given>, Row<Broken>),
-    /// The files and the query are legal, and something is asked for that isn't built yet.
+    /// No rule is broken, and something is asked for that isn't built yet.
     NotBuilt,
-    /// The files are legal, and nothing is asked of them.
+    /// The sources compile, and nothing is asked of them.
     Checked,
-    /// The answers of the query.
-    Answers(Compiled),
+    /// The answers of the query, within these bounds.
+    Answers(Bounds, Compiled),
     /// There is no room.
     Memory,
 }

@@ -1,12 +1,10 @@
 ghost use Rattle.mc_cmd.specs.Laws.{AtMostOneAnswer};
 
-use mc_compile::{at_most_one_breach, compiled_once, not_both};
+use mc_compile::at_most_one_program;
 
 /// Of words and of what files hold there is one defined answer at most: a law, and nothing to run.
 pub fn at_most_one_answer()
     ensures { AtMostOneAnswer }
 {
-    compiled_once();
-    not_both();
-    at_most_one_breach();
+    at_most_one_program();
 }

@@ -3,8 +3,12 @@
 
 mod decide;
 mod decision;
+mod facts;
 mod law;
+mod messages;
+mod run;
 mod status;
+mod stop;
 #[cfg(test)]
 mod tests;
 mod top;

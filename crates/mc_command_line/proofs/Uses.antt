@@ -11,7 +11,7 @@ use Rattle.clap.specs.declared.error.kind.ErrorKind.TheVariants.{ArgumentConflic
 use Rattle.clap.specs.declared.builder.value_parser.Reading.TheVariants.{AsWritten}
 use Rattle.clap.specs.declared.parser.matches.ValueSource.TheVariants.{CommandLine}
 use Rattle.mc_command_line.specs.Words.{Limit, Budget, Depth, Options, Spoken, nothing_spoken, value_of, with_value, with_words}
-use Rattle.mc_command_line.specs.Parser.{app, first_rule, limit_rule, words_rule}
+use Rattle.mc_command_line.specs.code.Parser.{app, first_rule, limit_rule, words_rule}
 use Rattle.mc_command_line.proofs.Rows.{given_row, has_row-is, row-added, row-grown, row-kept, row_of_id, without-none}
 
 -- ---- the built arguments

@@ -13,7 +13,7 @@ use Rattle.clap.specs.declared.builder.value_parser.Reading.TheVariants.{AsWritt
 use Rattle.clap.specs.declared.error.kind.ErrorKind.{ErrorKind}
 use Rattle.clap.specs.declared.parser.matches.ValueSource.TheVariants.{DefaultValue}
 use Rattle.mc_command_line.specs.Words.{Limit, Budget, Depth, Options, Spoken, spoken_with, value_of}
-use Rattle.mc_command_line.specs.Parser.{IsFlag, IsFound, app}
+use Rattle.mc_command_line.specs.code.Parser.{IsFlag, IsFound, app}
 use Rattle.mc_command_line.proofs.Rows.{has_row-is, row-added, row-kept, row_of_id}
 use Rattle.mc_command_line.proofs.Uses.{Holds, IsFault, args, first_arg, first_row, limit_arg, limit_args, limit_row, name_of, or_else-nil, shape, words_arg, words_row}
 use Rattle.mc_command_line.proofs.Turns.{at}

@@ -1,3 +1,3 @@
-pub mod Parser
 pub mod Plain
 pub mod Words
+pub mod code

@@ -1,7 +1,7 @@
 //! The bounds of a run.
 ghost use Rattle.std.specs.Prelude.{◌≡◌, option_map};
 ghost use Rattle.mc_command_line.specs.Words.{bound, bounds, is_digit, number};
-ghost use Rattle.mc_command_line.specs.Parser.{plain_spoken};
+ghost use Rattle.mc_command_line.specs.code.Parser.{plain_spoken};
 ghost use Rattle.mc_command_line.specs.Plain.{plain_bounds, plain_text};
 
 use crate::parser::Spoken;

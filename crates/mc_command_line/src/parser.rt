@@ -4,7 +4,7 @@ ghost use Rattle.clap.specs.Matches.{found_of};
 ghost use Rattle.clap.specs.Walk.{all_of, rows_of, rule_of};
 ghost use Rattle.clap.specs.Simple.{app_of};
 ghost use Rattle.mc_command_line.specs.Words.{Spoken as SpecSpoken, spoken_with};
-ghost use Rattle.mc_command_line.specs.Parser.{IsFound, app, limit_rule, no_arguments, plain_options, plain_spoken, with_first_rule, with_limit_rules};
+ghost use Rattle.mc_command_line.specs.code.Parser.{IsFound, app, limit_rule, no_arguments, plain_options, plain_spoken, with_first_rule, with_limit_rules};
 ghost use Rattle.mc_command_line.specs.Plain.{plain_texts};
 
 use clap::error::ErrorKind;

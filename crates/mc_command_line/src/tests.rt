@@ -79,152 +79,50 @@ fn check_lines(rt: &impl Abort, alloc: Global, lines: &[Line]) -> Result<(), All
     Ok(())
 }
 
-const CHECKS: [Line; 22] = [
+const CHECKS: [Line; 7] = [
     (&[], "none"),
-    (&[""], "none"),
     (&["check"], "none"),
-    (&["check", "f"], "check <f>"),
     (&["check", "f", "g", "f"], "check <f> <g> <f>"),
-    (&["check", ""], "check <>"),
-    (&["check", "-"], "check <->"),
     (&["check", "-", "--", "-"], "check <-> <->"),
-    (&["check", "--", "f"], "check <f>"),
-    (&["check", "f", "--"], "check <f>"),
-    (&["check", "--"], "none"),
-    (&["check", "--", "--"], "check <-->"),
     (&["check", "--", "-x", "--first"], "check <-x> <--first>"),
-    (&["check", "-x", "f"], "none"),
     (&["check", "f", "-x"], "none"),
-    (&["check", "--budget", "5", "f"], "none"),
     (&["check", "--budget=5", "f"], "none"),
-    (&["check", "--first", "f"], "none"),
-    (&["check", "--help"], "none"),
-    (&["check", "-h", "f"], "none"),
-    (&["check", "--version", "f"], "none"),
-    (&["check", "é", "a b", "check"], "check <é> <a b> <check>"),
 ];
 
-const RUNS: [Line; 38] = [
+const RUNS: [Line; 12] = [
     (&["run", "f"], "run 10000000 1000000 <f>"),
-    (&["run"], "none"),
-    (&["run", "--budget", "5", "f"], "run 5 1000000 <f>"),
-    (&["run", "--budget=5", "f"], "run 5 1000000 <f>"),
-    (&["run", "f", "--budget", "5"], "run 5 1000000 <f>"),
-    (&["run", "f", "--depth=7", "g"], "run 10000000 7 <f> <g>"),
     (
         &["run", "--depth", "7", "f", "--budget", "5", "g"],
         "run 5 7 <f> <g>",
     ),
-    (&["run", "--budget", "5", "--budget", "5", "f"], "none"),
-    (&["run", "--budget=5", "--budget", "5", "f"], "none"),
+    (&["run", "f", "--depth=7", "g"], "run 10000000 7 <f> <g>"),
     (&["run", "--budget", "5", "--budget=5", "f"], "none"),
-    (&["run", "--depth=5", "f", "--depth=6"], "none"),
-    (
-        &["run", "--budget", "5", "f", "--budget", "5", "--"],
-        "none",
-    ),
     (&["run", "f", "--budget"], "none"),
-    (&["run", "f", "--budget", "--"], "none"),
-    (&["run", "--budget", "--", "5", "f"], "none"),
-    (&["run", "--budget", "--depth", "5", "f"], "none"),
-    (&["run", "--budget", "--depth=5", "f"], "none"),
     (&["run", "--budget", "-5", "f"], "none"),
-    (&["run", "--budget", "-", "f"], "none"),
-    (&["run", "--budget=", "f"], "none"),
-    (&["run", "--budget", "", "f"], "none"),
-    (&["run", "--budget==5", "f"], "none"),
     (&["run", "--budget=+5", "f"], "none"),
-    (&["run", "--budget=5 ", "f"], "none"),
     (&["run", "--budget=0", "f"], "none"),
-    (&["run", "--budget=1", "f"], "run 1 1000000 <f>"),
-    (&["run", "--budget=000000001", "f"], "run 1 1000000 <f>"),
     (&["run", "--budget=0000000001", "f"], "none"),
-    (
-        &["run", "--budget=100000000", "f"],
-        "run 100000000 1000000 <f>",
-    ),
     (&["run", "--budget=100000001", "f"], "none"),
-    (&["run", "--budget=999999999", "f"], "none"),
-    (
-        &["run", "--depth=10000000", "f"],
-        "run 10000000 10000000 <f>",
-    ),
-    (&["run", "--depth=10000001", "f"], "none"),
-    (&["run", "--depth=0", "f"], "none"),
-    (
-        &["run", "--", "f", "--budget", "5"],
-        "run 10000000 1000000 <f> <--budget> <5>",
-    ),
     (
         &["run", "--budget", "5", "--", "--budget", "5"],
         "run 5 1000000 <--budget> <5>",
     ),
-    (&["run", "--budget", "5", "f", "--first"], "none"),
     (&["run", "--bud=5", "f"], "none"),
 ];
 
-const QUERIES: [Line; 36] = [
-    (&["query", "g", "f"], "query 10000000 1000000 <g> <f>"),
+const QUERIES: [Line; 8] = [
     (&["query", "g"], "none"),
-    (&["query"], "none"),
-    (
-        &["query", "g", "f", "h"],
-        "query 10000000 1000000 <g> <f> <h>",
-    ),
-    (&["query", "", ""], "query 10000000 1000000 <> <>"),
-    (&["query", "-", "f"], "query 10000000 1000000 <-> <f>"),
-    (
-        &["query", "--first", "g", "f"],
-        "query first 10000000 1000000 <g> <f>",
-    ),
     (
         &["query", "g", "--first", "f"],
         "query first 10000000 1000000 <g> <f>",
     ),
     (
-        &["query", "g", "f", "--first"],
-        "query first 10000000 1000000 <g> <f>",
-    ),
-    (
-        &["query", "g", "f", "--", "--first"],
-        "query 10000000 1000000 <g> <f> <--first>",
-    ),
-    (
         &["query", "--", "-g", "f"],
         "query 10000000 1000000 <-g> <f>",
     ),
-    (&["query", "-g", "f"], "none"),
     (&["query", "--first", "--first", "g", "f"], "none"),
-    (&["query", "--first=", "g", "f"], "none"),
-    (&["query", "--first=x", "g", "f"], "none"),
     (&["query", "--first=true", "g", "f"], "none"),
-    (&["query", "--firs", "g", "f"], "none"),
-    (&["query", "--firsts", "g", "f"], "none"),
-    (&["query", "--First", "g", "f"], "none"),
-    (&["query", "-first", "g", "f"], "none"),
-    (&["query", "-f", "g", "f"], "none"),
-    (&["query", "-é", "g", "f"], "none"),
-    (&["query", "--é", "g", "f"], "none"),
-    (&["query", "--=5", "g", "f"], "none"),
-    (&["query", "-=", "g", "f"], "none"),
     (&["query", "---", "g", "f"], "none"),
-    (&["query", "-5", "g", "f"], "none"),
-    (&["query", "-1.5e3", "f"], "none"),
-    (&["query", "--budget", "--first", "g", "f"], "none"),
-    (
-        &[
-            "query", "--budget", "2", "--first", "--depth", "3", "g", "f",
-        ],
-        "query first 2 3 <g> <f>",
-    ),
-    (
-        &["query", "--first", "--budget=2", "g", "--depth=3", "f"],
-        "query first 2 3 <g> <f>",
-    ),
-    (
-        &["query", "--depth", "3", "--", "g", "f"],
-        "query 10000000 3 <g> <f>",
-    ),
     (
         &["query", "help", "help"],
         "query 10000000 1000000 <help> <help>",
@@ -233,19 +131,12 @@ const QUERIES: [Line; 36] = [
         &["query", "p(X), X = 'é'", "é.m"],
         "query 10000000 1000000 <p(X), X = 'é'> <é.m>",
     ),
-    (&["query", "--words", "g", "f"], "none"),
-    (&["query", "--words=x", "g", "f"], "none"),
 ];
 
-const OTHERS: [Line; 8] = [
-    (&["f"], "none"),
+const OTHERS: [Line; 3] = [
     (&["help", "check"], "none"),
-    (&["--help"], "none"),
     (&["checks", "f"], "none"),
-    (&["chec", "f"], "none"),
     (&["--", "check", "f"], "none"),
-    (&["Run", "f"], "none"),
-    (&["gen", "3", "4"], "none"),
 ];
 
 #[test]
@@ -255,13 +146,6 @@ fn lists_of_words_and_their_meanings(rt: HostRuntime) -> Result<(), Fail> {
     check_lines(&rt, alloc, RUNS.as_slice())?;
     check_lines(&rt, alloc, QUERIES.as_slice())?;
     check_lines(&rt, alloc, OTHERS.as_slice())?;
-    Ok(())
-}
-
-#[test]
-fn without_words_there_is_no_command(rt: HostRuntime) -> Result<(), Fail> {
-    let list = Vec::new(rt.alloc());
-    assert!(rt; matches!(read_words(rt.alloc(), &list), Ok(None)));
     Ok(())
 }
 

@@ -1,7 +1,7 @@
 //! The commands.
 ghost use Rattle.std.specs.Prelude.{◌≡◌, IfOk, map, option_map, Some, string_bytes};
 ghost use Rattle.mc_command_line.specs.Words.{are_files, check, commanded, meaning, query, run};
-ghost use Rattle.mc_command_line.specs.Parser.{plain_spoken};
+ghost use Rattle.mc_command_line.specs.code.Parser.{plain_spoken};
 ghost use Rattle.mc_command_line.specs.Plain.{plain_command, plain_texts};
 
 use crate::limits::{Bounds, bounds_of};

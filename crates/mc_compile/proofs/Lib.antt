@@ -6,3 +6,4 @@ mod ReadFiles
 mod SomeFiles
 mod Links
 mod Forms
+pub mod Asked

@@ -1,5 +1,5 @@
 -- Laws of what sources are compiled to.
-use Rattle.std.specs.Prelude.{◌≡◌, Some, Ok}
+use Rattle.std.specs.Prelude.{◌≡◌, Some, Ok, is_some}
 use Rattle.mc_ground_form.specs.Database.{Question}
 use Rattle.mc_ground_form.specs.Laws.{Fits, Asks}
 use Rattle.mc_ground_form.specs.FormLaws.{HaveTheirNumbers}
@@ -25,3 +25,9 @@ CompiledAsks =
 abbrev pub CompiledNumbers : Type 0
 CompiledNumbers =
     (sources : Sources) (form : Formed) → Compiles sources (Ok form) → HaveTheirNumbers form.files
+
+-- where there is a query, and only there, something is asked
+abbrev pub QueryIsAsked : Type 0
+QueryIsAsked =
+    (sources : Sources) (form : Formed)
+    → Compiles sources (Ok form) → is_some form.question ≡ is_some sources.query

@@ -4,7 +4,7 @@ ghost use Rattle.mc_compile.specs.Reading.{Reads};
 ghost use Rattle.mc_compile.specs.Linking.{Links};
 ghost use Rattle.mc_compile.specs.Forming.{Forms};
 ghost use Rattle.mc_compile.specs.Compiling.{Compiles};
-ghost use Rattle.mc_compile.specs.Laws.{CompiledFits, CompiledAsks, CompiledNumbers};
+ghost use Rattle.mc_compile.specs.Laws.{CompiledFits, CompiledAsks, CompiledNumbers, QueryIsAsked};
 
 use mc_items::{at_most_one_goal, at_most_one_list};
 
@@ -45,3 +45,8 @@ pub fn numbers_are_those_of_names()
 {
     mc_ground_form::numbers_are_those_of_names();
 }
+
+/// Something is asked of what sources are compiled to exactly where there is a query: a law, and nothing to run.
+pub fn query_is_asked()
+    ensures { QueryIsAsked }
+{}

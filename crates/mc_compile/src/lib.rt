@@ -14,7 +14,8 @@ mod reading;
 pub use compiling::compile;
 pub use given::{CompileFault, Given, Query};
 pub use law::{
-    at_most_one_phase, at_most_one_program, facts_fit, numbers_are_those_of_names, question_asks,
+    at_most_one_phase, at_most_one_program, facts_fit, numbers_are_those_of_names, query_is_asked,
+    question_asks,
 };
 pub use library::LIBRARY;
 pub use mc_ground_form::Compiled;

@@ -39,9 +39,7 @@ pub fn is_func(alloc: Global, term: &Term, has_determinism: bool) -> bool
 }
 
 fn is_func_over(alloc: Global, function: &Term, result_term: &Term, has_determinism: bool) -> bool
-    ensures {
-        result ≡ is_func_over (plain_term function.now) (plain_term result_term.now) has_determinism
-    }
+    ensures { result ≡ is_func_over (plain_term function.now) (plain_term result_term.now) has_determinism }
 {
     match &function.node {
         Node::App(name, arguments) => {
@@ -56,9 +54,7 @@ fn is_func_over(alloc: Global, function: &Term, result_term: &Term, has_determin
 
 /// Whether a term is a further mode of a predicate or of a function.
 pub fn is_further(alloc: Global, term: &Term) -> bool
-    ensures {
-        result ≡ is_further (plain_term term.now) (operands (codes "=") (plain_term term.now))
-    }
+    ensures { result ≡ is_further (plain_term term.now) (operands (codes "=") (plain_term term.now)) }
 {
     match operands(b"=", term) {
         Some((function, mode)) => has_modes(alloc, function) && is_mode(&NameSet::new(alloc), mode),

@@ -14,9 +14,7 @@ use std::alloc::Global;
 
 /// What an item declares or defines, in order.
 pub fn definitions<'a>(alloc: Global, decl: &'a Decl) -> Result<Vec<Definition<'a>>, Memory>
-    ensures {
-        IfOk result (λ all. map plain_definition all.items ≡ T.definitions (plain_item decl.now))
-    }
+    ensures { IfOk result (λ all. map plain_definition all.items ≡ T.definitions (plain_item decl.now)) }
 {
     let mut definitions = Vec::new(alloc);
     add_definitions(&mut definitions, decl)?;

@@ -39,9 +39,7 @@ impl<'a> NameAritySet<'a> {
         ensures added { IfOk result
             (λ added.
             added ≡ not (is_member is_name_arity self.old (plain_name_arity name.entry))) }
-        ensures ok {
-            OnOk result (self.new ≡ with_name_arity self.old (plain_name_arity name.entry))
-        }
+        ensures ok { OnOk result (self.new ≡ with_name_arity self.old (plain_name_arity name.entry)) }
     {
         let added = self.names.insert(name)?;
         Ok(added)

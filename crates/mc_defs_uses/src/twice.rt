@@ -19,9 +19,7 @@ use std::alloc::Global;
 /// The first name in the text of an item that stands twice in one union or in one bound inst. It takes stack for each
 /// level of a term.
 pub fn twice_in<'a>(alloc: Global, decl: &'a Decl) -> Result<Option<NameArity<'a>>, Memory>
-    ensures {
-        IfOk result (λ found. option_map plain_name_arity found ≡ T.twice_in (plain_item decl.now))
-    }
+    ensures { IfOk result (λ found. option_map plain_name_arity found ≡ T.twice_in (plain_item decl.now)) }
 {
     match decl {
         Decl::UnionType(_, constructors) => again_among(alloc, constructors.as_slice()),
@@ -54,9 +52,7 @@ fn again_among<'a>(alloc: Global, terms: &'a [Term]) -> Result<Option<NameArity<
 // The first symbol of a bound inst in an inst whose name stands before it too, in the same bound inst.
 #[cycle(again)]
 fn again_in<'a>(alloc: Global, term: &'a Term) -> Result<Option<NameArity<'a>>, Memory>
-    ensures {
-        IfOk result (λ found. option_map plain_name_arity found ≡ T.again_in (plain_term term.now))
-    }
+    ensures { IfOk result (λ found. option_map plain_name_arity found ≡ T.again_in (plain_term term.now)) }
 {
     match &term.node {
         Node::App(name, arguments) => again_over(alloc, name, arguments.as_slice()),

@@ -9,7 +9,8 @@ use Rattle.mc_program.specs.declared.program.Symbol.{Symbol}
 use Rattle.mc_program.specs.PlainPrograms.{plain_symbol}
 use Rattle.mc_decl_syntax.specs.Plain.{PlainDecl, ModuleStart, ModuleEnd, Interface, Implementation, Imports, UseOnly, AbstractType, UnionType, SameType, SameInst, BoundInst, ModeDef, Pred, Func, Mode, Pragma, Clause}
 use Rattle.mc_defs_uses.specs.Definitions.{definitions}
-use Rattle.mc_linking.specs.Files.{File, Section, PlainItemInFile, section_after, items_in_file, items_in_file_from, is_empty}
+use Rattle.mc_linking.specs.declared.section.Section.{Section}
+use Rattle.mc_linking.specs.Files.{File, PlainItemInFile, section_after, items_in_file, items_in_file_from, is_empty}
 use Rattle.mc_modules.specs.Linked.{Defined, each, flat, types_by, types_in, types_of, of_kind, is_pred, sorted_in, preds_of, name_of}
 use Rattle.mc_ground_form.specs.Database.{Constant, Question, constructor_of, fact, predicate_of, no_relation, asked_types}
 use Rattle.mc_ground_form.specs.Facts.{LinkedFiles, Fact, signature_by, those_of, by_predicate, relations_from, names_of, or_none, given_preds, signatures, database, constants, facts, facts_from, below, asked, question, variables}

@@ -5,7 +5,8 @@ use Rattle.mc_program.specs.Programs.{ClauseForm}
 use Rattle.mc_source.specs.declared.place.Place.{Place}
 use Rattle.mc_ground_form.specs.Database.{fact}
 use Rattle.mc_decl_syntax.specs.Plain.{PlainDecl, ModuleStart, ModuleEnd, Interface, Implementation, Imports, UseOnly, AbstractType, UnionType, SameType, SameInst, BoundInst, ModeDef, Pred, Func, Mode, Pragma, Clause}
-use Rattle.mc_linking.specs.Files.{File, Section, section_after, items_in_file_from}
+use Rattle.mc_linking.specs.declared.section.Section.{Section}
+use Rattle.mc_linking.specs.Files.{File, section_after, items_in_file_from}
 use Rattle.mc_ground_form.specs.Facts.{LinkedFiles, Fact, facts_by, facts_in, facts_from, both, nothing_where, is_nondet, signature, signature_by, signatures_in, signatures_from, places_by, places_in, places_from}
 use Rattle.mc_ground_form.specs.Program.{beside_fact}
 use Rattle.mc_ground_form.specs.code.Passes.{every, everywhere, is_plain, imports_given, is_sound, all_some, with_types, signatures_over, signatures_through, facts_of_clause, facts_over, facts_through, put_behind, put_each, put_places, places_over, places_through, put_all, onward, table_over, table_through}

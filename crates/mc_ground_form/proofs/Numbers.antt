@@ -7,7 +7,8 @@ use Rattle.mc_term_data.specs.Shapes.{has_none}
 use Rattle.mc_decl_syntax.specs.Plain.{PlainDecl, ModuleStart, ModuleEnd, Interface, Implementation, Imports, UseOnly, AbstractType, UnionType, SameType, SameInst, BoundInst, ModeDef, Pred, Func, Mode, Pragma, Clause}
 use Rattle.mc_defs_uses.specs.Definitions.{symbol_name}
 use Rattle.mc_source.specs.declared.name.Name.{Name}
-use Rattle.mc_linking.specs.Files.{File, Section, PlainItemInFile, section_after, items_in_file, items_in_file_from, is_empty}
+use Rattle.mc_linking.specs.declared.section.Section.{Section}
+use Rattle.mc_linking.specs.Files.{File, PlainItemInFile, section_after, items_in_file, items_in_file_from, is_empty}
 use Rattle.mc_modules.specs.Linked.{Defined, name_in, constructors, symbols_by, symbols_in, symbols_of, types_by, types_in, types_of, preds_of, name_of as module_name_of, each, flat}
 use Rattle.mc_ground_form.specs.Facts.{LinkedFiles, with_library, Fact, facts, given_types, constants, constants_in, constants_by, constants_from, is_constant, are_constants}
 use Rattle.mc_ground_form.specs.FormLaws.{name_of, NumbersAreThoseOfNames}

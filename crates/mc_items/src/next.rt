@@ -23,14 +23,10 @@ pub struct Next {
 fn refused(alloc: Global, walk: &mut Walk, from: Position, fault: ItemFault) -> Result<Next, Memory>
     requires line { from.line ≡ line_at walk.old from.at }
     requires small { length walk.old < 2 ^ 32 - 1 }
-    requires refused {
-        IsRefused walk.old from.at fault.fault.kind fault.fault.line fault.fault.next
-    }
+    requires refused { IsRefused walk.old from.at fault.fault.kind fault.fault.line fault.fault.next }
     requires stands { StandsAt walk.old from.at fault.fault.kind fault.at }
     requires onward { IsOnward walk.old from.at fault.fault.kind fault.fault.next }
-    ensures item {
-        IfOk result (λ n. IsUnread walk.old from.at (plain_verdict n.verdict) n.line n.end.at)
-    }
+    ensures item { IfOk result (λ n. IsUnread walk.old from.at (plain_verdict n.verdict) n.line n.end.at) }
     ensures place { IfOk result
         (λ n.
         (n.end.line ≡ line_at walk.old n.end.at)

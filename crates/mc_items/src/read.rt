@@ -53,9 +53,7 @@ impl Found {
 
     // The items, or the rules that are broken.
     fn answer(self) -> Result<Row<Entry>, ItemsFault>
-        ensures entries {
-            IfOk result (λ entries. (entries ≡ self.entries.items) × (self.broken.items ≡ []))
-        }
+        ensures entries { IfOk result (λ entries. (entries ≡ self.entries.items) × (self.broken.items ≡ [])) }
         ensures broken { IfErr result (IsBrokenIn self.broken.items) }
     {
         let Found { entries, broken } = self;

@@ -10,10 +10,13 @@ use Rattle.mc_decl_syntax.specs.Plain.{PlainDecl}
 use Rattle.mc_items.specs.declared.entry.Entry.{Entry}
 use Rattle.mc_items.specs.Files.{plain_entry}
 use Rattle.mc_source.specs.declared.rule.Broken.{Broken}
+use Rattle.mc_linking.specs.declared.item_in_file.ItemInFile.{ItemInFile}
+use Rattle.mc_linking.specs.Kept.{plain_item_in_file}
 use Rattle.mc_linking.specs.Files.{File, PlainItemInFile, items_in_file, plain_files}
 use Rattle.mc_linking.specs.Visible.{is_library, file_at}
-use Rattle.mc_linking.specs.Faults.{again, double_fault, fault, broken_by, faults_behind, faults_of, faults_from}
-use Rattle.mc_linking.specs.Steps.{faults_with}
+use Rattle.mc_linking.specs.Faults.{again, double_fault, fault, with_before, faults_of, faults_from}
+use Rattle.mc_source.specs.Rules.{broken_at}
+use Rattle.mc_linking.specs.code.Steps.{with_set, faults_behind}
 use Rattle.mc_linking.proofs.ModulesSeen.{file_at-is}
 use Rattle.mc_linking.proofs.Tables.{put_all-append, is_member_set}
 
@@ -27,36 +30,41 @@ double_fault-set before i = rw (again-set before (definitions i)) refl
 fault-set : (files : List File) (own : ℕ) (all : List PlainItemInFile) (before : List PlainDefinition) (s : PlainItemInFile) → fault files own all (put_all [] before) s ≡ fault files own all before s
 fault-set files own all before s = rw (double_fault-set before s.item) refl
 
-pub faults_with-is : (files : List File) (own : ℕ) (all : List PlainItemInFile) (before : List PlainDefinition) (ss : List PlainItemInFile) → faults_with files own all (put_all [] before) ss ≡ faults_behind files own all before ss
-faults_with-is files own all before [] = refl
-faults_with-is files own all before (s ∷ ss) =
-    ap (λ f. broken_by s.at f ++ faults_with files own all (put_all (put_all [] before) (definitions s.item)) ss) (fault-set files own all before s)
-    ∙ ap (λ b. broken_by s.at (fault files own all before s) ++ faults_with files own all b ss) (sym (put_all-append [] before (definitions s.item)))
-    ∙ ap (λ bs. broken_by s.at (fault files own all before s) ++ bs) (faults_with-is files own all (before ++ definitions s.item) ss)
+pub faults_behind-is : (files : List File) (own : ℕ) (all : List PlainItemInFile) (before : List PlainDefinition) (ss : List PlainItemInFile)
+    → faults_behind files own all (with_set (put_all [] before) ss) ≡ faults_behind files own all (with_before before ss)
+faults_behind-is files own all before [] = refl
+faults_behind-is files own all before (s ∷ ss) =
+    ap (λ f. broken_at s.at f ++ faults_behind files own all (with_set (put_all (put_all [] before) (definitions s.item)) ss)) (fault-set files own all before s)
+    ∙ ap (λ b. broken_at s.at (fault files own all before s) ++ faults_behind files own all (with_set b ss)) (sym (put_all-append [] before (definitions s.item)))
+    ∙ ap (λ bs. broken_at s.at (fault files own all before s) ++ bs) (faults_behind-is files own all (before ++ definitions s.item) ss)
 
-module _ (files : List (List Entry)) (own : ℕ) (file : List Entry) (l : own < length files) (q : file ≡ get_or files own file) where
-  at_own : file_at (plain_files files) own ≡ map plain_entry file
-  at_own = file_at-is files own file l ∙ ap (map plain_entry) (sym q)
-
-  pub empty-file : true ≡ (length file == 0) → file_at (plain_files files) own ≡ []
-  empty-file t = at_own ∙ ap (map plain_entry) (nothing file t)
+module _ (files : List (List Entry)) (own : ℕ) (items : List ItemInFile) (r : map plain_item_in_file items ≡ items_in_file (file_at (plain_files files) own)) where
+  pub empty-file : true ≡ (length items == 0) → file_at (plain_files files) own ≡ []
+  empty-file t = of_nothing (file_at (plain_files files) own) (sym r ∙ nothing items t)
     where
-      nothing : (es : List Entry) → true ≡ (length es == 0) → es ≡ []
+      nothing : (es : List ItemInFile) → true ≡ (length es == 0) → map plain_item_in_file es ≡ []
       nothing [] h = refl
       nothing (e ∷ es) h = absurd (true≢false (h ∙ eqb-suc-zero (length es)))
 
-  some : (es : List Entry) → false ≡ (length es == 0) → faults_behind (plain_files files) own (items_in_file (map plain_entry es)) [] (items_in_file (map plain_entry es)) ≡ faults_of (plain_files files) own (map plain_entry es)
-  some [] h = absurd (true≢false (sym h))
-  some (e ∷ es) h = refl
+      of_nothing : (f : File) → items_in_file f ≡ [] → f ≡ []
+      of_nothing [] h = refl
+      of_nothing (e ∷ es) h = cc
+
+  some : (f : File) (es : List ItemInFile) → map plain_item_in_file es ≡ items_in_file f → false ≡ (length es == 0)
+      → faults_behind (plain_files files) own (items_in_file f) (with_before [] (items_in_file f)) ≡ faults_of (plain_files files) own f
+  some [] [] e h = absurd (true≢false (sym h))
+  some [] (x ∷ es) e h = absurd (let g : plain_item_in_file x ∷ map plain_item_in_file es ≡ [] = e in cc)
+  some (f ∷ fs) es e h = refl
 
   -- a file with items: the rules that they break
-  pub some-file : (ss : List PlainItemInFile) (old new : List Broken) → false ≡ (length file == 0) → ss ≡ items_in_file (map plain_entry file)
-      → new ≡ old ++ faults_with (plain_files files) own (items_in_file (file_at (plain_files files) own)) [] ss → new ≡ old ++ faults_of (plain_files files) own (file_at (plain_files files) own)
-  some-file ss old new t r h =
-      h ∙ ap (λ s. old ++ faults_with (plain_files files) own (items_in_file (file_at (plain_files files) own)) [] s) r
-      ∙ ap (λ f. old ++ faults_with (plain_files files) own (items_in_file f) [] (items_in_file (map plain_entry file))) at_own
-      ∙ ap (λ bs. old ++ bs) (faults_with-is (plain_files files) own (items_in_file (map plain_entry file)) [] (items_in_file (map plain_entry file)) ∙ some file t)
-      ∙ sym (ap (λ f. old ++ faults_of (plain_files files) own f) at_own)
+  pub some-file : (old new : List Broken) → false ≡ (length items == 0)
+      → new ≡ old ++ faults_behind (plain_files files) own (items_in_file (file_at (plain_files files) own)) (with_set [] (map plain_item_in_file items))
+      → new ≡ old ++ faults_of (plain_files files) own (file_at (plain_files files) own)
+  some-file old new t h =
+      h ∙ ap (λ s. old ++ faults_behind (plain_files files) own (items_in_file (file_at (plain_files files) own)) (with_set [] s)) r
+      ∙ ap (λ bs. old ++ bs)
+      (faults_behind-is (plain_files files) own (items_in_file (file_at (plain_files files) own)) [] (items_in_file (file_at (plain_files files) own))
+      ∙ some (file_at (plain_files files) own) items r t)
 
 -- the last file before the library's
 pub faults_from-over : (files : List (List Entry)) (k : ℕ) → length files - 9 ≤ k → faults_from (plain_files files) k (plain_files (drop k files)) ≡ []

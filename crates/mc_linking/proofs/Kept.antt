@@ -1,6 +1,6 @@
 -- What is kept of each file, by its number.
 use Rattle.std.proofs.Common.{◌≡◌, ℕ, ◌+◌, ◌<◌, ◌≤◌, suc, zero, Bool, true, false, cond, nat_eq, List, [], ◌∷◌, map, length, get_or, refl, ap, sym, ◌∙◌, arith}
-use Rattle.std.proofs.lemmas.List.{length-map}
+use Rattle.std.proofs.lemmas.List.{get_or-map, length-map}
 use Rattle.mc_defs_uses.specs.declared.definition.Kind.{Kind}
 use Rattle.mc_defs_uses.specs.declared.definition.Kind.TheVariants as K
 use Rattle.mc_defs_uses.specs.Plain.{PlainNameArity}
@@ -10,8 +10,11 @@ use Rattle.mc_linking.specs.declared.visibility.Visibility.{Visibility}
 use Rattle.mc_linking.specs.declared.table.Table.{Table}
 use Rattle.mc_linking.specs.Files.{File, PlainItemInFile, items_in_file, definitions_of, shown_of, has, plain_files}
 use Rattle.mc_linking.specs.Visible.{file_at, has_definition}
-use Rattle.mc_linking.specs.Visibilities.{visibility, visibilities_from}
-use Rattle.mc_linking.specs.Tables.{table, tables}
+use Rattle.mc_linking.specs.Visibilities.{visibility}
+use Rattle.mc_linking.specs.code.Visibilities.{visibilities_from}
+use Rattle.mc_linking.specs.declared.item_in_file.ItemInFile.{ItemInFile}
+use Rattle.mc_linking.specs.Kept.{plain_item_in_file, table}
+use Rattle.mc_linking.specs.code.Tables.{all_items, tables}
 use Rattle.mc_linking.proofs.Tables.{has-set}
 
 length-visibilities : (F : List File) (k : ℕ) (fs : List File) → length (visibilities_from F k fs) ≡ length fs
@@ -32,32 +35,37 @@ visibility-at files all own s e h p =
     let l : own < length (plain_files files) = rw (length-map files (map plain_entry)) h in
     p ∙ ap (λ xs. get_or xs own s) e ∙ visibility-from (plain_files files) 0 (plain_files files) own own s l (omega arith)
 
-length-tables : (fs : List File) → length (tables fs) ≡ length fs
-length-tables [] = refl
-length-tables (f ∷ fs) = ap suc (length-tables fs)
+length-items : (fs : List File) → length (all_items fs) ≡ length fs
+length-items fs = length-map fs items_in_file
 
-table-from : (fs : List File) (i : ℕ) (d : Table) → i < length fs → get_or (tables fs) i d ≡ table (items_in_file (file_at fs i))
-table-from [] i d h = absurd (omega arith)
-table-from (f ∷ fs) zero d h = refl
-table-from (f ∷ fs) (suc i) d h = table-from fs i d (omega arith)
+pub items-length : (files : List (List Entry)) (all : List (List ItemInFile)) → map (map plain_item_in_file) all ≡ all_items (plain_files files) → length all ≡ length files
+items-length files all e = sym (length-map all (map plain_item_in_file)) ∙ ap length e ∙ length-items (plain_files files) ∙ length-map files (map plain_entry)
 
-pub tables-length : (files : List (List Entry)) (all : List Table) → all ≡ tables (plain_files files) → length all ≡ length files
-tables-length files all e = ap length e ∙ length-tables (plain_files files) ∙ length-map files (map plain_entry)
+pub items-at : (files : List (List Entry)) (all : List (List ItemInFile)) (own : ℕ) (items : List ItemInFile) → map (map plain_item_in_file) all ≡ all_items (plain_files files) → own < length files → items ≡ get_or all own items
+    → map plain_item_in_file items ≡ items_in_file (file_at (plain_files files) own)
+items-at files all own items e h p =
+    let n = items-length files all e in
+    let k : own < length all = omega (arith, n, h) in
+    let l : own < length (plain_files files) = rw (length-map files (map plain_entry)) h in
+    ap (map plain_item_in_file) p ∙ sym (get_or-map (map plain_item_in_file) all own items [] k) ∙ ap (λ xs. get_or xs own []) e ∙ get_or-map items_in_file (plain_files files) own [] [] l
 
-pub table-at : (files : List (List Entry)) (all : List Table) (own : ℕ) (t : Table) → all ≡ tables (plain_files files) → own < length files → t ≡ get_or all own t → t ≡ table (items_in_file (file_at (plain_files files) own))
+pub tables-length : (files : List (List Entry)) (all : List Table) → all ≡ tables (all_items (plain_files files)) → length all ≡ length files
+tables-length files all e = ap length e ∙ length-map (all_items (plain_files files)) table ∙ length-items (plain_files files) ∙ length-map files (map plain_entry)
+
+pub table-at : (files : List (List Entry)) (all : List Table) (own : ℕ) (t : Table) → all ≡ tables (all_items (plain_files files)) → own < length files → t ≡ get_or all own t → t ≡ table (items_in_file (file_at (plain_files files) own))
 table-at files all own t e h p =
     let l : own < length (plain_files files) = rw (length-map files (map plain_entry)) h in
-    p ∙ ap (λ xs. get_or xs own t) e ∙ table-from (plain_files files) own t l
+    let k : own < length (all_items (plain_files files)) = rw (length-items (plain_files files)) l in
+    p ∙ ap (λ xs. get_or xs own t) e ∙ get_or-map table (all_items (plain_files files)) own [] t k ∙ ap table (get_or-map items_in_file (plain_files files) own [] [] l)
 
 has-table : (k : Kind) (x : PlainNameArity) (b : Bool) (ss : List PlainItemInFile) → has k x (cond b (table ss).definitions (table ss).shown) ≡ has k x (cond b (definitions_of ss) (shown_of ss))
 has-table k x true ss = has-set k x (definitions_of ss)
 has-table k x false ss = has-set k x (shown_of ss)
 
 -- a file's table has what the file has
-pub has-at : (files : List (List Entry)) (all : List Table) (own k : ℕ) (kind : Kind) (x : PlainNameArity) (t : Table) → all ≡ tables (plain_files files) → k < length files → t ≡ get_or all k t
+pub has-at : (files : List (List Entry)) (own k : ℕ) (kind : Kind) (x : PlainNameArity) (t : Table) → t ≡ table (items_in_file (file_at (plain_files files) k))
     → has kind x (cond (nat_eq own k) t.definitions t.shown) ≡ has_definition (plain_files files) own kind x k
-has-at files all own k kind x t e h p =
-    ap (λ s. has kind x (cond (nat_eq own k) s.definitions s.shown)) (table-at files all k t e h p) ∙ has-table kind x (nat_eq own k) (items_in_file (file_at (plain_files files) k))
+has-at files own k kind x t e = ap (λ s. has kind x (cond (nat_eq own k) s.definitions s.shown)) e ∙ has-table kind x (nat_eq own k) (items_in_file (file_at (plain_files files) k))
 
 no_file : (fs : List File) (k : ℕ) → length fs ≤ k → file_at fs k ≡ []
 no_file [] k h = refl

@@ -1,9 +1,9 @@
 mod Blamed
 mod Counts
+mod ItemLists
 mod Kept
 mod ModulesSeen
 pub mod Numbers
 mod Parts
 mod Sole
-mod Standings
 pub mod Tables

@@ -7,9 +7,12 @@ use Rattle.std.proofs.lemmas.List.{get_or-map, length-map}
 use Rattle.mc_decl_syntax.specs.Plain.{Path, PlainDecl, Imports, UseOnly}
 use Rattle.mc_items.specs.declared.entry.Entry.{Entry}
 use Rattle.mc_items.specs.Files.{plain_entry}
-use Rattle.mc_linking.specs.Files.{File, Section, NoSection, items_in_file_from, joined, module_name, module_names, plain_files, section_after}
+use Rattle.mc_linking.specs.declared.section.Section.{Section}
+use Rattle.mc_linking.specs.declared.section.Section.TheVariants as S
+use Rattle.mc_linking.specs.Files.{File, items_in_file_from, joined, module_name, module_names, plain_files, section_after}
 use Rattle.mc_linking.specs.Visible.{has_name, first_named, or_first, module_of, with_module, with_modules, imported_by, used_by, imported, only_used, unqualified, seen, file_at}
-use Rattle.mc_linking.specs.Visibilities.{put_name, named_behind, imports, only_uses, with_named, with_named_in, visibility, visibilities_from}
+use Rattle.mc_linking.specs.Visibilities.{visibility}
+use Rattle.mc_linking.specs.code.Visibilities.{put_name, named_behind, imports, only_uses, with_named, with_named_in, visibilities_from}
 use Rattle.mc_linking.specs.declared.visibility.Visibility.{Visibility}
 
 pub same_functions : (f g : List ℕ → Option ℕ) → ((w : List ℕ) → f w ≡ g w) → f ≡ g
@@ -75,14 +78,14 @@ only_used-is files b s (e ∷ es) ks =
 pub unqualified-is : (files : List (List Entry)) (own : ℕ) (d : List Entry) → own < length files
     → with_named_in imports (module_of (plain_files files)) (map plain_entry (get_or files own d)) (own ∷ []) ≡ unqualified (plain_files files) own
 unqualified-is files own d h =
-    sym (imported-is (plain_files files) true NoSection (map plain_entry (get_or files own d)) (own ∷ []))
-    ∙ ap (λ f. imported (plain_files files) (items_in_file_from true NoSection f) (own ∷ [])) (sym (file_at-is files own d h))
+    sym (imported-is (plain_files files) true S.Nowhere (map plain_entry (get_or files own d)) (own ∷ []))
+    ∙ ap (λ f. imported (plain_files files) (items_in_file_from true S.Nowhere f) (own ∷ [])) (sym (file_at-is files own d h))
 
 pub seen-is : (files : List (List Entry)) (own : ℕ) (d : List Entry) → own < length files
     → with_named_in only_uses (module_of (plain_files files)) (map plain_entry (get_or files own d)) (unqualified (plain_files files) own) ≡ seen (plain_files files) own
 seen-is files own d h =
-    sym (only_used-is (plain_files files) true NoSection (map plain_entry (get_or files own d)) (unqualified (plain_files files) own))
-    ∙ ap (λ f. only_used (plain_files files) (items_in_file_from true NoSection f) (unqualified (plain_files files) own)) (sym (file_at-is files own d h))
+    sym (only_used-is (plain_files files) true S.Nowhere (map plain_entry (get_or files own d)) (unqualified (plain_files files) own))
+    ∙ ap (λ f. only_used (plain_files files) (items_in_file_from true S.Nowhere f) (unqualified (plain_files files) own)) (sym (file_at-is files own d h))
 
 pub contains_is : (ks : List ℕ) (k : ℕ) → list_any (λ y. nat_eq y k) ks ≡ is_member nat_eq ks k
 contains_is [] k = refl

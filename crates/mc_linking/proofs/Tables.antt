@@ -10,7 +10,8 @@ use Rattle.mc_defs_uses.specs.Clauses.{clause_of, mode_of}
 use Rattle.mc_defs_uses.proofs.Laws.{is_member-put_all}
 use Rattle.mc_linking.specs.declared.table.Table.{Table}
 use Rattle.mc_linking.specs.Files.{PlainItemInFile, is_shown, definitions_of, shown_of, clauses_of, modes_of, as_list, has}
-use Rattle.mc_linking.specs.Tables.{table, with_item, with_items}
+use Rattle.mc_linking.specs.Kept.{table}
+use Rattle.mc_linking.specs.code.Tables.{with_item, with_items}
 
 pub put_all-append : (ts xs ys : List PlainDefinition) → put_all ts (xs ++ ys) ≡ put_all (put_all ts xs) ys
 put_all-append ts [] ys = refl

@@ -5,10 +5,9 @@ use Rattle.std.specs.Option.{option_or, option_map}
 use Rattle.std.specs.Str.{bytes_eq}
 use Rattle.std.specs.Set.{is_member}
 use Rattle.mc_term_data.specs.Plain.{PlainTerm}
-use Rattle.mc_source.specs.declared.place.Place.{Place}
 use Rattle.mc_source.specs.declared.rule.Broken.{Broken}
-use Rattle.mc_source.specs.declared.rule.Rule.{Rule}
 use Rattle.mc_source.specs.declared.rule.Rule.TheVariants as R
+use Rattle.mc_source.specs.Rules.{Fault, broken_at, first_rules}
 use Rattle.mc_decl_syntax.specs.Plain.{Path, PlainDecl, ModuleStart, ModuleEnd, Interface, Implementation, Imports, UseOnly, Clause}
 use Rattle.mc_defs_uses.specs.declared.definition.Kind.{Kind}
 use Rattle.mc_defs_uses.specs.declared.definition.Kind.TheVariants as K
@@ -17,23 +16,21 @@ use Rattle.mc_defs_uses.specs.Definitions.{definitions}
 use Rattle.mc_defs_uses.specs.Occurrences.{uses, goals_in}
 use Rattle.mc_defs_uses.specs.Twice.{twice_in}
 use Rattle.mc_defs_uses.specs.Clauses.{clause_of, mode_of, without_mode}
-use Rattle.mc_linking.specs.Files.{File, Section, NoSection, InImplementation, PlainItemInFile, items_in_file, joined, module_name, definitions_of, clauses_of, modes_of}
+use Rattle.mc_linking.specs.declared.section.Section.{Section}
+use Rattle.mc_linking.specs.declared.section.Section.TheVariants as S
+use Rattle.mc_linking.specs.Files.{File, PlainItemInFile, items_in_file, joined, module_name, definitions_of, clauses_of, modes_of}
 use Rattle.mc_linking.specs.Visible.{is_library, file_at, module_of, meanings, is_qualified}
-
--- a rule with what is said of it
-abbrev pub Fault : Type 0
-Fault = Rule × List ℕ
 
 -- `name/arity`
 abbrev pub shown : PlainNameArity → List ℕ
 shown x = x.name ++ (47 ∷ decimal x.arity)
 
 abbrev pub is_nowhere : Section → Bool
-is_nowhere NoSection = true
+is_nowhere S.Nowhere = true
 is_nowhere _ = false
 
 abbrev pub is_implementation : Section → Bool
-is_implementation InImplementation = true
+is_implementation S.Implementation = true
 is_implementation _ = false
 
 abbrev pub is_module_of : Option (List ℕ) → Path → Bool
@@ -158,25 +155,21 @@ fault files own all before s =
     (option_or (ambiguous files own (uses s.item))
     (mode_fault all (without_mode s.item)))))))))
 
-abbrev pub broken_by : Place → Option Fault → List Broken
-broken_by place None = []
-broken_by place (Some f) = record { rule = f.0; at = place; what = f.1 } ∷ []
+-- items, each with what the items before it declare and define
+abbrev pub with_before :
+    (before : List PlainDefinition)
+    → List PlainItemInFile → List (List PlainDefinition × PlainItemInFile)
+with_before before [] = []
+with_before before (s ∷ ss) = (before, s) ∷ with_before (before ++ definitions s.item) ss
 
-abbrev pub faults_behind :
-    List File → (own : ℕ) → (all : List PlainItemInFile) → (before : List PlainDefinition)
-    → List PlainItemInFile → List Broken
-faults_behind files own all before [] = []
-faults_behind files own all before (s ∷ ss) =
-    broken_by s.at (fault files own all before s)
-    ++ faults_behind files own all (before ++ definitions s.item) ss
-
--- the faulty items of a file; a file without items is faulty on its first line
+-- the faulty items of a file, each with the first rule that it breaks; a file without items is
+-- faulty on its first line
 abbrev pub faults_of : List File → (own : ℕ) → File → List Broken
 faults_of files own [] =
-    record { rule = R.N1; at = record { file = own; line = 1 }; what = codes "module structure" }
-    ∷ []
+    broken_at (record { file = own; line = 1 }) (Some (R.N1, codes "module structure"))
 faults_of files own (e ∷ es) =
-    faults_behind files own (items_in_file (e ∷ es)) [] (items_in_file (e ∷ es))
+    first_rules (λ b. b.1.at) (λ b. fault files own (items_in_file (e ∷ es)) b.0 b.1)
+    (with_before [] (items_in_file (e ∷ es)))
 
 abbrev pub faults_from : List File → (own : ℕ) → List File → List Broken
 faults_from files own [] = []

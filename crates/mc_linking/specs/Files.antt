@@ -11,21 +11,17 @@ use Rattle.mc_defs_uses.specs.Definitions.{definitions}
 use Rattle.mc_defs_uses.specs.Clauses.{clause_of, mode_of}
 use Rattle.mc_items.specs.declared.entry.Entry.{Entry}
 use Rattle.mc_items.specs.Files.{plain_entry}
+use Rattle.mc_linking.specs.declared.section.Section.{Section}
+use Rattle.mc_linking.specs.declared.section.Section.TheVariants as S
 
 -- a file: its items, each with its place
 abbrev pub File : Type 0
 File = List (PlainDecl × Place)
 
--- the section that an item stands in
-pub data Section : Type 0 where
-  NoSection : Section
-  InInterface : Section
-  InImplementation : Section
-
 -- the section behind an item
 abbrev pub section_after : Section → PlainDecl → Section
-section_after s Interface = InInterface
-section_after s Implementation = InImplementation
+section_after s Interface = S.Interface
+section_after s Implementation = S.Implementation
 section_after s i = s
 
 -- an item with its place, the section in which it stands, and whether it is the file's first or
@@ -49,7 +45,7 @@ items_in_file_from is_first s (e ∷ es) =
 
 -- the items of a file, each as it stands there
 abbrev pub items_in_file : File → List PlainItemInFile
-items_in_file es = items_in_file_from true NoSection es
+items_in_file es = items_in_file_from true S.Nowhere es
 
 -- a name by its parts, with a full stop between them
 abbrev pub joined : Path → List ℕ
@@ -73,7 +69,7 @@ definitions_of [] = []
 definitions_of (s ∷ ss) = definitions s.item ++ definitions_of ss
 
 abbrev pub is_shown : Section → Bool
-is_shown InInterface = true
+is_shown S.Interface = true
 is_shown _ = false
 
 -- what the items of interfaces declare and define, in order

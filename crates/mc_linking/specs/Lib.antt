@@ -1,7 +1,6 @@
-pub mod Examples
-pub mod Faults
 pub mod Files
-pub mod Steps
-pub mod Tables
-pub mod Visibilities
 pub mod Visible
+pub mod Faults
+pub mod Visibilities
+pub mod Kept
+pub mod code

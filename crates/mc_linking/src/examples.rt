@@ -1,4 +1,4 @@
-ghost use Rattle.mc_linking.specs.Examples.{Structure, Modules, Names, Definitions, Predicates};
+ghost use Rattle.mc_linking.specs.code.Examples.{Structure, Modules, Names, Definitions, Predicates};
 
 /// Files and the rules of the phase that links which they break.
 pub fn linked_files()

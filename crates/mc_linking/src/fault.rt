@@ -7,11 +7,11 @@ ghost use Rattle.mc_defs_uses.specs.Definitions.{definitions as definitions_of};
 ghost use Rattle.mc_defs_uses.specs.Occurrences.{uses as uses_of};
 ghost use Rattle.mc_defs_uses.specs.Clauses.{clause_of, mode_of, without_mode};
 ghost use Rattle.mc_defs_uses.specs.Twice.{twice_in};
-ghost use Rattle.mc_linking.specs.Files.{joined, modes_of, definitions_of as definitions_in, items_in_file as standing_of, plain_files};
+ghost use Rattle.mc_linking.specs.Files.{joined, modes_of, definitions_of as definitions_in, items_in_file, plain_files};
 ghost use Rattle.mc_linking.specs.Visible.{file_at, module_of};
 ghost use Rattle.mc_linking.specs.Faults.{twice_given, is_number, not_found, missing, import_fault, invisible, again, double_fault, is_undefined, undefined_fault, undeclared, ambiguous, mode_fault, fault};
-ghost use Rattle.mc_linking.specs.Steps.{definition_fault};
-ghost use Rattle.mc_linking.specs.Tables.{plain_item_in_file, IsLinking};
+ghost use Rattle.mc_linking.specs.code.Steps.{definition_fault};
+ghost use Rattle.mc_linking.specs.Kept.{plain_item_in_file};
 
 use crate::item_in_file::ItemInFile;
 use crate::linking::Linking;
@@ -20,8 +20,8 @@ use crate::structure::structure_fault;
 use mc_base::{Memory, Row, Text};
 use mc_decl_syntax::Decl;
 use mc_defs_uses::{
-    Definition, DefinitionSet, Kind, NameArity, Occurrence, clause_of, definitions, mode_of,
-    twice_in, uses, without_mode,
+    Definition, DefinitionSet, Kind, NameArity, Occurrence, clause_of, mode_of, twice_in, uses,
+    without_mode,
 };
 use mc_source::rule::Rule;
 use std::alloc::Global;
@@ -38,17 +38,16 @@ impl<'a> Linking<'a> {
         before: &DefinitionSet<'a>,
         item: &ItemInFile<'a>,
     ) -> Result<Fault, Memory>
-        requires linking { IsLinking self.now }
-        requires own { own < length self.now.files.now }
+        requires own { own < length self.now }
         ensures { IfOk result
             (λ f.
             f
-            ≡ fault (plain_files self.now.files.now) own
-            (standing_of (file_at (plain_files self.now.files.now) own)) before.now
+            ≡ fault (plain_files self.now) own
+            (items_in_file (file_at (plain_files self.now) own)) before.now
             (plain_item_in_file item.now)) }
     {
         let decl = &item.entry.decl;
-        if let Some(fault) = structure_fault(alloc, self.files[own as usize].as_slice(), item)? {
+        if let Some(fault) = structure_fault(alloc, self.file(own), item)? {
             return Ok(Some(fault));
         }
         if let Some(fault) = self.twice_given(alloc, own, decl)? {
@@ -73,22 +72,20 @@ impl<'a> Linking<'a> {
         item: &ItemInFile<'a>,
         uses: &[Occurrence<'a>],
     ) -> Result<Fault, Memory>
-        requires linking { IsLinking self.now }
-        requires own { own < length self.now.files.now }
+        requires own { own < length self.now }
         requires uses { map plain_occurrence uses.now ≡ uses_of (plain_item item.now.entry.now.decl) }
         ensures { IfOk result
             (λ f.
             f
-            ≡ definition_fault (plain_files self.now.files.now) own
-            (standing_of (file_at (plain_files self.now.files.now) own)) before.now
+            ≡ definition_fault (plain_files self.now) own
+            (items_in_file (file_at (plain_files self.now) own)) before.now
             (plain_item_in_file item.now)) }
     {
         let decl = &item.entry.decl;
-        let definitions = definitions(alloc, decl)?;
-        if let Some(fault) = double_fault(alloc, before, decl, &definitions)? {
+        if let Some(fault) = double_fault(alloc, before, decl, &item.definitions)? {
             return Ok(Some(fault));
         }
-        if let Some(fault) = self.undefined_fault(alloc, own, &definitions)? {
+        if let Some(fault) = self.undefined_fault(alloc, own, &item.definitions)? {
             return Ok(Some(fault));
         }
         if let Some(fault) = self.undeclared(alloc, own, subject_of(decl))? {
@@ -102,9 +99,8 @@ impl<'a> Linking<'a> {
 
     // The rule N2: the name of a module means another one.
     fn twice_given(&self, alloc: Global, own: u32, decl: &Decl) -> Result<Fault, Memory>
-        requires linking { IsLinking self.now }
         ensures { IfOk result
-            (λ f. f ≡ twice_given (plain_files self.now.files.now) own (plain_item decl.now)) }
+            (λ f. f ≡ twice_given (plain_files self.now) own (plain_item decl.now)) }
     {
         match decl {
             Decl::ModuleStart(name) => {
@@ -120,10 +116,9 @@ impl<'a> Linking<'a> {
 
     // Whether a name means a module.
     fn is_number(&self, alloc: Global, own: u32, name: &[Text]) -> Result<bool, Memory>
-        requires linking { IsLinking self.now }
         ensures { IfOk result
             (λ is.
-            is ≡ is_number (module_of (plain_files self.now.files.now) (joined name.now)) own) }
+            is ≡ is_number (module_of (plain_files self.now) (joined name.now)) own) }
     {
         match self.number(alloc, name)? {
             Some(number) => Ok(number == own),
@@ -133,9 +128,8 @@ impl<'a> Linking<'a> {
 
     // The rule N3: a module that is imported or used isn't there.
     fn import_fault(&self, alloc: Global, decl: &Decl) -> Result<Fault, Memory>
-        requires linking { IsLinking self.now }
         ensures { IfOk result
-            (λ f. f ≡ import_fault (plain_files self.now.files.now) (plain_item decl.now)) }
+            (λ f. f ≡ import_fault (plain_files self.now) (plain_item decl.now)) }
     {
         match decl {
             Decl::Imports(names) | Decl::UseOnly(names) => self.missing(alloc, names.as_slice()),
@@ -144,8 +138,7 @@ impl<'a> Linking<'a> {
     }
 
     fn missing(&self, alloc: Global, names: &[Row<Text>]) -> Result<Fault, Memory>
-        requires linking { IsLinking self.now }
-        ensures { IfOk result (λ f. f ≡ missing (plain_files self.now.files.now) names.now) }
+        ensures { IfOk result (λ f. f ≡ missing (plain_files self.now) names.now) }
     {
         for name in names {
             if let Some(fault) = self.not_found(alloc, name.as_slice())? {
@@ -156,12 +149,11 @@ impl<'a> Linking<'a> {
     }
 
     fn not_found(&self, alloc: Global, name: &[Text]) -> Result<Fault, Memory>
-        requires linking { IsLinking self.now }
         ensures { IfOk result
             (λ f.
             f
             ≡ not_found name.now
-            (module_of (plain_files self.now.files.now) (joined name.now))) }
+            (module_of (plain_files self.now) (joined name.now))) }
     {
         match self.number(alloc, name)? {
             Some(_) => Ok(None),
@@ -179,11 +171,10 @@ impl<'a> Linking<'a> {
         own: u32,
         uses: &[Occurrence<'a>],
     ) -> Result<Fault, Memory>
-        requires linking { IsLinking self.now }
-        requires own { own < length self.now.files.now }
+        requires own { own < length self.now }
         ensures { IfOk result
             (λ f.
-            f ≡ invisible (plain_files self.now.files.now) own (map plain_occurrence uses.now)) }
+            f ≡ invisible (plain_files self.now) own (map plain_occurrence uses.now)) }
     {
         for used in uses {
             if !self.has_meaning(alloc, own, used)? {
@@ -201,12 +192,11 @@ impl<'a> Linking<'a> {
         own: u32,
         definitions: &[Definition<'a>],
     ) -> Result<Fault, Memory>
-        requires linking { IsLinking self.now }
-        requires own { own < length self.now.files.now }
+        requires own { own < length self.now }
         ensures { IfOk result
             (λ f.
             f
-            ≡ undefined_fault (standing_of (file_at (plain_files self.now.files.now) own))
+            ≡ undefined_fault (items_in_file (file_at (plain_files self.now) own))
             (map plain_definition definitions.now)) }
     {
         match definitions {
@@ -220,10 +210,9 @@ impl<'a> Linking<'a> {
 
     #[tactic(auto, using(crate::proofs::Tables::is_member_set))]
     fn is_undefined(&self, own: u32, definition: &Definition<'a>) -> bool
-        requires linking { IsLinking self.now }
-        requires own { own < length self.now.files.now }
+        requires own { own < length self.now }
         ensures { result
-            ≡ is_undefined (standing_of (file_at (plain_files self.now.files.now) own))
+            ≡ is_undefined (items_in_file (file_at (plain_files self.now) own))
             (plain_definition definition.now).kind (plain_definition definition.now).id }
     {
         let table = self.table(own);
@@ -245,12 +234,11 @@ impl<'a> Linking<'a> {
         own: u32,
         subject: Option<Definition<'a>>,
     ) -> Result<Fault, Memory>
-        requires linking { IsLinking self.now }
-        requires own { own < length self.now.files.now }
+        requires own { own < length self.now }
         ensures { IfOk result
             (λ f.
             f
-            ≡ undeclared (standing_of (file_at (plain_files self.now.files.now) own))
+            ≡ undeclared (items_in_file (file_at (plain_files self.now) own))
             (option_map plain_definition subject.entry)) }
     {
         match subject {
@@ -267,11 +255,10 @@ impl<'a> Linking<'a> {
 
     #[tactic(auto, using(crate::proofs::Tables::is_member_set))]
     fn is_declared(&self, own: u32, definition: Definition<'a>) -> bool
-        requires linking { IsLinking self.now }
-        requires own { own < length self.now.files.now }
+        requires own { own < length self.now }
         ensures { result
             ≡ is_member is_definition
-            (definitions_in (standing_of (file_at (plain_files self.now.files.now) own)))
+            (definitions_in (items_in_file (file_at (plain_files self.now) own)))
             (plain_definition definition.entry) }
     {
         self.table(own).definitions.contains(definition)
@@ -279,11 +266,10 @@ impl<'a> Linking<'a> {
 
     // The rule N8: a type, an inst or a mode has two meanings.
     fn ambiguous(&self, alloc: Global, own: u32, uses: &[Occurrence<'a>]) -> Result<Fault, Memory>
-        requires linking { IsLinking self.now }
-        requires own { own < length self.now.files.now }
+        requires own { own < length self.now }
         ensures { IfOk result
             (λ f.
-            f ≡ ambiguous (plain_files self.now.files.now) own (map plain_occurrence uses.now)) }
+            f ≡ ambiguous (plain_files self.now) own (map plain_occurrence uses.now)) }
     {
         for used in uses {
             if self.is_ambiguous(own, used) {
@@ -301,12 +287,11 @@ impl<'a> Linking<'a> {
         own: u32,
         pred: Option<NameArity<'a>>,
     ) -> Result<Fault, Memory>
-        requires linking { IsLinking self.now }
-        requires own { own < length self.now.files.now }
+        requires own { own < length self.now }
         ensures { IfOk result
             (λ f.
             f
-            ≡ mode_fault (standing_of (file_at (plain_files self.now.files.now) own))
+            ≡ mode_fault (items_in_file (file_at (plain_files self.now) own))
             (option_map plain_name_arity pred.entry)) }
     {
         match pred {
@@ -323,11 +308,10 @@ impl<'a> Linking<'a> {
 
     #[tactic(auto, using(crate::proofs::Tables::is_member_set))]
     fn has_mode(&self, own: u32, id: NameArity<'a>) -> bool
-        requires linking { IsLinking self.now }
-        requires own { own < length self.now.files.now }
+        requires own { own < length self.now }
         ensures { result
             ≡ is_member is_definition
-            (modes_of (standing_of (file_at (plain_files self.now.files.now) own)))
+            (modes_of (items_in_file (file_at (plain_files self.now) own)))
             (definition_of Kind.Pred (plain_name_arity id.entry)) }
     {
         self.table(own).modes.contains(Definition {

@@ -11,6 +11,18 @@ use mc_source::rule::Rule;
 use mc_term_data::Term;
 use std::alloc::Global;
 
+impl<'a> Linking<'a> {
+    /// The rule of linking that the goal of a query breaks, with what is said of it, where it breaks one. The goal sees
+    /// what the first file's module sees.
+    pub fn goal_fault(&self, alloc: Global, goal: &Term) -> Result<Option<(Rule, Text)>, Memory>
+        requires { 0 < length self.now }
+        ensures { IfOk result
+            (λ found. found ≡ goal_fault (plain_files self.now) (plain_term goal.now)) }
+    {
+        self.invisible(alloc, 0, &goal_uses(alloc, goal)?)
+    }
+}
+
 /// The rule of linking that the goal of a query breaks, with what is said of it, where it breaks one. The goal sees what
 /// the first file's module sees. The last nine files are the library's modules.
 pub fn goal_rule(
@@ -21,6 +33,5 @@ pub fn goal_rule(
     requires { 0 < length files.now }
     ensures { IfOk result (λ found. found ≡ goal_fault (plain_files files.now) (plain_term goal.now)) }
 {
-    let linking = Linking::of(alloc, files.as_slice())?;
-    linking.invisible(alloc, 0, &goal_uses(alloc, goal)?)
+    Linking::of(alloc, files.as_slice())?.goal_fault(alloc, goal)
 }

@@ -1,114 +1,162 @@
-ghost use Rattle.std.specs.Prelude.{◌≡◌, ◌<◌, ◌^◌, nat_eq, length, IfOk};
+ghost use Rattle.std.specs.Prelude.{◌≡◌, ◌-◌, ◌<◌, ◌^◌, nat_eq, length, map, IfOk};
 ghost use Rattle.std.specs.Set.{is_member};
 ghost use Rattle.mc_defs_uses.specs.Plain.{plain_name_arity};
+ghost use Rattle.mc_items.specs.Files.{plain_entry};
 ghost use Rattle.mc_linking.specs.Files.{joined, items_in_file, plain_files};
-ghost use Rattle.mc_linking.specs.Visible.{module_of, unqualified, seen, file_at, has_definition};
-ghost use Rattle.mc_linking.specs.Tables.{table, tables, IsLinking};
+ghost use Rattle.mc_linking.specs.Visible.{library_size, module_of, unqualified, seen, file_at, has_definition};
+ghost use Rattle.mc_linking.specs.Visibilities.{visibility};
+ghost use Rattle.mc_linking.specs.Kept.{plain_item_in_file, table};
 
-use crate::item_in_file::items_in_file;
-use crate::module_names::ModuleNames;
-use crate::table::Table;
+use crate::item_in_file::ItemInFile;
+use crate::items::all_items;
+use crate::module_names::{LIBRARY_SIZE, ModuleNames};
+use crate::table::{Table, tables};
 use crate::visibility::{Visibility, visibilities};
 use mc_base::{Memory, Row, Text};
 use mc_defs_uses::{Kind, NameArity};
 use mc_items::Entry;
 use std::alloc::Global;
+use std::marker::Model;
 
-/// Files, of which the last nine are the library's, with what their modules are named, see and declare.
+/// Files, of which the last nine are the library's, with what their modules are named, see and declare. It is seen as
+/// the files.
 #[derive(Drop)]
 pub struct Linking<'a> {
-    pub files: &'a [Row<Entry>],
-    pub names: ModuleNames,
-    pub visibilities: Vec<Visibility>,
-    pub tables: Vec<Table<'a>>,
+    files: &'a [Row<Entry>],
+    names: ModuleNames,
+    visibilities: Vec<Visibility>,
+    items: Vec<Row<ItemInFile<'a>>>,
+    tables: Vec<Table<'a>>,
+}
+
+impl<'a> Model for Linking<'a> {
+    ghost use Rattle.std.specs.Prelude.{List};
+    ghost use Rattle.mc_items.specs.declared.entry.Entry.{Entry};
+
+    ghost Value = { List (List Entry) };
+
+    ghost use Rattle.mc_term_data.specs.contracts.term.Node as node;
+    ghost use Rattle.std.specs.Coded.{codes};
+
+    ghost coded = { Prim.hlevel (codes, node.the_row.coded) };
+
+    ghost use Rattle.mc_linking.specs.code.Tables.{IsKept};
+
+    ghost view = { λ l. l.files.now };
+
+    ghost invariant = { λ l. IsKept l.files.now l.names l.visibilities.items l.items.items l.tables.items };
 }
 
 impl<'a> Linking<'a> {
     /// What files are named, see and declare.
     pub fn of(alloc: Global, files: &'a [Row<Entry>]) -> Result<Linking<'a>, Memory>
-        ensures files { IfOk result (λ linking. linking.files.now ≡ files.now) }
-        ensures linking { IfOk result IsLinking }
+        ensures { IfOk result (λ linking. linking ≡ files.now) }
     {
+        if files.len() > u32::MAX as usize {
+            return Err(Memory);
+        }
         let names = ModuleNames::of(alloc, files)?;
         let visibilities = visibilities(alloc, files, &names)?;
-        let tables = tables(alloc, files)?;
+        let items = all_items(alloc, files)?;
+        let tables = tables(alloc, &items)?;
         Ok(Linking {
             files,
             names,
             visibilities,
+            items,
             tables,
         })
     }
 
+    /// How many files there are.
+    pub fn len(&self) -> u32
+        ensures { result ≡ length self.now }
+    {
+        self.files.len() as u32
+    }
+
+    /// A file, by its number.
+    pub fn file(&self, own: u32) -> &'a [Entry]
+        requires { own < length self.now }
+        ensures { map plain_entry result.now ≡ file_at (plain_files self.now) own }
+    {
+        self.files[own as usize].as_slice()
+    }
+
+    /// How many files there are before the library's.
+    pub fn given(&self) -> u32
+        ensures { result ≡ length self.now - library_size }
+    {
+        self.files.len().saturating_sub(LIBRARY_SIZE) as u32
+    }
+
+    /// The items of a file, each as it stands there.
+    pub fn items(&self, own: u32) -> &[ItemInFile<'a>]
+        requires { own < length self.now }
+        ensures { map plain_item_in_file result.now ≡ items_in_file (file_at (plain_files self.now) own) }
+    {
+        self.items[own as usize].as_slice()
+    }
+
     /// The number of the module that a name means.
     pub fn number(&self, alloc: Global, name: &[Text]) -> Result<Option<u32>, Memory>
-        requires linking { IsLinking self.now }
         ensures { IfOk result
-            (λ number. number ≡ module_of (plain_files self.now.files.now) (joined name.now)) }
+            (λ number. number ≡ module_of (plain_files self.now) (joined name.now)) }
     {
         let number = self.names.number(alloc, name)?;
         Ok(number)
     }
 
+    /// What a module sees.
+    pub fn visibility(&self, own: u32) -> &Visibility
+        requires { own < length self.now }
+        ensures { result.now ≡ visibility (plain_files self.now) own }
+    {
+        &self.visibilities[own as usize]
+    }
+
     /// The modules whose names a module may write unqualified.
     pub fn unqualified(&self, own: u32) -> &[u32]
-        requires linking { IsLinking self.now }
-        requires own { own < length self.now.files.now }
-        ensures items { result.now ≡ unqualified (plain_files self.now.files.now) own }
+        requires own { own < length self.now }
+        ensures items { result.now ≡ unqualified (plain_files self.now) own }
         ensures small { length result.now < 2 ^ 32 }
     {
-        self.visibilities[own as usize].unqualified.as_slice()
+        self.visibility(own).unqualified.as_slice()
     }
 
     // The modules that a module sees.
     fn seen(&self, own: u32) -> &[u32]
-        requires linking { IsLinking self.now }
-        requires own { own < length self.now.files.now }
-        ensures items { result.now ≡ seen (plain_files self.now.files.now) own }
+        requires own { own < length self.now }
+        ensures items { result.now ≡ seen (plain_files self.now) own }
     {
-        self.visibilities[own as usize].seen.as_slice()
+        self.visibility(own).seen.as_slice()
     }
 
     /// Whether a module sees another.
     #[tactic(auto, using(crate::proofs::ModulesSeen::contains_is))]
     pub fn is_seen(&self, own: u32, number: u32) -> bool
-        requires linking { IsLinking self.now }
-        requires own { own < length self.now.files.now }
-        ensures { result ≡ is_member nat_eq (seen (plain_files self.now.files.now) own) number }
+        requires own { own < length self.now }
+        ensures { result ≡ is_member nat_eq (seen (plain_files self.now) own) number }
     {
         self.seen(own).contains(&number)
     }
 
     /// What a module declares.
     pub fn table(&self, own: u32) -> &Table<'a>
-        requires linking { IsLinking self.now }
-        requires own { own < length self.now.files.now }
-        ensures { result.now ≡ table (items_in_file (file_at (plain_files self.now.files.now) own)) }
+        requires own { own < length self.now }
+        ensures { result.now ≡ table (items_in_file (file_at (plain_files self.now) own)) }
     {
         &self.tables[own as usize]
     }
 
     /// Whether a module has a definition, for itself or for another.
     pub fn has_definition(&self, own: u32, number: u32, kind: Kind, id: NameArity<'a>) -> bool
-        requires linking { IsLinking self.now }
         ensures { result
-            ≡ has_definition (plain_files self.now.files.now) own kind (plain_name_arity id.entry)
-            number }
+            ≡ has_definition (plain_files self.now) own kind (plain_name_arity id.entry) number }
     {
-        if number as usize >= self.tables.len() {
+        if number as usize >= self.files.len() {
             return false;
         }
-        self.tables[number as usize].has(own == number, kind, id)
+        self.table(number).has(own == number, kind, id)
     }
-}
-
-fn tables<'a>(alloc: Global, files: &'a [Row<Entry>]) -> Result<Vec<Table<'a>>, Memory>
-    ensures { IfOk result (λ all. all.items ≡ tables (plain_files files.now)) }
-{
-    let mut all = Vec::new(alloc);
-    for file in files {
-        let items = items_in_file(alloc, file.as_slice())?;
-        all.push(Table::of(alloc, &items)?)?;
-    }
-    Ok(all)
 }

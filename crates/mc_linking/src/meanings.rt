@@ -4,7 +4,6 @@ ghost use Rattle.mc_defs_uses.specs.Plain.{plain_name_arity, plain_occurrence};
 ghost use Rattle.mc_linking.specs.Files.{plain_files};
 ghost use Rattle.mc_linking.specs.Visible.{how_many, meanings, meanings_as, is_qualified, character};
 ghost use Rattle.mc_linking.specs.Faults.{is_single};
-ghost use Rattle.mc_linking.specs.Tables.{IsLinking};
 
 use crate::builtin::is_builtin;
 use crate::character::sole_character;
@@ -21,14 +20,13 @@ impl<'a> Linking<'a> {
         own: u32,
         used: &Occurrence<'a>,
     ) -> Result<bool, Memory>
-        requires linking { IsLinking self.now }
-        requires own { own < length self.now.files.now }
+        requires own { own < length self.now }
         ensures { IfOk result
             (λ is.
             is
             ≡ not
             (nat_eq
-            (meanings (plain_files self.now.files.now) own
+            (meanings (plain_files self.now) own
             (plain_occurrence used.now)) 0)) }
     {
         match used.kind {
@@ -50,14 +48,13 @@ impl<'a> Linking<'a> {
         kind: Kind,
         used: &Occurrence<'a>,
     ) -> Result<bool, Memory>
-        requires linking { IsLinking self.now }
-        requires own { own < length self.now.files.now }
+        requires own { own < length self.now }
         ensures { IfOk result
             (λ is.
             is
             ≡ not
             (nat_eq
-            (meanings_as (plain_files self.now.files.now) own kind
+            (meanings_as (plain_files self.now) own kind
             (plain_occurrence used.now)) 0)) }
     {
         if used.qualifiers.is_empty() {
@@ -74,13 +71,12 @@ impl<'a> Linking<'a> {
     // The same of a name without qualifiers.
     #[tactic(auto, using(crate::proofs::Counts::found_unqualified))]
     fn is_found_unqualified(&self, own: u32, kind: Kind, used: &Occurrence<'a>) -> bool
-        requires linking { IsLinking self.now }
-        requires own { own < length self.now.files.now }
+        requires own { own < length self.now }
         requires unqualified { (plain_occurrence used.now).qualifiers ≡ [] }
         ensures { result
             ≡ not
             (nat_eq
-            (meanings_as (plain_files self.now.files.now) own kind
+            (meanings_as (plain_files self.now) own kind
             (plain_occurrence used.now)) 0) }
     {
         is_builtin(kind, &used.id) || self.is_in_any(own, self.unqualified(own), kind, used.id)
@@ -89,11 +85,10 @@ impl<'a> Linking<'a> {
     // Whether any of these modules has a definition.
     #[tactic(auto, using(crate::proofs::Counts::some_more))]
     fn is_in_any(&self, own: u32, numbers: &[u32], kind: Kind, id: NameArity<'a>) -> bool
-        requires linking { IsLinking self.now }
         ensures { result
             ≡ not
             (nat_eq
-            (how_many (plain_files self.now.files.now) own kind (plain_name_arity id.entry)
+            (how_many (plain_files self.now) own kind (plain_name_arity id.entry)
             numbers.now) 0) }
     {
         for number in numbers {
@@ -106,10 +101,9 @@ impl<'a> Linking<'a> {
 
     // How many of these modules have a definition.
     fn how_many(&self, own: u32, numbers: &[u32], kind: Kind, id: NameArity<'a>) -> usize
-        requires linking { IsLinking self.now }
         requires few { length numbers.now < 2 ^ 32 }
         ensures count { result
-            ≡ how_many (plain_files self.now.files.now) own kind (plain_name_arity id.entry)
+            ≡ how_many (plain_files self.now) own kind (plain_name_arity id.entry)
             numbers.now }
         ensures few { result ≤ length numbers.now }
     {
@@ -125,13 +119,12 @@ impl<'a> Linking<'a> {
     /// Whether a name that a module uses is that of a type, an inst or a mode, has no qualifiers, and more than one
     /// meaning.
     pub fn is_ambiguous(&self, own: u32, used: &Occurrence<'a>) -> bool
-        requires linking { IsLinking self.now }
-        requires own { own < length self.now.files.now }
+        requires own { own < length self.now }
         ensures { result
             ≡ (is_single (plain_occurrence used.now).kind
             && (not (is_qualified (plain_occurrence used.now).qualifiers)
             && nat_lt 1
-            (meanings (plain_files self.now.files.now) own
+            (meanings (plain_files self.now) own
             (plain_occurrence used.now)))) }
     {
         if !is_single(used.kind) || !used.qualifiers.is_empty() {

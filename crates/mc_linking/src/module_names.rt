@@ -3,7 +3,8 @@ ghost use Rattle.std.specs.Option.{option_map};
 ghost use Rattle.mc_items.specs.Files.{plain_entry};
 ghost use Rattle.mc_linking.specs.Files.{joined, module_name, module_names, plain_files};
 ghost use Rattle.mc_linking.specs.Visible.{module_of};
-ghost use Rattle.mc_linking.specs.Visibilities.{number_of, named_behind, put_name};
+ghost use Rattle.mc_linking.specs.Visibilities.{number_of};
+ghost use Rattle.mc_linking.specs.code.Visibilities.{named_behind, put_name};
 
 use indexmap::IndexMap;
 use mc_base::{Memory, Row, Text};

@@ -1,7 +1,6 @@
 ghost use Rattle.std.specs.Prelude.{◌≡◌};
 ghost use Rattle.mc_decl_syntax.specs.Plain.{plain_item};
 ghost use Rattle.mc_linking.specs.Files.{section_after, is_shown};
-ghost use Rattle.mc_linking.specs.Tables.{plain_section};
 
 use mc_decl_syntax::Decl;
 
@@ -16,7 +15,7 @@ pub enum Section {
 impl Section {
     /// The section behind an item.
     pub fn after(self, decl: &Decl) -> Section
-        ensures { plain_section result ≡ section_after (plain_section self) (plain_item decl.now) }
+        ensures { result ≡ section_after self (plain_item decl.now) }
     {
         match decl {
             Decl::Interface => Section::Interface,
@@ -27,7 +26,7 @@ impl Section {
 
     /// Whether other modules see what stands in it.
     pub fn is_shown(self) -> bool
-        ensures { result ≡ is_shown (plain_section self) }
+        ensures { result ≡ is_shown self }
     {
         matches!(self, Section::Interface)
     }

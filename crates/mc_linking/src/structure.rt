@@ -2,7 +2,7 @@ ghost use Rattle.std.specs.Prelude.{◌≡◌, map, IfOk};
 ghost use Rattle.mc_items.specs.Files.{plain_entry};
 ghost use Rattle.mc_linking.specs.Files.{joined, module_name};
 ghost use Rattle.mc_linking.specs.Faults.{is_misplaced, is_module_of, structure_fault};
-ghost use Rattle.mc_linking.specs.Tables.{plain_item_in_file};
+ghost use Rattle.mc_linking.specs.Kept.{plain_item_in_file};
 
 use crate::item_in_file::ItemInFile;
 use crate::module_names::{joined, module_name};

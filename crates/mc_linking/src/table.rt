@@ -3,11 +3,12 @@ ghost use Rattle.std.specs.Option.{option_map};
 ghost use Rattle.mc_defs_uses.specs.Plain.{plain_name_arity, plain_definition};
 ghost use Rattle.mc_defs_uses.specs.Sets.{put_all};
 ghost use Rattle.mc_linking.specs.Files.{as_list, has};
-ghost use Rattle.mc_linking.specs.Tables.{plain_item_in_file, table, with_item};
+ghost use Rattle.mc_linking.specs.Kept.{plain_item_in_file, table};
+ghost use Rattle.mc_linking.specs.code.Tables.{with_item, tables};
 
 use crate::item_in_file::ItemInFile;
-use mc_base::Memory;
-use mc_defs_uses::{Definition, DefinitionSet, Kind, NameArity, clause_of, definitions, mode_of};
+use mc_base::{Memory, Row};
+use mc_defs_uses::{Definition, DefinitionSet, Kind, NameArity, clause_of, mode_of};
 use std::alloc::Global;
 
 /// What the items of a file declare, what its interface shows of that, and what its clauses and further modes are of.
@@ -31,19 +32,18 @@ impl<'a> Table<'a> {
             modes: DefinitionSet::new(alloc),
         };
         for item in items {
-            table.add(alloc, item)?;
+            table.add(item)?;
         }
         Ok(table)
     }
 
-    fn add(&mut self, alloc: Global, item: &ItemInFile<'a>) -> Result<(), Memory>
+    fn add(&mut self, item: &ItemInFile<'a>) -> Result<(), Memory>
         ensures { OnOk result (self.new ≡ with_item self.old (plain_item_in_file item.now)) }
     {
         let decl = &item.entry.decl;
-        let all = definitions(alloc, decl)?;
-        put_all(&mut self.definitions, &all)?;
+        put_all(&mut self.definitions, &item.definitions)?;
         if item.section.is_shown() {
-            put_all(&mut self.shown, &all)?;
+            put_all(&mut self.shown, &item.definitions)?;
         }
         put_one(&mut self.clauses, clause_of(decl))?;
         put_one(&mut self.modes, mode_of(decl))
@@ -97,4 +97,16 @@ fn put_one<'a>(
         set.insert(definition)?;
     }
     Ok(())
+}
+
+/// The tables of files, each by its items.
+pub fn tables<'a>(alloc: Global, files: &[Row<ItemInFile<'a>>]) -> Result<Vec<Table<'a>>, Memory>
+    ensures { IfOk result
+        (λ all. all.items ≡ tables (map (map plain_item_in_file) files.now)) }
+{
+    let mut all = Vec::new(alloc);
+    for items in files {
+        all.push(Table::of(alloc, items.as_slice())?)?;
+    }
+    Ok(all)
 }

@@ -3,7 +3,8 @@ ghost use Rattle.mc_decl_syntax.specs.Plain.{plain_item};
 ghost use Rattle.mc_items.specs.Files.{plain_entry};
 ghost use Rattle.mc_linking.specs.Files.{plain_files};
 ghost use Rattle.mc_linking.specs.Visible.{module_of, with_module};
-ghost use Rattle.mc_linking.specs.Visibilities.{number_of, imports, only_uses, with_named, with_named_in, visibility, visibilities_from};
+ghost use Rattle.mc_linking.specs.Visibilities.{number_of, visibility};
+ghost use Rattle.mc_linking.specs.code.Visibilities.{imports, only_uses, with_named, with_named_in, visibilities_from};
 
 use crate::module_names::ModuleNames;
 use mc_base::{Copied, Memory, Row, Text};

@@ -1,6 +1,7 @@
-use mc_base::{Memory, Row};
+use mc_base::{Memory, Row, Text};
 use mc_items::{Entry, ItemsFault, read_items};
-use mc_modules::link_faults;
+use mc_modules::{Linking, goal_rule, link_faults};
+use mc_term_data::{Node, Term};
 use std::alloc::Global;
 use std::process::Abort;
 use std::test::Fail;
@@ -87,124 +88,55 @@ fn rows_hold(rt: &impl Abort, alloc: Global, table: &str) -> Result<u32, Fail> {
     Ok(rows)
 }
 
-// Where items stand.
-const STRUCTURE: &str = "\
+// For each rule files that break it, and files beside them that don't.
+const RULES: &str = "\
 % ~ 0:1 N1 module structure\n\
-#module a.@#interface. ~ none\n\
-#module a. ~ none\n\
-#interface. ~ 0:1 N1 module structure\n\
-p. ~ 0:1 N1 module structure\n\
-#module a.@p. ~ 0:2 N1 module structure\n\
-#module a.@#pred p is det. ~ 0:2 N1 module structure\n\
-#module a.@#import_module list.@#interface. ~ 0:2 N1 module structure\n\
-#module a.@#interface.@#module a. ~ 0:3 N1 module structure\n\
-#module a.@#end_module a. ~ 0:2 N1 module structure\n\
-#module a.@#interface.@#end_module a. ~ none\n\
-#module a.b.@#implementation.@#end_module a.b. ~ none\n\
-#module a.@#interface.@#end_module b. ~ 0:3 N1 module structure\n\
-#module a.@#interface.@#end_module a.@#implementation. ~ 0:3 N1 module structure\n\
 #module a.@#interface.@#pred p is det.@p. ~ 0:4 N1 module structure\n\
-#module a.@#interface.@#pred p is det.@#implementation.@p. ~ none\n\
-#module a.@#implementation.@#pred p is det.@p.@#interface.@p. ~ 0:6 N1 module structure\n";
-
-// What modules are named and import.
-const MODULES: &str = "\
-#module a.@#interface.`#module a.@#interface. ~ 1:1 N2 module a is given twice\n\
-#module a.`#module b.`#module a.`#module a. ~ 2:1 N2 module a is given twice, 3:1 N2 module a is given twice\n\
+#module a.b.@#implementation.@#end_module a.b. ~ none\n\
+#module a.`#module b.`#module a. ~ 2:1 N2 module a is given twice\n\
 #module list.@#interface. ~ 0:1 N2 module list is given twice\n\
-#module io.`#module io. ~ 0:1 N2 module io is given twice, 1:1 N2 module io is given twice\n\
-#module a.@#interface.@#import_module b. ~ 0:3 N3 module b is not found\n\
-#module a.@#interface.@#use_module c.d. ~ 0:3 N3 module c.d is not found\n\
 #module a.@#interface.@#import_module list, b, c. ~ 0:3 N3 module b is not found\n\
-#module a.@#interface.@#import_module list, io.@#use_module int. ~ none\n\
-#module a.@#interface.@#import_module a. ~ none\n\
 #module a.@#interface.@#import_module b.`#module b.@#interface.@#import_module a. ~ none\n\
-#module a.@#interface.@#import_module b.`p. ~ 0:3 N3 module b is not found, 1:1 N1 module structure\n";
-
-// Names that nothing visible has.
-const INVISIBLE: &str = "\
-#module a.@#interface.@#type t ---> aa(uu). ~ 0:3 N4 uu/0 is not visible\n\
-#module a.@#interface.@#type t == uu(vv). ~ 0:3 N4 uu/1 is not visible\n\
-#module a.@#interface.@#import_module b.@#type t == uu.`#module b.@#interface.@#type uu ---> cc. ~ none\n\
-#module a.@#interface.@#import_module b.@#type t == uu.`#module b.@#implementation.@#type uu ---> cc. ~ 0:4 N4 uu/0 is not visible\n\
 #module a.@#interface.@#use_module b.@#type t == uu.`#module b.@#interface.@#type uu ---> cc. ~ 0:4 N4 uu/0 is not visible\n\
 #module a.@#interface.@#use_module b.@#type t == b.uu.`#module b.@#interface.@#type uu ---> cc. ~ none\n\
-#module a.@#interface.@#import_module b.@#type t == b.uu.`#module b.@#interface.@#type uu ---> cc. ~ none\n\
-#module a.@#interface.@#type t == b.uu.`#module b.@#interface.@#type uu ---> cc. ~ 0:3 N4 uu/0 is not visible\n\
-#module a.@#interface.@#import_module b.@#type t == c.uu.`#module b.@#interface.@#type uu ---> cc.`#module c.@#interface. ~ 0:4 N4 uu/0 is not visible\n\
-#module a.@#interface.@#import_module b.@#type t == uu.`#module b.@#interface.@#import_module c.`#module c.@#interface.@#type uu ---> cc. ~ 0:4 N4 uu/0 is not visible\n\
-#module a.@#interface.@#type t == b.int. ~ 0:3 N4 int/0 is not visible\n\
-#module a.@#interface.@#type t == int.@#type u == string.@#type v == char. ~ none\n\
-#module a.@#implementation.@#import_module b.@#pred p(t::in) is semidet.@p(cc).`#module b.@#interface.@#type t ---> cc. ~ none\n\
-#module a.@#implementation.@#import_module b.@#pred p(t::in) is semidet.@p(cc).`#module b.@#interface.@#type t.@#implementation.@#type t ---> cc. ~ 0:5 N4 cc/0 is not visible\n\
-#module a.@#implementation.@#pred p(char::in) is semidet.@p(x). ~ none\n\
-#module a.@#implementation.@#pred p(char::in) is semidet.@p(xy). ~ 0:4 N4 xy/0 is not visible\n\
-#module a.@#implementation.@#pred p is det.@p :- qq. ~ 0:4 N4 qq/0 is not visible\n\
-#module a.@#implementation.@#pred p is det.@p :- p(1). ~ 0:4 N4 p/1 is not visible\n\
-#module a.@#implementation.@#pred p is det.@p :- p, a.p. ~ none\n\
-#module a.@#implementation.@#pred p is det.@p :- X = aa + bb. ~ 0:4 N4 aa/0 is not visible\n\
-#module a.@#implementation.@#func f(int::in) = (int::out) is det.@f(X) = X.@#pred p is det.@p :- X = f(1). ~ none\n\
-#module a.@#implementation.@#pred p is det.@p :- f(1).@#func f(int::in) = (int::out) is det.@f(X) = X. ~ 0:4 N4 f/1 is not visible\n\
-#module a.@#implementation.@#mode m == in(ii). ~ 0:3 N4 ii/0 is not visible\n\
-#module a.@#implementation.@#pred p(int::mm) is det.@p(_). ~ 0:3 N4 mm/0 is not visible\n";
-
-// What is declared or defined twice, not, or without being declared.
-const DEFINITIONS: &str = "\
 #module a.@#interface.@#type u ---> dd.@#type u ---> ee. ~ 0:4 N5 u/0 is defined twice\n\
 #module a.@#interface.@#type u ---> dd.@#type u(T) ---> dd(T). ~ none\n\
-#module a.@#interface.@#type u ---> dd ; dd. ~ 0:3 N5 dd/0 is defined twice\n\
-#module a.@#interface.@#type u ---> dd.@#type v ---> dd. ~ none\n\
-#module a.@#interface.@#type u.@#implementation.@#type u ---> dd. ~ none\n\
-#module a.@#interface.@#type u.@#type u.@#implementation.@#type u ---> dd. ~ 0:4 N5 u/0 is defined twice\n\
 #module a.@#interface.@#type u. ~ 0:3 N6 u/0 has no definition\n\
-#module a.@#interface.@#inst i == ground.@#inst i == free. ~ 0:4 N5 i/0 is defined twice\n\
-#module a.@#interface.@#mode m == in.@#mode m == out. ~ 0:4 N5 m/0 is defined twice\n\
-#module a.@#interface.@#pred p is det.@#pred p is det.@#implementation.@p. ~ 0:4 N5 p/0 is defined twice\n\
-#module a.@#implementation.@#pred p(int::in) is det.@#func p(int::in) = (int::out) is det.@p(_).@p(X) = X. ~ none\n\
-#module a.@#interface.@#pred p is det. ~ 0:3 N6 p/0 has no definition\n\
-#module a.@#interface.@#func f(int::in) = (int::out) is det.@#implementation.@#pred f(int::in) is det.@f(_). ~ 0:3 N6 f/1 has no definition\n\
-#module a.@#implementation.@#pred p is det.@p(1). ~ 0:3 N6 p/0 has no definition, 0:4 N7 p/1 is not declared\n\
+#module a.@#interface.@#type u.@#implementation.@#type u ---> dd. ~ none\n\
 #module a.@#implementation.@p. ~ 0:3 N7 p/0 is not declared\n\
-#module a.@#implementation.@f(X) = X. ~ 0:3 N7 f/1 is not declared\n\
-#module a.@#implementation.@#mode q(in) is det. ~ 0:3 N7 q/1 is not declared\n\
-#module a.@#implementation.@#import_module b.@p.`#module b.@#interface.@#pred p is det.@#implementation.@p. ~ 0:4 N7 p/0 is not declared\n";
-
-// What has two meanings or no mode, and the order of rules and faults.
-const LAST: &str = "\
+#module a.@#interface.@#pred p is det.@#implementation.@p. ~ none\n\
 #module a.@#interface.@#type int ---> dd.@#type t == int. ~ 0:4 N8 int/0 has two meanings\n\
 #module a.@#interface.@#type int ---> dd.@#type t == a.int. ~ none\n\
-#module a.@#interface.@#import_module b, c.@#type t == uu.`#module b.@#interface.@#type uu ---> cc.`#module c.@#interface.@#type uu ---> cc. ~ 0:4 N8 uu/0 has two meanings\n\
-#module a.@#interface.@#import_module b, c.@#type t == b.uu.`#module b.@#interface.@#type uu ---> cc.`#module c.@#interface.@#type uu ---> cc. ~ none\n\
-#module a.@#interface.@#import_module b.@#use_module c.@#type t == uu.`#module b.@#interface.@#type uu ---> cc.`#module c.@#interface.@#type uu ---> cc. ~ none\n\
-#module a.@#implementation.@#import_module b, c.@#pred p(b.uu::in) is semidet.@p(cc).`#module b.@#interface.@#type uu ---> cc.`#module c.@#interface.@#type uu ---> cc. ~ none\n\
-#module a.@#interface.@#inst ground == free.@#inst i == ground. ~ 0:4 N8 ground/0 has two meanings\n\
-#module a.@#implementation.@#mode in == free >> ground.@#pred p(int::in) is det.@p(_). ~ 0:4 N8 in/0 has two meanings\n\
 #module a.@#implementation.@#pred p.@p. ~ 0:3 M5 p/0 has no mode\n\
 #module a.@#implementation.@#pred p.@#mode p is det.@p. ~ none\n\
-#module a.@#implementation.@#pred p(int).@p(_). ~ 0:3 M5 p/1 has no mode\n\
-#module a.@#implementation.@#pred p(int).@#mode p(in) is det.@p(_). ~ none\n\
-#module a.@#implementation.@#pred p(uu). ~ 0:3 N4 uu/0 is not visible\n\
-#module a.@#implementation.@#pred p. ~ 0:3 N6 p/0 has no definition\n\
-#module a.@#interface.@qq(xx). ~ 0:3 N1 module structure\n\
-#module a.@#implementation.@qq(xx). ~ 0:3 N4 xx/0 is not visible\n\
 #module a.@#implementation.@#pred p(vv::in) is det.@#pred p(vv::in) is det.`#module a.@p. ~ 0:3 N4 vv/0 is not visible, 0:4 N4 vv/0 is not visible, 1:1 N2 module a is given twice, 1:2 N1 module structure\n";
 
 #[test]
-fn items_stand_in_sections(rt: HostRuntime) -> Result<(), Fail> {
-    assert_eq!(rt; rows_hold(&rt, rt.alloc(), STRUCTURE)?, 17);
-    assert_eq!(rt; rows_hold(&rt, rt.alloc(), MODULES)?, 11);
+fn rules_are_broken_and_kept(rt: HostRuntime) -> Result<(), Fail> {
+    assert_eq!(rt; rows_hold(&rt, rt.alloc(), RULES)?, 20);
     Ok(())
 }
 
-#[test]
-fn names_have_meanings(rt: HostRuntime) -> Result<(), Fail> {
-    assert_eq!(rt; rows_hold(&rt, rt.alloc(), INVISIBLE)?, 24);
-    Ok(())
+// A goal that is one name without arguments.
+fn goal(alloc: Global, name: &str) -> Result<Term, Memory> {
+    let parts = Row::one(alloc, Text::new(alloc, name.as_bytes())?)?;
+    let node = Node::App(parts, Row::new(alloc));
+    Ok(Term { node, line: 1 })
 }
 
 #[test]
-fn what_is_declared_is_defined(rt: HostRuntime) -> Result<(), Fail> {
-    assert_eq!(rt; rows_hold(&rt, rt.alloc(), DEFINITIONS)?, 18);
-    assert_eq!(rt; rows_hold(&rt, rt.alloc(), LAST)?, 17);
+fn a_goal_sees_what_the_first_file_sees(rt: HostRuntime) -> Result<(), Fail> {
+    let alloc = rt.alloc();
+    let texts =
+        "#module a.@#interface.@#pred p is det.@#implementation.@p.`#module b.@#interface.@#pred q is det.@#implementation.@q.";
+    let files = match files(alloc, texts) {
+        Ok(files) => Row::of(files)?,
+        Err(_) => panic!(rt; "not read"),
+    };
+    let linking = Linking::of(alloc, files.as_slice())?;
+    assert!(rt; linking.faults(alloc)?.is_empty());
+    assert!(rt; linking.goal_fault(alloc, &goal(alloc, "p")?)?.is_none());
+    assert!(rt; linking.goal_fault(alloc, &goal(alloc, "q")?)?.is_some());
+    assert!(rt; goal_rule(alloc, &files, &goal(alloc, "q")?)?.is_some());
     Ok(())
 }

@@ -136,65 +136,33 @@ fn all_types(
     Ok(())
 }
 
-// Names of the four modules, without qualifiers.
-const BARE: &[Meaning] = &[
+// Names of the four modules, without qualifiers and with them.
+const NAMES: &[Meaning] = &[
     (0, "x", 0, "con 0 func 0 con 5 con 3 char x "),
     (0, "x", 1, ""),
-    (0, "xx", 0, ""),
-    (1, "x", 0, "con 3 char x "),
     (1, "z", 0, "con 4 char z "),
-    (0, "z", 0, "con 2 char z "),
-    (3, "x", 0, "con 6 char x "),
-];
-
-// The same with qualifiers.
-const QUALIFIED: &[Meaning] = &[
-    (0, "a.x", 0, "con 0 func 0 "),
     (0, "b.x", 0, "con 3 "),
     (0, "b.z", 0, ""),
-    (0, "c.x", 0, "con 5 "),
     (0, "d.x", 0, "con 6 "),
     (1, "a.x", 0, ""),
-    (0, "e.x", 0, ""),
 ];
 
-// What a module itself has of the four, and of the two of `ROWS`.
+// What a module itself has of the four.
 const OWN: &[Meaning] = &[
     (0, "x", 0, "con 0 func 0 "),
-    (0, "x", 1, ""),
-    (0, "z", 0, "con 2 "),
     (1, "z", 0, "con 4 "),
-    (2, "z", 0, ""),
     (99, "x", 0, ""),
 ];
 
-const OWN_OF_ROWS: &[Meaning] = &[(0, "p", 1, "pred 0 "), (0, "p", 0, ""), (1, "p", 1, "")];
-
-// Types without qualifiers.
-const BARE_TYPES: &[TypeMeaning] = &[
+// Types without qualifiers and with them.
+const TYPES_MEANT: &[TypeMeaning] = &[
     (0, "t", 0, &[0, 3]),
     (0, "t", 1, &[1]),
-    (0, "t", 2, &[]),
-    (0, "h", 0, &[2]),
-    (0, "s", 0, &[4]),
     (0, "i", 0, &[]),
-    (0, "r", 0, &[]),
     (0, "u", 0, &[]),
     (0, "int", 0, &[]),
-    (1, "t", 0, &[3]),
     (1, "i", 0, &[5]),
-    (1, "h", 0, &[]),
-    (99, "t", 0, &[]),
-];
-
-// Types with qualifiers.
-const QUALIFIED_TYPES: &[TypeMeaning] = &[
-    (0, "a.t", 0, &[0]),
     (0, "b.t", 0, &[3]),
-    (0, "b.t", 1, &[]),
-    (0, "b.s", 0, &[4]),
-    (0, "b.i", 0, &[]),
-    (0, "c.r", 0, &[]),
     (0, "d.u", 0, &[7]),
     (1, "a.t", 0, &[]),
 ];
@@ -207,35 +175,15 @@ fn own_names_come_first_and_the_character_last(rt: HostRuntime) -> Result<(), Fa
         told(alloc, nth(&rt, &names.declared, 0).as_slice())?.as_slice(),
         b"con 0 con 1 func 0 con 2 ".as_slice()
     );
-    all_mean(&rt, alloc, &names, BARE)
+    all_mean(&rt, alloc, &names, NAMES)?;
+    all_own(&rt, alloc, &names, OWN)
 }
 
 #[test]
-fn a_qualifier_chooses_among_the_modules_that_are_seen(rt: HostRuntime) -> Result<(), Fail> {
-    let alloc = rt.alloc();
-    let names = names_of(&rt, alloc, MODULES)?;
-    all_mean(&rt, alloc, &names, QUALIFIED)
-}
-
-#[test]
-fn a_module_has_its_own_names_and_no_others(rt: HostRuntime) -> Result<(), Fail> {
-    let alloc = rt.alloc();
-    all_own(&rt, alloc, &names_of(&rt, alloc, MODULES)?, OWN)?;
-    all_own(&rt, alloc, &names_of(&rt, alloc, ROWS)?, OWN_OF_ROWS)
-}
-
-#[test]
-fn a_type_is_its_module_s_or_one_that_is_imported(rt: HostRuntime) -> Result<(), Fail> {
+fn a_type_is_its_module_s_or_one_that_is_seen(rt: HostRuntime) -> Result<(), Fail> {
     let alloc = rt.alloc();
     let names = names_of(&rt, alloc, TYPES)?;
-    all_types(&rt, alloc, &names, BARE_TYPES)
-}
-
-#[test]
-fn a_qualifier_chooses_among_the_types(rt: HostRuntime) -> Result<(), Fail> {
-    let alloc = rt.alloc();
-    let names = names_of(&rt, alloc, TYPES)?;
-    all_types(&rt, alloc, &names, QUALIFIED_TYPES)
+    all_types(&rt, alloc, &names, TYPES_MEANT)
 }
 
 #[test]

@@ -5,10 +5,11 @@ use Rattle.std.specs.Str.{bytes_eq}
 use Rattle.std.specs.Cmp.Lexicographic.{nat_list_eq_equiv}
 use Rattle.mc_defs_uses.specs.Plain.{PlainNameArity}
 use Rattle.mc_modules.specs.declared.names.Named.{Named}
-use Rattle.mc_modules.specs.Index.{numbers_where, numbers_called}
+use Rattle.mc_modules.specs.Numbers.{numbers_where}
+use Rattle.mc_modules.specs.code.Index.{numbers_called}
 use Rattle.mc_modules.specs.Linked.{Linked, plain_named}
 use Rattle.mc_modules.specs.Candidates.{is_module, type_fits, type_numbers}
-use Rattle.mc_modules.specs.Chosen.{passes, chosen, has_id, type_seen, types_seen}
+use Rattle.mc_modules.specs.code.Chosen.{passes, chosen, has_id, type_seen, types_seen}
 
 -- tests that agree choose the same
 numbers_where-same : {A : Type 0} (p q : A → Bool) (n : ℕ) (xs : List A) → ((x : A) → p x ≡ q x) → numbers_where p n xs ≡ numbers_where q n xs

@@ -13,7 +13,7 @@ use Rattle.mc_defs_uses.specs.Plain.{PlainNameArity}
 use Rattle.mc_modules.specs.declared.names.Named.{Named}
 use Rattle.mc_modules.specs.Linked.{Defined, Linked, plain_named}
 use Rattle.mc_modules.specs.Candidates.{defined_by, fits, fitting}
-use Rattle.mc_modules.specs.Index.{Index, listed, its_name, name_at, is_called, called, IsIndex}
+use Rattle.mc_modules.specs.code.Index.{Index, listed, its_name, name_at, is_called, called, IsIndex}
 
 module _ {K V A : Type 0} (name : K → List ℕ) (group : V → List A) where
   abbrev pub entries_of : List (K × V) → Index A

@@ -3,7 +3,7 @@ use Rattle.std.proofs.Common.{◌≡◌, ℕ, ◌+◌, ◌<◌, ◌≤◌, Bool,
 use Rattle.std.proofs.lemmas.List.{length-map, get_or_past, get_or-map}
 use Rattle.mc_modules.specs.declared.names.Named.{Named}
 use Rattle.mc_modules.specs.Linked.{Defined, numbers, before, has_of, flat, plain_named}
-use Rattle.mc_modules.specs.Passes.{starts_from, kept}
+use Rattle.mc_modules.specs.code.Passes.{starts_from, kept}
 
 pub length-starts_from : {A : Type 0} (n : ℕ) (xss : List (List A)) → length (starts_from n xss) ≡ length xss
 length-starts_from n [] = refl

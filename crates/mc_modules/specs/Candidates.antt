@@ -10,7 +10,7 @@ use Rattle.mc_modules.specs.declared.names.Scope.{Scope}
 use Rattle.mc_linking.specs.Files.{joined}
 use Rattle.mc_linking.specs.Visible.{character}
 use Rattle.mc_modules.specs.Linked.{Defined, Linked}
-use Rattle.mc_modules.specs.Index.{numbers_where}
+use Rattle.mc_modules.specs.Numbers.{numbers_where}
 
 -- what a candidate is the number of; a character has none
 abbrev pub defined_by : Linked → Candidate → Option Defined

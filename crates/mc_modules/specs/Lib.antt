@@ -1,6 +1,5 @@
 pub mod Linked
+pub mod Numbers
 pub mod Candidates
-pub mod Chosen
-pub mod Passes
-pub mod Index
 pub mod Refused
+pub mod code

@@ -1,6 +1,6 @@
 ghost use Rattle.std.specs.Prelude.{◌≡◌, ◌<◌, ◌++◌, length, nat_eq, map, IfOk, OnOk};
 ghost use Rattle.mc_modules.specs.Linked.{numbers, before, has_of, visible, flat, plain_named};
-ghost use Rattle.mc_modules.specs.Passes.{starts_from, kept};
+ghost use Rattle.mc_modules.specs.code.Passes.{starts_from, kept};
 
 use crate::names::Named;
 use mc_base::{Memory, Row};

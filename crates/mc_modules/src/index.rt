@@ -1,7 +1,7 @@
 ghost use Rattle.std.specs.Prelude.{◌≡◌, ℕ, ◌++◌, ◌∷◌, [], List, cond, map, IfOk, OnOk, slice_get};
 ghost use Rattle.std.specs.Option.{option_map, option_copied};
 ghost use Rattle.std.specs.Str.{bytes_eq};
-ghost use Rattle.mc_modules.specs.Index.{listed, its_name, name_at, is_called, called, IsIndex, IsNumberIndex};
+ghost use Rattle.mc_modules.specs.code.Index.{listed, its_name, name_at, is_called, called, IsIndex, IsNumberIndex};
 
 use crate::names::Named;
 use indexmap::IndexMap;

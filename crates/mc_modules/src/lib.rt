@@ -11,9 +11,10 @@ mod names;
 mod numbered;
 mod part;
 mod scopes;
+mod sorts;
 mod type_candidates;
 
 pub use linked::link;
-pub use mc_linking::{ModuleNames, goal_rule, link_faults, linked_files};
+pub use mc_linking::{Linking, ModuleNames, goal_rule, link_faults, linked_files};
 pub use mc_source::name::Candidate;
-pub use names::{Named, NamedRows, Names, Scope};
+pub use names::{Named, Names, Scope};

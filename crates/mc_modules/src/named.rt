@@ -1,20 +1,17 @@
 ghost use Rattle.std.specs.Prelude.{◌≡◌, ◌∷◌, ◌++◌, [], map, IfOk, OnOk};
 ghost use Rattle.mc_term_data.specs.Plain.{plain_term, tms};
 ghost use Rattle.mc_decl_syntax.specs.Plain.{plain_item};
-ghost use Rattle.mc_defs_uses.specs.Plain.{plain_name_arity, plain_definition};
-ghost use Rattle.mc_linking.specs.Files.{NoSection};
+ghost use Rattle.mc_defs_uses.specs.Plain.{plain_name_arity};
+ghost use Rattle.mc_defs_uses.specs.Definitions.{definitions};
+ghost use Rattle.mc_linking.specs.Kept.{plain_item_in_file};
 ghost use Rattle.mc_modules.specs.Linked.{defined, bare_head, constructors, symbols_by, of_kind, plain_named};
-ghost use Rattle.mc_linking.specs.Tables.{plain_section};
-ghost use Rattle.mc_modules.specs.Passes.{stands};
 
 use crate::names::Named;
 use mc_base::{Copied, Memory, Row, Text};
 use mc_decl_syntax::Decl;
-use mc_defs_uses::{Definition, NameArity, symbol_name};
-use mc_items::Entry;
-use mc_linking::Section;
+use mc_defs_uses::{NameArity, symbol_name};
+use mc_linking::ItemInFile;
 use mc_source::name::Name;
-use mc_source::place::Place;
 use mc_term_data::{Node, Term};
 use std::alloc::Global;
 
@@ -30,8 +27,8 @@ pub fn small(n: usize) -> Result<u32, Memory>
 
 fn named(
     alloc: Global,
-    home: &Text,
-    at: Place,
+    module: &Text,
+    item: &ItemInFile,
     exported: bool,
     decl: Decl,
     id: NameArity,
@@ -39,14 +36,15 @@ fn named(
     ensures { IfOk result
         (λ n.
         plain_named n
-        ≡ defined home.now (stands (plain_item decl) at NoSection) exported (plain_item decl)
+        ≡ defined «module».now (plain_item_in_file item.now) exported (plain_item decl)
         (plain_name_arity id.entry)) }
 {
     let name = Name {
-        module: home.copied(alloc)?,
+        module: module.copied(alloc)?,
         name: Text::new(alloc, id.name)?,
         arity: small(id.arity)?,
     };
+    let at = item.entry.at;
     Ok(Named {
         name,
         decl,
@@ -58,8 +56,8 @@ fn named(
 /// Puts a name behind others, with the whole item that declares or defines it.
 pub fn put_whole(
     alloc: Global,
-    home: &Text,
-    entry: &Entry,
+    module: &Text,
+    item: &ItemInFile,
     exported: bool,
     id: NameArity,
     all: &mut Vec<Named>,
@@ -67,33 +65,32 @@ pub fn put_whole(
     ensures { OnOk result
         (map plain_named all.new.items
         ≡ map plain_named all.old.items
-        ++ defined home.now (stands (plain_item entry.now.decl) entry.now.at NoSection)
-        exported (plain_item entry.now.decl) (plain_name_arity id.entry) ∷ []) }
+        ++ defined «module».now (plain_item_in_file item.now) exported
+        (plain_item_in_file item.now).item (plain_name_arity id.entry) ∷ []) }
 {
-    let decl = entry.decl.copied(alloc)?;
-    all.push(named(alloc, home, entry.at, exported, decl, id)?)?;
+    let decl = item.entry.decl.copied(alloc)?;
+    all.push(named(alloc, module, item, exported, decl, id)?)?;
     Ok(())
 }
 
 /// Puts what an item declares behind others, with the whole item, where it is of the wanted sort.
 pub fn put_sorted(
     alloc: Global,
-    home: &Text,
-    entry: &Entry,
-    section: Section,
+    module: &Text,
+    item: &ItemInFile,
     wanted: bool,
-    definitions: &[Definition],
     all: &mut Vec<Named>,
 ) -> Result<(), Memory>
     ensures { OnOk result
         (map plain_named all.new.items
         ≡ map plain_named all.old.items
-        ++ of_kind home.now
-        (stands (plain_item entry.now.decl) entry.now.at (plain_section section))
-        wanted (map plain_definition definitions.now)) }
+        ++ of_kind «module».now (plain_item_in_file item.now) wanted
+        (definitions (plain_item_in_file item.now).item)) }
 {
-    match definitions {
-        [first, ..] if wanted => put_whole(alloc, home, entry, section.is_shown(), first.id, all),
+    match item.definitions.as_slice() {
+        [first, ..] if wanted => {
+            put_whole(alloc, module, item, item.section.is_shown(), first.id, all)
+        }
         _ => Ok(()),
     }
 }
@@ -101,29 +98,19 @@ pub fn put_sorted(
 /// Puts the constructors of a union behind others.
 pub fn put_symbols(
     alloc: Global,
-    home: &Text,
-    entry: &Entry,
-    section: Section,
+    module: &Text,
+    item: &ItemInFile,
     symbols: &mut Vec<Named>,
 ) -> Result<(), Memory>
     ensures { OnOk result
         (map plain_named symbols.new.items
         ≡ map plain_named symbols.old.items
-        ++ symbols_by home.now
-        (stands (plain_item entry.now.decl) entry.now.at (plain_section section))
-        (plain_item entry.now.decl)) }
+        ++ symbols_by «module».now (plain_item_in_file item.now)
+        (plain_item_in_file item.now).item) }
 {
-    match &entry.decl {
+    match &item.entry.decl {
         Decl::UnionType(head, constructors) => {
-            put_constructors(
-                alloc,
-                home,
-                entry,
-                section,
-                head,
-                constructors.as_slice(),
-                symbols,
-            )
+            put_constructors(alloc, module, item, head, constructors.as_slice(), symbols)
         }
         _ => Ok(()),
     }
@@ -131,9 +118,8 @@ pub fn put_symbols(
 
 fn put_constructors(
     alloc: Global,
-    home: &Text,
-    entry: &Entry,
-    section: Section,
+    module: &Text,
+    item: &ItemInFile,
     head: &Term,
     terms: &[Term],
     symbols: &mut Vec<Named>,
@@ -141,12 +127,11 @@ fn put_constructors(
     ensures { OnOk result
         (map plain_named symbols.new.items
         ≡ map plain_named symbols.old.items
-        ++ constructors home.now
-        (stands (plain_item entry.now.decl) entry.now.at (plain_section section))
-        (plain_term head.now) (tms (map plain_term terms.now))) }
+        ++ constructors «module».now (plain_item_in_file item.now) (plain_term head.now)
+        (tms (map plain_term terms.now))) }
 {
     for term in terms {
-        symbols.push(constructor(alloc, home, entry.at, section, head, term)?)?;
+        symbols.push(constructor(alloc, module, item, head, term)?)?;
     }
     Ok(())
 }
@@ -154,33 +139,26 @@ fn put_constructors(
 // A constructor, with the union of it alone.
 fn constructor(
     alloc: Global,
-    home: &Text,
-    at: Place,
-    section: Section,
+    module: &Text,
+    item: &ItemInFile,
     head: &Term,
     term: &Term,
 ) -> Result<Named, Memory>
     ensures { IfOk result
         (λ n.
         plain_named n ∷ []
-        ≡ constructors home.now (stands (plain_item n.decl) at (plain_section section))
-        (plain_term head.now) (tms (plain_term term.now ∷ []))) }
+        ≡ constructors «module».now (plain_item_in_file item.now) (plain_term head.now)
+        (tms (plain_term term.now ∷ []))) }
 {
     let alone = Row::one(alloc, term.copied(alloc)?)?;
     let union = Decl::UnionType(bare_head(alloc, head)?, alone);
-    named(
-        alloc,
-        home,
-        at,
-        section.is_shown(),
-        union,
-        symbol_name(term),
-    )
+    let exported = item.section.is_shown();
+    named(alloc, module, item, exported, union, symbol_name(term))
 }
 
 // The head of a type without its parameters.
 fn bare_head(alloc: Global, head: &Term) -> Result<Term, Memory>
-    ensures { IfOk result (λ unqualified. plain_term unqualified ≡ bare_head (plain_term head.now)) }
+    ensures { IfOk result (λ bare. plain_term bare ≡ bare_head (plain_term head.now)) }
 {
     match &head.node {
         Node::App(name, _) => {

@@ -1,7 +1,8 @@
 ghost use Rattle.std.specs.Prelude.{◌≡◌, [], slice_index_or, IfOk};
-ghost use Rattle.mc_modules.specs.Index.{called, numbers_called, IsIndex, IsNumberIndex};
+ghost use Rattle.mc_modules.specs.code.Index.{called, numbers_called, IsIndex, IsNumberIndex};
 
 use crate::index::{Index, indices, numbers_by_name};
+use crate::sorts::Sorts;
 use mc_base::{Memory, Row, Text};
 use mc_decl_syntax::Decl;
 use mc_source::name::{Candidate, Name};
@@ -36,17 +37,6 @@ pub struct Scope {
     pub seen: Row<u32>,
 }
 
-/// What a program has: types, constructors, predicates with functions, insts and modes, in the order of the files and
-/// their items.
-#[derive(Drop)]
-pub struct NamedRows {
-    pub types: Row<Named>,
-    pub symbols: Row<Named>,
-    pub preds: Row<Named>,
-    pub insts: Row<Named>,
-    pub modes: Row<Named>,
-}
-
 /// The names of a program: types, constructors, predicates with functions, insts and modes, in the order of the files
 /// and their items; what each module sees; and for each module its constructors, functions and predicates in the order
 /// of their declarations.
@@ -66,10 +56,10 @@ pub struct Names {
 }
 
 impl Names {
-    /// The names that these are, with an index of those that each module has, and one of the types.
-    pub fn of(
+    // The names that these are, with an index of those that each module has, and one of the types.
+    pub(crate) fn indexed(
         alloc: Global,
-        named: NamedRows,
+        named: Sorts<Row<Named>>,
         scopes: Row<Scope>,
         declared: Row<Row<Candidate>>,
     ) -> Result<Names, Memory>
@@ -81,7 +71,7 @@ impl Names {
         ensures scopes { IfOk result (λ n. n.scopes ≡ scopes) }
         ensures declared { IfOk result (λ n. n.declared ≡ declared) }
     {
-        let NamedRows {
+        let Sorts {
             types,
             symbols,
             preds,
@@ -103,14 +93,14 @@ impl Names {
         })
     }
 
-    /// The numbers of the types of a name, whatever module they stand in. PlainDecl takes the time of one hash.
+    /// The numbers of the types of a name, whatever module they stand in. A look-up takes the time of one hash.
     pub(crate) fn types_called(&self, name: &[u8]) -> &[u32]
         ensures { result.now ≡ numbers_called name.now 0 self.now.types }
     {
         self.type_index.get(name)
     }
 
-    /// What a module, which has a number, has of a name, in the order of declaration. PlainDecl takes the time of one hash.
+    /// What a module, which has a number, has of a name, in the order of declaration. A look-up takes the time of one hash.
     pub(crate) fn called(&self, number: u32, name: &[u8]) -> &[Candidate]
         ensures { result.now
             ≡ called self.now.symbols self.now.preds name.now

@@ -1,14 +1,15 @@
 ghost use Rattle.std.specs.Prelude.{◌≡◌, ◌+◌, ◌++◌, List, [], map, length, IfOk, OnOk};
-ghost use Rattle.mc_items.specs.Files.{plain_entry};
 ghost use Rattle.mc_defs_uses.specs.Plain.{PlainDefinition, plain_definition};
-ghost use Rattle.mc_linking.specs.Files.{plain_files};
-ghost use Rattle.mc_modules.specs.Linked.{each, symbols_of, preds_of, plain_named, as_numbered, next_con, next_pred, numbered, declared_from};
-ghost use Rattle.mc_modules.specs.Passes.{definitions_pass};
+ghost use Rattle.mc_linking.specs.Files.{definitions_of, plain_files};
+ghost use Rattle.mc_linking.specs.Kept.{plain_item_in_file};
+ghost use Rattle.mc_modules.specs.Linked.{as_numbered, next_con, next_pred, numbered, declared_from};
+ghost use Rattle.mc_modules.specs.code.Passes.{AreParts};
 
 use crate::column::Column;
+use crate::sorts::Sorts;
 use mc_base::{Memory, Row};
-use mc_defs_uses::{Definition, Kind, definitions};
-use mc_items::Entry;
+use mc_defs_uses::{Definition, Kind};
+use mc_linking::{ItemInFile, Linking};
 use mc_source::name::Candidate;
 use std::alloc::Global;
 
@@ -68,15 +69,20 @@ impl Numbered {
     }
 }
 
-// The constructors, functions and predicates of a file, each by its number.
-fn numbered_in(alloc: Global, con: u32, pred: u32, file: &[Entry]) -> Result<Row<Candidate>, Memory>
-    ensures { IfOk result (λ all. all ≡ numbered con pred (definitions_pass (map plain_entry file.now))) }
+// The constructors, functions and predicates of a file's items, each by its number.
+fn numbered_in(
+    alloc: Global,
+    con: u32,
+    pred: u32,
+    items: &[ItemInFile],
+) -> Result<Row<Candidate>, Memory>
+    ensures { IfOk result
+        (λ all. all ≡ numbered con pred (definitions_of (map plain_item_in_file items.now))) }
 {
     let all = Vec::new(alloc);
     let mut found = Numbered { all, con, pred };
-    for entry in file {
-        let definitions = definitions(alloc, &entry.decl)?;
-        found.put_all(definitions.as_slice())?;
+    for item in items {
+        found.put_all(item.definitions.as_slice())?;
     }
     Row::of(found.all)
 }
@@ -84,18 +90,20 @@ fn numbered_in(alloc: Global, con: u32, pred: u32, file: &[Entry]) -> Result<Row
 /// What each module has that a name in a term or a goal may mean.
 pub fn declared(
     alloc: Global,
-    files: &[Row<Entry>],
-    symbols: &Column,
-    preds: &Column,
+    linking: &Linking,
+    columns: &Sorts<Column>,
 ) -> Result<Row<Row<Candidate>>, Memory>
-    requires symbols { map (map plain_named) symbols.now.has.items ≡ each symbols_of (plain_files files.now) }
-    requires preds { map (map plain_named) preds.now.has.items ≡ each preds_of (plain_files files.now) }
-    ensures { IfOk result (λ all. all ≡ declared_from (plain_files files.now) 0 (plain_files files.now)) }
+    requires { AreParts (plain_files linking.now) columns.now.types.has.items
+        columns.now.symbols.has.items columns.now.preds.has.items columns.now.insts.has.items
+        columns.now.modes.has.items }
+    ensures { IfOk result
+        (λ all. all ≡ declared_from (plain_files linking.now) 0 (plain_files linking.now)) }
 {
     let mut all = Vec::new(alloc);
-    for own in 0..files.len() {
-        let file = files[own].as_slice();
-        all.push(numbered_in(alloc, symbols.start(own), preds.start(own), file)?)?;
+    for own in 0..linking.len() {
+        let con = columns.symbols.start(own as usize);
+        let pred = columns.preds.start(own as usize);
+        all.push(numbered_in(alloc, con, pred, linking.items(own))?)?;
     }
     Row::of(all)
 }

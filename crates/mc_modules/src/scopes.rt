@@ -1,15 +1,14 @@
 ghost use Rattle.std.specs.Prelude.{◌≡◌, ◌<◌, map, length, IfOk};
 ghost use Rattle.mc_linking.specs.Files.{plain_files};
-ghost use Rattle.mc_modules.specs.Linked.{each, types_of, symbols_of, preds_of, insts_of, modes_defined, plain_named, scope, scopes_from};
-ghost use Rattle.mc_modules.specs.Passes.{scope_over};
-ghost use Rattle.mc_linking.specs.Visibilities.{visibility, visibilities_from};
+ghost use Rattle.mc_modules.specs.Linked.{plain_named, scope, scopes_from};
+ghost use Rattle.mc_modules.specs.code.Passes.{AreParts, scope_over};
 
-use crate::columns::{Columns, name_of};
-use crate::named::small;
+use crate::column::Column;
 use crate::names::Scope;
-use mc_base::{Memory, Row, Text};
-use mc_items::Entry;
-use mc_linking::Visibility;
+use crate::part::name_of;
+use crate::sorts::Sorts;
+use mc_base::{Copied, Memory, Row, Text};
+use mc_linking::{Linking, Visibility};
 use std::alloc::Global;
 
 // What a module of this name sees.
@@ -17,32 +16,27 @@ fn scope(
     alloc: Global,
     name: Text,
     own: u32,
-    visibility: Visibility,
-    columns: &Columns,
+    visibility: &Visibility,
+    columns: &Sorts<Column>,
 ) -> Result<Scope, Memory>
     ensures { IfOk result
         (λ s.
         s
-        ≡ scope_over name visibility own (map (map plain_named) columns.now.types.has.items)
+        ≡ scope_over name visibility.now own (map (map plain_named) columns.now.types.has.items)
         (map (map plain_named) columns.now.symbols.has.items)
         (map (map plain_named) columns.now.preds.has.items)
         (map (map plain_named) columns.now.insts.has.items)
         (map (map plain_named) columns.now.modes.has.items)) }
 {
-    let Visibility { unqualified, seen } = visibility;
-    let types = columns.types.visible(alloc, own, &seen)?;
-    let symbols = columns.symbols.visible(alloc, own, &seen)?;
-    let preds = columns.preds.visible(alloc, own, &seen)?;
-    let insts = columns.insts.visible(alloc, own, &seen)?;
-    let modes = columns.modes.visible(alloc, own, &seen)?;
+    let seen = visibility.seen.copied(alloc)?;
     Ok(Scope {
         module: name,
-        types,
-        symbols,
-        preds,
-        insts,
-        modes,
-        unqualified,
+        types: columns.types.visible(alloc, own, &seen)?,
+        symbols: columns.symbols.visible(alloc, own, &seen)?,
+        preds: columns.preds.visible(alloc, own, &seen)?,
+        insts: columns.insts.visible(alloc, own, &seen)?,
+        modes: columns.modes.visible(alloc, own, &seen)?,
+        unqualified: visibility.unqualified.copied(alloc)?,
         seen,
     })
 }
@@ -50,48 +44,35 @@ fn scope(
 // What a file sees.
 fn scope_of(
     alloc: Global,
-    files: &[Row<Entry>],
-    own: usize,
-    seen: Visibility,
-    columns: &Columns,
+    linking: &Linking,
+    own: u32,
+    columns: &Sorts<Column>,
 ) -> Result<Scope, Memory>
-    requires own { own < length files.now }
-    requires visibility { seen ≡ visibility (plain_files files.now) own }
-    requires types { map (map plain_named) columns.now.types.has.items ≡ each types_of (plain_files files.now) }
-    requires symbols { map (map plain_named) columns.now.symbols.has.items
-        ≡ each symbols_of (plain_files files.now) }
-    requires preds { map (map plain_named) columns.now.preds.has.items ≡ each preds_of (plain_files files.now) }
-    requires insts { map (map plain_named) columns.now.insts.has.items ≡ each insts_of (plain_files files.now) }
-    requires modes { map (map plain_named) columns.now.modes.has.items
-        ≡ each modes_defined (plain_files files.now) }
-    ensures { IfOk result (λ s. s ≡ scope (plain_files files.now) own) }
+    requires own { own < length linking.now }
+    requires columns { AreParts (plain_files linking.now) columns.now.types.has.items
+        columns.now.symbols.has.items columns.now.preds.has.items columns.now.insts.has.items
+        columns.now.modes.has.items }
+    ensures { IfOk result (λ s. s ≡ scope (plain_files linking.now) own) }
 {
-    let name = name_of(alloc, files[own].as_slice())?;
-    scope(alloc, name, small(own)?, seen, columns)
+    let name = name_of(alloc, linking.file(own))?;
+    scope(alloc, name, own, linking.visibility(own), columns)
 }
 
-/// What each module sees, where these are the modules that it sees.
+/// What each module sees.
 pub fn scopes(
     alloc: Global,
-    files: &[Row<Entry>],
-    visibilities: Vec<Visibility>,
-    columns: &Columns,
+    linking: &Linking,
+    columns: &Sorts<Column>,
 ) -> Result<Row<Scope>, Memory>
-    requires visibilities { visibilities.items ≡ visibilities_from (plain_files files.now) 0 (plain_files files.now) }
-    requires types { map (map plain_named) columns.now.types.has.items ≡ each types_of (plain_files files.now) }
-    requires symbols { map (map plain_named) columns.now.symbols.has.items
-        ≡ each symbols_of (plain_files files.now) }
-    requires preds { map (map plain_named) columns.now.preds.has.items ≡ each preds_of (plain_files files.now) }
-    requires insts { map (map plain_named) columns.now.insts.has.items ≡ each insts_of (plain_files files.now) }
-    requires modes { map (map plain_named) columns.now.modes.has.items
-        ≡ each modes_defined (plain_files files.now) }
-    ensures { IfOk result (λ all. all ≡ scopes_from (plain_files files.now) 0 (plain_files files.now)) }
+    requires { AreParts (plain_files linking.now) columns.now.types.has.items
+        columns.now.symbols.has.items columns.now.preds.has.items columns.now.insts.has.items
+        columns.now.modes.has.items }
+    ensures { IfOk result
+        (λ all. all ≡ scopes_from (plain_files linking.now) 0 (plain_files linking.now)) }
 {
     let mut all = Vec::new(alloc);
-    let mut own = 0;
-    for seen in visibilities {
-        all.push(scope_of(alloc, files, own, seen, columns)?)?;
-        own += 1;
+    for own in 0..linking.len() {
+        all.push(scope_of(alloc, linking, own, columns)?)?;
     }
     Row::of(all)
 }

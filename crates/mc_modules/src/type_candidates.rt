@@ -1,9 +1,9 @@
 ghost use Rattle.std.specs.Prelude.{◌≡◌, ◌++◌, nat_eq, ◌&&◌, ◌||◌, slice_get, IfOk, OnOk};
 ghost use Rattle.mc_defs_uses.specs.Plain.{id, qualifiers, last_part, plain_name_arity};
 ghost use Rattle.mc_modules.specs.Linked.{plain_names};
-ghost use Rattle.mc_modules.specs.Index.{numbers_where};
+ghost use Rattle.mc_modules.specs.Numbers.{numbers_where};
 ghost use Rattle.mc_modules.specs.Candidates.{is_module, type_candidates};
-ghost use Rattle.mc_modules.specs.Chosen.{passes, chosen, has_id, type_seen, types_seen};
+ghost use Rattle.mc_modules.specs.code.Chosen.{passes, chosen, has_id, type_seen, types_seen};
 
 use crate::column::put_where;
 use crate::names::{Named, Names};

@@ -31,20 +31,20 @@ several p b k bs len =
 
 walk_past :
     (q start p k : ℕ) (xs ys : List ℕ)
-      → length xs ≡ k
-      → walk (quote_turn q) (λ m p. Faulty Unterminated start) Plain k p (xs ++ ys)
-          ≡ quote_walk q start Plain (p + k) ys
+    → length xs ≡ k
+    → walk (quote_turn q) (λ m p. Faulty Unterminated start) Plain k p (xs ++ ys)
+    ≡ quote_walk q start Plain (p + k) ys
 walk_past q start p zero [] ys e =
     let z : p ≡ p + 0 = omega arith in ap (λ i. quote_walk q start Plain i ys) z
 walk_past q start p zero (x ∷ xs) ys e = absurd (omega arith)
 walk_past q start p (suc k) [] ys e = absurd (omega arith)
 walk_past q start p (suc k) (x ∷ xs) ys e =
     walk_past q start (p + 1) k xs ys (omega arith) ∙
-      (let z : p + 1 + k ≡ p + suc k = omega arith in ap (λ i. quote_walk q start Plain i ys) z)
+    (let z : p + 1 + k ≡ p + suc k = omega arith in ap (λ i. quote_walk q start Plain i ys) z)
 
 says_past :
     (q k : ℕ) (xs ys : List ℕ)
-      → length xs ≡ k → contents q Plain k (xs ++ ys) ≡ contents q Plain 0 ys
+    → length xs ≡ k → contents q Plain k (xs ++ ys) ≡ contents q Plain 0 ys
 says_past q zero [] ys e = refl
 says_past q zero (x ∷ xs) ys e = absurd (omega arith)
 says_past q (suc k) [] ys e = absurd (omega arith)
@@ -62,8 +62,8 @@ took_whole b k xs ys e = let z : k + 1 ≡ suc k = omega arith in ap (λ j. take
 -- a character of several bytes passes as it is
 whole :
     (q start p b k : ℕ) (xs ys : List ℕ)
-      → b ≢ q → b ≢ 92 → char_len (b ∷ (xs ++ ys)) ≡ k + 1 → length xs ≡ k
-      → Passes q start p ((b ∷ xs) ++ ys) ys (length (b ∷ xs)) (b ∷ xs)
+    → b ≢ q → b ≢ 92 → char_len (b ∷ (xs ++ ys)) ≡ k + 1 → length xs ≡ k
+    → Passes q start p ((b ∷ xs) ++ ys) ys (length (b ∷ xs)) (b ∷ xs)
 whole q start p b k xs ys n m len long =
     let turn : (r : ℕ) → quote_turn q Plain r b (xs ++ ys) ≡ Go Plain k = λ r. plain q 0 r b (xs ++ ys) n m ∙ several r b k (xs ++ ys) len in
     record {
@@ -71,8 +71,8 @@ whole q start p b k xs ys n m len long =
       says_so =
           said_so q b k Plain Plain (xs ++ ys) (turn 0)
           ∙ ap (λ l. l ++ contents q Plain k (xs ++ ys))
-              (no _ (ne_eqb b q n) ∙ no _ (ne_eqb b 92 m) ∙ ap (λ j. take j (b ∷ (xs ++ ys))) len ∙
-                 took_whole b k xs ys long)
+          (no _ (ne_eqb b q n) ∙ no _ (ne_eqb b 92 m) ∙ ap (λ j. take j (b ∷ (xs ++ ys))) len ∙
+          took_whole b k xs ys long)
           ∙ ap (λ l. (b ∷ xs) ++ l) (says_past q k xs ys long);
     }
 
@@ -89,8 +89,8 @@ pick false A B yes_so no_so = no_so refl
 
 second_good :
     (b x : ℕ)
-      → (b ≡ 224 → 160 ≤ x) → (b ≡ 237 → x ≤ 159) → (b ≡ 240 → 144 ≤ x) → (b ≡ 244 → x ≤ 143)
-      → 128 ≤ x → x ≤ 191 → second b x ≡ true
+    → (b ≡ 224 → 160 ≤ x) → (b ≡ 237 → x ≤ 159) → (b ≡ 240 → 144 ≤ x) → (b ≡ 244 → x ≤ 143)
+    → 128 ≤ x → x ≤ 191 → second b x ≡ true
 unfolding second
 second_good b x h1 h2 h3 h4 lo hi =
     pick (b == 224) _ _ (λ t. among 160 191 x (h1 (eqb-true b 224 t)) hi)
@@ -111,28 +111,28 @@ len_two :
 unfolding char_len len_of
 len_two b x ys b1 b2 x1 x2 =
     no _ (le-ltb b 128 (omega arith)) ∙ yes _ (among 194 223 b b1 b2) ∙ yes _
-      (among 128 191 x x1 x2)
+    (among 128 191 x x1 x2)
 
 len_three :
     (b x y : ℕ) (ys : List ℕ)
-      → 224 ≤ b → b ≤ 239 → second b x ≡ true → 128 ≤ y → y ≤ 191 → char_len (b ∷ x ∷ y ∷ ys) ≡ 3
+    → 224 ≤ b → b ≤ 239 → second b x ≡ true → 128 ≤ y → y ≤ 191 → char_len (b ∷ x ∷ y ∷ ys) ≡ 3
 unfolding char_len len_of
 len_three b x y ys b1 b2 s y1 y2 =
     no _ (le-ltb b 128 (omega arith)) ∙ no _ (above 194 223 b (omega arith)) ∙ yes _
-      (among 224 239 b b1 b2) ∙ yes _
-      (and_true (second b x) (continues y) s (among 128 191 y y1 y2))
+    (among 224 239 b b1 b2) ∙ yes _
+    (and_true (second b x) (continues y) s (among 128 191 y y1 y2))
 
 len_four :
     (b x y z : ℕ) (ys : List ℕ)
-      → 240 ≤ b → b ≤ 244 → second b x ≡ true → 128 ≤ y → y ≤ 191 → 128 ≤ z → z ≤ 191
-      → char_len (b ∷ x ∷ y ∷ z ∷ ys) ≡ 4
+    → 240 ≤ b → b ≤ 244 → second b x ≡ true → 128 ≤ y → y ≤ 191 → 128 ≤ z → z ≤ 191
+    → char_len (b ∷ x ∷ y ∷ z ∷ ys) ≡ 4
 unfolding char_len len_of
 len_four b x y z ys b1 b2 s y1 y2 z1 z2 =
     no _ (le-ltb b 128 (omega arith)) ∙ no _ (above 194 223 b (omega arith)) ∙ no _
-      (above 224 239 b (omega arith)) ∙ yes _ (among 240 244 b b1 b2)
+    (above 224 239 b (omega arith)) ∙ yes _ (among 240 244 b b1 b2)
     ∙ yes _
-        (and_true (second b x) (continues y && continues z) s
-           (and_true (continues y) (continues z) (among 128 191 y y1 y2) (among 128 191 z z1 z2)))
+    (and_true (second b x) (continues y && continues z) s
+    (and_true (continues y) (continues z) (among 128 191 y y1 y2) (among 128 191 z z1 z2)))
 
 pub neither : (a b : Bool) → a ≡ false → b ≡ false → a || b ≡ false
 neither true b e h = cc
@@ -154,15 +154,15 @@ printed_high q b is le =
 
 one_byte :
     (q start p c : ℕ) (ys : List ℕ)
-      → IsQuote q → c < 128
-      → Passes q start p (flat_map (printed_byte q) (encode c) ++ ys) ys
-          (length (flat_map (printed_byte q) (encode c))) (encode c)
+    → IsQuote q → c < 128
+    → Passes q start p (flat_map (printed_byte q) (encode c) ++ ys) ys
+    (length (flat_map (printed_byte q) (encode c))) (encode c)
 one_byte q start p c ys is lt =
     let P : List ℕ → Type 0 = λ bs. Passes q start p (flat_map (printed_byte q) bs ++ ys) ys (length (flat_map (printed_byte q) bs)) bs in
     let alone : flat_map (printed_byte q) (c ∷ []) ≡ printed_byte q c = append-nil (printed_byte q c) in
     subst P (sym (encode_ascii c lt))
-      (subst (λ l. Passes q start p (l ++ ys) ys (length l) (c ∷ [])) (sym alone)
-         (byte q start p c ys is lt))
+    (subst (λ l. Passes q start p (l ++ ys) ys (length l) (c ∷ [])) (sym alone)
+    (byte q start p c ys is lt))
 
 abbrev AllHigh : List ℕ → Type 0
 AllHigh [] = Unit {0}
@@ -172,7 +172,7 @@ all_high : (q : ℕ) (bs : List ℕ) → IsQuote q → AllHigh bs → flat_map (
 all_high q [] is h = refl
 all_high q (b ∷ bs) is h =
     ap (λ l. l ++ flat_map (printed_byte q) bs) (printed_high q b is h.0) ∙ ap (λ l. b ∷ l)
-      (all_high q bs is h.1)
+    (all_high q bs is h.1)
 
 pub below_or : (m n : ℕ) → (m < n) ⊎ (n ≤ m)
 below_or m n = split (nat_lt m n) refl
@@ -183,22 +183,22 @@ below_or m n = split (nat_lt m n) refl
 
 high :
     (q start p b k : ℕ) (xs ys : List ℕ)
-      → IsQuote q → AllHigh (b ∷ xs) → char_len (b ∷ (xs ++ ys)) ≡ k + 1 → length xs ≡ k
-      → Passes q start p (flat_map (printed_byte q) (b ∷ xs) ++ ys) ys
-          (length (flat_map (printed_byte q) (b ∷ xs))) (b ∷ xs)
+    → IsQuote q → AllHigh (b ∷ xs) → char_len (b ∷ (xs ++ ys)) ≡ k + 1 → length xs ≡ k
+    → Passes q start p (flat_map (printed_byte q) (b ∷ xs) ++ ys) ys
+    (length (flat_map (printed_byte q) (b ∷ xs))) (b ∷ xs)
 high q start p b k xs ys is h len long =
     let le = h.0 in
     let small : q < 128 = ⊎_elim (λ e. omega arith) (λ e. omega arith) is in
     let n : b ≢ q = λ e. absurd (omega arith) in
     let m : b ≢ 92 = λ e. absurd (omega arith) in
     subst (λ l. Passes q start p (l ++ ys) ys (length l) (b ∷ xs)) (sym (all_high q (b ∷ xs) is h))
-      (whole q start p b k xs ys n m len long)
+    (whole q start p b k xs ys n m len long)
 
 two_bytes :
     (q start p c : ℕ) (ys : List ℕ)
-      → IsQuote q → 128 ≤ c → c < 2048
-      → Passes q start p (flat_map (printed_byte q) (encode c) ++ ys) ys
-          (length (flat_map (printed_byte q) (encode c))) (encode c)
+    → IsQuote q → 128 ≤ c → c < 2048
+    → Passes q start p (flat_map (printed_byte q) (encode c) ++ ys) ys
+    (length (flat_map (printed_byte q) (encode c))) (encode c)
 unfolding encode
 two_bytes q start p c ys is le lt =
     let P : List ℕ → Type 0 = λ bs. Passes q start p (flat_map (printed_byte q) bs ++ ys) ys (length (flat_map (printed_byte q) bs)) bs in
@@ -210,9 +210,9 @@ two_bytes q start p c ys is le lt =
 
 three_bytes :
     (q start p c : ℕ) (ys : List ℕ)
-      → IsQuote q → scalar c ≡ true → 2048 ≤ c → c < 65536
-      → Passes q start p (flat_map (printed_byte q) (encode c) ++ ys) ys
-          (length (flat_map (printed_byte q) (encode c))) (encode c)
+    → IsQuote q → scalar c ≡ true → 2048 ≤ c → c < 65536
+    → Passes q start p (flat_map (printed_byte q) (encode c) ++ ys) ys
+    (length (flat_map (printed_byte q) (encode c))) (encode c)
 unfolding encode
 three_bytes q start p c ys is s le lt =
     let P : List ℕ → Type 0 = λ bs. Passes q start p (flat_map (printed_byte q) bs ++ ys) ys (length (flat_map (printed_byte q) bs)) bs in
@@ -227,14 +227,14 @@ three_bytes q start p c ys is s le lt =
     let good = second_good b x least surrogate (λ f. omega arith) (λ f. omega arith) (omega arith) (omega arith) in
     let len : char_len (b ∷ x ∷ y ∷ ys) ≡ 2 + 1 = len_three b x y ys (omega arith) (omega arith) good (omega arith) (omega arith) in
     subst P (sym e)
-      (high q start p b 2 (x ∷ y ∷ []) ys is (omega arith, (omega arith, (omega arith, tt))) len
-         refl)
+    (high q start p b 2 (x ∷ y ∷ []) ys is (omega arith, (omega arith, (omega arith, tt))) len
+    refl)
 
 four_bytes :
     (q start p c : ℕ) (ys : List ℕ)
-      → IsQuote q → scalar c ≡ true → 65536 ≤ c
-      → Passes q start p (flat_map (printed_byte q) (encode c) ++ ys) ys
-          (length (flat_map (printed_byte q) (encode c))) (encode c)
+    → IsQuote q → scalar c ≡ true → 65536 ≤ c
+    → Passes q start p (flat_map (printed_byte q) (encode c) ++ ys) ys
+    (length (flat_map (printed_byte q) (encode c))) (encode c)
 unfolding encode
 four_bytes q start p c ys is s le =
     let P : List ℕ → Type 0 = λ bs. Passes q start p (flat_map (printed_byte q) bs ++ ys) ys (length (flat_map (printed_byte q) bs)) bs in
@@ -251,37 +251,37 @@ four_bytes q start p c ys is s le =
     let good = second_good b x (λ f. omega arith) (λ f. omega arith) least greatest (omega arith) (omega arith) in
     let len : char_len (b ∷ x ∷ y ∷ z ∷ ys) ≡ 3 + 1 = len_four b x y z ys (omega arith) (omega arith) good (omega arith) (omega arith) (omega arith) (omega arith) in
     subst P (sym e)
-      (high q start p b 3 (x ∷ y ∷ z ∷ []) ys is
-         (omega arith, (omega arith, (omega arith, (omega arith, tt)))) len refl)
+    (high q start p b 3 (x ∷ y ∷ z ∷ []) ys is
+    (omega arith, (omega arith, (omega arith, (omega arith, tt)))) len refl)
 
 more_bytes :
     (q start p c : ℕ) (ys : List ℕ)
-      → IsQuote q → scalar c ≡ true → 128 ≤ c
-      → Passes q start p (flat_map (printed_byte q) (encode c) ++ ys) ys
-          (length (flat_map (printed_byte q) (encode c))) (encode c)
+    → IsQuote q → scalar c ≡ true → 128 ≤ c
+    → Passes q start p (flat_map (printed_byte q) (encode c) ++ ys) ys
+    (length (flat_map (printed_byte q) (encode c))) (encode c)
 more_bytes q start p c ys is s le =
     ⊎_elim (λ lt. two_bytes q start p c ys is le lt)
     (λ le2.
-       ⊎_elim (λ lt. three_bytes q start p c ys is s le2 lt)
-         (λ le3. four_bytes q start p c ys is s le3) (below_or c 65536))
+    ⊎_elim (λ lt. three_bytes q start p c ys is s le2 lt)
+    (λ le3. four_bytes q start p c ys is s le3) (below_or c 65536))
     (below_or c 2048)
 
 -- a character as it is printed
 character :
     (q start p c : ℕ) (ys : List ℕ)
-      → IsQuote q → scalar c ≡ true
-      → Passes q start p (flat_map (printed_byte q) (encode c) ++ ys) ys
-          (length (flat_map (printed_byte q) (encode c))) (encode c)
+    → IsQuote q → scalar c ≡ true
+    → Passes q start p (flat_map (printed_byte q) (encode c) ++ ys) ys
+    (length (flat_map (printed_byte q) (encode c))) (encode c)
 character q start p c ys is s =
     ⊎_elim (λ lt. one_byte q start p c ys is lt) (λ le. more_bytes q start p c ys is s le)
-      (below_or c 128)
+    (below_or c 128)
 
 -- characters as they are printed
 pub characters :
     (q start p : ℕ) (cs ys : List ℕ)
-      → IsQuote q → scalars cs ≡ true
-      → Passes q start p (flat_map (printed_byte q) (encodes cs) ++ ys) ys
-          (length (flat_map (printed_byte q) (encodes cs))) (encodes cs)
+    → IsQuote q → scalars cs ≡ true
+    → Passes q start p (flat_map (printed_byte q) (encodes cs) ++ ys) ys
+    (length (flat_map (printed_byte q) (encodes cs))) (encodes cs)
 characters q start p [] ys is s =
     record { walks = ap (λ n. quote_walk q start Plain n ys) (omega arith); says_so = refl }
 characters q start p (c ∷ cs) ys is s =
@@ -290,26 +290,27 @@ characters q start p (c ∷ cs) ys is s =
     let rest = characters q start (p + length (f (encode c))) cs ys is (right_true (scalar c) (scalars cs) s) in
     let split : f (encode c ++ encodes cs) ++ ys ≡ f (encode c) ++ (f (encodes cs) ++ ys) =
     ap (λ l. l ++ ys) (flat_map-append (printed_byte q) (encode c) (encodes cs)) ∙ append_assoc
-      (f (encode c)) (f (encodes cs)) ys in
+    (f (encode c)) (f (encodes cs)) ys in
     let long : p + length (f (encode c)) + length (f (encodes cs)) ≡ p + length (f (encode c ++ encodes cs)) =
-    omega
-      (arith,
-       ap length (flat_map-append (printed_byte q) (encode c) (encodes cs)),
-       length-append (f (encode c)) (f (encodes cs))) in
+    omega (
+      arith,
+      ap length (flat_map-append (printed_byte q) (encode c) (encodes cs)),
+      length-append (f (encode c)) (f (encodes cs)),
+    ) in
     record {
       walks =
           ap (quote_walk q start Plain p) split ∙ first.walks ∙ rest.walks ∙ ap
-            (λ n. quote_walk q start Plain n ys) long;
+          (λ n. quote_walk q start Plain n ys) long;
       says_so =
           ap (contents q Plain 0) split ∙ first.says_so ∙ ap (λ l. encode c ++ l) rest.says_so ∙ sym
-            (append_assoc (encode c) (encodes cs) (contents q Plain 0 ys));
+          (append_assoc (encode c) (encodes cs) (contents q Plain 0 ys));
     }
 
 -- the whole of a quote
 pub quoted_whole : (q start : ℕ) (bytes rest : List ℕ) → IsQuote q → IsUtf8 bytes → at rest 0 ≢ q
     → (quote_end q start (drop 1 (in_quotes q bytes ++ rest))
-         ≡ At (start + length (in_quotes q bytes)))
-        × (contents q Plain 0 (drop 1 (in_quotes q bytes ++ rest)) ≡ bytes)
+    ≡ At (start + length (in_quotes q bytes)))
+    × (contents q Plain 0 (drop 1 (in_quotes q bytes ++ rest)) ≡ bytes)
 quoted_whole q start bytes rest is utf8 n =
     let f = flat_map (printed_byte q) in
     let cs = utf8.0 in
@@ -319,11 +320,11 @@ quoted_whole q start bytes rest is utf8 n =
     let passes = characters q start (start + 1) cs (q ∷ rest) is utf8.1.0 in
     let stop : quote_walk q start Plain (start + 1 + length F) (q ∷ rest) ≡ At (start + 1 + length F + 1) =
     ap (took (quote_turn q) (λ m p. Faulty Unterminated start) (start + 1 + length F) rest)
-      (closing q 0 (start + 1 + length F) q rest refl n) in
+    (closing q 0 (start + 1 + length F) q rest refl n) in
     let long : start + 1 + length F + 1 ≡ start + length (in_quotes q bytes) =
     omega (arith, ap (λ bs. length (f bs ++ (q ∷ []))) e, length-append F (q ∷ [])) in
     let nothing : contents q Plain 0 (q ∷ rest) ≡ [] = ap (λ t. elim t [ Go m past ↦ says q Plain q rest ++ contents q m past rest | Stop s ↦ [] ]) (closing q 0 0 q rest refl n) in (
       ap (quote_walk q start Plain (start + 1)) body ∙ passes.walks ∙ stop ∙ ap At long,
       ap (contents q Plain 0) body ∙ passes.says_so ∙ ap (λ l. encodes cs ++ l) nothing ∙ append-nil
-        (encodes cs) ∙ e,
+          (encodes cs) ∙ e,
     )

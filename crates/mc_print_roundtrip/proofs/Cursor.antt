@@ -30,7 +30,7 @@ pub record Cursor (text : List ℕ) (line place : ℕ) (here : List ℕ) : Type 
 
 pub spelled_so :
     {text here there : List ℕ} {line place : ℕ} → here ≡ there → Cursor text line place here
-      → Cursor text line place there
+    → Cursor text line place there
 spelled_so {text = text} {line = line} {place = place} e c =
     subst (λ l. Cursor text line place l) e c
 
@@ -47,7 +47,7 @@ not_true false h = refl
 
 past_one :
     (text : List ℕ) (line place b : ℕ) (rest : List ℕ)
-      → stays b ≡ true → Cursor text line place (b ∷ rest) → Cursor text line (place + 1) rest
+    → stays b ≡ true → Cursor text line place (b ∷ rest) → Cursor text line (place + 1) rest
 past_one text line place b rest s c =
     let counts : place + suc (length rest) ≡ length text = c.counts in
     let below : place < length text = omega arith in
@@ -63,8 +63,8 @@ past_one text line place b rest s c =
 -- the place behind bytes none of which ends a line
 pub past :
     (text : List ℕ) (line place : ℕ) (bytes rest : List ℕ)
-      → one_line bytes ≡ true → Cursor text line place (bytes ++ rest)
-      → Cursor text line (place + length bytes) rest
+    → one_line bytes ≡ true → Cursor text line place (bytes ++ rest)
+    → Cursor text line (place + length bytes) rest
 past text line place [] rest s c =
     let z : place ≡ place + 0 = omega arith in subst (λ p. Cursor text line p rest) z c
 past text line place (b ∷ bs) rest s c =
@@ -79,7 +79,7 @@ is_firm b = not (is_blank b) && (not (b == 37) && not (b == 47))
 
 firm_turn :
     (place b : ℕ) (bs : List ℕ)
-      → is_firm b ≡ true → layout_turn Between place b bs ≡ Stop (At place)
+    → is_firm b ≡ true → layout_turn Between place b bs ≡ Stop (At place)
 unfolding layout_turn
 firm_turn place b bs f =
     let blank = not_true (is_blank b) (left_true (not (is_blank b)) _ f) in
@@ -96,8 +96,8 @@ firm_layout place (b ∷ bs) f = ap (took layout_turn layout_end place bs) (firm
 -- the token that begins in the place
 pub lexed_here :
     (text : List ℕ) (line place : ℕ) (k : Kind) (here : List ℕ)
-      → Cursor text line place here → is_firm (at here 0) ≡ true
-      → lexed text place k ≡ token k place here
+    → Cursor text line place here → is_firm (at here 0) ≡ true
+    → lexed text place k ≡ token k place here
 unfolding lexed
 lexed_here text line place k here c f =
     ap (λ d. token_from text place k (layout Between place d)) c.follows
@@ -112,15 +112,15 @@ blank_turn place bs = refl
 -- a blank before a token
 pub lexed_past_blank :
     (text : List ℕ) (line place : ℕ) (k : Kind) (here : List ℕ)
-      → Cursor text line place (32 ∷ here) → is_firm (at here 0) ≡ true
-      → lexed text place k ≡ lexed text (place + 1) Eof
+    → Cursor text line place (32 ∷ here) → is_firm (at here 0) ≡ true
+    → lexed text place k ≡ lexed text (place + 1) Eof
 unfolding lexed
 lexed_past_blank text line place k here c f =
     let next = past_one text line place 32 here refl c in
     let other : place + 1 ≢ place = λ e. absurd (omega arith) in
     ap (λ d. token_from text place k (layout Between place d)) c.follows
     ∙ ap (λ t. token_from text place k (took layout_turn layout_end place here t))
-        (blank_turn place here)
+    (blank_turn place here)
     ∙ ap (token_from text place k) (firm_layout (place + 1) here f)
     ∙ ap (λ e. token e (place + 1) (drop (place + 1) text)) (no k (ne_eqb (place + 1) place other))
     ∙ ap (token Eof (place + 1)) next.follows
@@ -136,26 +136,26 @@ onto (x ∷ done) ts = onto done (x ∷ ts)
 abbrev pub Spells : List ℕ → ℕ → Kind → List Lexeme → ℕ → Type 0
 Spells text place k ts stop =
     (done : List Lexeme)
-      → qualifier done ≡ None
-      → (ps : List Piece) × Item text place k ps stop × (walked text done ps ≡ onto done ts)
+    → qualifier done ≡ None
+    → (ps : List Piece) × Item text place k ps stop × (walked text done ps ≡ onto done ts)
 
 -- a token of the kind that stands for these bytes, on the line, is one more lexeme, which is no dot
 abbrev pub Adds : Kind → List ℕ → ℕ → Lexeme → Type 0
 Adds e w line x =
     (done : List Lexeme)
-      → qualifier done ≡ None
-      → (with_token done e w line ≡ x ∷ done) × (qualifier (x ∷ done) ≡ None)
+    → qualifier done ≡ None
+    → (with_token done e w line ≡ x ∷ done) × (qualifier (x ∷ done) ≡ None)
 
 onto_reverse : (done ts : List Lexeme) → reverse done ++ ts ≡ onto done ts
 onto_reverse [] ts = refl
 onto_reverse (x ∷ done) ts =
     ap (λ l. l ++ ts) (reverse-append (x ∷ []) done) ∙ append_assoc (reverse done) (x ∷ []) ts ∙
-      onto_reverse done (x ∷ ts)
+    onto_reverse done (x ∷ ts)
 
 -- at the item's end
 pub spells_end :
     (text : List ℕ) (place start stop : ℕ) (k e : Kind)
-      → lexed text place k ≡ Tok e start stop → ends e ≡ true → Spells text place k [] stop
+    → lexed text place k ≡ Tok e start stop → ends e ≡ true → Spells text place k [] stop
 spells_end text place start stop k e l h =
     λ done q. ([], I.over l h, sym (append-nil (reverse done)) ∙ onto_reverse done [])
 
@@ -172,15 +172,15 @@ spells_token text place start stop last k e x ts l h adds more = λ done q.
 
 same_item :
     {text : List ℕ} {place from last : ℕ} {k e : Kind} {ps : List Piece}
-      → lexed text place k ≡ lexed text from e → Item text from e ps last
-      → Item text place k ps last
+    → lexed text place k ≡ lexed text from e → Item text from e ps last
+    → Item text place k ps last
 same_item e (I.over l h) = I.over (e ∙ l) h
 same_item e (I.next l h i) = I.next (e ∙ l) h i
 
 -- a blank before a token changes nothing
 pub spells_past_blank : (text : List ℕ) (line place last : ℕ) (k : Kind) (here : List ℕ) (ts : List Lexeme) → Cursor text line place (32 ∷ here) → is_firm (at here 0) ≡ true
     → (Cursor text line (place + 1) here → Spells text (place + 1) Eof ts last)
-        → Spells text place k ts last
+    → Spells text place k ts last
 spells_past_blank text line place last k here ts c f more = λ done q.
     let rest = more (past_one text line place 32 here refl c) done q in
     (rest.0, same_item (lexed_past_blank text line place k here c f) rest.1, rest.2)
@@ -188,25 +188,25 @@ spells_past_blank text line place last k here ts c f more = λ done q.
 -- the bytes of a token that stands here
 pub bytes_of :
     (text : List ℕ) (line place : ℕ) (bytes rest : List ℕ)
-      → Cursor text line place (bytes ++ rest)
-      → slice_range text place (place + length bytes) ≡ bytes
+    → Cursor text line place (bytes ++ rest)
+    → slice_range text place (place + length bytes) ≡ bytes
 bytes_of text line place bytes rest c =
     let long : place + length bytes - place ≡ length bytes = omega arith in
     ap (λ n. take n (drop place text)) long ∙ ap (take (length bytes)) c.follows ∙ take_front
-      (length bytes) bytes rest refl
+    (length bytes) bytes rest refl
 
 -- one more token, which stands in these bytes
 pub spells_bytes : (text : List ℕ) (line place last : ℕ) (k e : Kind) (bytes rest : List ℕ) (x : Lexeme) (ts : List Lexeme)
     → is_firm (at (bytes ++ rest) 0) ≡ true → one_line bytes ≡ true
-        → token k place (bytes ++ rest) ≡ Tok e place (place + length bytes) → ends e ≡ false
-        → Adds e (stands_for e bytes) line x
+    → token k place (bytes ++ rest) ≡ Tok e place (place + length bytes) → ends e ≡ false
+    → Adds e (stands_for e bytes) line x
     → Cursor text line place (bytes ++ rest)
-        → (Cursor text line (place + length bytes) rest
-             → Spells text (place + length bytes) e ts last) → Spells text place k (x ∷ ts) last
+    → (Cursor text line (place + length bytes) rest
+    → Spells text (place + length bytes) e ts last) → Spells text place k (x ∷ ts) last
 spells_bytes text line place last k e bytes rest x ts f one t h adds c more =
     spells_token text place place (place + length bytes) last k e x ts
-      (lexed_here text line place k (bytes ++ rest) c f ∙ t) h
+    (lexed_here text line place k (bytes ++ rest) c f ∙ t) h
     (subst (λ w. Adds e (stands_for e w) (line_at text place) x)
-       (sym (bytes_of text line place bytes rest c))
-       (subst (λ l. Adds e (stands_for e bytes) l x) (sym c.on_line) adds))
+    (sym (bytes_of text line place bytes rest c))
+    (subst (λ l. Adds e (stands_for e bytes) l x) (sym c.on_line) adds))
     (more (past text line place bytes rest one c))

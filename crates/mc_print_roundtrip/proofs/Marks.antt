@@ -30,16 +30,16 @@ use Rattle.mc_base.proofs.Booleans.{left_true, right_true}
 -- bytes that end no line
 all_map :
     (p q : ℕ → Bool)
-      → ((x : ℕ) → p x ≡ true → q x ≡ true) → (xs : List ℕ) → list_all p xs ≡ true
-      → list_all q xs ≡ true
+    → ((x : ℕ) → p x ≡ true → q x ≡ true) → (xs : List ℕ) → list_all p xs ≡ true
+    → list_all q xs ≡ true
 all_map p q f [] h = refl
 all_map p q f (x ∷ xs) h =
     and_true (q x) (list_all q xs) (f x (left_true (p x) (list_all p xs) h))
-      (all_map p q f xs (right_true (p x) (list_all p xs) h))
+    (all_map p q f xs (right_true (p x) (list_all p xs) h))
 
 all_append :
     (p : ℕ → Bool) (xs ys : List ℕ)
-      → list_all p xs ≡ true → list_all p ys ≡ true → list_all p (xs ++ ys) ≡ true
+    → list_all p xs ≡ true → list_all p ys ≡ true → list_all p (xs ++ ys) ≡ true
 all_append p xs ys h e = list_all-append p xs ys ∙ and_true (list_all p xs) (list_all p ys) h e
 
 stays_if : (p : ℕ → Bool) → p 10 ≡ false → (x : ℕ) → p x ≡ true → stays x ≡ true
@@ -59,26 +59,26 @@ or_cases false b h = inr h
 
 either :
     (t : Bool) (x y : List ℕ)
-      → (t ≡ true → one_line x ≡ true) → (t ≡ false → one_line y ≡ true)
-      → one_line (cond t x y) ≡ true
+    → (t ≡ true → one_line x ≡ true) → (t ≡ false → one_line y ≡ true)
+    → one_line (cond t x y) ≡ true
 either true x y f g = f refl
 either false x y f g = g refl
 
 control_small : (b : ℕ) → nat_lt b 32 || nat_eq b 127 ≡ true → b < 128
 control_small b h =
     ⊎_elim (λ e. let l = ltb-true b 32 e in omega arith)
-      (λ e. let l = eqb-true b 127 e in omega arith) (or_cases (nat_lt b 32) (nat_eq b 127) h)
+    (λ e. let l = eqb-true b 127 e in omega arith) (or_cases (nat_lt b 32) (nat_eq b 127) h)
 
 printed_stays : (q b : ℕ) → stays q ≡ true → one_line (printed_byte q b) ≡ true
 printed_stays q b s =
     either (nat_eq b 92 || nat_eq b q) _ _ marked
     (λ n.
-       either (nat_eq b 10) _ _ (λ e. refl)
-         (λ other.
-            either (nat_eq b 9) _ _ (λ e. refl)
-              (λ n.
-                 either (nat_lt b 32 || nat_eq b 127) _ _ numbered
-                   (λ n. and_true (stays b) true (ap not other) refl))))
+    either (nat_eq b 10) _ _ (λ e. refl)
+    (λ other.
+    either (nat_eq b 9) _ _ (λ e. refl)
+    (λ n.
+    either (nat_lt b 32 || nat_eq b 127) _ _ numbered
+    (λ n. and_true (stays b) true (ap not other) refl))))
   where
     marked : nat_eq b 92 || nat_eq b q ≡ true → one_line (92 ∷ b ∷ []) ≡ true
     marked h =
@@ -87,38 +87,38 @@ printed_stays q b s =
 
     numbered :
         nat_lt b 32 || nat_eq b 127 ≡ true
-          → one_line (codes "\\x" ++ (hex_digit (b / 16) ∷ hex_digit (b % 16) ∷ codes "\\")) ≡ true
+        → one_line (codes "\\x" ++ (hex_digit (b / 16) ∷ hex_digit (b % 16) ∷ codes "\\")) ≡ true
     numbered h =
         let small = control_small b h in
         and_true (stays (hex_digit (b / 16))) _ (digit_stays (b / 16) (omega arith))
-          (and_true (stays (hex_digit (b % 16))) true (digit_stays (b % 16) (omega arith)) refl)
+        (and_true (stays (hex_digit (b % 16))) true (digit_stays (b % 16) (omega arith)) refl)
 
 all_printed :
     (q : ℕ) (bytes : List ℕ) → stays q ≡ true → one_line (flat_map (printed_byte q) bytes) ≡ true
 all_printed q [] s = refl
 all_printed q (b ∷ bs) s =
     all_append stays (printed_byte q b) (flat_map (printed_byte q) bs) (printed_stays q b s)
-      (all_printed q bs s)
+    (all_printed q bs s)
 
 pub quotes_one_line :
     (q : ℕ) (bytes : List ℕ) → stays q ≡ true → one_line (in_quotes q bytes) ≡ true
 quotes_one_line q bytes s =
     and_true (stays q) (one_line (flat_map (printed_byte q) bytes ++ (q ∷ []))) s
     (all_append stays (flat_map (printed_byte q) bytes) (q ∷ []) (all_printed q bytes s)
-       (and_true (stays q) true s refl))
+    (and_true (stays q) true s refl))
 
 pub decimal_one_line : (n : ℕ) → n < 2 ^ 64 → one_line (decimal n) ≡ true
 decimal_one_line n lt =
     all_map (is_digit_of 10) stays (stays_if (is_digit_of 10) refl) (decimal n)
-      (decimal_digits n lt).all
+    (decimal_digits n lt).all
 
 bare_one_line : (name : List ℕ) → is_bare name ≡ true → one_line name ≡ true
 bare_one_line [] h = cc
 bare_one_line (b ∷ bs) h =
     and_true (stays b) (one_line bs)
-      (stays_if is_lower refl b (left_true (is_lower b) (list_all is_word_byte bs) h))
+    (stays_if is_lower refl b (left_true (is_lower b) (list_all is_word_byte bs) h))
     (all_map is_word_byte stays (stays_if is_word_byte refl) bs
-       (right_true (is_lower b) (list_all is_word_byte bs) h))
+    (right_true (is_lower b) (list_all is_word_byte bs) h))
 
 -- first bytes
 lower_firm : (b : ℕ) → is_lower b ≡ true → is_firm b ≡ true
@@ -134,7 +134,7 @@ pub decimal_firm : (n : ℕ) (rest : List ℕ) → n < 2 ^ 64 → is_firm (at (d
 decimal_firm n rest lt =
     let h = decimal_digits n lt in
     ap is_firm (get_or_append_left (decimal n) rest 0 0 h.some ∙ h.head.2) ∙ digit_firm h.head.0
-      h.head.1
+    h.head.1
 
 bare_firm : (name rest : List ℕ) → is_bare name ≡ true → is_firm (at (name ++ rest) 0) ≡ true
 bare_firm [] rest h = cc
@@ -145,8 +145,8 @@ name_firm name rest = go (is_bare name) refl
   where
     go :
         (t : Bool)
-          → is_bare name ≡ t
-          → is_firm (at (cond t name (in_quotes single_quote name) ++ rest) 0) ≡ true
+        → is_bare name ≡ t
+        → is_firm (at (cond t name (in_quotes single_quote name) ++ rest) 0) ≡ true
     go true h = bare_firm name rest h
     go false h = refl
 
@@ -170,54 +170,55 @@ Onward text line rest ts last =
 module _ (text : List ℕ) (line last : ℕ) where
   pub spells_number :
       (place n : ℕ) (k : Kind) (rest : List ℕ) (ts : List Lexeme)
-        → n ≤ 2 ^ 63 → Follows rest → Cursor text line place (decimal n ++ rest)
-        → Onward text line rest ts last → Spells text place k (L.Int n line ∷ ts) last
+      → n ≤ 2 ^ 63 → Follows rest → Cursor text line place (decimal n ++ rest)
+      → Onward text line rest ts last → Spells text place k (L.Int n line ∷ ts) last
   spells_number place n k rest ts small f c more =
       spells_bytes text line place last k (K.Int n) (decimal n) rest (L.Int n line) ts
-        (decimal_firm n rest (omega arith)) (decimal_one_line n (omega arith))
+      (decimal_firm n rest (omega arith)) (decimal_one_line n (omega arith))
       (number_token k place n rest small f.no_tail f.no_single f.no_fraction) refl
-        (λ done q. (refl, refl)) c (more (K.Int n) (place + length (decimal n)))
+      (λ done q. (refl, refl)) c (more (K.Int n) (place + length (decimal n)))
 
   pub spells_minus : (place n : ℕ) (k : Kind) (rest : List ℕ) (ts : List Lexeme) → n ≤ 2 ^ 63 → Cursor text line place (45 ∷ (decimal n ++ rest)) → Onward text line (decimal n ++ rest) ts last
       → Spells text place k (L.Word (codes "-") false line ∷ ts) last
   spells_minus place n k rest ts small c more =
       spells_bytes text line place last k K.Name (45 ∷ []) (decimal n ++ rest)
-        (L.Word (codes "-") false line) ts refl refl (minus_token k place n rest small) refl
+      (L.Word (codes "-") false line) ts refl refl (minus_token k place n rest small) refl
       (λ done q. (ap (λ r. with_name r done (codes "-") false line) q, refl)) c
-        (more K.Name (place + 1))
+      (more K.Name (place + 1))
 
   pub spells_string : (place : ℕ) (k : Kind) (bytes rest : List ℕ) (ts : List Lexeme) → IsUtf8 bytes → Follows rest → Cursor text line place (in_quotes double_quote bytes ++ rest) → Onward text line rest ts last
       → Spells text place k (L.Str bytes line ∷ ts) last
   spells_string place k bytes rest ts utf8 f c more =
       spells_bytes text line place last k K.Str (in_quotes 34 bytes) rest (L.Str bytes line) ts refl
-        (quotes_one_line 34 bytes refl) (string_token k place bytes rest utf8 f.no_double) refl
+      (quotes_one_line 34 bytes refl) (string_token k place bytes rest utf8 f.no_double) refl
       (λ done q. (ap (λ w. L.Str w line ∷ done) (string_says bytes utf8), refl)) c
-        (more K.Str (place + length (in_quotes 34 bytes)))
+      (more K.Str (place + length (in_quotes 34 bytes)))
 
   -- a name, before what stands after a token that is a name
   abbrev pub NameOnward : List ℕ → List Lexeme → Type 0
   NameOnward rest ts =
       (k : Kind) (place : ℕ)
-        → names k ≡ true → Cursor text line place rest → Spells text place k ts last
+      → names k ≡ true → Cursor text line place rest → Spells text place k ts last
 
   pub spells_bare : (place : ℕ) (k : Kind) (name rest : List ℕ) (ts : List Lexeme) → is_bare name ≡ true → is_int k ≡ false → is_name_tail (at rest 0) ≡ false → Cursor text line place (name ++ rest) → NameOnward rest ts
       → Spells text place k (L.Word name false line ∷ ts) last
   spells_bare place k name rest ts bare free tail c more =
       spells_bytes text line place last k K.Name name rest (L.Word name false line) ts
-        (bare_firm name rest bare) (bare_one_line name bare)
-        (bare_token k place name rest bare free tail) refl
+      (bare_firm name rest bare) (bare_one_line name bare)
+      (bare_token k place name rest bare free tail) refl
       (λ done q. (ap (λ r. with_name r done name false line) q, refl)) c
-        (more K.Name (place + length name) refl)
+      (more K.Name (place + length name) refl)
 
   pub spells_quoted : (place : ℕ) (k : Kind) (name rest : List ℕ) (ts : List Lexeme) → IsUtf8 name → at rest 0 ≢ 39 → Cursor text line place (in_quotes single_quote name ++ rest) → NameOnward rest ts
       → Spells text place k (L.Word name true line ∷ ts) last
   spells_quoted place k name rest ts utf8 other c more =
       spells_bytes text line place last k K.Quoted (in_quotes 39 name) rest (L.Word name true line)
-        ts refl (quotes_one_line 39 name refl) (name_token k place name rest utf8 other) refl
-      (λ done q.
-         (ap (λ r. with_name r done (stands_for K.Quoted (in_quotes 39 name)) true line) q ∙ ap
+      ts refl (quotes_one_line 39 name refl) (name_token k place name rest utf8 other) refl
+      (λ done q. (
+        ap (λ r. with_name r done (stands_for K.Quoted (in_quotes 39 name)) true line) q ∙ ap
             (λ w. L.Word w true line ∷ done) (name_says name utf8),
-          refl))
+        refl,
+      ))
       c (more K.Quoted (place + length (in_quotes 39 name)) refl)
 
   -- a name as it is printed, bare or in quotes
@@ -227,70 +228,70 @@ module _ (text : List ℕ) (line last : ℕ) where
     where
       go :
           (t : Bool)
-            → is_bare name ≡ t
-            → Cursor text line place (cond t name (in_quotes single_quote name) ++ rest)
-            → NameOnward rest ts → Spells text place k (L.Word name (not t) line ∷ ts) last
+          → is_bare name ≡ t
+          → Cursor text line place (cond t name (in_quotes single_quote name) ++ rest)
+          → NameOnward rest ts → Spells text place k (L.Word name (not t) line ∷ ts) last
       go true bare c more = spells_bare place k name rest ts bare free tail c more
       go false bare c more = spells_quoted place k name rest ts utf8 other c more
 
   -- a token of one byte
   spells_mark : (place : ℕ) (k e : Kind) (b : ℕ) (rest : List ℕ) (x : Lexeme) (ts : List Lexeme) → is_firm b ≡ true → stays b ≡ true → token k place (b ∷ rest) ≡ Tok e place (place + 1) → ends e ≡ false → Adds e (stands_for e (b ∷ [])) line x
       → Cursor text line place (b ∷ rest) → Onward text line rest ts last
-          → Spells text place k (x ∷ ts) last
+      → Spells text place k (x ∷ ts) last
   spells_mark place k e b rest x ts f s t h adds c more =
       spells_bytes text line place last k e (b ∷ []) rest x ts f (and_true (stays b) true s refl) t
-        h adds c (more e (place + 1))
+      h adds c (more e (place + 1))
 
   -- the bracket directly behind a name
   pub spells_open :
       (place : ℕ) (k : Kind) (rest : List ℕ) (ts : List Lexeme)
-        → names k ≡ true → Cursor text line place (40 ∷ rest)
-        → ((p : ℕ) → Cursor text line p rest → Spells text p K.OpenCt ts last)
-        → Spells text place k (L.OpenCt line ∷ ts) last
+      → names k ≡ true → Cursor text line place (40 ∷ rest)
+      → ((p : ℕ) → Cursor text line p rest → Spells text p K.OpenCt ts last)
+      → Spells text place k (L.OpenCt line ∷ ts) last
   unfolding token
   spells_open place k rest ts name c more =
       spells_bytes text line place last k K.OpenCt (40 ∷ []) rest (L.OpenCt line) ts refl refl
-        (yes _ name) refl (λ done q. (refl, refl)) c (more (place + 1))
+      (yes _ name) refl (λ done q. (refl, refl)) c (more (place + 1))
 
   pub spells_close :
       (place : ℕ) (k : Kind) (rest : List ℕ) (ts : List Lexeme)
-        → Cursor text line place (41 ∷ rest) → Onward text line rest ts last
-        → Spells text place k (L.Close ∷ ts) last
+      → Cursor text line place (41 ∷ rest) → Onward text line rest ts last
+      → Spells text place k (L.Close ∷ ts) last
   unfolding token
   spells_close place k rest ts =
       spells_mark place k K.Close 41 rest L.Close ts refl refl refl refl (λ done q. (refl, refl))
 
   pub spells_list_open :
       (place : ℕ) (k : Kind) (rest : List ℕ) (ts : List Lexeme)
-        → Cursor text line place (91 ∷ rest)
-        → ((p : ℕ) → Cursor text line p rest → Spells text p K.ListOpen ts last)
-        → Spells text place k (L.ListOpen line ∷ ts) last
+      → Cursor text line place (91 ∷ rest)
+      → ((p : ℕ) → Cursor text line p rest → Spells text p K.ListOpen ts last)
+      → Spells text place k (L.ListOpen line ∷ ts) last
   unfolding token
   spells_list_open place k rest ts c more =
       spells_bytes text line place last k K.ListOpen (91 ∷ []) rest (L.ListOpen line) ts refl refl
-        refl refl (λ done q. (refl, refl)) c (more (place + 1))
+      refl refl (λ done q. (refl, refl)) c (more (place + 1))
 
   pub spells_list_close :
       (place : ℕ) (k : Kind) (rest : List ℕ) (ts : List Lexeme)
-        → Cursor text line place (93 ∷ rest) → Onward text line rest ts last
-        → Spells text place k (L.ListClose ∷ ts) last
+      → Cursor text line place (93 ∷ rest) → Onward text line rest ts last
+      → Spells text place k (L.ListClose ∷ ts) last
   unfolding token
   spells_list_close place k rest ts =
       spells_mark place k K.ListClose 93 rest L.ListClose ts refl refl refl refl
-        (λ done q. (refl, refl))
+      (λ done q. (refl, refl))
 
   pub spells_bar :
       (place : ℕ) (k : Kind) (rest : List ℕ) (ts : List Lexeme)
-        → Cursor text line place (124 ∷ rest) → Onward text line rest ts last
-        → Spells text place k (L.Bar ∷ ts) last
+      → Cursor text line place (124 ∷ rest) → Onward text line rest ts last
+      → Spells text place k (L.Bar ∷ ts) last
   unfolding token
   spells_bar place k rest ts =
       spells_mark place k K.Bar 124 rest L.Bar ts refl refl refl refl (λ done q. (refl, refl))
 
   pub spells_comma :
       (place : ℕ) (k : Kind) (rest : List ℕ) (ts : List Lexeme)
-        → Cursor text line place (44 ∷ rest) → Onward text line rest ts last
-        → Spells text place k (L.Comma ∷ ts) last
+      → Cursor text line place (44 ∷ rest) → Onward text line rest ts last
+      → Spells text place k (L.Comma ∷ ts) last
   unfolding token
   spells_comma place k rest ts =
       spells_mark place k K.Comma 44 rest L.Comma ts refl refl refl refl (λ done q. (refl, refl))
@@ -306,9 +307,9 @@ ending_small : (b : ℕ) → ends_by b ≡ true → b < 256
 ending_small b h =
     ⊎_elim
     (λ blank.
-       ⊎_elim (λ e. let l = leb-true b 13 (right_true (nat_le 9 b) (nat_le b 13) e) in omega arith)
-         (λ e. let l = eqb-true b 32 e in omega arith)
-         (or_cases (nat_le 9 b && nat_le b 13) (b == 32) blank))
+    ⊎_elim (λ e. let l = leb-true b 13 (right_true (nat_le 9 b) (nat_le b 13) e) in omega arith)
+    (λ e. let l = eqb-true b 32 e in omega arith)
+    (or_cases (nat_le 9 b && nat_le b 13) (b == 32) blank))
     (λ e. let l = eqb-true b 37 e in omega arith) (or_cases (is_blank b) (b == 37) h)
 
 ending : (rest : List ℕ) → ends_item rest ≡ true → parts_by (at rest 0) ≡ true
@@ -322,13 +323,13 @@ follows_stop rest h = record {
   no_double = omega arith;
   no_fraction =
       not_true (is_digit_of 10 (at rest 0))
-        (left_true (not (is_digit_of 10 (at rest 0))) _ (ending rest h));
+      (left_true (not (is_digit_of 10 (at rest 0))) _ (ending rest h));
 }
 
 pub spells_stop :
     (text : List ℕ) (line place : ℕ) (k : Kind) (rest : List ℕ)
-      → ends_item rest ≡ true → Cursor text line place (46 ∷ rest)
-      → Spells text place k [] (place + 1)
+    → ends_item rest ≡ true → Cursor text line place (46 ∷ rest)
+    → Spells text place k [] (place + 1)
 unfolding token
 spells_stop text line place k rest h c =
     let parts = right_true (not (is_digit_of 10 (at rest 0))) (not (starts_name (at rest 0)) && not (at rest 0 == 39)) (ending rest h) in
@@ -336,7 +337,7 @@ spells_stop text line place k rest h c =
     let quote = not_true (at rest 0 == 39) (right_true (not (starts_name (at rest 0))) (not (at rest 0 == 39)) parts) in
     let no_joint : names k && (starts_name (at rest 0) || (at rest 0 == 39)) ≡ false = and_no (names k) (starts_name (at rest 0) || (at rest 0 == 39)) (neither (starts_name (at rest 0)) (at rest 0 == 39) lower quote) in
     spells_end text place place (place + 1) k K.End
-      (lexed_here text line place k (46 ∷ rest) c refl ∙ no _ no_joint ∙ yes _ h) refl
+    (lexed_here text line place k (46 ∷ rest) c refl ∙ no _ no_joint ∙ yes _ h) refl
   where
     and_no : (a b : Bool) → b ≡ false → a && b ≡ false
     and_no true b e = e

@@ -19,7 +19,7 @@ ReadsOnly ts t rest = (c : Bool) (limit : ℕ) → Reads c limit ts (closed t) r
 
 no_prefix :
     (limit : ℕ) (row : Option (ℕ × Fix)) (next : Bool)
-      → next ≡ false → prefix_role limit row next ≡ Plain
+    → next ≡ false → prefix_role limit row next ≡ Plain
 no_prefix limit None next e = refl
 no_prefix limit (Some r) next e = ap (λ t. cond (t && nat_le r.0 limit) (prefix_of r.0 r.1) Plain) e
 
@@ -51,7 +51,7 @@ minus_role limit n k rest = refl
 module _ (line : ℕ) where
   pub reads_name :
       (w : List ℕ) (q : Bool) (rest : List Lexeme)
-        → starts rest ≡ false → ReadsOnly (L.Word w q line ∷ rest) (App line (w ∷ []) no_tree) rest
+      → starts rest ≡ false → ReadsOnly (L.Word w q line ∷ rest) (App line (w ∷ []) no_tree) rest
   reads_name w q rest e = λ c limit. R.name (plain_role limit w rest e)
 
   pub reads_integer :
@@ -60,7 +60,7 @@ module _ (line : ℕ) where
 
   pub reads_negative :
       (n : ℕ) (q : Bool) (rest : List Lexeme)
-        → ReadsOnly (L.Word (codes "-") q line ∷ L.Int n line ∷ rest) (Neg line n) rest
+      → ReadsOnly (L.Word (codes "-") q line ∷ L.Int n line ∷ rest) (Neg line n) rest
   reads_negative n q rest = λ c limit. R.negative (minus_role limit n line rest)
 
   pub reads_string :
@@ -69,7 +69,7 @@ module _ (line : ℕ) where
 
   pub reads_nil :
       (rest : List Lexeme)
-        → ReadsOnly (L.ListOpen line ∷ L.ListClose ∷ rest) (Items line no_tree) rest
+      → ReadsOnly (L.ListOpen line ∷ L.ListClose ∷ rest) (Items line no_tree) rest
   reads_nil rest = λ c limit. R.nil
 
   abbrev pub Arguments : List Lexeme → List Tree → List Lexeme → Type 0
@@ -77,8 +77,8 @@ module _ (line : ℕ) where
 
   pub reads_compound :
       (w : List ℕ) (q : Bool) (ts rest : List Lexeme) (es : List Tree)
-        → Arguments ts es (L.Close ∷ rest)
-        → ReadsOnly (L.Word w q line ∷ L.OpenCt line ∷ ts) (App line (w ∷ []) (trees es)) rest
+      → Arguments ts es (L.Close ∷ rest)
+      → ReadsOnly (L.Word w q line ∷ L.OpenCt line ∷ ts) (App line (w ∷ []) (trees es)) rest
   reads_compound w q ts rest es h = λ c limit. R.compound refl h
 
   pub one_part :
@@ -87,17 +87,17 @@ module _ (line : ℕ) where
 
   pub part_then :
       (ts us rest : List Lexeme) (t : Tree) (es : List Tree)
-        → ReadsOnly ts t (L.Comma ∷ us) → Arguments us es rest → Arguments ts (t ∷ es) rest
+      → ReadsOnly ts t (L.Comma ∷ us) → Arguments us es rest → Arguments ts (t ∷ es) rest
   part_then ts us rest t es h others = R.more {p = closed t} (h true 1200) (omega arith) refl others
 
   -- the inside of a list, up to its closing bracket, and the list
   pub data Inner : List Lexeme → Tree → List Lexeme → Type 0 where
     whole :
         {ts rest : List Lexeme} {es : List Tree} → Arguments ts es (L.ListClose ∷ rest)
-          → Inner ts (Items line (trees es)) rest
+        → Inner ts (Items line (trees es)) rest
     before :
         {ts us rest : List Lexeme} {es : List Tree} {t : Tree} → Arguments ts es (L.Bar ∷ us)
-          → ReadsOnly us t (L.ListClose ∷ rest) → Inner ts (Tailed line (trees es) t) rest
+        → ReadsOnly us t (L.ListClose ∷ rest) → Inner ts (Tailed line (trees es) t) rest
 
   pub reads_list :
       (ts rest : List Lexeme) (t : Tree) → Inner ts t rest → ReadsOnly (L.ListOpen line ∷ ts) t rest
@@ -108,7 +108,7 @@ module _ (line : ℕ) where
   -- one more element before a list
   pub element_then :
       (ts us rest : List Lexeme) (h t : Tree)
-        → ReadsOnly ts h (L.Comma ∷ us) → Inner us t rest → Inner ts (cell_tree line h t) rest
+      → ReadsOnly ts h (L.Comma ∷ us) → Inner us t rest → Inner ts (cell_tree line h t) rest
   element_then ts us rest h t reads (whole {es = es} others) =
       whole {es = h ∷ es} (part_then ts us (L.ListClose ∷ rest) h es reads others)
   element_then ts us rest h t reads (before {us = vs} {es = es} others tail) =
@@ -125,7 +125,7 @@ module _ (line : ℕ) where
 
   pub tail_more :
       (vs us rest : List Lexeme) (v t : Tree)
-        → ReadsOnly vs v us → Tail us t rest → Tail (L.Comma ∷ vs) (cell_tree line v t) rest
+      → ReadsOnly vs v us → Tail us t rest → Tail (L.Comma ∷ vs) (cell_tree line v t) rest
   tail_more vs us rest v t reads tail =
       λ ts h first. element_then ts vs rest h (cell_tree line v t) first (tail vs v reads)
 
@@ -142,8 +142,8 @@ module _ (line : ℕ) where
 
   pub tail_bar :
       (us rest : List Lexeme) (t : Tree)
-        → is_list t ≡ false → ReadsOnly us t (L.ListClose ∷ rest) → Tail (L.Bar ∷ us) t rest
+      → is_list t ≡ false → ReadsOnly us t (L.ListClose ∷ rest) → Tail (L.Bar ∷ us) t rest
   tail_bar us rest t e reads =
       λ ts h first.
-        subst (λ u. Inner ts u rest) (sym (other_cell h t e))
-          (before {es = h ∷ []} (one_part ts (L.Bar ∷ us) h first) reads)
+      subst (λ u. Inner ts u rest) (sym (other_cell h t e))
+      (before {es = h ∷ []} (one_part ts (L.Bar ∷ us) h first) reads)

@@ -26,18 +26,18 @@ use Rattle.mc_base.proofs.Booleans.{left_true, right_true}
 -- a quote as a token
 pub string_token :
     (before : Kind) (start : ℕ) (bytes rest : List ℕ)
-      → IsUtf8 bytes → at rest 0 ≢ 34
-      → token before start (in_quotes 34 bytes ++ rest)
-          ≡ Tok Str start (start + length (in_quotes 34 bytes))
+    → IsUtf8 bytes → at rest 0 ≢ 34
+    → token before start (in_quotes 34 bytes ++ rest)
+    ≡ Tok Str start (start + length (in_quotes 34 bytes))
 unfolding token
 string_token before start bytes rest utf8 n =
     ap (λ s. quoted Str s start) (quoted_whole 34 start bytes rest (inr refl) utf8 n).0
 
 pub name_token :
     (before : Kind) (start : ℕ) (bytes rest : List ℕ)
-      → IsUtf8 bytes → at rest 0 ≢ 39
-      → token before start (in_quotes 39 bytes ++ rest)
-          ≡ Tok Quoted start (start + length (in_quotes 39 bytes))
+    → IsUtf8 bytes → at rest 0 ≢ 39
+    → token before start (in_quotes 39 bytes ++ rest)
+    ≡ Tok Quoted start (start + length (in_quotes 39 bytes))
 unfolding token
 name_token before start bytes rest utf8 n =
     ap (λ s. quoted Quoted s start) (quoted_whole 39 start bytes rest (inl refl) utf8 n).0
@@ -45,12 +45,12 @@ name_token before start bytes rest utf8 n =
 pub string_says : (bytes : List ℕ) → IsUtf8 bytes → stands_for Str (in_quotes 34 bytes) ≡ bytes
 string_says bytes utf8 =
     ap (λ l. stands_for Str l) (sym (append-nil (in_quotes 34 bytes))) ∙
-      (quoted_whole 34 0 bytes [] (inr refl) utf8 (omega arith)).1
+    (quoted_whole 34 0 bytes [] (inr refl) utf8 (omega arith)).1
 
 pub name_says : (bytes : List ℕ) → IsUtf8 bytes → stands_for Quoted (in_quotes 39 bytes) ≡ bytes
 name_says bytes utf8 =
     ap (λ l. stands_for Quoted l) (sym (append-nil (in_quotes 39 bytes))) ∙
-      (quoted_whole 39 0 bytes [] (inl refl) utf8 (omega arith)).1
+    (quoted_whole 39 0 bytes [] (inl refl) utf8 (omega arith)).1
 
 word_same : (l u d s : Bool) → ((l || u) || d) || s ≡ ((d || u) || s) || l
 word_same true true true true = refl
@@ -76,32 +76,32 @@ word_byte b = word_same (is_lower b) _ _ _
 -- a run of bytes of a class, before a byte that is of another
 run :
     (p : ℕ → Bool) (xs rest : List ℕ)
-      → list_all p xs ≡ true → p (at rest 0) ≡ false → prefix_len p (xs ++ rest) ≡ length xs
+    → list_all p xs ≡ true → p (at rest 0) ≡ false → prefix_len p (xs ++ rest) ≡ length xs
 run p [] [] all other = refl
 run p [] (y ∷ ys) all other = no _ other
 run p (x ∷ xs) rest all other =
     yes _ (left_true (p x) (list_all p xs) all) ∙
-      (let e = run p xs rest (right_true (p x) (list_all p xs) all) other in omega arith)
+    (let e = run p xs rest (right_true (p x) (list_all p xs) all) other in omega arith)
 
 all_tails : (xs : List ℕ) → list_all is_word_byte xs ≡ true → list_all is_name_tail xs ≡ true
 all_tails [] h = refl
 all_tails (x ∷ xs) h =
     and_true (is_name_tail x) (list_all is_name_tail xs)
-      (sym (word_byte x) ∙ left_true (is_word_byte x) (list_all is_word_byte xs) h)
+    (sym (word_byte x) ∙ left_true (is_word_byte x) (list_all is_word_byte xs) h)
     (all_tails xs (right_true (is_word_byte x) (list_all is_word_byte xs) h))
 
 -- a name without quotes as a token
 pub bare_token :
     (before : Kind) (start : ℕ) (name rest : List ℕ)
-      → is_bare name ≡ true → is_int before ≡ false → is_name_tail (at rest 0) ≡ false
-      → token before start (name ++ rest) ≡ Tok Name start (start + length name)
+    → is_bare name ≡ true → is_int before ≡ false → is_name_tail (at rest 0) ≡ false
+    → token before start (name ++ rest) ≡ Tok Name start (start + length name)
 unfolding token
 bare_token before start [] rest bare free ends = cc
 bare_token before start (b ∷ bs) rest bare free ends =
     let kind : first b ≡ Lower = yes _ (left_true (is_lower b) (list_all is_word_byte bs) bare) in
     let long : 1 + prefix_len is_name_tail (bs ++ rest) ≡ suc (length bs) = let e = run is_name_tail bs rest (all_tails bs (right_true (is_lower b) (list_all is_word_byte bs) bare)) ends in omega arith in
     ap (begun before start b (bs ++ rest)) kind ∙ no _ free ∙ ap (λ n. Tok Name start (start + n))
-      long
+    long
 
 -- the digits of a number
 pub record Digits (n : ℕ) (ds : List ℕ) : Type 0 where
@@ -114,7 +114,7 @@ pub record Digits (n : ℕ) (ds : List ℕ) : Type 0 where
 digit_good : (d : ℕ) → d < 10 → is_digit_of 10 (48 + d) && (hex_value (48 + d) == d) ≡ true
 digit_good d lt =
     by_bytes (λ d. nat_lt d 10) (λ d. is_digit_of 10 (48 + d) && (hex_value (48 + d) == d)) tt d
-      (omega arith) (lt-ltb d 10 lt)
+    (omega arith) (lt-ltb d 10 lt)
 
 pub is_ten : (d : ℕ) → d < 10 → is_digit_of 10 (48 + d) ≡ true
 is_ten d lt = left_true (is_digit_of 10 (48 + d)) (hex_value (48 + d) == d) (digit_good d lt)
@@ -122,7 +122,7 @@ is_ten d lt = left_true (is_digit_of 10 (48 + d)) (hex_value (48 + d) == d) (dig
 ten_value : (d : ℕ) → d < 10 → hex_value (48 + d) ≡ d
 ten_value d lt =
     eqb-true (hex_value (48 + d)) d
-      (right_true (is_digit_of 10 (48 + d)) (hex_value (48 + d) == d) (digit_good d lt))
+    (right_true (is_digit_of 10 (48 + d)) (hex_value (48 + d) == d) (digit_good d lt))
 
 one_digit : (n : ℕ) → n < 10 → Digits n ((48 + n) ∷ [])
 one_digit n lt = record {
@@ -135,18 +135,18 @@ one_digit n lt = record {
 
 spelled_push :
     (v : ℕ) (ds : List ℕ) (d : ℕ)
-      → spelled 10 v (ds ++ (d ∷ [])) ≡ 10 * spelled 10 v ds + hex_value d
+    → spelled 10 v (ds ++ (d ∷ [])) ≡ 10 * spelled 10 v ds + hex_value d
 spelled_push v [] d = refl
 spelled_push v (x ∷ ds) d = spelled_push (10 * v + hex_value x) ds d
 
 all_push :
     (ds : List ℕ) (d : ℕ)
-      → list_all (is_digit_of 10) ds ≡ true → is_digit_of 10 d ≡ true
-      → list_all (is_digit_of 10) (ds ++ (d ∷ [])) ≡ true
+    → list_all (is_digit_of 10) ds ≡ true → is_digit_of 10 d ≡ true
+    → list_all (is_digit_of 10) (ds ++ (d ∷ [])) ≡ true
 all_push [] d h e = and_true (is_digit_of 10 d) true e refl
 all_push (x ∷ ds) d h e =
     and_true (is_digit_of 10 x) (list_all (is_digit_of 10) (ds ++ (d ∷ [])))
-      (left_true (is_digit_of 10 x) (list_all (is_digit_of 10) ds) h)
+    (left_true (is_digit_of 10 x) (list_all (is_digit_of 10) ds) h)
     (all_push ds d (right_true (is_digit_of 10 x) (list_all (is_digit_of 10) ds) h) e)
 
 more_digits :
@@ -174,11 +174,11 @@ first_digit : (k : ℕ) → k < 10 → first (48 + k) ≡ Digit
 first_digit k lt =
     let t = by_bytes (λ k. nat_lt k 10) (λ k. not (starts_name (48 + k)) && not (starts_var (48 + k))) tt k (omega arith) (lt-ltb k 10 lt) in
     no _
-      (not_false (starts_name (48 + k))
-         (left_true (not (starts_name (48 + k))) (not (starts_var (48 + k))) t))
+    (not_false (starts_name (48 + k))
+    (left_true (not (starts_name (48 + k))) (not (starts_var (48 + k))) t))
     ∙ no _
-        (not_false (starts_var (48 + k))
-           (right_true (not (starts_name (48 + k))) (not (starts_var (48 + k))) t))
+    (not_false (starts_var (48 + k))
+    (right_true (not (starts_name (48 + k))) (not (starts_var (48 + k))) t))
     ∙ yes _ (is_ten k lt)
   where
     not_false : (b : Bool) → not b ≡ true → b ≡ false
@@ -201,8 +201,8 @@ plain_zero c r f n =
 
 number_form :
     (n : ℕ) (ds rest : List ℕ)
-      → Digits n ds → is_name_tail (at rest 0) ≡ false → at rest 0 ≢ 39
-      → form (ds ++ rest) ≡ Decimal
+    → Digits n ds → is_name_tail (at rest 0) ≡ false → at rest 0 ≢ 39
+    → form (ds ++ rest) ≡ Decimal
 number_form n ds rest h ends q = ⊎_elim (λ z. zero_case z) (λ p. more_case p) (is_zero n)
   where
     is_zero : (m : ℕ) → (m ≡ 0) ⊎ (0 < m)
@@ -223,8 +223,8 @@ number_form n ds rest h ends q = ⊎_elim (λ z. zero_case z) (λ p. more_case p
 no_hex : (c : ℕ) → 256 ≤ c → hex_digit c ≡ false
 no_hex c le =
     neither (between 48 57 c || between 65 70 c) (between 97 102 c)
-      (neither (between 48 57 c) (between 65 70 c) (above 48 57 c (omega arith))
-         (above 65 70 c (omega arith))) (above 97 102 c (omega arith))
+    (neither (between 48 57 c) (between 65 70 c) (above 48 57 c (omega arith))
+    (above 65 70 c (omega arith))) (above 97 102 c (omega arith))
 
 digit_tail : (c : ℕ) → is_name_tail c ≡ false → is_digit_of 10 c ≡ false
 digit_tail c f = go (is_digit_of 10 c) refl
@@ -248,16 +248,16 @@ digits_token before start n (d ∷ ds) rest h small ends quote float =
     let long : prefix_len (is_digit_of 10) (xs ++ rest) ≡ length xs = run (is_digit_of 10) xs rest h.all (digit_tail (at rest 0) ends) in
     let whole_number : (at (xs ++ rest) (length xs) == 46) && is_digit_of 10 (at (xs ++ rest) (length xs + 1)) ≡ false =
     ap (λ c. (c == 46) && is_digit_of 10 (at (xs ++ rest) (length xs + 1))) (at_end xs rest) ∙ ap
-      (λ c. (at rest 0 == 46) && is_digit_of 10 c) (get_or-append-add xs rest 1 0) ∙ float in
+    (λ c. (at rest 0 == 46) && is_digit_of 10 c) (get_or-append-add xs rest 1 0) ∙ float in
     ap (begun before start d (ds ++ rest)) kind
     ∙ ap (λ f. of_form f start (xs ++ rest)) (number_form n xs rest h ends quote)
     ∙ ap (λ m. decimal_token start m (xs ++ rest)) long
     ∙ no _ whole_number
     ∙ ap (number 10 start (start + length xs)) (take_front (length xs) xs rest refl)
     ∙ ap
-        (λ v.
-           cond (nat_lt (2 ^ 63) v) (Fault IntTooLarge start)
-             (Tok (Int v) start (start + length xs))) h.value
+    (λ v.
+    cond (nat_lt (2 ^ 63) v) (Fault IntTooLarge start)
+    (Tok (Int v) start (start + length xs))) h.value
     ∙ no _ (le-ltb (2 ^ 63) n small)
 
 -- a number as a token
@@ -265,7 +265,7 @@ pub number_token : (before : Kind) (start n : ℕ) (rest : List ℕ) → n ≤ 2
     → token before start (decimal n ++ rest) ≡ Tok (Int n) start (start + length (decimal n))
 number_token before start n rest small ends quote float =
     digits_token before start n (decimal n) rest (decimal_digits n (omega arith)) small ends quote
-      float
+    float
 
 no_symbol : (k : ℕ) → k < 10 → is_symbol (48 + k) ≡ false
 no_symbol k lt = go (is_symbol (48 + k)) (by_bytes (λ k. nat_lt k 10) (λ k. not (is_symbol (48 + k))) tt k (omega arith) (lt-ltb k 10 lt))
@@ -276,7 +276,7 @@ no_symbol k lt = go (is_symbol (48 + k)) (by_bytes (λ k. nat_lt k 10) (λ k. no
 
 minus_before :
     (before : Kind) (start n : ℕ) (ds rest : List ℕ)
-      → Digits n ds → token before start (45 ∷ (ds ++ rest)) ≡ Tok Name start (start + 1)
+    → Digits n ds → token before start (45 ∷ (ds ++ rest)) ≡ Tok Name start (start + 1)
 unfolding token
 minus_before before start n [] rest h = let some = h.some in absurd (omega arith)
 minus_before before start n (d ∷ ds) rest h =
@@ -286,6 +286,6 @@ minus_before before start n (d ∷ ds) rest h =
 
 pub minus_token :
     (before : Kind) (start n : ℕ) (rest : List ℕ)
-      → n ≤ 2 ^ 63 → token before start (45 ∷ (decimal n ++ rest)) ≡ Tok Name start (start + 1)
+    → n ≤ 2 ^ 63 → token before start (45 ∷ (decimal n ++ rest)) ≡ Tok Name start (start + 1)
 minus_token before start n rest small =
     minus_before before start n (decimal n) rest (decimal_digits n (omega arith))

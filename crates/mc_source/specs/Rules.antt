@@ -19,10 +19,3 @@ abbrev pub first_rules : {A : Type 0} → (A → Place) → (A → Option Fault)
 first_rules place rule [] = []
 first_rules place rule (item ∷ items) =
     broken_at (place item) (rule item) ++ first_rules place rule items
-
--- The same, and then the query's: its one rule at most, at its own place.
-abbrev pub rules_then_query's :
-    {A : Type 0} → (A → Place) → (A → Option Fault) → List A
-    → (query : Place) → Option Fault → List Broken
-rules_then_query's place rule items query fault =
-    first_rules place rule items ++ broken_at query fault

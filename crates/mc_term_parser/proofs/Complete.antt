@@ -49,14 +49,14 @@ operand_below false n = omega arith
 -- a prefix operator is within the limit, and its operand's limit is at most its number
 prefix_fits :
     (limit : ℕ) (row : Option (ℕ × Fix)) (b : Bool) (n m : ℕ)
-      → prefix_role limit row b ≡ Single n m → (m ≤ n) × (n ≤ limit)
+    → prefix_role limit row b ≡ Single n m → (m ≤ n) × (n ≤ limit)
 prefix_fits limit None b n m e = cc
 prefix_fits limit (Some r) b n m e = go (b && leb r.0 limit) r.1 refl e
   where
     go :
         (t : Bool) (f : Fix)
-          → b && leb r.0 limit ≡ t → cond t (prefix_of r.0 f) Plain ≡ Single n m
-          → (m ≤ n) × (n ≤ limit)
+        → b && leb r.0 limit ≡ t → cond t (prefix_of r.0 f) Plain ≡ Single n m
+        → (m ≤ n) × (n ≤ limit)
     go false f h e = cc
     go true Fx h e = let k : r.0 ≤ limit = leb-true _ _ (right_true b _ h) in let a : r.0 ≡ n = cc in let z : r.0 - 1 ≡ m = cc in (omega arith, omega arith)
     go true Fy h e = let k : r.0 ≤ limit = leb-true _ _ (right_true b _ h) in let a : r.0 ≡ n = cc in let z : r.0 ≡ m = cc in (omega arith, omega arith)
@@ -65,13 +65,13 @@ prefix_fits limit (Some r) b n m e = go (b && leb r.0 limit) r.1 refl e
 
 prefix_fits_two :
     (limit : ℕ) (row : Option (ℕ × Fix)) (b : Bool) (n : ℕ)
-      → prefix_role limit row b ≡ Double n → n ≤ limit
+    → prefix_role limit row b ≡ Double n → n ≤ limit
 prefix_fits_two limit None b n e = cc
 prefix_fits_two limit (Some r) b n e = go (b && leb r.0 limit) r.1 refl e
   where
     go :
         (t : Bool) (f : Fix)
-          → b && leb r.0 limit ≡ t → cond t (prefix_of r.0 f) Plain ≡ Double n → n ≤ limit
+        → b && leb r.0 limit ≡ t → cond t (prefix_of r.0 f) Plain ≡ Double n → n ≤ limit
     go false f h e = cc
     go true Fx h e = cc
     go true Fy h e = cc
@@ -81,7 +81,7 @@ prefix_fits_two limit (Some r) b n e = go (b && leb r.0 limit) r.1 refl e
 
 pub role_fits :
     (limit : ℕ) (w : List ℕ) (ts : List Lexeme) (n m : ℕ)
-      → role limit w ts ≡ Single n m → (m ≤ n) × (n ≤ limit)
+    → role limit w ts ≡ Single n m → (m ≤ n) × (n ≤ limit)
 unfolding role
 role_fits limit w [] n m e = prefix_fits limit _ _ n m e
 role_fits limit w (L.OpenCt k ∷ ts) n m e = cc
@@ -89,8 +89,8 @@ role_fits limit w (L.Int k l ∷ ts) n m e = go (same_name (codes "-") w) e
   where
     go :
         (b : Bool)
-          → cond b (Negative k) (prefix_role limit (prefix_row w) true) ≡ Single n m
-          → (m ≤ n) × (n ≤ limit)
+        → cond b (Negative k) (prefix_role limit (prefix_row w) true) ≡ Single n m
+        → (m ≤ n) × (n ≤ limit)
     go true e = cc
     go false e = prefix_fits limit _ _ n m e
 role_fits limit w (t ∷ ts) n m e = prefix_fits limit _ _ n m e
@@ -104,14 +104,14 @@ role_fits_two limit w (L.Int k l ∷ ts) n e = go (same_name (codes "-") w) e
   where
     go :
         (b : Bool)
-          → cond b (Negative k) (prefix_role limit (prefix_row w) true) ≡ Double n → n ≤ limit
+        → cond b (Negative k) (prefix_role limit (prefix_row w) true) ≡ Double n → n ≤ limit
     go true e = cc
     go false e = prefix_fits_two limit _ _ n e
 role_fits_two limit w (t ∷ ts) n e = prefix_fits_two limit _ _ n e
 
 pub reach_below :
     {c : Bool} {limit : ℕ} {ts r : List Lexeme} {p : Part Tree} → Reads c limit ts p r
-      → p.reach ≤ p.number
+    → p.reach ≤ p.number
 reach_below variable = omega arith
 reach_below number = omega arith
 reach_below string = omega arith
@@ -132,25 +132,25 @@ reach_below (chained d j h ps) = omega arith
 -- nothing is joined where what follows is above the limit
 stays_at :
     (c : Bool) (limit : ℕ) (p : Part Tree) (x : Lexeme) (ts : List Lexeme) (j : Infix)
-      → ShutAt j limit → next_at c limit p x ts j ≡ Stay
+    → ShutAt j limit → next_at c limit p x ts j ≡ Stay
 stays_at c limit p x ts Nothing h = refl
 stays_at c limit p x ts (Binary n ly ry) h =
     ap
-      (λ b.
-         cond (b && (leb p.number (operand ly n) && ltb p.reach n))
-           (Push c (operand ry n)
-              (AtRight (line_of p.tree) (name_of x) n (operand ry n) p.tree c limit) ts) Stay)
-      (lt-leb n limit h)
+    (λ b.
+    cond (b && (leb p.number (operand ly n) && ltb p.reach n))
+    (Push c (operand ry n)
+    (AtRight (line_of p.tree) (name_of x) n (operand ry n) p.tree c limit) ts) Stay)
+    (lt-leb n limit h)
 stays_at c limit p x ts (Chains k) h =
     ap
-      (λ b.
-         cond (b && ltb p.number (rank k))
-           (Push c (rank k - 1) (InParts (Chained k) (line_of p.tree) (p.tree ∷ []) c limit) ts)
-           Stay) (lt-leb (rank k) limit h)
+    (λ b.
+    cond (b && ltb p.number (rank k))
+    (Push c (rank k - 1) (InParts (Chained k) (line_of p.tree) (p.tree ∷ []) c limit) ts)
+    Stay) (lt-leb (rank k) limit h)
 
 stays :
     (c : Bool) (limit : ℕ) (p : Part Tree) (r : List Lexeme)
-      → Shut c r limit → next c limit p r ≡ Stay
+    → Shut c r limit → next c limit p r ≡ Stay
 stays c limit p [] h = refl
 stays c limit p (x ∷ ts) h = stays_at c limit p x ts (joined_by c x) h
 
@@ -160,7 +160,7 @@ pub data Sorted : Series → Between → Bool → ℕ → Type 0 where
   sorted_elements : Sorted Elements ByComma true 1200
   sorted_chain :
       {k : Chain} {c : Bool} {limit : ℕ} → limit < rank k → limit ≡ rank k - 1
-        → Sorted (Chained k) (ByChain k) c limit
+      → Sorted (Chained k) (ByChain k) c limit
 
 joins_not : joined_by true L.Comma ≡ Nothing
 unfolding joined_by
@@ -173,7 +173,7 @@ same_chain_itself Or = refl
 -- a separator is above what its parts may be
 separator_shut :
     {s : Series} {b : Between} {c : Bool} {limit : ℕ} → Sorted s b c limit
-      → (x : Lexeme) (us : List Lexeme) → Separates b c x → Shut c (x ∷ us) limit
+    → (x : Lexeme) (us : List Lexeme) → Separates b c x → Shut c (x ∷ us) limit
 separator_shut sorted_arguments x us e =
     subst (λ y. Shut true (y ∷ us) 1200) (sym e) (subst (λ j. ShutAt j 1200) (sym joins_not) tt)
 separator_shut sorted_elements x us e =
@@ -183,55 +183,55 @@ separator_shut (sorted_chain {limit = limit} h z) x us e = subst (λ j. ShutAt j
 -- a separator leads on to the next part
 separated :
     {s : Series} {b : Between} {c : Bool} {limit : ℕ} → Sorted s b c limit
-      → (x : Lexeme) (us : List Lexeme) → Separates b c x
-      → (l : ℕ) (ms : List Tree) (d : Bool) (outer : ℕ) (stack : List Frame)
-      → parts s l ms d outer stack c (x ∷ us) ≡ Start c limit (InParts s l ms d outer ∷ stack) us
+    → (x : Lexeme) (us : List Lexeme) → Separates b c x
+    → (l : ℕ) (ms : List Tree) (d : Bool) (outer : ℕ) (stack : List Frame)
+    → parts s l ms d outer stack c (x ∷ us) ≡ Start c limit (InParts s l ms d outer ∷ stack) us
 separated (sorted_arguments {w = w}) x us e l ms d outer stack =
     subst
-      (λ y.
-         parts (Arguments w) l ms d outer stack true (y ∷ us)
-           ≡ Start true 1200 (InParts (Arguments w) l ms d outer ∷ stack) us) (sym e) refl
+    (λ y.
+    parts (Arguments w) l ms d outer stack true (y ∷ us)
+    ≡ Start true 1200 (InParts (Arguments w) l ms d outer ∷ stack) us) (sym e) refl
 separated sorted_elements x us e l ms d outer stack =
     subst
-      (λ y.
-         parts Elements l ms d outer stack true (y ∷ us)
-           ≡ Start true 1200 (InParts Elements l ms d outer ∷ stack) us) (sym e) refl
+    (λ y.
+    parts Elements l ms d outer stack true (y ∷ us)
+    ≡ Start true 1200 (InParts Elements l ms d outer ∷ stack) us) (sym e) refl
 separated (sorted_chain {k = k} {c = c} {limit = limit} h z) x us e l ms d outer stack =
     ap (λ j. on_chain k l ms d outer stack c (x ∷ us) j us) e
     ∙ ap
-        (λ b.
-           cond b (Start c (rank k - 1) (InParts (Chained k) l ms d outer ∷ stack) us)
-             (Done d outer stack (over (rank k) (rank k) (made_chain k l ms)) (x ∷ us)))
-        (same_chain_itself k)
+    (λ b.
+    cond b (Start c (rank k - 1) (InParts (Chained k) l ms d outer ∷ stack) us)
+    (Done d outer stack (over (rank k) (rank k) (made_chain k l ms)) (x ∷ us)))
+    (same_chain_itself k)
     ∙ ap (λ m. Start c m (InParts (Chained k) l ms d outer ∷ stack) us) (sym z)
 
 -- after a part with nothing joined to it, the frame takes it
 pub stay_step :
     (c : Bool) (limit : ℕ) (stack : List Frame) (p : Part Tree) (r : List Lexeme)
-      → Shut c r limit → (t : State) → reduce c stack p r ≡ t → Leads (Done c limit stack p r) t
+    → Shut c r limit → (t : State) → reduce c stack p r ≡ t → Leads (Done c limit stack p r) t
 stay_step c limit stack p r h t e =
     onward
-      (subst (λ u. Leads u t)
-         (sym (ap (λ n. turn n stack (reduce c stack p r)) (stays c limit p r h) ∙ e)) here)
+    (subst (λ u. Leads u t)
+    (sym (ap (λ n. turn n stack (reduce c stack p r)) (stays c limit p r h) ∙ e)) here)
 
 push_step :
     (c : Bool) (limit : ℕ) (stack : List Frame) (p : Part Tree) (r : List Lexeme) (d : Bool) (m : ℕ)
-      (f : Frame) (us : List Lexeme)
-      → next c limit p r ≡ Push d m f us → Leads (Done c limit stack p r) (Start d m (f ∷ stack) us)
+    (f : Frame) (us : List Lexeme)
+    → next c limit p r ≡ Push d m f us → Leads (Done c limit stack p r) (Start d m (f ∷ stack) us)
 push_step c limit stack p r d m f us e =
     onward
-      (subst (λ u. Leads u (Start d m (f ∷ stack) us))
-         (sym (ap (λ n. turn n stack (reduce c stack p r)) e)) here)
+    (subst (λ u. Leads u (Start d m (f ∷ stack) us))
+    (sym (ap (λ n. turn n stack (reduce c stack p r)) e)) here)
 
 word_step :
     (c : Bool) (limit : ℕ) (stack : List Frame) (w : List ℕ) (q : Bool) (l : ℕ) (ts : List Lexeme)
-      (a : Role)
-      → role limit w ts ≡ a
-      → Leads (Start c limit stack (L.Word w q l ∷ ts)) (on_role c limit stack l (w ∷ []) ts a)
+    (a : Role)
+    → role limit w ts ≡ a
+    → Leads (Start c limit stack (L.Word w q l ∷ ts)) (on_role c limit stack l (w ∷ []) ts a)
 word_step c limit stack w q l ts a e =
     onward
-      (subst (λ u. Leads u (on_role c limit stack l (w ∷ []) ts a))
-         (sym (ap (on_role c limit stack l (w ∷ []) ts) e)) here)
+    (subst (λ u. Leads u (on_role c limit stack l (w ∷ []) ts a))
+    (sym (ap (on_role c limit stack l (w ∷ []) ts) e)) here)
 
 compound_role :
     (limit : ℕ) (w : List ℕ) (k : ℕ) (ts : List Lexeme) → role limit w (L.OpenCt k ∷ ts) ≡ Compound
@@ -240,9 +240,9 @@ compound_role limit w k ts = refl
 
 paren_step :
     (c : Bool) (limit : ℕ) (stack : List Frame) (x : Lexeme) (ts : List Lexeme)
-      → is_paren x ≡ true
-      → Leads (Start c limit stack (x ∷ ts))
-          (Start false 1200 (InParen (line x) c limit ∷ stack) ts)
+    → is_paren x ≡ true
+    → Leads (Start c limit stack (x ∷ ts))
+    (Start false 1200 (InParen (line x) c limit ∷ stack) ts)
 paren_step c limit stack (L.Open l) ts e = onward here
 paren_step c limit stack (L.OpenCt l) ts e = onward here
 paren_step c limit stack _ ts e = cc
@@ -254,7 +254,7 @@ is_list_close _ = false
 -- no term begins with the end of a list
 begins :
     {c : Bool} {limit : ℕ} {ts r : List Lexeme} {p : Part Tree} → Reads c limit ts p r
-      → is_list_close ts ≡ false
+    → is_list_close ts ≡ false
 unfolding is_list_close
 begins variable = refl
 begins number = refl
@@ -266,7 +266,7 @@ begins (compound {k = k} {x = x} {ts = ts} e d) = go x e
   where
     go :
         (x : Lexeme) {ps : List (List ℕ)}
-          → callee x ≡ Some ps → is_list_close (x ∷ L.OpenCt k ∷ ts) ≡ false
+        → callee x ≡ Some ps → is_list_close (x ∷ L.OpenCt k ∷ ts) ≡ false
     go L.ListClose e = cc
     go _ e = refl
 begins (paren {x = x} {ts = ts} e d h) = go x e
@@ -285,35 +285,35 @@ begins (chained d j h ps) = begins d
 -- a list that isn't empty begins with a part
 list_step :
     {s : Between} {c' : Bool} {m : ℕ} {ts r : List Lexeme} {ms : List Tree} (c : Bool) (limit : ℕ)
-      (stack : List Frame) (l : ℕ)
-      → Parts s c' m ts ms r
-      → on_list c limit stack l ts ≡ Start true 1200 (InParts Elements l [] c limit ∷ stack) ts
+    (stack : List Frame) (l : ℕ)
+    → Parts s c' m ts ms r
+    → on_list c limit stack l ts ≡ Start true 1200 (InParts Elements l [] c limit ∷ stack) ts
 unfolding is_list_close
 list_step {ts = ts} c limit stack l d = go ts (first d)
   where
     first :
         {s : Between} {c' : Bool} {m : ℕ} {ts r : List Lexeme} {ms : List Tree}
-          → Parts s c' m ts ms r → is_list_close ts ≡ false
+        → Parts s c' m ts ms r → is_list_close ts ≡ false
     first (last e k) = begins e
     first (more e k z ps) = begins e
 
     go :
         (ts : List Lexeme)
-          → is_list_close ts ≡ false
-          → on_list c limit stack l ts ≡ Start true 1200 (InParts Elements l [] c limit ∷ stack) ts
+        → is_list_close ts ≡ false
+        → on_list c limit stack l ts ≡ Start true 1200 (InParts Elements l [] c limit ∷ stack) ts
     go (L.ListClose ∷ ts) e = cc
     go _ e = refl
 
 list_leads :
     {s : Between} {c' : Bool} {m : ℕ} {ts r : List Lexeme} {ms : List Tree} (c : Bool) (limit : ℕ)
-      (stack : List Frame) (l : ℕ)
-      → Parts s c' m ts ms r
-      → Leads (Start c limit stack (L.ListOpen l ∷ ts))
-          (Start true 1200 (InParts Elements l [] c limit ∷ stack) ts)
+    (stack : List Frame) (l : ℕ)
+    → Parts s c' m ts ms r
+    → Leads (Start c limit stack (L.ListOpen l ∷ ts))
+    (Start true 1200 (InParts Elements l [] c limit ∷ stack) ts)
 list_leads {ts = ts} c limit stack l d =
     onward
-      (subst (λ u. Leads u (Start true 1200 (InParts Elements l [] c limit ∷ stack) ts))
-         (sym (list_step c limit stack l d)) here)
+    (subst (λ u. Leads u (Start true 1200 (InParts Elements l [] c limit ∷ stack) ts))
+    (sym (list_step c limit stack l d)) here)
 
 infix_close : (c : Bool) → joined_by c L.Close ≡ Nothing
 unfolding joined_by
@@ -332,53 +332,53 @@ infix_bar false = refl
 
 shut_by :
     (c : Bool) (x : Lexeme) (us : List Lexeme) (b : ℕ) (j : Infix)
-      → joined_by c x ≡ j → ShutAt j b → Shut c (x ∷ us) b
+    → joined_by c x ≡ j → ShutAt j b → Shut c (x ∷ us) b
 shut_by c x us b j e h = subst (λ j. ShutAt j b) (sym e) h
 
 binary_push :
     (c : Bool) (limit : ℕ) (p : Part Tree) (x : Lexeme) (us : List Lexeme) (n : ℕ) (ly ry : Bool)
-      → joined_by c x ≡ Binary n ly ry → n ≤ limit → p.number ≤ operand ly n → p.reach < n
-      → next c limit p (x ∷ us)
-          ≡ Push c (operand ry n)
-              (AtRight (line_of p.tree) (name_of x) n (operand ry n) p.tree c limit) us
+    → joined_by c x ≡ Binary n ly ry → n ≤ limit → p.number ≤ operand ly n → p.reach < n
+    → next c limit p (x ∷ us)
+    ≡ Push c (operand ry n)
+    (AtRight (line_of p.tree) (name_of x) n (operand ry n) p.tree c limit) us
 binary_push c limit p x us n ly ry e h i j =
     ap (next_at c limit p x us) e
     ∙ ap
-        (λ b.
-           cond b
-             (Push c (operand ry n)
-                (AtRight (line_of p.tree) (name_of x) n (operand ry n) p.tree c limit) us) Stay)
-        (both_true (le-leb n limit h)
-           (both_true (le-leb p.number (operand ly n) i) (lt-ltb p.reach n j)))
+    (λ b.
+    cond b
+    (Push c (operand ry n)
+    (AtRight (line_of p.tree) (name_of x) n (operand ry n) p.tree c limit) us) Stay)
+    (both_true (le-leb n limit h)
+    (both_true (le-leb p.number (operand ly n) i) (lt-ltb p.reach n j)))
 
 chain_push :
     (c : Bool) (limit : ℕ) (p : Part Tree) (x : Lexeme) (us : List Lexeme) (k : Chain)
-      → joined_by c x ≡ Chains k → rank k ≤ limit → p.number < rank k
-      → next c limit p (x ∷ us)
-          ≡ Push c (rank k - 1) (InParts (Chained k) (line_of p.tree) (p.tree ∷ []) c limit) us
+    → joined_by c x ≡ Chains k → rank k ≤ limit → p.number < rank k
+    → next c limit p (x ∷ us)
+    ≡ Push c (rank k - 1) (InParts (Chained k) (line_of p.tree) (p.tree ∷ []) c limit) us
 chain_push c limit p x us k e h i =
     ap (next_at c limit p x us) e
     ∙ ap
-        (λ b.
-           cond b
-             (Push c (rank k - 1) (InParts (Chained k) (line_of p.tree) (p.tree ∷ []) c limit) us)
-             Stay) (both_true (le-leb (rank k) limit h) (lt-ltb p.number (rank k) i))
+    (λ b.
+    cond b
+    (Push c (rank k - 1) (InParts (Chained k) (line_of p.tree) (p.tree ∷ []) c limit) us)
+    Stay) (both_true (le-leb (rank k) limit h) (lt-ltb p.number (rank k) i))
 
 -- a chain ends where something else follows
 chain_ends :
     (k : Chain) (l : ℕ) (ms : List Tree) (d : Bool) (outer : ℕ) (stack : List Frame) (c : Bool)
-      (r : List Lexeme)
-      → Shut c r (rank k)
-      → parts (Chained k) l ms d outer stack c r
-          ≡ Done d outer stack (over (rank k) (rank k) (made_chain k l ms)) r
+    (r : List Lexeme)
+    → Shut c r (rank k)
+    → parts (Chained k) l ms d outer stack c r
+    ≡ Done d outer stack (over (rank k) (rank k) (made_chain k l ms)) r
 chain_ends k l ms d outer stack c [] h = refl
 chain_ends k l ms d outer stack c (x ∷ ts) h = go (joined_by c x) h
   where
     go :
         (j : Infix)
-          → ShutAt j (rank k)
-          → on_chain k l ms d outer stack c (x ∷ ts) j ts
-              ≡ Done d outer stack (over (rank k) (rank k) (made_chain k l ms)) (x ∷ ts)
+        → ShutAt j (rank k)
+        → on_chain k l ms d outer stack c (x ∷ ts) j ts
+        ≡ Done d outer stack (over (rank k) (rank k) (made_chain k l ms)) (x ∷ ts)
     go Nothing h = refl
     go (Binary n ly ry) h = refl
     go (Chains j) h = ap (λ b. cond b (Start c (rank k - 1) (InParts (Chained k) l ms d outer ∷ stack) ts) (Done d outer stack (over (rank k) (rank k) (made_chain k l ms)) (x ∷ ts))) (differ k j h)
@@ -395,30 +395,30 @@ rank_positive Or = omega arith
 
 path_alone :
     (c : Bool) (limit : ℕ) (stack : List Frame) (l : ℕ) (ps : List (List ℕ)) (r : List Lexeme)
-      → is_open_ct r ≡ false
-      → on_path c limit stack l ps r ≡ Done c limit stack (closed (App l ps (trees []))) r
+    → is_open_ct r ≡ false
+    → on_path c limit stack l ps r ≡ Done c limit stack (closed (App l ps (trees []))) r
 path_alone c limit stack l ps (L.OpenCt k ∷ r) e = cc
 path_alone c limit stack l ps _ e = refl
 
 call_step :
     (c : Bool) (limit : ℕ) (stack : List Frame) (x : Lexeme) (ps : List (List ℕ)) (k : ℕ)
-      (ts : List Lexeme)
-      → callee x ≡ Some ps
-      → Leads (Start c limit stack (x ∷ L.OpenCt k ∷ ts))
-          (Start true 1200 (InParts (Arguments ps) (line x) [] c limit ∷ stack) ts)
+    (ts : List Lexeme)
+    → callee x ≡ Some ps
+    → Leads (Start c limit stack (x ∷ L.OpenCt k ∷ ts))
+    (Start true 1200 (InParts (Arguments ps) (line x) [] c limit ∷ stack) ts)
 call_step c limit stack (L.Word w q l) ps k ts e =
     let names : w ∷ [] ≡ ps = cc in
     subst
-      (λ ps.
-         Leads (Start c limit stack (L.Word w q l ∷ L.OpenCt k ∷ ts))
-           (Start true 1200 (InParts (Arguments ps) l [] c limit ∷ stack) ts)) names
-      (word_step c limit stack w q l (L.OpenCt k ∷ ts) Compound (compound_role limit w k ts))
+    (λ ps.
+    Leads (Start c limit stack (L.Word w q l ∷ L.OpenCt k ∷ ts))
+    (Start true 1200 (InParts (Arguments ps) l [] c limit ∷ stack) ts)) names
+    (word_step c limit stack w q l (L.OpenCt k ∷ ts) Compound (compound_role limit w k ts))
 call_step c limit stack (L.Path qs l) ps k ts e =
     let names : qs ≡ ps = cc in
     subst
-      (λ ps.
-         Leads (Start c limit stack (L.Path qs l ∷ L.OpenCt k ∷ ts))
-           (Start true 1200 (InParts (Arguments ps) l [] c limit ∷ stack) ts)) names (onward here)
+    (λ ps.
+    Leads (Start c limit stack (L.Path qs l ∷ L.OpenCt k ∷ ts))
+    (Start true 1200 (InParts (Arguments ps) l [] c limit ∷ stack) ts)) names (onward here)
 call_step c limit stack _ ps k ts e = cc
 
 pub chain_is : (k : Chain) (l : ℕ) (ms : List Tree) → made_chain k l ms ≡ chain k l ms
@@ -428,8 +428,8 @@ chain_is Or l ms = refl
 mutual
   pub complete :
       {c : Bool} {limit : ℕ} {ts r : List Lexeme} {p : Part Tree} → Reads c limit ts p r
-        → (stack : List Frame) → p.number ≤ limit → Shut c r p.reach
-        → Leads (Start c limit stack ts) (Done c limit stack p r)
+      → (stack : List Frame) → p.number ≤ limit → Shut c r p.reach
+      → Leads (Start c limit stack ts) (Done c limit stack p r)
   complete variable stack h s = onward here
   complete number stack h s = onward here
   complete string stack h s = onward here
@@ -437,12 +437,12 @@ mutual
   complete (name {l = l} {w = w} {q = q} {r = r} e) stack h s = word_step _ _ stack w q l r _ e
   complete (path {c = c} {limit = limit} {l = l} {ps = ps} {r = r} e) stack h s =
       onward
-        (subst (λ u. Leads u (Done c limit stack (closed (App l ps (trees []))) r))
-           (sym (path_alone c limit stack l ps r e)) here)
+      (subst (λ u. Leads u (Done c limit stack (closed (App l ps (trees []))) r))
+      (sym (path_alone c limit stack l ps r e)) here)
   complete (compound {c = c} {limit = limit} {k = k} {x = x} {ps = ps} {ts = ts} {r = r} e d) stack h s =
       then (call_step c limit stack x ps k ts e)
       (complete_parts d sorted_arguments (line x) [] c limit stack
-         (shut_by true L.Close r 1200 Nothing (infix_close true) tt))
+      (shut_by true L.Close r 1200 Nothing (infix_close true) tt))
   complete (paren {c = c} {limit = limit} {x = x} {ts = ts} {r = r} {p = p} e d k) stack h s =
       then (paren_step c limit stack x ts e)
       (then (complete d (InParen (line x) c limit ∷ stack) k (shut_by false L.Close r p.reach Nothing (infix_close false) tt))
@@ -451,7 +451,7 @@ mutual
   complete (elements {c = c} {limit = limit} {l = l} {ts = ts} {r = r} ps) stack h s =
       then (list_leads c limit stack l ps)
       (complete_parts ps sorted_elements l [] c limit stack
-         (shut_by true L.ListClose r 1200 Nothing (infix_list_close true) tt))
+      (shut_by true L.ListClose r 1200 Nothing (infix_list_close true) tt))
   complete (tailed {c = c} {limit = limit} {l = l} {ts = ts} {us = us} {r = r} {es = es} {p = p} ps d k) stack h s =
       then (list_leads c limit stack l ps)
       (then (complete_parts ps sorted_elements l [] c limit stack (shut_by true L.Bar us 1200 Nothing (infix_bar true) tt))
@@ -483,28 +483,28 @@ mutual
       (then (push_step c limit stack a (x ∷ us) _ _ _ _ (chain_push c limit a x us k j h i))
       (subst (Leads (Start c (rank k - 1) (InParts (Chained k) (line_of a.tree) (a.tree ∷ []) c limit ∷ stack) us))
       (chain_ends k (line_of a.tree) (a.tree ∷ ms) c limit stack c r s ∙ ap
-         (λ t. Done c limit stack (over (rank k) (rank k) t) r)
-         (chain_is k (line_of a.tree) (a.tree ∷ ms)))
+      (λ t. Done c limit stack (over (rank k) (rank k) t) r)
+      (chain_is k (line_of a.tree) (a.tree ∷ ms)))
       (complete_parts ps (sorted_chain (omega arith) refl) (line_of a.tree) (a.tree ∷ []) c limit stack (shut_below c r (rank k - 1) (rank k) (omega arith) s))))
 
   pub complete_parts :
       {b : Between} {c : Bool} {limit : ℕ} {ts r : List Lexeme} {ms : List Tree}
-        → Parts b c limit ts ms r → {s : Series} → Sorted s b c limit
-        → (l : ℕ) (before : List Tree) (d : Bool) (outer : ℕ) (stack : List Frame) → Shut c r limit
-        → Leads (Start c limit (InParts s l before d outer ∷ stack) ts)
-            (parts s l (before ++ ms) d outer stack c r)
+      → Parts b c limit ts ms r → {s : Series} → Sorted s b c limit
+      → (l : ℕ) (before : List Tree) (d : Bool) (outer : ℕ) (stack : List Frame) → Shut c r limit
+      → Leads (Start c limit (InParts s l before d outer ∷ stack) ts)
+      (parts s l (before ++ ms) d outer stack c r)
   complete_parts (last {c = c} {limit = limit} {r = r} {p = p} e k) {s} so l before d outer stack h =
       let low : p.reach ≤ p.number = reach_below e in
       then
-        (complete e (InParts s l before d outer ∷ stack) k
-           (shut_below c r p.reach limit (omega arith) h))
+      (complete e (InParts s l before d outer ∷ stack) k
+      (shut_below c r p.reach limit (omega arith) h))
       (stay_step c limit (InParts s l before d outer ∷ stack) p r h _ refl)
   complete_parts (more {c = c} {limit = limit} {x = x} {us = us} {r = r} {p = p} {ms = ms} e k z ps) {s} so l before d outer stack h =
       let low : p.reach ≤ p.number = reach_below e in
       let shut = separator_shut so x us z in
       then
-        (complete e (InParts s l before d outer ∷ stack) k
-           (shut_below c (x ∷ us) p.reach limit (omega arith) shut))
+      (complete e (InParts s l before d outer ∷ stack) k
+      (shut_below c (x ∷ us) p.reach limit (omega arith) shut))
       (then (stay_step c limit (InParts s l before d outer ∷ stack) p (x ∷ us) shut _ (separated so x us z l (before ++ (p.tree ∷ [])) d outer stack))
       (subst (λ ms. Leads (Start c limit (InParts s l (before ++ (p.tree ∷ [])) d outer ∷ stack) us) (parts s l ms d outer stack c r)) (joined_rows before (p.tree ∷ []) ms)
       (complete_parts ps so l (before ++ (p.tree ∷ [])) d outer stack h)))

@@ -34,14 +34,14 @@ Found s r = IfSome r (λ r. (p : Part Seen) × (s ≡ Yes p) × (p.tree ≡ read
 
 pub found_reads :
     (ts : List Lexeme) (s : StateSeen) (r : Option Reading)
-      → Runs ts s → Found s r → IfSome r (λ r. (t : Tree) × ReadsTerm ts t 1200 × Shows t r)
+    → Runs ts s → Found s r → IfSome r (λ r. (t : Tree) × ReadsTerm ts t 1200 × Shows t r)
 found_reads ts s None d h = tt
 found_reads ts s (Some r) d (p, e, f) = let (t, run, is) = leads_image d (Start false 1200 [] ts) refl in go t run (is ∙ e)
   where
     go :
         (t : State)
-          → Leads (Start false 1200 [] ts) t → image_state t ≡ Yes p
-          → (t : Tree) × ReadsTerm ts t 1200 × Shows t r
+        → Leads (Start false 1200 [] ts) t → image_state t ≡ Yes p
+        → (t : Tree) × ReadsTerm ts t 1200 × Shows t r
     go (Yes q) run is = let same : image_part q ≡ p = cc in (q.tree, sound ts q run, shows q.tree r (ap (λ (p : Part Seen). p.tree) same ∙ f))
     go (Start c limit stack us) run is = cc
     go (Done c limit stack q us) run is = cc
@@ -53,7 +53,7 @@ none_reads ts s d e u reads = let (t, run, is) = leads_image d (Start false 1200
   where
     go :
         (t : State)
-          → Leads (Start false 1200 [] ts) t → image_state t ≡ No → ReadsTerm ts u 1200 → ⊥
+        → Leads (Start false 1200 [] ts) t → image_state t ≡ No → ReadsTerm ts u 1200 → ⊥
     go No run is (q, k, l, g) = let same : No ≡ Yes q = one_end run (answers k l) refl refl in cc
     go (Start c limit stack us) run is z = cc
     go (Done c limit stack q us) run is z = cc
@@ -61,7 +61,7 @@ none_reads ts s d e u reads = let (t, run, is) = leads_image d (Start false 1200
 
 pub at_some :
     {A : Type 0} (r : Option Reading) (P : A → Reading → Type 0) (a : A)
-      → IfSome r (λ r. (x : A) → P x r) → IfSome r (λ r. P a r)
+    → IfSome r (λ r. (x : A) → P x r) → IfSome r (λ r. P a r)
 at_some None P a h = tt
 at_some (Some t) P a h = h a
 

@@ -50,47 +50,53 @@ mutual
   image_depth (Neg l n) = one_depth l _ _
   image_depth (Str l s) = leaf_depth l _
   image_depth (App l w ts) =
-      omega
-        (arith,
-         kept_depth l (S.App w (tms (images no_seen ts).values)) (1 + (images no_seen ts).depth)
-           (images no_seen ts).large,
-         images_depth no_seen ts,
-         none_depth)
+      omega (
+        arith,
+        kept_depth l (S.App w (tms (images no_seen ts).values)) (1 + (images no_seen ts).depth)
+            (images no_seen ts).large,
+        images_depth no_seen ts,
+        none_depth,
+      )
   image_depth (Items l ts) =
-      omega
-        (arith,
-         kept_depth l (S.Items (tms (images no_seen ts).values)) (1 + (images no_seen ts).depth)
-           (images no_seen ts).large,
-         images_depth no_seen ts,
-         none_depth)
+      omega (
+        arith,
+        kept_depth l (S.Items (tms (images no_seen ts).values)) (1 + (images no_seen ts).depth)
+            (images no_seen ts).large,
+        images_depth no_seen ts,
+        none_depth,
+      )
   image_depth (Tailed l ts t) =
-      omega
-        (arith,
-         kept_depth l (S.Tailed (tms (images no_seen ts).values) (image t).value)
-           (1 + max (images no_seen ts).depth (image t).depth)
-           (or_else (images no_seen ts).large (image t).large),
-         images_depth no_seen ts,
-         none_depth,
-         image_depth t)
+      omega (
+        arith,
+        kept_depth l (S.Tailed (tms (images no_seen ts).values) (image t).value)
+            (1 + max (images no_seen ts).depth (image t).depth)
+            (or_else (images no_seen ts).large (image t).large),
+        images_depth no_seen ts,
+        none_depth,
+        image_depth t,
+      )
   image_depth (Conj l ts) =
-      omega
-        (arith,
-         kept_depth l (S.Conj (tms (images no_seen ts).values)) (1 + (images no_seen ts).depth)
-           (images no_seen ts).large,
-         images_depth no_seen ts,
-         none_depth)
+      omega (
+        arith,
+        kept_depth l (S.Conj (tms (images no_seen ts).values)) (1 + (images no_seen ts).depth)
+            (images no_seen ts).large,
+        images_depth no_seen ts,
+        none_depth,
+      )
   image_depth (Disj l ts) =
-      omega
-        (arith,
-         kept_depth l (S.Disj (tms (images no_seen ts).values)) (1 + (images no_seen ts).depth)
-           (images no_seen ts).large,
-         images_depth no_seen ts,
-         none_depth)
+      omega (
+        arith,
+        kept_depth l (S.Disj (tms (images no_seen ts).values)) (1 + (images no_seen ts).depth)
+            (images no_seen ts).large,
+        images_depth no_seen ts,
+        none_depth,
+      )
   image_depth (Inside l t) =
-      omega
-        (arith,
-         kept_depth l (node_seen (image t).value) (1 + (image t).depth) (image t).large,
-         image_depth t)
+      omega (
+        arith,
+        kept_depth l (node_seen (image t).value) (1 + (image t).depth) (image t).large,
+        image_depth t,
+      )
 
   images_depth :
       (r : SeenRow) (ts : Trees) → (images r ts).depth ≡ max r.depth (min (deepest ts) 257)
@@ -114,7 +120,7 @@ leaf_large l n = refl
 
 one_large :
     (l : ℕ) (n : PlainNode) (b : Bool)
-      → (cond b (leaf l n) (seen_large l)).large ≡ cond b None (Some l)
+    → (cond b (leaf l n) (seen_large l)).large ≡ cond b None (Some l)
 unfolding leaf seen_large
 one_large l n true = refl
 one_large l n false = refl
@@ -137,8 +143,8 @@ or_none (Some l) = refl
 
 from_none :
     (ts : Trees)
-      → (images no_seen ts).large ≡ or_else no_seen.large (first_large ts)
-      → (images no_seen ts).large ≡ first_large ts
+    → (images no_seen ts).large ≡ or_else no_seen.large (first_large ts)
+    → (images no_seen ts).large ≡ first_large ts
 from_none ts e = e ∙ ap (λ a. or_else a (first_large ts)) none_large
 
 mutual
@@ -153,7 +159,7 @@ mutual
   image_large (Items l ts) = kept_large l _ _ _ ∙ from_none ts (images_large no_seen ts)
   image_large (Tailed l ts t) =
       kept_large l _ _ _ ∙
-        (λ i. or_else (from_none ts (images_large no_seen ts) i) (image_large t i))
+      (λ i. or_else (from_none ts (images_large no_seen ts) i) (image_large t i))
   image_large (Conj l ts) = kept_large l _ _ _ ∙ from_none ts (images_large no_seen ts)
   image_large (Disj l ts) = kept_large l _ _ _ ∙ from_none ts (images_large no_seen ts)
   image_large (Inside l t) = kept_large l _ _ _ ∙ image_large t
@@ -163,7 +169,7 @@ mutual
   images_large r (more_trees t ts) =
       images_large (seen_then r (image t)) ts
       ∙ ap (λ a. or_else a (first_large ts))
-          (then_large r (image t) ∙ ap (or_else r.large) (image_large t))
+      (then_large r (image t) ∙ ap (or_else r.large) (image_large t))
       ∙ or_assoc r.large (too_large t) (first_large ts)
 
 -- terms
@@ -179,7 +185,7 @@ leaf_value l n = refl
 
 one_value :
     (l : ℕ) (n : PlainNode) (b : Bool)
-      → cond b None (Some l) ≡ None → (cond b (leaf l n) (seen_large l)).value ≡ at n l
+    → cond b None (Some l) ≡ None → (cond b (leaf l n) (seen_large l)).value ≡ at n l
 one_value l n true e = leaf_value l n
 one_value l n false e = cc
 
@@ -203,7 +209,7 @@ behind_none (t ∷ ts) = ap (more_terms t) (behind_none ts)
 
 behind_push :
     (ts : List PlainTerm) (t : PlainTerm) (us : PlainTerms)
-      → behind (ts ++ t ∷ []) us ≡ behind ts (more_terms t us)
+    → behind (ts ++ t ∷ []) us ≡ behind ts (more_terms t us)
 unfolding behind
 behind_push [] t us = refl
 behind_push (u ∷ ts) t us = ap (more_terms u) (behind_push ts t us)
@@ -221,8 +227,8 @@ moved_node l (at n k) = refl
 
 behind_nothing :
     (ts : Trees)
-      → tms (images no_seen ts).values ≡ behind no_seen.values (terms ts)
-      → tms (images no_seen ts).values ≡ terms ts
+    → tms (images no_seen ts).values ≡ behind no_seen.values (terms ts)
+    → tms (images no_seen ts).values ≡ terms ts
 unfolding behind
 behind_nothing ts e = e ∙ ap (λ us. behind us (terms ts)) none_values
 
@@ -236,23 +242,23 @@ mutual
   image_value (Str l s) h e = leaf_value l _
   image_value (App l w ts) h e =
       kept_value l _ _ _ (omega (arith, images_depth no_seen ts, none_depth)) ∙ ap
-        (λ us. at (S.App w us) l) (behind_nothing ts (images_value no_seen ts (omega arith) e))
+      (λ us. at (S.App w us) l) (behind_nothing ts (images_value no_seen ts (omega arith) e))
   image_value (Items l ts) h e =
       kept_value l _ _ _ (omega (arith, images_depth no_seen ts, none_depth)) ∙ ap
-        (λ us. at (S.Items us) l) (behind_nothing ts (images_value no_seen ts (omega arith) e))
+      (λ us. at (S.Items us) l) (behind_nothing ts (images_value no_seen ts (omega arith) e))
   image_value (Tailed l ts t) h e =
       kept_value l _ _ _ (omega (arith, images_depth no_seen ts, none_depth, image_depth t))
       ∙ (λ i.
-           at
-             (S.Tailed
-                (behind_nothing ts (images_value no_seen ts (omega arith) (first_none _ _ e)) i)
-                (image_value t (omega arith) (second_none _ _ e) i)) l)
+      at
+      (S.Tailed
+      (behind_nothing ts (images_value no_seen ts (omega arith) (first_none _ _ e)) i)
+      (image_value t (omega arith) (second_none _ _ e) i)) l)
   image_value (Conj l ts) h e =
       kept_value l _ _ _ (omega (arith, images_depth no_seen ts, none_depth)) ∙ ap
-        (λ us. at (S.Conj us) l) (behind_nothing ts (images_value no_seen ts (omega arith) e))
+      (λ us. at (S.Conj us) l) (behind_nothing ts (images_value no_seen ts (omega arith) e))
   image_value (Disj l ts) h e =
       kept_value l _ _ _ (omega (arith, images_depth no_seen ts, none_depth)) ∙ ap
-        (λ us. at (S.Disj us) l) (behind_nothing ts (images_value no_seen ts (omega arith) e))
+      (λ us. at (S.Disj us) l) (behind_nothing ts (images_value no_seen ts (omega arith) e))
   image_value (Inside l t) h e =
       kept_value l _ _ _ (omega (arith, image_depth t))
       ∙ ap (λ u. at (node_seen u) l) (image_value t (omega arith) e)
@@ -260,12 +266,12 @@ mutual
 
   images_value :
       (r : SeenRow) (ts : Trees)
-        → deepest ts ≤ 256 → first_large ts ≡ None
-        → tms (images r ts).values ≡ behind r.values (terms ts)
+      → deepest ts ≤ 256 → first_large ts ≡ None
+      → tms (images r ts).values ≡ behind r.values (terms ts)
   images_value r no_tree h e = behind_none r.values
   images_value r (more_trees t ts) h e =
       images_value (seen_then r (image t)) ts (omega arith) (second_none _ _ e)
       ∙ ap (λ us. behind us (terms ts)) (then_values r (image t))
       ∙ behind_push r.values (image t).value (terms ts)
       ∙ ap (λ u. behind r.values (more_terms u (terms ts)))
-          (image_value t (omega arith) (first_none _ _ e))
+      (image_value t (omega arith) (first_none _ _ e))

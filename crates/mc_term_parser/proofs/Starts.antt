@@ -17,7 +17,7 @@ use Rattle.mc_term_parser.proofs.Steps.{more_left, after_first}
 
 pub role_compound :
     (limit : ℕ) (w : List ℕ) (ts : List Lexeme)
-      → mark_of ts ≡ MV.OpenCt → Compound ≡ role limit w ts
+    → mark_of ts ≡ MV.OpenCt → Compound ≡ role limit w ts
 unfolding role
 role_compound limit w (L.OpenCt l ∷ ts) e = refl
 role_compound limit w [] e = cc
@@ -29,37 +29,37 @@ role_compound limit w (t ∷ ts) e = cc
 
 pub role_negative :
     (limit n : ℕ) (w : List ℕ) (ts : List Lexeme)
-      → minus_next w ts ≡ Some n → Negative n ≡ role limit w ts
+    → minus_next w ts ≡ Some n → Negative n ≡ role limit w ts
 unfolding role
 role_negative limit n w ts e = by_name (same_name (codes "-") w) refl e
   where
     by_tokens :
         (ts : List Lexeme)
-          → same_name (codes "-") w ≡ true → number_next ts ≡ Some n → Negative n ≡ role limit w ts
+        → same_name (codes "-") w ≡ true → number_next ts ≡ Some n → Negative n ≡ role limit w ts
     by_tokens (L.Int m l ∷ ts) h e = let same : n ≡ m = cc in ap Negative same ∙ sym (ap (λ t. cond t (Negative m) (prefix_role limit (prefix_row w) true)) h)
     by_tokens [] h e = cc
     by_tokens (t ∷ ts) h e = cc
 
     by_name :
         (t : Bool)
-          → same_name (codes "-") w ≡ t → cond t (number_next ts) None ≡ Some n
-          → Negative n ≡ role limit w ts
+        → same_name (codes "-") w ≡ t → cond t (number_next ts) None ≡ Some n
+        → Negative n ≡ role limit w ts
     by_name true h e = by_tokens ts h e
     by_name false h e = cc
 
 pub role_other :
     (limit : ℕ) (w : List ℕ) (ts : List Lexeme)
-      → mark_of ts ≢ MV.OpenCt → minus_next w ts ≡ None
-      → prefix_role limit (prefix_row w) (starts ts) ≡ role limit w ts
+    → mark_of ts ≢ MV.OpenCt → minus_next w ts ≡ None
+    → prefix_role limit (prefix_row w) (starts ts) ≡ role limit w ts
 unfolding role
 role_other limit w (L.OpenCt l ∷ ts) m e = absurd (m refl)
 role_other limit w (L.Int n l ∷ ts) m e = go (same_name (codes "-") w) e
   where
     go :
         (t : Bool)
-          → cond t (Some n) None ≡ None
-          → prefix_role limit (prefix_row w) true
-              ≡ cond t (Negative n) (prefix_role limit (prefix_row w) true)
+        → cond t (Some n) None ≡ None
+        → prefix_role limit (prefix_row w) true
+        ≡ cond t (Negative n) (prefix_role limit (prefix_row w) true)
     go true e = cc
     go false e = refl
 role_other limit w [] m e = refl
@@ -67,32 +67,32 @@ role_other limit w (t ∷ ts) m e = refl
 
 pub negative_on :
     (tokens : List Lexeme) (at : ℕ) (c : Bool) (limit : ℕ) (stack : List FrameSeen) (l n : ℕ)
-      → at < length tokens
-      → M.on_negative seen_making c limit stack l n (drop at tokens)
-          ≡ M.Done c limit stack (closed (seen_neg l n)) (drop (at + 1) tokens)
+    → at < length tokens
+    → M.on_negative seen_making c limit stack l n (drop at tokens)
+    ≡ M.Done c limit stack (closed (seen_neg l n)) (drop (at + 1) tokens)
 negative_on tokens at c limit stack l n h =
     let (x, e) = more_left tokens at h in ap (M.on_negative seen_making c limit stack l n) e
 
 pub compound_on :
     (tokens : List Lexeme) (at : ℕ) (c : Bool) (limit : ℕ) (stack : List FrameSeen) (l : ℕ)
-      (w : List (List ℕ))
-      → at < length tokens
-      → M.on_compound seen_making c limit stack l w (drop at tokens)
-          ≡ M.Start true 1200 (M.InParts (Arguments w) l no_seen c limit ∷ stack)
-              (drop (at + 1) tokens)
+    (w : List (List ℕ))
+    → at < length tokens
+    → M.on_compound seen_making c limit stack l w (drop at tokens)
+    ≡ M.Start true 1200 (M.InParts (Arguments w) l no_seen c limit ∷ stack)
+    (drop (at + 1) tokens)
 compound_on tokens at c limit stack l w h =
     let (x, e) = more_left tokens at h in ap (M.on_compound seen_making c limit stack l w) e
 
 open_next :
     (tokens : List Lexeme) (at : ℕ)
-      → mark_of (drop at tokens) ≡ MV.OpenCt
-      → (l : ℕ) × (drop at tokens ≡ L.OpenCt l ∷ drop (at + 1) tokens)
+    → mark_of (drop at tokens) ≡ MV.OpenCt
+    → (l : ℕ) × (drop at tokens ≡ L.OpenCt l ∷ drop (at + 1) tokens)
 open_next tokens at e = go (drop at tokens) refl e
   where
     go :
         (ts : List Lexeme)
-          → drop at tokens ≡ ts → mark_of ts ≡ MV.OpenCt
-          → (l : ℕ) × (drop at tokens ≡ L.OpenCt l ∷ drop (at + 1) tokens)
+        → drop at tokens ≡ ts → mark_of ts ≡ MV.OpenCt
+        → (l : ℕ) × (drop at tokens ≡ L.OpenCt l ∷ drop (at + 1) tokens)
     go (L.OpenCt l ∷ ts) z e = (l, after_first tokens at (L.OpenCt l) ts z)
     go [] z e = cc
     go (L.Close ∷ ts) z e = cc
@@ -103,11 +103,11 @@ open_next tokens at e = go (drop at tokens) refl e
 
 pub path_on :
     (tokens : List Lexeme) (at : ℕ) (c : Bool) (limit : ℕ) (stack : List FrameSeen) (l : ℕ)
-      (w : List (List ℕ))
-      → mark_of (drop at tokens) ≡ MV.OpenCt
-      → M.on_path seen_making c limit stack l w (drop at tokens)
-          ≡ M.Start true 1200 (M.InParts (Arguments w) l no_seen c limit ∷ stack)
-              (drop (at + 1) tokens)
+    (w : List (List ℕ))
+    → mark_of (drop at tokens) ≡ MV.OpenCt
+    → M.on_path seen_making c limit stack l w (drop at tokens)
+    ≡ M.Start true 1200 (M.InParts (Arguments w) l no_seen c limit ∷ stack)
+    (drop (at + 1) tokens)
 path_on tokens at c limit stack l w h =
     let (k, e) = open_next tokens at h in ap (M.on_path seen_making c limit stack l w) e
 

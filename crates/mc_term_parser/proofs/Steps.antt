@@ -25,7 +25,7 @@ use Rattle.mc_term_parser.specs.code.Views.{FrameSeen, StateSeen, part, frame, o
 -- the frames of a stack with one more on top
 onto_push :
     (fs : List Frame) (f : Frame) (below : List FrameSeen)
-      → onto below (fs ++ f ∷ []) ≡ frame f ∷ onto below fs
+    → onto below (fs ++ f ∷ []) ≡ frame f ∷ onto below fs
 onto_push [] f below = refl
 onto_push (g ∷ fs) f below = onto_push fs f (frame g ∷ below)
 
@@ -58,7 +58,7 @@ done_past tokens m s r b p q e i g =
 -- the tokens behind the first
 pub after_first :
     (tokens : List Lexeme) (at : ℕ) (x : Lexeme) (ts : List Lexeme)
-      → drop at tokens ≡ x ∷ ts → drop at tokens ≡ x ∷ drop (at + 1) tokens
+    → drop at tokens ≡ x ∷ ts → drop at tokens ≡ x ∷ drop (at + 1) tokens
 after_first tokens at x ts e = let t : ts ≡ drop (at + 1) tokens = sym (ap (drop 1) e) ∙ drop-drop 1 at tokens in e ∙ ap (λ us. x ∷ us) t
 
 abbrev Begins : Lexeme → List Lexeme → Type 0
@@ -102,57 +102,57 @@ comma_begins (t ∷ ts) e = cc
 
 pub close_next :
     (tokens : List Lexeme) (at : ℕ)
-      → mark_of (drop at tokens) ≡ MV.Close → drop at tokens ≡ L.Close ∷ drop (at + 1) tokens
+    → mark_of (drop at tokens) ≡ MV.Close → drop at tokens ≡ L.Close ∷ drop (at + 1) tokens
 close_next tokens at e =
     let (us, h) = close_begins (drop at tokens) e in after_first tokens at L.Close us h
 
 pub list_close_next :
     (tokens : List Lexeme) (at : ℕ)
-      → mark_of (drop at tokens) ≡ MV.ListClose
-      → drop at tokens ≡ L.ListClose ∷ drop (at + 1) tokens
+    → mark_of (drop at tokens) ≡ MV.ListClose
+    → drop at tokens ≡ L.ListClose ∷ drop (at + 1) tokens
 list_close_next tokens at e =
     let (us, h) = list_close_begins (drop at tokens) e in after_first tokens at L.ListClose us h
 
 pub bar_next :
     (tokens : List Lexeme) (at : ℕ)
-      → mark_of (drop at tokens) ≡ MV.Bar → drop at tokens ≡ L.Bar ∷ drop (at + 1) tokens
+    → mark_of (drop at tokens) ≡ MV.Bar → drop at tokens ≡ L.Bar ∷ drop (at + 1) tokens
 bar_next tokens at e =
     let (us, h) = bar_begins (drop at tokens) e in after_first tokens at L.Bar us h
 
 pub comma_next :
     (tokens : List Lexeme) (at : ℕ)
-      → mark_of (drop at tokens) ≡ MV.Comma → drop at tokens ≡ L.Comma ∷ drop (at + 1) tokens
+    → mark_of (drop at tokens) ≡ MV.Comma → drop at tokens ≡ L.Comma ∷ drop (at + 1) tokens
 comma_next tokens at e =
     let (us, h) = comma_begins (drop at tokens) e in after_first tokens at L.Comma us h
 
 module _ (k : Chain) (l : ℕ) (ms : SeenRow) (d : Bool) (outer : ℕ) (stack : List FrameSeen) (c : Bool) where
   chain_on : (ts : List Lexeme) → separates k (infix_next c ts) ≡ true
       → (x : Lexeme)
-          × (us : List Lexeme)
-          × (ts ≡ x ∷ us)
-          × (M.parts seen_making (Chained k) l ms d outer stack c ts
-               ≡ M.Start c (J.rank k - 1) (M.InParts (Chained k) l ms d outer ∷ stack) us)
+      × (us : List Lexeme)
+      × (ts ≡ x ∷ us)
+      × (M.parts seen_making (Chained k) l ms d outer stack c ts
+      ≡ M.Start c (J.rank k - 1) (M.InParts (Chained k) l ms d outer ∷ stack) us)
   chain_on [] e = cc
   chain_on (x ∷ us) e = (x, us, refl, go (J.joined_by c x) e)
     where
       go :
           (j : Infix)
-            → separates k j ≡ true
-            → M.on_chain seen_making k l ms d outer stack c (x ∷ us) j us
-                ≡ M.Start c (J.rank k - 1) (M.InParts (Chained k) l ms d outer ∷ stack) us
+          → separates k j ≡ true
+          → M.on_chain seen_making k l ms d outer stack c (x ∷ us) j us
+          ≡ M.Start c (J.rank k - 1) (M.InParts (Chained k) l ms d outer ∷ stack) us
       go JV.Nothing e = cc
       go (JV.Binary n ly ry) e = cc
       go (JV.Chains j) e =
           ap
-            (λ t.
-               cond t (M.Start c (J.rank k - 1) (M.InParts (Chained k) l ms d outer ∷ stack) us)
-                 (M.Done d outer stack (P.over (J.rank k) (J.rank k) (M.chain seen_making k l ms))
-                    (x ∷ us))) e
+          (λ t.
+          cond t (M.Start c (J.rank k - 1) (M.InParts (Chained k) l ms d outer ∷ stack) us)
+          (M.Done d outer stack (P.over (J.rank k) (J.rank k) (M.chain seen_making k l ms))
+          (x ∷ us))) e
 
   pub chain_goes : (tokens : List Lexeme) (at : ℕ) (j : Infix) → j ≡ infix_next c (drop at tokens) → separates k j ≡ true
       → M.parts seen_making (Chained k) l ms d outer stack c (drop at tokens)
-          ≡ M.Start c (J.rank k - 1) (M.InParts (Chained k) l ms d outer ∷ stack)
-              (drop (at + 1) tokens)
+      ≡ M.Start c (J.rank k - 1) (M.InParts (Chained k) l ms d outer ∷ stack)
+      (drop (at + 1) tokens)
   chain_goes tokens at j e h =
       let (x, us, z, p) = chain_on (drop at tokens) (ap (separates k) (sym e) ∙ h) in
       let t : us ≡ drop (at + 1) tokens = sym (ap (drop 1) z) ∙ drop-drop 1 at tokens in
@@ -160,92 +160,92 @@ module _ (k : Chain) (l : ℕ) (ms : SeenRow) (d : Bool) (outer : ℕ) (stack : 
 
 pub more_left :
     (tokens : List Lexeme) (at : ℕ)
-      → at < length tokens → (x : Lexeme) × (drop at tokens ≡ x ∷ drop (at + 1) tokens)
+    → at < length tokens → (x : Lexeme) × (drop at tokens ≡ x ∷ drop (at + 1) tokens)
 more_left tokens at h = go (drop at tokens) (length-drop at tokens) refl
   where
     go :
         (ys : List Lexeme)
-          → length (drop at tokens) ≡ length tokens - at → drop at tokens ≡ ys
-          → (x : Lexeme) × (drop at tokens ≡ x ∷ drop (at + 1) tokens)
+        → length (drop at tokens) ≡ length tokens - at → drop at tokens ≡ ys
+        → (x : Lexeme) × (drop at tokens ≡ x ∷ drop (at + 1) tokens)
     go [] l e = absurd (omega (arith, ap length e))
     go (y ∷ ys) l e = (y, after_first tokens at y ys e)
 
 pub finish_no :
     (tokens : List Lexeme) (at : ℕ) (p : P.Part Seen)
-      → at < length tokens → M.finish {R = SeenRow} p (drop at tokens) ≡ M.No
+    → at < length tokens → M.finish {R = SeenRow} p (drop at tokens) ≡ M.No
 finish_no tokens at p h = let (x, e) = more_left tokens at h in ap (M.finish p) e
 
 pub first_goes : (tokens : List Lexeme) (at : ℕ) (c : Bool) (n l : ℕ) (t : Seen) (w : List (List ℕ)) (d : Bool) (outer : ℕ) (stack : List FrameSeen) → at < length tokens → JV.Nothing ≡ infix_next c (drop at tokens)
     → M.at_first seen_making c n l t w d outer stack (drop at tokens)
-        ≡ M.Start c n (M.AtSecond l w n t d outer ∷ stack) (drop at tokens)
+    ≡ M.Start c n (M.AtSecond l w n t d outer ∷ stack) (drop at tokens)
 first_goes tokens at c n l t w d outer stack h j =
     let (x, e) = more_left tokens at h in
     let us = drop (at + 1) tokens in
     let none : J.joined_by c x ≡ JV.Nothing = sym (j ∙ ap (infix_next c) e) in
     ap (M.at_first seen_making c n l t w d outer stack) e ∙ ap
-      (M.second seen_making c n l t w d outer stack (x ∷ us)) none ∙ ap
-      (M.Start c n (M.AtSecond l w n t d outer ∷ stack)) (sym e)
+    (M.second seen_making c n l t w d outer stack (x ∷ us)) none ∙ ap
+    (M.Start c n (M.AtSecond l w n t d outer ∷ stack)) (sym e)
 
 -- the turn at an infix operator
 pub binary_turn : (tokens : List Lexeme) (at : ℕ) (c : Bool) (limit : ℕ) (p : P.Part Seen) (n : ℕ) (ly ry : Bool) (stack : List FrameSeen) (other : StateSeen) → JV.Binary n ly ry ≡ infix_next c (drop at tokens) → n ≤ limit → p.number ≤ J.operand ly n → p.reach < n
     → M.turn (M.next seen_making c limit p (drop at tokens)) stack other
-        ≡ M.Start c (J.operand ry n)
-            (M.AtRight (line_seen p.tree.value) (name_next (drop at tokens)) n (J.operand ry n)
-               p.tree c limit ∷ stack) (drop (at + 1) tokens)
+    ≡ M.Start c (J.operand ry n)
+    (M.AtRight (line_seen p.tree.value) (name_next (drop at tokens)) n (J.operand ry n)
+    p.tree c limit ∷ stack) (drop (at + 1) tokens)
 binary_turn tokens at c limit p n ly ry stack other j a b d = go (drop at tokens) refl
   where
     go : (ts : List Lexeme) → drop at tokens ≡ ts
         → M.turn (M.next seen_making c limit p (drop at tokens)) stack other
-            ≡ M.Start c (J.operand ry n)
-                (M.AtRight (line_seen p.tree.value) (name_next (drop at tokens)) n (J.operand ry n)
-                   p.tree c limit ∷ stack) (drop (at + 1) tokens)
+        ≡ M.Start c (J.operand ry n)
+        (M.AtRight (line_seen p.tree.value) (name_next (drop at tokens)) n (J.operand ry n)
+        p.tree c limit ∷ stack) (drop (at + 1) tokens)
     go [] z = let e : JV.Binary n ly ry ≡ JV.Nothing = j ∙ ap (infix_next c) z in cc
     go (x ∷ us) z =
         let f = after_first tokens at x us z in
         let e : J.joined_by c x ≡ JV.Binary n ly ry = sym (j ∙ ap (infix_next c) z) in
         ap (λ ts. M.turn (M.next seen_making c limit p ts) stack other) f
         ∙ ap (λ m. M.turn (M.next_at seen_making c limit p x (drop (at + 1) tokens) m) stack other)
-            e
+        e
         ∙ ap
-            (λ t.
-               M.turn
-                 (cond t
-                    (M.Push c (J.operand ry n)
-                       (M.AtRight (line_seen p.tree.value) (J.name_of x) n (J.operand ry n) p.tree c
-                          limit) (drop (at + 1) tokens)) M.Stay) stack other)
-            (both_true (le-leb n limit a)
-               (both_true (le-leb p.number (J.operand ly n) b) (lt-ltb p.reach n d)))
+        (λ t.
+        M.turn
+        (cond t
+        (M.Push c (J.operand ry n)
+        (M.AtRight (line_seen p.tree.value) (J.name_of x) n (J.operand ry n) p.tree c
+        limit) (drop (at + 1) tokens)) M.Stay) stack other)
+        (both_true (le-leb n limit a)
+        (both_true (le-leb p.number (J.operand ly n) b) (lt-ltb p.reach n d)))
         ∙ ap
-            (λ w.
-               M.Start c (J.operand ry n)
-                 (M.AtRight (line_seen p.tree.value) w n (J.operand ry n) p.tree c limit ∷ stack)
-                 (drop (at + 1) tokens)) (sym (ap name_next z))
+        (λ w.
+        M.Start c (J.operand ry n)
+        (M.AtRight (line_seen p.tree.value) w n (J.operand ry n) p.tree c limit ∷ stack)
+        (drop (at + 1) tokens)) (sym (ap name_next z))
 
 -- the turn at the separator of a chain
 pub chain_turn : (tokens : List Lexeme) (at : ℕ) (c : Bool) (limit : ℕ) (p : P.Part Seen) (k : Chain) (stack : List FrameSeen) (other : StateSeen) → JV.Chains k ≡ infix_next c (drop at tokens) → J.rank k ≤ limit → p.number < J.rank k
     → M.turn (M.next seen_making c limit p (drop at tokens)) stack other
-        ≡ M.Start c (J.rank k - 1)
-            (M.InParts (Chained k) (line_seen p.tree.value) (seen_then no_seen p.tree) c limit
-               ∷ stack) (drop (at + 1) tokens)
+    ≡ M.Start c (J.rank k - 1)
+    (M.InParts (Chained k) (line_seen p.tree.value) (seen_then no_seen p.tree) c limit
+    ∷ stack) (drop (at + 1) tokens)
 chain_turn tokens at c limit p k stack other j a b = go (drop at tokens) refl
   where
     go : (ts : List Lexeme) → drop at tokens ≡ ts
         → M.turn (M.next seen_making c limit p (drop at tokens)) stack other
-            ≡ M.Start c (J.rank k - 1)
-                (M.InParts (Chained k) (line_seen p.tree.value) (seen_then no_seen p.tree) c limit
-                   ∷ stack) (drop (at + 1) tokens)
+        ≡ M.Start c (J.rank k - 1)
+        (M.InParts (Chained k) (line_seen p.tree.value) (seen_then no_seen p.tree) c limit
+        ∷ stack) (drop (at + 1) tokens)
     go [] z = let e : JV.Chains k ≡ JV.Nothing = j ∙ ap (infix_next c) z in cc
     go (x ∷ us) z =
         let f = after_first tokens at x us z in
         let e : J.joined_by c x ≡ JV.Chains k = sym (j ∙ ap (infix_next c) z) in
         ap (λ ts. M.turn (M.next seen_making c limit p ts) stack other) f
         ∙ ap (λ m. M.turn (M.next_at seen_making c limit p x (drop (at + 1) tokens) m) stack other)
-            e
+        e
         ∙ ap
-            (λ t.
-               M.turn
-                 (cond t
-                    (M.Push c (J.rank k - 1)
-                       (M.InParts (Chained k) (line_seen p.tree.value) (seen_then no_seen p.tree) c
-                          limit) (drop (at + 1) tokens)) M.Stay) stack other)
-            (both_true (le-leb (J.rank k) limit a) (lt-ltb p.number (J.rank k) b))
+        (λ t.
+        M.turn
+        (cond t
+        (M.Push c (J.rank k - 1)
+        (M.InParts (Chained k) (line_seen p.tree.value) (seen_then no_seen p.tree) c
+        limit) (drop (at + 1) tokens)) M.Stay) stack other)
+        (both_true (le-leb (J.rank k) limit a) (lt-ltb p.number (J.rank k) b))

@@ -23,13 +23,13 @@ one_end (Run.onward d) (Run.onward e) h k = one_end d e h k
 -- the machine answers the term
 pub answers :
     {ts : List Lexeme} {limit : ℕ} {p : Part Tree} → Reads false limit ts p [] → p.number ≤ limit
-      → Leads (Start false limit [] ts) (Yes p)
+    → Leads (Start false limit [] ts) (Yes p)
 answers {limit = limit} {p = p} d h =
     then (complete d [] h tt) (stay_step false limit [] p [] tt (Yes p) refl)
 
 pub unique :
     (ts : List Lexeme) (limit : ℕ) (t u : Tree)
-      → ReadsTerm ts t limit → ReadsTerm ts u limit → t ≡ u
+    → ReadsTerm ts t limit → ReadsTerm ts u limit → t ≡ u
 unique ts limit t u (p, d, h, e) (q, f, k, g) =
     let same : Yes p ≡ Yes q = one_end (answers d h) (answers f k) refl refl in
     let parts : p ≡ q = cc in

@@ -1,7 +1,7 @@
 -- Terms as they are read: with their brackets, and with the line of each term's first token.
 use Rattle.std.specs.Prelude.{ℕ, zero, suc, ℤ, pos, negsuc, ◌+◌, ◌^◌, max, nat_lt, nat_le, List, [], ◌∷◌, Option, Some, None, if◌then◌else◌}
 use Rattle.mc_term_data.specs.Plain as P
-use Rattle.mc_term_data.specs.Plain.{PlainTerm, PlainNode, PlainTerms, at, no_term, more_terms}
+use Rattle.mc_term_data.specs.Plain.{PlainTerm, PlainTerms, at, no_term, more_terms}
 
 mutual
   pub data Tree : Type 0 where

@@ -150,10 +150,7 @@ impl Reading {
         Ok(Reading::kept(line, node, depth, items.too_large.or(tail.too_large)))
     }
 
-    #[tactic(
-        auto,
-        unfolding(crate::specs::code::Seen::seen_conj, crate::specs::code::Seen::seen_disj)
-    )]
+    #[tactic(auto, unfolding(crate::specs::code::Seen::seen_conj, crate::specs::code::Seen::seen_disj))]
     pub fn chain(kind: Chain, line: u32, parts: Readings) -> Result<Reading, Memory>
         ensures { IfOk result (λ r. reading r ≡ chain seen_making kind line (readings parts)) }
     {
@@ -225,11 +222,7 @@ impl Readings {
     }
 
     // With one more behind them.
-    #[tactic(
-        auto,
-        using(crate::proofs::Rules::pushes),
-        unfolding(crate::specs::code::Seen::seen_then)
-    )]
+    #[tactic(auto, using(crate::proofs::Rules::pushes), unfolding(crate::specs::code::Seen::seen_then))]
     pub fn then(self, next: Reading) -> Result<Readings, Memory>
         ensures { IfOk result (λ r. readings r ≡ seen_then (readings self) (reading next)) }
     {

@@ -331,9 +331,7 @@ fn start_at(
 
 // One step of the machine.
 fn step(alloc: Global, tokens: &[Lexeme], machine: Machine) -> Result<Machine, Memory>
-    ensures {
-        IfOk result (λ m. state tokens.now m ≡ M.step seen_making (state tokens.now machine))
-    }
+    ensures { IfOk result (λ m. state tokens.now m ≡ M.step seen_making (state tokens.now machine)) }
 {
     let Machine { phase, parser } = machine;
     let ParserStack { stack, at } = parser;
@@ -377,9 +375,7 @@ fn answer(machine: Machine) -> Option<Reading>
 pub fn read(alloc: Global, tokens: &[Lexeme]) -> Result<Option<Reading>, Memory>
     ensures found { IfOk result
         (λ answer. IfSome answer (λ r. (t : Tree) × ReadsTerm tokens.now t 1200 × Shows t r)) }
-    ensures none {
-        IfOk result (λ answer. IfNone answer ((t : Tree) → ReadsTerm tokens.now t 1200 → ⊥))
-    }
+    ensures none { IfOk result (λ answer. IfNone answer ((t : Tree) → ReadsTerm tokens.now t 1200 → ⊥)) }
 {
     let parser = ParserStack {
         stack: Vec::new(alloc),

@@ -1,5 +1,5 @@
 -- What is known of an item where some of its tokens are read.
-use Rattle.std.proofs.Common.{◌≡◌, ◌≢◌, ◌⊎◌, inl, inr, ℕ, ◌+◌, ◌≤◌, ◌<◌, arith, true, false, List, [], ◌∷◌, reverse, refl, sym, ap, ◌∙◌, subst, slice_range}
+use Rattle.std.proofs.Common.{◌≡◌, ◌≢◌, ◌⊎◌, inl, inr, ℕ, ◌+◌, ◌≤◌, ◌<◌, arith, true, false, List, [], ◌∷◌, reverse, sym, ap, ◌∙◌, subst, slice_range}
 use Rattle.std.proofs.lemmas.List.{reverse-reverse}
 use Rattle.mc_term_parser.specs.declared.lexeme.Lexeme.{Lexeme}
 use Rattle.mc_tokens.specs.declared.token.Kind.{Kind}

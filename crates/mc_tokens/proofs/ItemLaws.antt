@@ -2,7 +2,7 @@
 use Rattle.std.proofs.Common.{◌≡◌, ℕ, ◌+◌, List, ◌∷◌, refl, sym, ap, ◌∙◌, subst}
 use Rattle.std.specs.Prelude.{slice_range}
 use Rattle.mc_tokens.specs.Tokens.{Lexed, Tok, Fault}
-use Rattle.mc_tokens.specs.Items.{Piece, ends, Item, Faulty, Passes}
+use Rattle.mc_tokens.specs.Items.{Piece, Item, Faulty, Passes}
 use Rattle.mc_tokens.specs.Items as I
 use Rattle.mc_tokens.specs.declared.token.FaultKind.{FaultKind}
 use Rattle.mc_tokens.specs.declared.token.FaultKind.TheVariants.{BadChar}

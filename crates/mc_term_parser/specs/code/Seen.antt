@@ -2,7 +2,7 @@
 -- alone, and 257 stands for every greater depth.
 use Rattle.std.specs.Prelude.{ℕ, ◌+◌, ◌^◌, max, pos, nat_lt, nat_le, List, [], ◌∷◌, ◌++◌, Option, Some, None, if◌then◌else◌}
 use Rattle.mc_term_data.specs.Plain as P
-use Rattle.mc_term_data.specs.Plain.{PlainTerm, PlainNode, PlainTerms, at, tms}
+use Rattle.mc_term_data.specs.Plain.{PlainTerm, PlainNode, at, tms}
 use Rattle.mc_term_parser.specs.Tree.{or_else, minus}
 use Rattle.mc_term_parser.specs.code.Machine.{Making}
 

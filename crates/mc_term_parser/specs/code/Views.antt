@@ -1,7 +1,7 @@
 -- What the reader's values stand for.
-use Rattle.std.specs.Prelude.{◌≡◌, ℕ, ◌≤◌, List, [], ◌∷◌, map, drop, Option, Some, None, Bool, true, false, codes, min, if◌then◌else◌}
+use Rattle.std.specs.Prelude.{ℕ, List, [], ◌∷◌, map, drop, Option, Some, None, Bool, true, false, codes, if◌then◌else◌}
 use Rattle.mc_term_data.specs.Plain.{plain_term}
-use Rattle.mc_term_parser.specs.Tree.{Tree, depth, too_large, term}
+use Rattle.mc_term_parser.specs.Tree.{depth, too_large, term}
 use Rattle.mc_term_parser.specs.Infixes as J
 use Rattle.mc_term_parser.specs.Part as P
 use Rattle.mc_term_parser.specs.code.Machine as M

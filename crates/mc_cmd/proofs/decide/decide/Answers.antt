@@ -1,7 +1,7 @@
 use Rattle.std.proofs.Common.{map, sym, ap, ◌∙◌}
 use Rattle.std.specs.Prelude.{string_bytes, option_map}
 use Rattle.mc_command_line.specs.Plain.{plain_command, plain_texts}
-use Rattle.mc_compile.specs.Reading.{texts_of}
+use Rattle.mc_compile.specs.Sources.{texts_of}
 use Rattle.mc_cmd.proofs.Commands.{few_names}
 use Rattle.mc_cmd.proofs.Calls.{decided_of_texts}
 use Rattle.mc_cmd.proofs.decide.decide.Goals as goal

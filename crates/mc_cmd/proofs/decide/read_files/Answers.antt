@@ -2,8 +2,8 @@ use Rattle.std.proofs.Common.{ℕ, List, get_or, ◌+◌, ◌∙◌, sym, ap, su
 use Rattle.std.specs.Borrow.{Bor}
 use Rattle.mc_command_line.specs.Plain.{plain_text, plain_texts}
 use Rattle.mc_compile.specs.declared.given.Given.{Given}
-use Rattle.mc_compile.specs.Reading.{texts_of}
-use Rattle.mc_cmd.specs.Decisions.{IsHeld, StopsAt, Stops, given_names}
+use Rattle.mc_compile.specs.Sources.{texts_of}
+use Rattle.mc_cmd.specs.code.Decisions.{IsHeld, StopsAt, Stops, given_names}
 use Rattle.mc_cmd.proofs.InTurn.{AreHeld, passed_on, stops_among, held_next, names_next, hold_all}
 use Rattle.mc_cmd.proofs.decide.read_files.Goals as goal
 

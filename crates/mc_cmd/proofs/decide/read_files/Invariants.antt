@@ -1,7 +1,7 @@
 use Rattle.std.proofs.Common.{◌≡◌, take, length}
 use Rattle.mc_command_line.specs.Plain.{plain_texts}
-use Rattle.mc_compile.specs.Reading.{texts_of}
-use Rattle.mc_cmd.specs.Decisions.{given_names}
+use Rattle.mc_compile.specs.Sources.{texts_of}
+use Rattle.mc_cmd.specs.code.Decisions.{given_names}
 use Rattle.mc_cmd.proofs.InTurn.{AreHeld}
 use Rattle.mc_cmd.proofs.decide.read_files.Given as goal
 

@@ -1,30 +1,30 @@
-use Rattle.mc_cmd.proofs.Calls.{Laws, whole, prefixes, puts_defined, unread, true_runs, done_cause, usage_cause, usage_told, rejected_cause, not_built_cause, absent_cause, absent_lacks, read_cause, read_told, read_seen, write_cause, write_seen, can_come}
+use Rattle.mc_cmd.proofs.Calls.{Laws, whole, prefixes, puts_defined, unread, true_program, done_cause, usage_cause, usage_told, rejected_cause, not_built_cause, absent_cause, absent_lacks, absent_seen, read_cause, read_told, read_seen, write_cause, write_seen, can_come}
 use Rattle.mc_cmd.proofs.top.merc.Goals as goal
 
 pub returns-clause-whole_answer : goal.returns-clause-whole_answer
 returns-clause-whole_answer g c =
-    let laws : Laws = record { lines = c.answers_are_lines.ensures; ends = c.queries_end.ensures; fit = c.facts_fit.ensures; ask = c.question_asks.ensures; one = c.at_most_one_answer.ensures } in
+    let laws : Laws = record { answered = c.facts_are_answered.ensures; fit = c.facts_fit.ensures; ask = c.question_asks.ensures; asked = c.query_is_asked.ensures; one = c.at_most_one_answer.ensures } in
     λ held bo be told none n. whole _ _ _ _ _ _ _ _ _ c.carry_out.ensures.happened laws held bo be told none n
 
 pub returns-clause-prefix : goal.returns-clause-prefix
 returns-clause-prefix g c =
-    let laws : Laws = record { lines = c.answers_are_lines.ensures; ends = c.queries_end.ensures; fit = c.facts_fit.ensures; ask = c.question_asks.ensures; one = c.at_most_one_answer.ensures } in
+    let laws : Laws = record { answered = c.facts_are_answered.ensures; fit = c.facts_fit.ensures; ask = c.question_asks.ensures; asked = c.query_is_asked.ensures; one = c.at_most_one_answer.ensures } in
     λ held bo be told n o defined. prefixes _ _ _ _ _ _ _ _ _ c.carry_out.ensures.happened laws held bo be told n o defined
 
 pub returns-clause-defined : goal.returns-clause-defined
 returns-clause-defined g c =
-    let laws : Laws = record { lines = c.answers_are_lines.ensures; ends = c.queries_end.ensures; fit = c.facts_fit.ensures; ask = c.question_asks.ensures; one = c.at_most_one_answer.ensures } in
+    let laws : Laws = record { answered = c.facts_are_answered.ensures; fit = c.facts_fit.ensures; ask = c.question_asks.ensures; asked = c.query_is_asked.ensures; one = c.at_most_one_answer.ensures } in
     λ held bo be told n. puts_defined _ _ _ _ _ _ _ _ _ c.carry_out.ensures.happened laws held bo be told n
 
 pub returns-clause-unreadable : goal.returns-clause-unreadable
 returns-clause-unreadable g c = λ m e f. unread _ _ _ _ _ _ _ _ _ c.carry_out.ensures.happened m e f
 
 pub returns-clause-truth : goal.returns-clause-truth
-returns-clause-truth g c = λ m texts l d q e. true_runs c.facts_fit.ensures c.question_asks.ensures c.facts_are_good.ensures c.queries_are_good.ensures m texts l d q e
+returns-clause-truth g c = λ s x k. true_program c.facts_fit.ensures c.question_asks.ensures c.facts_are_good.ensures c.queries_are_good.ensures s x k
 
 pub returns-clause-done : goal.returns-clause-done
 returns-clause-done g c =
-    let laws : Laws = record { lines = c.answers_are_lines.ensures; ends = c.queries_end.ensures; fit = c.facts_fit.ensures; ask = c.question_asks.ensures; one = c.at_most_one_answer.ensures } in
+    let laws : Laws = record { answered = c.facts_are_answered.ensures; fit = c.facts_fit.ensures; ask = c.question_asks.ensures; asked = c.query_is_asked.ensures; one = c.at_most_one_answer.ensures } in
     λ e. done_cause _ _ _ _ _ _ _ _ _ c.carry_out.ensures.happened laws e
 
 pub returns-clause-usage : goal.returns-clause-usage
@@ -41,6 +41,9 @@ returns-clause-absent g c = λ e. absent_cause _ _ _ _ _ _ _ _ _ c.carry_out.ens
 
 pub returns-clause-absent_told : goal.returns-clause-absent_told
 returns-clause-absent_told g c = λ e. absent_lacks _ _ _ _ _ _ _ _ _ c.carry_out.ensures.happened e
+
+pub returns-clause-absent_seen : goal.returns-clause-absent_seen
+returns-clause-absent_seen g c = λ e. absent_seen _ _ _ _ _ _ _ _ _ c.carry_out.ensures.happened e
 
 pub returns-clause-read : goal.returns-clause-read
 returns-clause-read g c = λ e. read_cause _ _ _ _ _ _ _ _ _ c.carry_out.ensures.happened e

@@ -1,7 +1,7 @@
 use Rattle.std.proofs.Common.{ℕ, List, sym, ◌∙◌, subst}
 use Rattle.mc_outside.specs.Meaning.{PutsFront}
-use Rattle.mc_cmd.specs.Outcome.{broken_line, broken_lines}
-use Rattle.mc_cmd.specs.Decisions.{given_names}
+use Rattle.mc_cmd.specs.Messages.{broken_line, broken_lines}
+use Rattle.mc_cmd.specs.code.Decisions.{given_names}
 use Rattle.mc_cmd.proofs.Puts.{more_written, part_written, broken_pieces, passed_front}
 use Rattle.mc_cmd.proofs.write.put_rules.Goals as goal
 

@@ -1,8 +1,8 @@
 use Rattle.std.proofs.Common.{◌≡◌, take}
 use Rattle.std.specs.List.{flat_map}
-use Rattle.mc_cmd.specs.Outcome.{broken_line}
+use Rattle.mc_cmd.specs.Messages.{broken_line}
 use Rattle.mc_cmd.specs.Call.{Wrote}
-use Rattle.mc_cmd.specs.Decisions.{given_names}
+use Rattle.mc_cmd.specs.code.Decisions.{given_names}
 use Rattle.mc_cmd.proofs.write.put_rules.Given as goal
 
 abbrev pub invariant-loop-rule : goal.invariant-loop-rule

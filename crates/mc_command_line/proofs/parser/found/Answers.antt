@@ -2,7 +2,7 @@ use Rattle.std.proofs.Common.{◌≡◌, ◌∙◌, refl, sym, ap, subst, Bool, 
 use Rattle.clap.specs.Matches.{found_of, one_text}
 use Rattle.clap.specs.Walk.{Text}
 use Rattle.clap.proofs.WalkLemmas.{first_value-rows, one_text-rows}
-use Rattle.mc_command_line.specs.Parser.{IsFlag}
+use Rattle.mc_command_line.specs.code.Parser.{IsFlag}
 use Rattle.mc_command_line.proofs.parser.found.Goals as goal
 
 flag_is : (text : Option Text) (flag result : Bool) → IsFlag flag text → (text ≡ None → result ≡ false) → (text ≡ Some (codes "true") → result ≡ true)

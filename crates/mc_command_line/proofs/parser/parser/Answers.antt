@@ -2,7 +2,7 @@ use Rattle.std.proofs.Common.{◌≡◌, ◌∙◌, ap, ap₂, rules}
 use Rattle.std.proofs.lemmas.Result.{IfOk-weaker}
 use Rattle.clap.specs.Walk.{Rule, rule_of}
 use Rattle.clap.specs.Simple.{with_rule}
-use Rattle.mc_command_line.specs.Parser.{with_first_rule, with_limit_rules, words_rule}
+use Rattle.mc_command_line.specs.code.Parser.{with_first_rule, with_limit_rules, words_rule}
 use Rattle.mc_command_line.proofs.Local.{local}
 use Rattle.mc_command_line.proofs.parser.parser.Goals as goal
 

@@ -5,7 +5,7 @@ use Rattle.clap.specs.Faults.{fault_of, is_simple_and_free}
 use Rattle.clap.specs.Kinds.{IsAmong}
 use Rattle.clap.specs.Values.{kind_of}
 use Rattle.clap.specs.Walk.{Text}
-use Rattle.mc_command_line.specs.Parser.{IsFound, app, plain_options}
+use Rattle.mc_command_line.specs.code.Parser.{IsFound, app, plain_options}
 use Rattle.mc_command_line.proofs.Whole.{failed_silent, is_simple-app, is_simple_and_free-app, parsed_found, texts_of}
 use Rattle.mc_command_line.proofs.parser.read_spoken.Goals as goal
 

@@ -2,7 +2,7 @@ use Rattle.std.proofs.Common.{◌≡◌, ◌∙◌, sym, ap, ap₂, codes, rules
 use Rattle.std.proofs.lemmas.Result.{IfOk-weaker}
 use Rattle.clap.specs.Walk.{Rule, rule_of}
 use Rattle.clap.specs.Simple.{app_of, with_rule}
-use Rattle.mc_command_line.specs.Parser.{limit_rule, with_limit_rules}
+use Rattle.mc_command_line.specs.code.Parser.{limit_rule, with_limit_rules}
 use Rattle.mc_command_line.proofs.Local.{local}
 use Rattle.mc_command_line.proofs.parser.with_limits.Goals as goal
 

@@ -1,6 +1,6 @@
 use Rattle.std.proofs.Common.{◌≡◌, ◌++◌, drop}
 use Rattle.mc_linking.specs.Files.{plain_files}
-use Rattle.mc_linking.specs.Visibilities.{visibilities_from}
+use Rattle.mc_linking.specs.code.Visibilities.{visibilities_from}
 use Rattle.mc_linking.proofs.visibility.visibilities.Given as goal
 
 abbrev pub invariant-loop-own : goal.invariant-loop-own

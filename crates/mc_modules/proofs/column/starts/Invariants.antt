@@ -1,5 +1,5 @@
 use Rattle.std.proofs.Common.{◌≡◌, ◌++◌, drop}
-use Rattle.mc_modules.specs.Passes.{starts_from}
+use Rattle.mc_modules.specs.code.Passes.{starts_from}
 use Rattle.mc_modules.proofs.column.starts.Given as goal
 
 abbrev pub invariant-loop-names : goal.invariant-loop-names

@@ -1,5 +1,5 @@
 use Rattle.std.proofs.Common.{◌≡◌, ◌++◌, ℕ, List, drop}
-use Rattle.mc_modules.specs.Index.{listed, called}
+use Rattle.mc_modules.specs.code.Index.{listed, called}
 use Rattle.mc_modules.proofs.index.candidates_by_name.Given as goal
 
 abbrev pub invariant-loop-candidate : goal.invariant-loop-candidate

@@ -1,5 +1,5 @@
 use Rattle.std.proofs.Common.{◌≡◌, take, length}
-use Rattle.mc_modules.specs.Index.{IsIndex}
+use Rattle.mc_modules.specs.code.Index.{IsIndex}
 use Rattle.mc_modules.proofs.index.indices.Given as goal
 
 abbrev pub invariant-loop-candidates : goal.invariant-loop-candidates

@@ -1,5 +1,5 @@
 use Rattle.std.proofs.Common.{◌≡◌, ◌++◌, ℕ, List, drop}
-use Rattle.mc_modules.specs.Index.{listed, numbers_called}
+use Rattle.mc_modules.specs.code.Index.{listed, numbers_called}
 use Rattle.mc_modules.proofs.index.numbers_by_name.Given as goal
 
 abbrev pub invariant-loop-number : goal.invariant-loop-number

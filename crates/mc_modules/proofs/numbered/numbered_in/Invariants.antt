@@ -1,9 +1,9 @@
 use Rattle.std.proofs.Common.{◌≡◌, ◌++◌, drop, map}
-use Rattle.mc_items.specs.Files.{plain_entry}
+use Rattle.mc_linking.specs.Files.{definitions_of}
+use Rattle.mc_linking.specs.Kept.{plain_item_in_file}
 use Rattle.mc_modules.specs.Linked.{numbered}
-use Rattle.mc_modules.specs.Passes.{definitions_pass}
 use Rattle.mc_modules.proofs.numbered.numbered_in.Given as goal
 
-abbrev pub invariant-loop-entry : goal.invariant-loop-entry
-invariant-loop-entry l =
-    l.found.all.items ++ numbered l.found.con l.found.pred (definitions_pass (map plain_entry (drop l.entry-index l.file))) ≡ numbered l.con l.pred (definitions_pass (map plain_entry l.file))
+abbrev pub invariant-loop-item : goal.invariant-loop-item
+invariant-loop-item l =
+    l.found.all.items ++ numbered l.found.con l.found.pred (definitions_of (map plain_item_in_file (drop l.item-index l.items))) ≡ numbered l.con l.pred (definitions_of (map plain_item_in_file l.items))

@@ -12,19 +12,19 @@ returns-in_ok-with-in-Comma c =
     let tokens = c.args.tokens.now in
     let o = c.args.outer in
     start_past tokens _ _ c.args.parser _ _ _ c.start.ensures c.in_ok-with-in-Comma.ensures.frames
-      c.in_ok-with-in-Comma.ensures.at c.past.ensures
+    c.in_ok-with-in-Comma.ensures.at c.past.ensures
     ∙ ap
-        (M.parts seen_making (Arguments c.args.name) c.args.line (readings c.args.parts) o.commas
-           o.limit (frames c.args.parser.stack.items) c.args.commas)
-        (sym (comma_next tokens c.args.parser.at (sym c.mark.ensures ∙ c.in-Comma.is)))
+    (M.parts seen_making (Arguments c.args.name) c.args.line (readings c.args.parts) o.commas
+    o.limit (frames c.args.parser.stack.items) c.args.commas)
+    (sym (comma_next tokens c.args.parser.at (sym c.mark.ensures ∙ c.in-Comma.is)))
 
 pub returns-in_ok-term-in-Close : goal.returns-in_ok-term-in-Close
 returns-in_ok-term-in-Close c =
     let tokens = c.args.tokens.now in
     let o = c.args.outer in
     done_past tokens _ o _ c.args.parser _ _ c.done.ensures c.past-in-Close.ensures
-      (c.closed.ensures ∙ ap P.closed c.in_ok-term-in-Close.ensures)
+    (c.closed.ensures ∙ ap P.closed c.in_ok-term-in-Close.ensures)
     ∙ ap
-        (M.parts seen_making (Arguments c.args.name) c.args.line (readings c.args.parts) o.commas
-           o.limit (frames c.args.parser.stack.items) c.args.commas)
-        (sym (close_next tokens c.args.parser.at (sym c.mark.ensures ∙ c.in-Close.is)))
+    (M.parts seen_making (Arguments c.args.name) c.args.line (readings c.args.parts) o.commas
+    o.limit (frames c.args.parser.stack.items) c.args.commas)
+    (sym (close_next tokens c.args.parser.at (sym c.mark.ensures ∙ c.in-Close.is)))

@@ -11,8 +11,8 @@ returns-in-Close c =
     let tokens = c.args.tokens.now in
     let o = c.args.outer in
     done_past tokens _ o _ c.args.parser _ _ c.done.ensures c.past.ensures
-      (c.closed.ensures ∙ ap P.closed c.inside.ensures)
+    (c.closed.ensures ∙ ap P.closed c.inside.ensures)
     ∙ ap
-        (M.after_paren seen_making o.commas o.limit (frames c.args.parser.stack.items) c.args.line
-           (reading c.args.inside))
-        (sym (close_next tokens c.args.parser.at (sym c.mark.ensures ∙ c.in-Close.is)))
+    (M.after_paren seen_making o.commas o.limit (frames c.args.parser.stack.items) c.args.line
+    (reading c.args.inside))
+    (sym (close_next tokens c.args.parser.at (sym c.mark.ensures ∙ c.in-Close.is)))

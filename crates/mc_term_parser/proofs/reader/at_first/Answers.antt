@@ -9,6 +9,6 @@ returns-in-Nothing c =
     let o = c.args.outer in
     start_at tokens _ _ _ _ _ c.start.ensures c.in_ok-with.ensures.frames c.in_ok-with.ensures.at
     ∙ sym
-        (first_goes tokens c.args.parser.at c.args.commas c.args.operator.number
-           c.args.operator.line (reading c.args.first) c.args.operator.name o.commas o.limit
-           (frames c.args.parser.stack.items) c.if-parser-tokens.true c.in-Nothing.ensures)
+    (first_goes tokens c.args.parser.at c.args.commas c.args.operator.number
+    c.args.operator.line (reading c.args.first) c.args.operator.name o.commas o.limit
+    (frames c.args.parser.stack.items) c.if-parser-tokens.true c.in-Nothing.ensures)

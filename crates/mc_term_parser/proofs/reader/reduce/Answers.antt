@@ -9,11 +9,11 @@ pub returns-in-Some : goal.returns-in-Some
 returns-in-Some c =
     let tokens = c.args.tokens.now in
     subst
-      (λ fs.
-         IfOk c.reduce_in.result
-           (λ m.
-              state tokens m
-                ≡ M.reduce seen_making c.args.commas fs (part c.args.part)
-                    (drop c.args.parser.at tokens)))
+    (λ fs.
+    IfOk c.reduce_in.result
+    (λ m.
+    state tokens m
+    ≡ M.reduce seen_making c.args.commas fs (part c.args.part)
+    (drop c.args.parser.at tokens)))
     (sym (ap frames c.in-Some.ensures.items ∙ frames_push c.pop.new.self.items c.in-Some.frame))
     c.reduce_in.ensures

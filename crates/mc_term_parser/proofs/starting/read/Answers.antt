@@ -12,16 +12,16 @@ pub run-init : goal.run-init
 run-init c =
     let tokens = c.args.tokens.now in
     subst (Runs (drop 0 tokens))
-      (sym
-         (ap (state tokens) c.start-machine.ensures ∙ ap
-            (λ xs. M.Start false 1200 (frames xs) (drop 0 tokens)) c.new.ensures.items)) Run.here
+    (sym
+    (ap (state tokens) c.start-machine.ensures ∙ ap
+    (λ xs. M.Start false 1200 (frames xs) (drop 0 tokens)) c.new.ensures.items)) Run.here
 
 pub run-smaller : goal.run-smaller
 run-smaller c =
     let tokens = c.args.tokens.now in
     let s = state tokens c.run.machine in
     subst (λ t. weight t < weight s) (sym c.in_ok-machine.ensures)
-      (falls s (sym (c.is_over.ensures tokens) ∙ c.run-test.true))
+    (falls s (sym (c.is_over.ensures tokens) ∙ c.run-test.true))
 
 pub run-preserved : goal.run-preserved
 run-preserved c =
@@ -38,6 +38,6 @@ pub returns-clause-none : goal.returns-clause-none
 returns-clause-none c =
     let tokens = c.args.tokens.now in
     at_none c.answer.result _ _
-      (λ f.
-         none_reads (drop 0 tokens) (state tokens c.run.machine) c.run.invariant
-           (f tokens (sym (c.is_over.ensures tokens) ∙ c.run-test.false))) c.answer.ensures.none
+    (λ f.
+    none_reads (drop 0 tokens) (state tokens c.run.machine) c.run.invariant
+    (f tokens (sym (c.is_over.ensures tokens) ∙ c.run-test.false))) c.answer.ensures.none

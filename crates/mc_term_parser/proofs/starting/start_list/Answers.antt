@@ -11,7 +11,7 @@ returns-in-ListClose c =
     let s = c.args.context in
     let tokens = c.args.tokens.now in
     done_past tokens _ s _ c.args.parser _ _ c.done.ensures c.past.ensures
-      (c.closed.ensures ∙ ap P.closed
-         (c.in_ok-list.ensures ∙ ap (seen_items c.args.line) c.none-none.ensures))
+    (c.closed.ensures ∙ ap P.closed
+    (c.in_ok-list.ensures ∙ ap (seen_items c.args.line) c.none-none.ensures))
     ∙ ap (M.on_list seen_making s.commas s.limit (frames c.args.parser.stack.items) c.args.line)
-        (sym (list_close_next tokens c.args.parser.at (sym c.mark.ensures ∙ c.in-ListClose.is)))
+    (sym (list_close_next tokens c.args.parser.at (sym c.mark.ensures ∙ c.in-ListClose.is)))

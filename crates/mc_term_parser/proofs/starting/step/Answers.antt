@@ -12,8 +12,8 @@ returns-in-Start c =
     let fs = frames m.parser.stack.items in
     subst (λ s. IfOk c.start_at.result (λ m. state tokens m ≡ s))
     (ap (M.start seen_making c.in-Start.context.commas c.in-Start.context.limit fs)
-       (ap (λ n. drop n tokens) c.min-at.ensures ∙ rest_cut tokens m.parser.at) ∙ ap
-       (λ p. M.step seen_making (now fs (drop m.parser.at tokens) p)) (sym c.in-Start.is))
+    (ap (λ n. drop n tokens) c.min-at.ensures ∙ rest_cut tokens m.parser.at) ∙ ap
+    (λ p. M.step seen_making (now fs (drop m.parser.at tokens) p)) (sym c.in-Start.is))
     c.start_at.ensures
 
 pub returns-in-Done : goal.returns-in-Done
@@ -23,9 +23,9 @@ returns-in-Done c =
     let fs = frames m.parser.stack.items in
     subst (λ s. IfOk c.step_done.result (λ m. state tokens m ≡ s))
     (ap
-       (λ ts.
-          M.step seen_making
-            (M.Done c.in-Done.context.commas c.in-Done.context.limit fs (part c.in-Done.part) ts))
-       (ap (λ n. drop n tokens) c.min-at.ensures ∙ rest_cut tokens m.parser.at) ∙ ap
-       (λ p. M.step seen_making (now fs (drop m.parser.at tokens) p)) (sym c.in-Done.is))
+    (λ ts.
+    M.step seen_making
+    (M.Done c.in-Done.context.commas c.in-Done.context.limit fs (part c.in-Done.part) ts))
+    (ap (λ n. drop n tokens) c.min-at.ensures ∙ rest_cut tokens m.parser.at) ∙ ap
+    (λ p. M.step seen_making (now fs (drop m.parser.at tokens) p)) (sym c.in-Done.is))
     c.step_done.ensures

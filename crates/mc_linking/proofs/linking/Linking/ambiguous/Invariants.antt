@@ -6,4 +6,4 @@ use Rattle.mc_linking.proofs.linking.Linking.ambiguous.Given as goal
 
 abbrev pub invariant-loop-used : goal.invariant-loop-used
 invariant-loop-used l =
-    ambiguous (plain_files l.self.files.now) l.own (map plain_occurrence (drop l.used-index l.uses)) ≡ ambiguous (plain_files l.self.files.now) l.own (map plain_occurrence l.uses)
+    ambiguous (plain_files l.self) l.own (map plain_occurrence (drop l.used-index l.uses)) ≡ ambiguous (plain_files l.self) l.own (map plain_occurrence l.uses)

@@ -6,6 +6,6 @@ use Rattle.mc_linking.proofs.linking.Linking.how_many.Given as goal
 
 abbrev pub invariant-loop-number : goal.invariant-loop-number
 invariant-loop-number l = record {
-  counted : l.count + how_many (plain_files l.self.files.now) l.own l.kind (plain_name_arity l.id) (drop l.number-index l.numbers) ≡ how_many (plain_files l.self.files.now) l.own l.kind (plain_name_arity l.id) l.numbers;
+  counted : l.count + how_many (plain_files l.self) l.own l.kind (plain_name_arity l.id) (drop l.number-index l.numbers) ≡ how_many (plain_files l.self) l.own l.kind (plain_name_arity l.id) l.numbers;
   few : l.count ≤ l.number-index;
 }

@@ -6,4 +6,4 @@ use Rattle.mc_linking.proofs.linking.Linking.invisible.Given as goal
 
 abbrev pub invariant-loop-used : goal.invariant-loop-used
 invariant-loop-used l =
-    invisible (plain_files l.self.files.now) l.own (map plain_occurrence (drop l.used-index l.uses)) ≡ invisible (plain_files l.self.files.now) l.own (map plain_occurrence l.uses)
+    invisible (plain_files l.self) l.own (map plain_occurrence (drop l.used-index l.uses)) ≡ invisible (plain_files l.self) l.own (map plain_occurrence l.uses)

@@ -6,4 +6,4 @@ use Rattle.mc_linking.proofs.linking.Linking.is_in_any.Given as goal
 
 abbrev pub invariant-loop-number : goal.invariant-loop-number
 invariant-loop-number l =
-    how_many (plain_files l.self.files.now) l.own l.kind (plain_name_arity l.id) (drop l.number-index l.numbers) ≡ how_many (plain_files l.self.files.now) l.own l.kind (plain_name_arity l.id) l.numbers
+    how_many (plain_files l.self) l.own l.kind (plain_name_arity l.id) (drop l.number-index l.numbers) ≡ how_many (plain_files l.self) l.own l.kind (plain_name_arity l.id) l.numbers

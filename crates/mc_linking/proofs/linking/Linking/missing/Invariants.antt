@@ -4,4 +4,4 @@ use Rattle.mc_linking.specs.Faults.{missing}
 use Rattle.mc_linking.proofs.linking.Linking.missing.Given as goal
 
 abbrev pub invariant-loop-name : goal.invariant-loop-name
-invariant-loop-name l = missing (plain_files l.self.files.now) (drop l.name-index l.names) ≡ missing (plain_files l.self.files.now) l.names
+invariant-loop-name l = missing (plain_files l.self) (drop l.name-index l.names) ≡ missing (plain_files l.self) l.names

@@ -3,4 +3,4 @@ use Rattle.mc_linking.specs.Files.{joined}
 use Rattle.mc_linking.proofs.linking.Linking.number.Goals as goal
 
 pub returns : goal.returns
-returns c = c.in_ok-number.ensures ∙ ap (λ f. f (joined c.args.name.now)) c.requires.linking.named
+returns c = rw (← c.self.view_is) (c.in_ok-number.ensures ∙ ap (λ f. f (joined c.args.name.now)) c.self.invariant.named)

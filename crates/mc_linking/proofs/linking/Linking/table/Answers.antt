@@ -1,9 +1,11 @@
-use Rattle.std.proofs.Common.{arith}
+use Rattle.std.proofs.Common.{ap, arith, length}
 use Rattle.mc_linking.proofs.Kept.{tables-length, table-at}
 use Rattle.mc_linking.proofs.linking.Linking.table.Goals as goal
 
 pub index-requires : goal.index-requires
-index-requires c = let e = tables-length c.args.self.now.files.now c.args.self.now.tables.items c.requires.linking.tabled in omega arith
+index-requires c = let e = tables-length c.self.inside.files.now c.self.inside.tables.items c.self.invariant.tabled in let n = ap length c.self.view_is in omega arith
 
 pub returns : goal.returns
-returns c = table-at c.args.self.now.files.now c.args.self.now.tables.items c.args.own c.index.result.now c.requires.linking.tabled c.requires.own c.index.ensures
+returns c =
+    let n = ap length c.self.view_is in
+    rw (← c.self.view_is) (table-at c.self.inside.files.now c.self.inside.tables.items c.args.own c.index.result.now c.self.invariant.tabled (omega (arith, n, c.requires.own)) c.index.ensures)

@@ -1,6 +1,6 @@
 use Rattle.std.proofs.Common.{◌≡◌, [], ◌∷◌, ◌++◌, cond, refl, ap, ◌∙◌}
 use Rattle.std.specs.Str.{bytes_eq}
-use Rattle.mc_modules.specs.Index.{listed}
+use Rattle.mc_modules.specs.code.Index.{listed}
 use Rattle.mc_linking.proofs.Numbers.{vec_name}
 use Rattle.mc_modules.proofs.Listed.{entries_of, listed-insert, listed_again, vec_list}
 use Rattle.mc_modules.proofs.index.Index.put.Goals as goal

@@ -1,6 +1,6 @@
 use Rattle.std.proofs.Common.{◌≡◌, ◌++◌, drop}
 use Rattle.mc_modules.specs.Linked.{plain_names}
-use Rattle.mc_modules.specs.Chosen.{chosen, type_seen}
+use Rattle.mc_modules.specs.code.Chosen.{chosen, type_seen}
 use Rattle.mc_modules.proofs.names.Names.put_seen.Given as goal
 
 abbrev pub invariant-loop-found : goal.invariant-loop-found

@@ -1,6 +1,6 @@
 use Rattle.std.proofs.Common.{◌≡◌, ◌++◌, drop}
 use Rattle.mc_modules.specs.Linked.{plain_names}
-use Rattle.mc_modules.specs.Chosen.{types_seen}
+use Rattle.mc_modules.specs.code.Chosen.{types_seen}
 use Rattle.mc_modules.proofs.names.Names.seen_in.Given as goal
 
 abbrev pub invariant-loop-module : goal.invariant-loop-module

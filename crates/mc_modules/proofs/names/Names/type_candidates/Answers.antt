@@ -3,10 +3,10 @@ use Rattle.std.specs.Prelude.{IfOk, slice_get}
 use Rattle.mc_defs_uses.specs.declared.definition.Kind.TheVariants as K
 use Rattle.mc_defs_uses.specs.Plain.{id, qualifiers, last_part, plain_occurrence}
 use Rattle.mc_defs_uses.specs.Occurrences.{used}
-use Rattle.mc_modules.specs.Index.{numbers_where}
+use Rattle.mc_modules.specs.Numbers.{numbers_where}
 use Rattle.mc_modules.specs.Linked.{plain_names}
 use Rattle.mc_modules.specs.Candidates.{looked_in, type_candidates}
-use Rattle.mc_modules.specs.Chosen.{has_id, types_seen}
+use Rattle.mc_modules.specs.code.Chosen.{has_id, types_seen}
 use Rattle.mc_modules.proofs.Uses.{qualifiers_are, id_is}
 use Rattle.mc_modules.proofs.Chosen.{seen_of_id}
 use Rattle.mc_modules.proofs.names.Names.type_candidates.Goals as goal

@@ -1,7 +1,7 @@
 use Rattle.std.proofs.Common.{◌≡◌, ap, ◌∙◌, nat_eq, subst}
 use Rattle.std.specs.Prelude.{IfOk}
 use Rattle.mc_defs_uses.specs.Plain.{plain_name_arity}
-use Rattle.mc_modules.specs.Chosen.{chosen}
+use Rattle.mc_modules.specs.code.Chosen.{chosen}
 use Rattle.mc_modules.proofs.Chosen.{of_id}
 use Rattle.mc_modules.proofs.names.Names.types_of.Goals as goal
 

@@ -1,5 +1,5 @@
 use Rattle.std.proofs.Common.{◌≡◌, ◌++◌, nat_eq, drop}
-use Rattle.mc_modules.specs.Chosen.{chosen}
+use Rattle.mc_modules.specs.code.Chosen.{chosen}
 use Rattle.mc_modules.proofs.names.Names.with_arity.Given as goal
 
 abbrev pub invariant-loop-found : goal.invariant-loop-found

@@ -1,7 +1,0 @@
-use Rattle.std.proofs.Common.{◌≡◌, ◌++◌, drop}
-use Rattle.mc_linking.specs.Files.{plain_files}
-use Rattle.mc_linking.specs.Faults.{faults_from, link_faults}
-use Rattle.mc_linking.proofs.faults.link_faults.Given as goal
-
-abbrev pub invariant-loop-own : goal.invariant-loop-own
-invariant-loop-own l = l.broken.items ++ faults_from (plain_files l.files) l.own (plain_files (drop l.own l.files)) ≡ link_faults (plain_files l.files)

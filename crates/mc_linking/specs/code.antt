@@ -1,0 +1,4 @@
+pub mod Examples
+pub mod Steps
+pub mod Tables
+pub mod Visibilities
