@@ -10,12 +10,12 @@ use Rattle.mc_ground_form.specs.Facts.{LinkedFiles, Fact, facts, database, quest
 use Rattle.mc_ground_form.specs.Program.{form_of, over_facts, with_question}
 use Rattle.mc_ground_form.specs.Answered.{IsAnswered}
 use Rattle.mc_compile.specs.declared.given.CompileFault.TheVariants as F
-use Rattle.mc_compile.specs.Phases.{Refusal, Unbuilt, Then, stopped, went_on, Tells}
+use Rattle.mc_compile.specs.Phases.{Refusal, Unbuilt, stopped, went_on, Tells}
 use Rattle.mc_compile.specs.Sources.{Sources}
 use Rattle.mc_compile.specs.Reading.{PlainRead}
 use Rattle.mc_compile.specs.Linking.{PlainNamed, library_behind, linking_rules_of, linked_with, Links}
 use Rattle.mc_compile.specs.Forming.{Formed, formed, forming, Forms, IsProgramOf}
-use Rattle.mc_compile.specs.Compiling.{Compiles}
+use Rattle.mc_compile.specs.Compiling.{Compiles, FromLinking}
 use Rattle.mc_compile.proofs.Links.{answer_is}
 use Rattle.mc_compile.specs.Laws.{CompiledFits, CompiledAsks, CompiledNumbers}
 
@@ -70,7 +70,7 @@ forms_what_is_linked s read named form l e =
     let same = answer_is (linking_rules_of read.files library read.goal) read library named l.is in
     where_built read library (s.wants_main || s.first) form (subst (λ n. Ok form ≡ forming s n) (sym same) e)
 
-linked_form : (s : Sources) (read : PlainRead) (form : Formed) (r : Result Formed Refusal) → r ≡ Ok form → Then Links (Forms s) read r → HasForm form
+linked_form : (s : Sources) (read : PlainRead) (form : Formed) (r : Result Formed Refusal) → r ≡ Ok form → FromLinking s read r → HasForm form
 linked_form s read form _ e (stopped f) = cc
 linked_form s read form r e (went_on {b = named} f g) = forms_what_is_linked s read named form f (sym e ∙ g)
 

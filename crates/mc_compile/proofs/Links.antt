@@ -1,5 +1,5 @@
 -- What is known of files that are linked.
-use Rattle.std.proofs.Common.{◌≡◌, ℕ, ◌+◌, List, [], ◌∷◌, ◌++◌, map, length, take, Option, Ok, Err, refl, sym, ap, ap₂, ◌∙◌, subst}
+use Rattle.std.proofs.Common.{◌≡◌, ℕ, ◌+◌, List, [], ◌∷◌, ◌++◌, map, length, take, Option, Ok, Err, refl, sym, ap, ◌∙◌, subst}
 use Rattle.std.proofs.lemmas.List.{length-map, take-map}
 use Rattle.std.proofs.Math.Seq.{take-append_seam}
 use Rattle.mc_term_data.specs.Plain.{PlainTerm}
@@ -7,18 +7,18 @@ use Rattle.mc_source.specs.declared.rule.Broken.{Broken}
 use Rattle.mc_items.specs.declared.entry.Entry.{Entry}
 use Rattle.mc_items.specs.Files.{plain_entry}
 use Rattle.mc_linking.specs.Files.{File, plain_files}
-use Rattle.mc_linking.specs.Faults.{link_faults}
 use Rattle.mc_modules.specs.declared.names.Names.{Names}
 use Rattle.mc_modules.specs.Linked.{Linked, linked, plain_names}
 use Rattle.mc_ground_form.specs.Program.{plain_goal}
+use Rattle.mc_compile.specs.declared.given.CompileFault.{CompileFault}
 use Rattle.mc_compile.specs.declared.given.CompileFault.TheVariants as F
 use Rattle.mc_compile.specs.declared.named.Named.{Named}
 use Rattle.mc_compile.specs.declared.reading.Read.{Read}
 use Rattle.mc_compile.specs.Phases.{Breaks, unless_broken, Tells, Viewed}
 use Rattle.mc_compile.specs.Library.{library_texts}
 use Rattle.mc_compile.specs.Reading.{PlainRead, plain_read}
-use Rattle.mc_compile.specs.Linking.{library_behind, goal_rules_in, linking_rules_of, PlainNamed, plain_named, AreLinked, linked_with, Links}
-use Rattle.mc_compile.specs.code.Reader.{IsWithLibrary}
+use Rattle.mc_compile.specs.Linking.{library_behind, rules_in, linking_rules_of, PlainNamed, plain_named, AreLinked, linked_with, Links}
+use Rattle.mc_compile.specs.code.Reader.{IsRejected, IsWithLibrary}
 use Rattle.mc_compile.proofs.Once.{ok_same}
 use Rattle.mc_compile.proofs.Chains.{broken_up, none_broken}
 
@@ -46,11 +46,10 @@ module _ (read : Read) (all : List (List Entry)) (w : IsWithLibrary library_text
   rules = linking_rules_of (plain_files read.files) library (plain_goal read.goal)
 
   -- the rules of linking, by the files that are linked
-  rules_are : (in_files in_goal : List Broken) (n : ℕ) → n ≡ length read.files → in_files ≡ link_faults (plain_files all) → in_goal ≡ goal_rules_in (plain_files all) n (plain_goal read.goal) → in_files ++ in_goal ≡ rules
-  rules_are in_files in_goal n e f g =
-      ap₂ (λ bs cs. bs ++ cs) f g
-      ∙ ap (λ k. link_faults (plain_files all) ++ goal_rules_in (plain_files all) k (plain_goal read.goal)) (e ∙ sym (length-map read.files (map plain_entry)))
-      ∙ ap (λ fs. link_faults fs ++ goal_rules_in fs (length (plain_files read.files)) (plain_goal read.goal)) w.items
+  rules_are : (n : ℕ) → n ≡ length read.files → rules_in (plain_files all) n (plain_goal read.goal) ≡ rules
+  rules_are n e =
+      ap (λ k. rules_in (plain_files all) k (plain_goal read.goal)) (e ∙ sym (length-map read.files (map plain_entry)))
+      ∙ ap (λ fs. rules_in fs (length (plain_files read.files)) (plain_goal read.goal)) w.items
 
   given_are : (n : ℕ) → n ≡ length read.files → plain_files (take n all) ≡ plain_files read.files
   given_are n e =
@@ -60,25 +59,24 @@ module _ (read : Read) (all : List (List Entry)) (w : IsWithLibrary library_text
       ∙ take-append_seam (plain_files read.files) library
 
   -- where no rule of linking is broken
-  pub named_is : (named : Named) (names : Names) (in_goal : List Broken) (n : ℕ) → plain_named named ≡ made (plain_goal read.goal) (plain_files (take n all)) (plain_files all) (plain_names names) → n ≡ length read.files → plain_names names ≡ linked (plain_files all) → link_faults (plain_files all) ≡ []
-      → in_goal ≡ goal_rules_in (plain_files all) n (plain_goal read.goal) → in_goal ≡ []
-      → Tells Links (Viewed plain_named) (plain_read read) (Ok named)
-  named_is named names in_goal n view e known sound g none =
-      let whole : rules ≡ [] = sym (rules_are [] in_goal n e (sym sound) g) ∙ none in (
-        linked_with (plain_read read) library,
-        view
-            ∙ made_same (plain_goal read.goal) (plain_files (take n all)) (plain_files read.files) (plain_files all) (plain_files read.files ++ library) (plain_names names) (linked (plain_files read.files ++ library))
-            (given_are n e) w.items (known ∙ ap linked w.items),
-        record { modules = w.modules; is_library = w.is_library; is = none_broken rules (linked_with (plain_read read) library) whole },
-      )
+  pub named_is : (named : Named) (names : Names) (n : ℕ) → plain_named named ≡ made (plain_goal read.goal) (plain_files (take n all)) (plain_files all) (plain_names names) → n ≡ length read.files
+      → plain_names names ≡ linked (plain_files all) → rules_in (plain_files all) n (plain_goal read.goal) ≡ [] → Tells Links (Viewed plain_named) (plain_read read) (Ok named)
+  named_is named names n view e known sound = (
+    linked_with (plain_read read) library,
+    view
+        ∙ made_same (plain_goal read.goal) (plain_files (take n all)) (plain_files read.files) (plain_files all) (plain_files read.files ++ library) (plain_names names) (linked (plain_files read.files ++ library))
+        (given_are n e) w.items (known ∙ ap linked w.items),
+    record { modules = w.modules; is_library = w.is_library; is = none_broken rules (linked_with (plain_read read) library) (sym (rules_are n e) ∙ sound) },
+  )
 
   -- and where rules are
-  pub unlinked_is : (in_files in_goal broken : List Broken) (n : ℕ) → n ≡ length read.files → in_files ≡ link_faults (plain_files all) → in_goal ≡ goal_rules_in (plain_files all) n (plain_goal read.goal)
-      → broken ≡ in_files ++ in_goal → (broken ≡ [] → ⊥) → Tells Links (Viewed plain_named) (plain_read read) (Err (F.Rejected broken))
-  unlinked_is in_files in_goal broken n e f g is some =
-      let same : broken ≡ rules = is ∙ rules_are in_files in_goal n e f g in
+  pub unlinked_is : (fault : CompileFault) (n : ℕ) → n ≡ length read.files → IsRejected (rules_in (plain_files all) n (plain_goal read.goal)) fault → Tells Links (Viewed plain_named) (plain_read read) (Err fault)
+  unlinked_is (F.Rejected broken) n e rejected =
+      let same : broken ≡ rules = rejected.0 ∙ rules_are n e in
       record {
         modules = w.modules;
         is_library = w.is_library;
-        is = ap (λ bs. Err (Breaks bs)) same ∙ broken_up rules (linked_with (plain_read read) library) (λ none. some (same ∙ none));
+        is = ap (λ bs. Err (Breaks bs)) same ∙ broken_up rules (linked_with (plain_read read) library) (λ none. rejected.1 (same ∙ none));
       }
+  unlinked_is F.NotBuilt n e rejected = absurd rejected
+  unlinked_is F.Memory n e rejected = tt

@@ -3,9 +3,14 @@
 use Rattle.std.specs.Prelude.{Result}
 use Rattle.mc_compile.specs.Phases.{Refusal, Then}
 use Rattle.mc_compile.specs.Sources.{Sources}
-use Rattle.mc_compile.specs.Reading.{Reads}
+use Rattle.mc_compile.specs.Reading.{PlainRead, Reads}
 use Rattle.mc_compile.specs.Linking.{Links}
 use Rattle.mc_compile.specs.Forming.{Formed, Forms}
 
+-- the phases from linking on
+abbrev pub FromLinking : Sources → PlainRead → Result Formed Refusal → Type 0
+FromLinking sources = Then Links (Forms sources)
+
+-- all phases
 abbrev pub Compiles : Sources → Result Formed Refusal → Type 0
-Compiles sources = Then Reads (Then Links (Forms sources)) sources
+Compiles sources = Then Reads (FromLinking sources) sources

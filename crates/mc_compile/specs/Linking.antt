@@ -30,11 +30,14 @@ goal_rules_in files k None = []
 goal_rules_in files k (Some goal) =
     broken_at (record { file = k; line = line_of goal }) (goal_fault files goal)
 
--- the rules of linking that files break, the library's last, and the goal of a query: file by file,
--- and then the query's
+-- the rules of linking that files break, the library's last, and then the query's
+abbrev pub rules_in : List File → (number : ℕ) → Option PlainTerm → List Broken
+rules_in files k goal = link_faults files ++ goal_rules_in files k goal
+
+-- the same of given files and the library's modules behind them; the query's number follows the
+-- given files'
 abbrev pub linking_rules_of : (files library : List File) → Option PlainTerm → List Broken
-linking_rules_of files library goal =
-    link_faults (files ++ library) ++ goal_rules_in (files ++ library) (length files) goal
+linking_rules_of files library goal = rules_in (files ++ library) (length files) goal
 
 -- the given files and all with the library's behind, with their names, and the goal
 pub record PlainNamed : Type 0 where

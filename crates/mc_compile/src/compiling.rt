@@ -1,12 +1,11 @@
 ghost use Rattle.std.specs.Prelude.{List};
 ghost use Rattle.std.specs.Option.{option_copied};
 ghost use Rattle.mc_compile.specs.declared.given.Given.{Given};
-ghost use Rattle.mc_compile.specs.Phases.{Tells, Then};
+ghost use Rattle.mc_compile.specs.Phases.{Tells};
 ghost use Rattle.mc_compile.specs.Sources.{sources_of};
 ghost use Rattle.mc_compile.specs.Reading.{plain_read};
-ghost use Rattle.mc_compile.specs.Linking.{Links};
-ghost use Rattle.mc_compile.specs.Forming.{Forms, IsProgramOf};
-ghost use Rattle.mc_compile.specs.Compiling.{Compiles};
+ghost use Rattle.mc_compile.specs.Forming.{IsProgramOf};
+ghost use Rattle.mc_compile.specs.Compiling.{Compiles, FromLinking};
 
 use crate::forming::form;
 use crate::given::{CompileFault, Given, Query};
@@ -46,8 +45,8 @@ fn linked(
     want_main: bool,
 ) -> Result<Compiled, CompileFault>
     ensures { (files : List Given)
-        → Tells (Then Links (Forms (sources_of files (option_copied query.entry) want_main)))
-        IsProgramOf (plain_read read) result }
+        → Tells (FromLinking (sources_of files (option_copied query.entry) want_main)) IsProgramOf
+        (plain_read read) result }
 {
     match Named::of(alloc, read) {
         Ok(named) => form(alloc, &named, query, want_main),

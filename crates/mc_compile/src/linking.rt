@@ -2,8 +2,9 @@ ghost use Rattle.std.specs.Prelude.{◌≡◌, ℕ, ◌+◌, ◌<◌, ◌^◌, [
 ghost use Rattle.mc_linking.specs.Files.{plain_files};
 ghost use Rattle.mc_ground_form.specs.Program.{plain_goal};
 ghost use Rattle.mc_compile.specs.Library.{library_texts};
-ghost use Rattle.mc_compile.specs.Linking.{goal_rules_in};
-ghost use Rattle.mc_compile.specs.code.Reader.{IsLibraryRead, IsWithLibrary};
+ghost use Rattle.mc_modules.specs.Linked.{linked, plain_names};
+ghost use Rattle.mc_compile.specs.Linking.{goal_rules_in, rules_in};
+ghost use Rattle.mc_compile.specs.code.Reader.{IsLibraryRead, IsRejected, IsWithLibrary};
 
 use crate::given::CompileFault;
 use crate::library::LIBRARY;
@@ -11,8 +12,8 @@ use crate::named::Named;
 use crate::reader::Reader;
 use crate::reading::Read;
 use mc_base::{Memory, Row};
-use mc_items::{Entry, ItemsFault};
-use mc_modules::{goal_rule, link};
+use mc_items::Entry;
+use mc_modules::{Linking, Names};
 use mc_source::place::Place;
 use mc_source::rule::Broken;
 use mc_term_data::Term;
@@ -59,18 +60,18 @@ fn with_library(alloc: Global, files: Row<Row<Entry>>) -> Result<Row<Row<Entry>>
 // The rule of linking that the goal of a query breaks, where there is one.
 fn goal_rules(
     alloc: Global,
-    files: &Row<Row<Entry>>,
+    linking: &Linking,
     number: u32,
     goal: &Option<Term>,
 ) -> Result<Vec<Broken>, Memory>
-    requires { 0 < length files.now }
+    requires { 0 < length linking.now }
     ensures { IfOk result
         (λ broken.
-        broken.items ≡ goal_rules_in (plain_files files.now) number (plain_goal goal.now)) }
+        broken.items ≡ goal_rules_in (plain_files linking.now) number (plain_goal goal.now)) }
 {
     let mut broken = Vec::new(alloc);
     if let Some(goal) = goal {
-        if let Some((rule, what)) = goal_rule(alloc, files, goal)? {
+        if let Some((rule, what)) = linking.goal_fault(alloc, goal)? {
             let at = Place {
                 file: number,
                 line: goal.line,
@@ -81,14 +82,43 @@ fn goal_rules(
     Ok(broken)
 }
 
-// Rules that are broken, and further ones behind them.
-fn behind(broken: Row<Broken>, further: Vec<Broken>) -> Result<Row<Broken>, Memory>
-    ensures { IfOk result (λ all. all ≡ broken ++ further.items) }
+// The rules of linking that files break, and behind them the one that the goal of a query breaks.
+fn rules(
+    alloc: Global,
+    linking: &Linking,
+    number: u32,
+    goal: &Option<Term>,
+) -> Result<Vec<Broken>, Memory>
+    requires { 0 < length linking.now }
+    ensures { IfOk result
+        (λ broken. broken.items ≡ rules_in (plain_files linking.now) number (plain_goal goal.now)) }
 {
-    let mut all = broken.into_vec();
-    let mut further = further;
-    all.append(&mut further)?;
-    Row::of(all)
+    let mut broken = linking.faults(alloc)?;
+    let mut in_goal = goal_rules(alloc, linking, number, goal)?;
+    broken.append(&mut in_goal)?;
+    Ok(broken)
+}
+
+// The names of files, which are linked once, unless a rule of linking is broken.
+fn names(
+    alloc: Global,
+    files: &Row<Row<Entry>>,
+    number: u32,
+    goal: &Option<Term>,
+) -> Result<Names, CompileFault>
+    requires { 0 < length files.now }
+    ensures names { IfOk result (λ names. plain_names names ≡ linked (plain_files files.now)) }
+    ensures sound { IfOk result
+        (λ _. rules_in (plain_files files.now) number (plain_goal goal.now) ≡ []) }
+    ensures refusal { IfErr result
+        (IsRejected (rules_in (plain_files files.now) number (plain_goal goal.now))) }
+{
+    let linking = Linking::of(alloc, files.as_slice())?;
+    let broken = rules(alloc, &linking, number, goal)?;
+    if broken.is_empty() {
+        return Ok(Names::of(alloc, &linking)?);
+    }
+    Err(CompileFault::Rejected(Row::of(broken)?))
 }
 
 impl Named {
@@ -108,19 +138,14 @@ impl Named {
         let Read { files, goal } = read;
         let given = files.len();
         let files = with_library(alloc, files)?;
-        let in_goal = goal_rules(alloc, &files, given, &goal)?;
-        match link(alloc, &files) {
-            Ok(names) if in_goal.is_empty() => Ok(Named {
+        match names(alloc, &files, given, &goal) {
+            Ok(names) => Ok(Named {
                 files,
                 given,
                 names,
                 goal,
             }),
-            Ok(_names) => Err(CompileFault::Rejected(Row::of(in_goal)?)),
-            Err(ItemsFault::Broken(broken)) => {
-                Err(CompileFault::Rejected(behind(broken, in_goal)?))
-            }
-            Err(ItemsFault::Memory) => Err(CompileFault::Memory),
+            Err(fault) => Err(fault),
         }
     }
 }
