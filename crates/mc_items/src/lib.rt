@@ -9,10 +9,6 @@ mod messages;
 mod next;
 mod query;
 mod read;
-#[cfg(test)]
-mod tests;
-#[cfg(test)]
-mod tests_terms;
 
 pub use entry::{Entry, ItemsFault};
 pub use law::{at_most_one_answer, at_most_one_goal, at_most_one_list};

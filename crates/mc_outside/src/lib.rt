@@ -9,6 +9,3 @@ mod traits;
 
 pub use memory::{MemFiles, MemSink, MemSource};
 pub use traits::{Failed, FileAnswer, Files, PutFault, READ_LIMIT, Sink, Source};
-
-#[cfg(test)]
-mod tests;

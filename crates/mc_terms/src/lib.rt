@@ -3,14 +3,8 @@
 
 mod fault;
 mod item;
-#[cfg(test)]
-mod parser_tests;
 mod position;
 mod term;
-#[cfg(test)]
-mod tests;
-#[cfg(test)]
-mod token_tests;
 
 pub use fault::{ItemFault, ReadFault, ReadKind};
 pub use mc_term_data::{Node, Term};

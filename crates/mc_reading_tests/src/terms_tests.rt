@@ -1,5 +1,5 @@
-use crate::{Node, Position, ReadFault, ReadKind, Term, read_next, read_term};
 use mc_base::Text;
+use mc_terms::{Node, Position, ReadFault, ReadKind, Term, read_next, read_term};
 use mc_tokens::Walk;
 use std::alloc::{AllocError, Global};
 use std::test::Fail;

@@ -1,6 +1,6 @@
 use Rattle.std.proofs.Common.{◌≡◌, ◌≤◌, length}
 use Rattle.mc_terms.specs.Lines.{line_at}
-use Rattle.mc_terms.proofs.tests.counted.Given as goal
+use Rattle.mc_reading_tests.proofs.terms_tests.counted.Given as goal
 
 abbrev pub invariant-items : goal.invariant-items
 invariant-items l = record {

@@ -1,4 +1,4 @@
-// The tests of mc_term_parser, which stand here so that that crate is proved once.
+// The tests of mc_term_parser.
 use mc_base::{Memory, Row, Text};
 use mc_term_data::{Node, Term};
 use mc_term_parser::{Lexeme, Reading, infix, prefix, read};

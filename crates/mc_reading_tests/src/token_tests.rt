@@ -1,4 +1,4 @@
-// The tests of mc_tokens, which stand here so that that crate is proved once.
+// The tests of mc_tokens.
 use mc_tokens::{Class, FaultKind, Kind, TokenFault, Walk, next_token, skip_class, token_text};
 use std::test::Fail;
 

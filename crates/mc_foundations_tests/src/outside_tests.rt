@@ -4,7 +4,7 @@ ghost use Rattle.mc_outside.specs.Counts.{Rose};
 ghost use Rattle.mc_outside.specs.InMemory.{fresh};
 ghost use Rattle.mc_outside.specs.Meaning.{PutsFront};
 
-use crate::{
+use mc_outside::{
     Failed, FileAnswer, Files, MemFiles, MemSink, MemSource, PutFault, READ_LIMIT, Sink, Source,
 };
 use std::alloc::{AllocError, Global};
@@ -107,15 +107,21 @@ fn named(alloc: Global, held: &[(&str, &[u8])]) -> Result<Vec<(String, Vec<u8>)>
 }
 
 #[test]
-fn faults_show_as_texts(rt: HostRuntime) -> Result<(), Fail> {
+fn faults_of_files_show_as_texts(rt: HostRuntime) -> Result<(), Fail> {
     let alloc = rt.alloc();
-    assert_eq!(rt; Failed.to_string(alloc)?.as_str(), "failed");
     assert_eq!(rt; FileAnswer::Absent.to_string(alloc)?.as_str(), "absent");
     assert_eq!(rt; FileAnswer::Failed.to_string(alloc)?.as_str(), "failed");
     assert_eq!(rt;
         FileAnswer::Memory.to_string(alloc)?.as_str(),
         "out of memory"
     );
+    Ok(())
+}
+
+#[test]
+fn faults_of_streams_show_as_texts(rt: HostRuntime) -> Result<(), Fail> {
+    let alloc = rt.alloc();
+    assert_eq!(rt; Failed.to_string(alloc)?.as_str(), "failed");
     assert_eq!(rt; PutFault::Failed.to_string(alloc)?.as_str(), "failed");
     assert_eq!(rt;
         PutFault::Memory.to_string(alloc)?.as_str(),
@@ -160,6 +166,12 @@ fn a_refused_put_leaves_what_was_put(rt: HostRuntime) -> Result<(), Fail> {
     );
     assert_eq!(rt; put_both(&mut out, b"five", b"six"), Ok(()));
     assert_eq!(rt; out.bytes(), b"onefivesix".as_slice());
+    Ok(())
+}
+
+#[test]
+fn a_sink_in_memory_fails_where_its_maker_says(rt: HostRuntime) -> Result<(), Fail> {
+    let alloc = rt.alloc();
     let mut out = MemSink::new(alloc, [2].to_vec(alloc)?);
     assert_eq!(rt;
         put_in_memory(&mut out, b"one", b"two"),
