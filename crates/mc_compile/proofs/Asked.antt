@@ -9,9 +9,9 @@ use Rattle.mc_items.specs.declared.entry.ItemsFault.TheVariants as I
 use Rattle.mc_ground_form.specs.Database.{Database, Question}
 use Rattle.mc_ground_form.specs.Facts.{LinkedFiles, Fact, facts, database, question}
 use Rattle.mc_ground_form.specs.Program.{plain_goal, with_question, over_facts, form_of}
-use Rattle.mc_compile.specs.Phases.{Refusal, Breaks, Unbuilt, unless_broken, Then, went_on}
+use Rattle.mc_compile.specs.Phases.{Refusal, Unbuilt, unless_broken, went_on}
 use Rattle.mc_compile.specs.Sources.{Sources}
-use Rattle.mc_compile.specs.Reading.{AreRead, PlainRead, QueryReads, Reads, rules_from, reading_rules, read_as}
+use Rattle.mc_compile.specs.Reading.{PlainRead, QueryReads, Reads, rules_from, reading_rules, read_as}
 use Rattle.mc_compile.specs.Linking.{PlainNamed, Links, linked_with, linking_rules_of, library_behind}
 use Rattle.mc_compile.specs.Forming.{Formed, Forms, formed}
 use Rattle.mc_compile.specs.Laws.{QueryIsAsked}
