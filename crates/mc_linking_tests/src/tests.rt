@@ -134,6 +134,8 @@ fn a_goal_sees_what_the_first_file_sees(rt: HostRuntime) -> Result<(), Fail> {
         Err(_) => panic!(rt; "not read"),
     };
     let linking = Linking::of(alloc, files.as_slice())?;
+    assert!(rt; linking.len() > 0);
+    assert!(rt; files.len() > 0);
     assert!(rt; linking.faults(alloc)?.is_empty());
     assert!(rt; linking.goal_fault(alloc, &goal(alloc, "p")?)?.is_none());
     assert!(rt; linking.goal_fault(alloc, &goal(alloc, "q")?)?.is_some());
