@@ -1,16 +1,15 @@
 -- Accepted procedures: what a compiler's answer has to meet, so that its runs are good. (Mercury
 -- Language Reference Manual: Modes; Determinism; this project's certificates.)
-use Rattle.std.specs.Prelude.{◌≡◌, ℕ, zero, suc, ◌<◌, List, [], ◌∷◌, length, get_or, Option, Some, None, nat_eq, if◌then◌else◌}
-use Rattle.mc_program.specs.Programs.{TypeTerm, variable_type, ClauseForm}
-use Rattle.mc_accepted.specs.Scope.{ClauseHasScopes}
-use Rattle.mc_accepted.specs.Normal.{Normal_goal, normal_goal}
+use Rattle.std.specs.Prelude.{◌≡◌, ℕ, ◌<◌, List, [], ◌∷◌, length, Option, Some, None, nat_eq, true, if◌then◌else◌}
+use Rattle.mc_model.specs.Lists.{from}
 use Rattle.mc_accepted.specs.Inclusion.{Included}
 use Rattle.mc_source.specs.Determinism.{Allows, inferred, row_of}
 use Rattle.mc_model.specs.Scheduled.{Node, node, Scheduled, Conj, Disj, Switch, Ite, Not, Exists, Assign, Test, Build, Take, Const, TestConst, Call, Apply, Nodes, no_nodes, node_then, Arms, no_arms, arm_then, Procedure}
 use Rattle.mc_accepted.specs.Ordered.{Insts, OrderedNode}
 use Rattle.mc_accepted.specs.Determined.{Known, nothing_known, learned, insts_after, determined, Placed, IoPlaced}
-use Rattle.mc_accepted.specs.Typing.{TypedGoal}
 use Rattle.mc_model.specs.Good.{System}
+use Rattle.mc_accepted.specs.Fits.{goal_of, type_of}
+use Rattle.mc_source.specs.declared.det.Most.TheVariants.{Many}
 
 -- the insts at the call: those of the head variables, every other variable free
 abbrev pub entered : List ℕ → List ℕ → Insts
@@ -18,20 +17,11 @@ entered [] is = λ x. 0
 entered (y ∷ ys) [] = λ x. 0
 entered (y ∷ ys) (i ∷ is) = λ x. if nat_eq x y then i else entered ys is x
 
--- n, n + 1, .. and so on, as many as that
-abbrev pub from : ℕ → ℕ → List ℕ
-from n zero = []
-from n (suc k) = n ∷ from (suc n) k
-
 module _ (S : System) (p : Procedure) where
-  -- the type of a variable of the procedure
-  abbrev pub type_of : ℕ → TypeTerm
-  type_of x = get_or p.var_types x (variable_type x)
-
   -- each argument is at the end included in its final inst, where the end is reachable
   abbrev pub Final : List ℕ → List ℕ → Insts → Type 0
   Final [] [] c = Unit {0}
-  Final (x ∷ xs) (l ∷ ls) c = Included S.world.source S.insts (c x) l (type_of x) × Final xs ls c
+  Final (x ∷ xs) (l ∷ ls) c = Included S.world.source S.insts (c x) l (type_of S p x) × Final xs ls c
   Final _ _ c = ⊥
 
   abbrev pub FinalAfter : Option Insts → Type 0
@@ -42,7 +32,7 @@ module _ (S : System) (p : Procedure) where
   abbrev mutual
     pub KeepsDeterminism : Insts → Known → Node → Type 0
     KeepsDeterminism b known (node s changes d is_pruned) =
-        (d ≡ inferred (determined S type_of b known (node s changes d is_pruned)))
+        (d ≡ inferred (determined S (type_of S p) b known (node s changes d is_pruned)))
         × KeepsInside b known s
 
     pub KeepsInside : Insts → Known → Scheduled → Type 0
@@ -78,21 +68,9 @@ module _ (S : System) (p : Procedure) where
     ArmsKeep b known x (arm_then l n arms) =
         KeepsDeterminism b (learned x l known) n × ArmsKeep b known x arms
 
-abbrev pub EachClauseHasScopes : List ClauseForm → Type 0
-EachClauseHasScopes [] = Unit {0}
-EachClauseHasScopes (c ∷ cs) = ClauseHasScopes c × EachClauseHasScopes cs
-
--- the normal goal of the procedure's predicate
-abbrev pub goal_of : System → Procedure → Normal_goal
-goal_of S p =
-    normal_goal (length (S.world.source.preds p.pred).types) (S.world.source.preds p.pred).clauses
-
 pub record AcceptedProcedure (S : System) (p : Procedure) : Type 0 where
-  -- the clauses' scopes are written out, and the atoms of the predicate's one goal are typed
-  pub scopes : EachClauseHasScopes (S.world.source.preds p.pred).clauses
-  pub typed : TypedGoal S.world.source (type_of S p) (goal_of S p).body
-  -- the head is that of the goal, and the body is the goal in a mode-correct order, in its switch
-  -- form
+  -- the head is that of the predicate's one goal, and the body is that goal in a mode-correct order,
+  -- in its switch form
   pub head : p.head ≡ from 0 (goal_of S p).arity
   pub lengths : (length p.first ≡ (goal_of S p).arity) × (length p.last ≡ (goal_of S p).arity)
   pub after : Option Insts
@@ -100,11 +78,13 @@ pub record AcceptedProcedure (S : System) (p : Procedure) : Type 0 where
       OrderedNode S (type_of S p) p.head p.head (entered p.head p.first) (goal_of S p).body p.body
       after
   pub final : FinalAfter S p after
-  -- the determinisms are those of the table, and the procedure's allows its body's
+  -- the determinisms are those of the table, and the procedure's allows its body's; a committed one
+  -- has many answers in the tables
   pub kept : KeepsDeterminism S p (entered p.head p.first) nothing_known p.body
   pub allowed :
       Allows (row_of p.det)
       (determined S (type_of S p) (entered p.head p.first) nothing_known p.body)
+  pub declared : p.det.committed ≡ true → p.det.most ≡ Many
   -- committed calls and io goals stand where they may
   pub placed : Placed S (type_of S p) (entered p.head p.first) nothing_known p.det.committed p.body
   pub io : IoPlaced S (type_of S p) (entered p.head p.first) nothing_known p.det.committed p.body

@@ -90,19 +90,19 @@ is_dead i = false
 
 module _ (S : System) (T : ℕ → TypeTerm) where
   -- the constructors that a type and an inst allow; none is told of a type that is no union
+  abbrev pub allowed_of : ℕ → List ℕ → List ℕ
+  allowed_of i [] = []
+  allowed_of i (s ∷ ss) =
+      if allows_name (S.insts i) (S.world.source.symbols s).name then s ∷ allowed_of i ss
+      else allowed_of i ss
+
   abbrev pub allowed_in : TypeTerm → ℕ → Option (List ℕ)
-  allowed_in (union_type u ts) i = Some (filtered (S.world.source.symbols_of u))
-    where
-      filtered : List ℕ → List ℕ
-      filtered [] = []
-      filtered (s ∷ ss) =
-          if allows_name (S.insts i) (S.world.source.symbols s).name then s ∷ filtered ss
-          else filtered ss
+  allowed_in (union_type u ts) i = Some (allowed_of i (S.world.source.symbols_of u))
   allowed_in _ i = None
 
   abbrev pub is_alone : ℕ → Option (List ℕ) → Bool
-  is_alone s None = false
-  is_alone s (Some ss) = list_all (λ f. nat_eq f s) ss
+  is_alone s (Some (f ∷ fs)) = list_all (λ g. nat_eq g s) (f ∷ fs)
+  is_alone s _ = false
 
   -- whether an inst excludes the symbol
   abbrev pub excludes : ℕ → ℕ → Bool

@@ -1,8 +1,9 @@
 -- Inclusion of insts, by paths: at a type, an inst allows a path where it allows each symbol on it.
 -- (Mercury Language Reference Manual: Modes, insts; this project's profile of uniqueness.)
-use Rattle.std.specs.Prelude.{◌≡◌, ◌⊎◌, ℕ, ◌<◌, List, [], ◌∷◌, length, get_or, Option, Some, None, true}
+use Rattle.std.specs.Prelude.{◌≡◌, ◌≢◌, ◌⊎◌, ℕ, ◌<◌, List, [], ◌∷◌, length, get_or, Option, Some, None, true}
 use Rattle.mc_program.specs.Programs.{TypeTerm, state_type, variable_type, Source}
 use Rattle.mc_model.specs.Types.{takes, argument_types}
+use Rattle.mc_accepted.specs.Proper.{ProperGraph}
 use Rattle.mc_model.specs.Insts.{InstNode, free, ground, unique, dead, bound, Graph, AllowsSymbol, AllowsConstants}
 
 -- What a state of io is marked with: it has one holder, several, or none that may use it. The state
@@ -77,25 +78,38 @@ IncludedNodes _ _ Q = Q
 abbrev pub Included : Source → Graph → ℕ → ℕ → TypeTerm → Type 0
 Included P G i j t = IncludedNodes (G i) (G j) (NoMore P G i j t)
 
--- The least inst above two: `free` above `free`, `dead` where one is; else it allows exactly what
--- one of the two allows.
-abbrev pub MergedNodes : InstNode → InstNode → InstNode → Type 0 → Type 0
-MergedNodes free free free Q = Unit {0}
-MergedNodes free free _ Q = ⊥
-MergedNodes free _ k Q = ⊥
-MergedNodes _ free k Q = ⊥
-MergedNodes dead _ dead Q = Unit {0}
-MergedNodes dead _ _ Q = ⊥
-MergedNodes _ dead dead Q = Unit {0}
-MergedNodes _ dead _ Q = ⊥
-MergedNodes _ _ _ Q = Q
+-- Merging: `free` of insts that are all free; else none of them is free, and it is `dead` where one
+-- of them is, or allows what each of them allows and is the least such inst.
+abbrev pub AllFree : Graph → List ℕ → Type 0
+AllFree G [] = Unit {0}
+AllFree G (i ∷ is) = (G i ≡ free) × AllFree G is
 
-pub record AllowsEither (P : Source) (G : Graph) (i j k : ℕ) (t : TypeTerm) : Type 0 where
+abbrev pub NoneIs : InstNode → Graph → List ℕ → Type 0
+NoneIs N G [] = Unit {0}
+NoneIs N G (i ∷ is) = (G i ≢ N) × NoneIs N G is
+
+abbrev pub OneIsDead : Graph → List ℕ → Type 0
+OneIsDead G [] = ⊥
+OneIsDead G (i ∷ is) = (G i ≡ dead) ⊎ OneIsDead G is
+
+-- an inst of one graph allows no more than an inst of another
+abbrev pub NoMoreThere : Source → (G : Graph) → ℕ → (H : Graph) → ℕ → TypeTerm → Type 0
+NoMoreThere P G i H j t = (path : Path) (e : Tip) → Allows P G path e i t → Allows P H path e j t
+
+abbrev pub NoneMore : Source → (G : Graph) → List ℕ → (H : Graph) → ℕ → TypeTerm → Type 0
+NoneMore P G [] H k t = Unit {0}
+NoneMore P G (i ∷ is) H k t = NoMoreThere P G i H k t × NoneMore P G is H k t
+
+-- The inst is above all of these, and no inst of any graph that is above them all allows less.
+pub record LeastAbove (P : Source) (G : Graph) (is : List ℕ) (k : ℕ) (t : TypeTerm) : Type 0 where
+  pub above : NoneMore P G is G k t
   pub least :
-      (path : Path) (e : Tip)
-      → Allows P G path e k t → Allows P G path e i t ⊎ Allows P G path e j t
-  pub above_first : NoMore P G i k t
-  pub above_second : NoMore P G j k t
+      (H : Graph) → ProperGraph H → (h : ℕ) → NoneMore P G is H h t → NoMoreThere P G k H h t
 
-abbrev pub Merged : Source → Graph → (i j k : ℕ) → TypeTerm → Type 0
-Merged P G i j k t = MergedNodes (G i) (G j) (G k) (AllowsEither P G i j k t)
+abbrev pub MergedNodes : Graph → List ℕ → InstNode → Type 0 → Type 0
+MergedNodes G is free Q = AllFree G is
+MergedNodes G is dead Q = NoneIs free G is × OneIsDead G is
+MergedNodes G is _ Q = NoneIs free G is × NoneIs dead G is × Q
+
+abbrev pub Merged : Source → Graph → List ℕ → ℕ → TypeTerm → Type 0
+Merged P G is k t = MergedNodes G is (G k) (LeastAbove P G is k t)

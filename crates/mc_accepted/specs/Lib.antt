@@ -1,7 +1,12 @@
 pub mod Accepted
+pub mod BuiltinFits
 pub mod Determined
+pub mod Fits
 pub mod Inclusion
 pub mod Normal
 pub mod Ordered
+pub mod Proper
+pub mod ProperTypes
 pub mod Scope
+pub mod Tidy
 pub mod Typing

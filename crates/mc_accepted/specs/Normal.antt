@@ -3,8 +3,9 @@
 use Rattle.std.specs.Prelude.{ℕ, suc, ◌+◌, List, [], ◌∷◌, ◌++◌, map, length, Bool, true, false, nat_eq, Option, Some, None, if◌then◌else◌}
 use Rattle.mc_program.specs.Programs.{Expression, variable, constant, made, applied, Expressions, no_expressions, expression_then, expressions, Formula, Equal, Call, And, Or, If, Not, Exists, Formulas, no_formulas, formula_then, ClauseForm}
 use Rattle.mc_model.specs.Flat as F
-use Rattle.mc_model.specs.Flat.{Flat_goal, Flat_goals, no_flat, flat_then, flats, is_in, without}
-use Rattle.mc_accepted.specs.Scope.{occurring, variables_in_all, once}
+use Rattle.mc_model.specs.Flat.{Flat_goal, Flat_goals, no_flat, flat_then, flats}
+use Rattle.mc_accepted.specs.Scope.{occurring, variables_in, variables_in_all}
+use Rattle.mc_model.specs.Lists.{is_in, once, place_in}
 
 abbrev pub listed_flats : Flat_goals → List Flat_goal
 listed_flats no_flat = []
@@ -184,20 +185,15 @@ abbrev mutual
       let r = conjuncts_of names n g in
       before (around r.made_variables (conjunction r.goals) ∷ []) [] (disjuncts_of names r.next gs)
 
--- the place of a number in a list, or that of the list's end
-abbrev pub place_in : ℕ → List ℕ → ℕ
-place_in x [] = 0
-place_in x (y ∷ ys) = if nat_eq x y then 0 else suc (place_in x ys)
-
 abbrev pub one_more : Option ℕ → Option ℕ
 one_more None = None
 one_more (Some k) = Some (suc k)
 
--- the first head argument that is this variable
+-- the head argument that is this variable, where the variable isn't met before in the head
 abbrev pub head_place : ℕ → List Expression → Option ℕ
 head_place x [] = None
 head_place x (variable y ∷ ts) = if nat_eq x y then Some 0 else one_more (head_place x ts)
-head_place x (t ∷ ts) = one_more (head_place x ts)
+head_place x (t ∷ ts) = if is_in x (variables_in t) then None else one_more (head_place x ts)
 
 abbrev pub has_place : Option ℕ → Bool
 has_place None = false

@@ -6,18 +6,18 @@
 -- order. That the first mode-correct goal is the one that is taken is said where goals are
 -- scheduled.
 use Rattle.std.specs.Prelude.{◌≡◌, ◌≢◌, ◌⊎◌, ℕ, suc, ◌<◌, ◌≤◌, List, [], ◌∷◌, ◌++◌, map, Option, Some, None, Bool, true, false, not, nat_eq, ◌&&◌, ◌||◌, if◌then◌else◌}
-use Rattle.mc_program.specs.Values.{Val}
+use Rattle.mc_program.specs.Values.{Val, con, state}
 use Rattle.mc_program.specs.Programs.{TypeTerm, state_type}
 use Rattle.mc_model.specs.Insts.{dead, bound, AllowsSymbol, AllowsConstants}
 use Rattle.mc_accepted.specs.Inclusion.{Included, Merged}
 use Rattle.mc_model.specs.Outcomes.{inputs_of}
 use Rattle.mc_model.specs.Flat as F
-use Rattle.mc_model.specs.Flat.{Flat_goal, Flat_goals, no_flat, flat_then, is_in, without, variables_of, variables_of_all, free_in}
-use Rattle.mc_accepted.specs.Scope.{Apart, Among}
-use Rattle.mc_model.specs.Truth.{In}
+use Rattle.mc_model.specs.Flat.{Flat_goal, Flat_goals, no_flat, flat_then, variables_of, variables_of_all, free_in, free_in_all}
+use Rattle.mc_model.specs.Lists.{Apart, Distinct, In, is_in, without}
 use Rattle.mc_model.specs.Scheduled.{Label, for_symbol, for_constant, Node, node, Scheduled, Conj, Disj, Switch, Ite, Not, Exists, Assign, Test, Build, Take, Const, TestConst, Call, Apply, Nodes, no_nodes, node_then, Arms, no_arms, arm_then, Procedure}
 use Rattle.mc_model.specs.Stream.{is_bound}
 use Rattle.mc_model.specs.Good.{System}
+use Rattle.mc_source.specs.Determinism.{inferred, semidet}
 use Rattle.mc_program.specs.declared.builtin.Builtin.{Builtin}
 use Rattle.mc_program.specs.declared.builtin.Builtin.TheVariants as B
 use Rattle.mc_source.specs.declared.det.Det.{Det}
@@ -199,23 +199,31 @@ implied_places k (m ∷ ms) (x ∷ xs) is_there =
     else if is_there x then k ∷ implied_places (suc k) ms xs is_there
     else implied_places (suc k) ms xs (λ y. if nat_eq y x then true else is_there y)
 
-abbrev pub FreshenedHere : Bool → ℕ → ℕ → Flat_goals → (Flat_goals → Type 0) → Type 0
+abbrev pub FreshenedHere :
+    Bool → ℕ → ℕ → List (ℕ × ℕ) → (List (ℕ × ℕ) → Type 0) → Type 0
 FreshenedHere false x z tests Q = (z ≡ x) × Q tests
-FreshenedHere true x z no_flat Q = ⊥
-FreshenedHere true x z (flat_then g gs) Q = (g ≡ F.Same z x) × Q gs
+FreshenedHere true x z [] Q = ⊥
+FreshenedHere true x z (test ∷ tests) Q = (test ≡ (z, x)) × Q tests
 
--- goals before others
-abbrev pub before_goals : Flat_goals → Flat_goals → Flat_goals
-before_goals no_flat hs = hs
-before_goals (flat_then g gs) hs = flat_then g (before_goals gs hs)
-
--- the arguments with fresh variables in the places of implied ones, and the tests of these, in
--- order
-abbrev pub Freshened : (place : ℕ) → (implied : List ℕ) → (xs fresh : List ℕ) → Flat_goals → Type 0
-Freshened k is [] [] tests = tests ≡ no_flat
+-- the arguments with fresh variables in the places of implied ones, and the pairs of variables that
+-- are tested, in order
+abbrev pub Freshened :
+    (place : ℕ) → (implied : List ℕ) → (xs fresh : List ℕ) → List (ℕ × ℕ) → Type 0
+Freshened k is [] [] tests = tests ≡ []
 Freshened k is (x ∷ xs) (z ∷ zs) tests =
     FreshenedHere (is_in k is) x z tests (Freshened (suc k) is xs zs)
 Freshened k is _ _ tests = ⊥
+
+-- the fresh variables of tests
+abbrev pub firsts : List (ℕ × ℕ) → List ℕ
+firsts [] = []
+firsts (test ∷ tests) = test.0 ∷ firsts tests
+
+-- tests before other goals; a test changes no inst, and is pruned since it binds nothing
+abbrev pub tested_by : List (ℕ × ℕ) → Nodes → Nodes
+tested_by [] ns = ns
+tested_by (test ∷ tests) ns =
+    node_then (node (Test test.0 test.1) [] (inferred semidet) true) (tested_by tests ns)
 
 -- how often a variable stands in a list
 abbrev pub times_in : ℕ → List ℕ → ℕ
@@ -232,6 +240,12 @@ abbrev pub at_outputs : List Bool → List ℕ → List ℕ
 at_outputs [] xs = []
 at_outputs (b ∷ bs) [] = []
 at_outputs (b ∷ bs) (x ∷ xs) = if b then at_outputs bs xs else x ∷ at_outputs bs xs
+
+-- the ends that are reachable
+abbrev pub reachable : List (Option Insts) → List Insts
+reachable [] = []
+reachable (None ∷ os) = reachable os
+reachable (Some c ∷ os) = c ∷ reachable os
 
 -- unreachable after what never answers
 abbrev pub unless_never : Most → Insts → Option Insts
@@ -255,10 +269,20 @@ AllBound [] b = Unit {0}
 AllBound (x ∷ xs) b = (is_bound (b x) ≡ true) × AllBound xs b
 
 abbrev pub IsEmpty : Node → Type 0
-IsEmpty (node (Conj no_nodes) changes det pruned) = changes ≡ []
+IsEmpty (node (Conj no_nodes) changes det pruned) = (changes ≡ []) × (pruned ≡ false)
 IsEmpty n = ⊥
 
--- each run of the goal deconstructs x against a label
+-- an equation
+abbrev pub IsEquation : Node → Type 0
+IsEquation (node (Assign v w) changes det pruned) = Unit {0}
+IsEquation (node (Test v w) changes det pruned) = Unit {0}
+IsEquation (node (Build v s ys) changes det pruned) = Unit {0}
+IsEquation (node (Take v s ys) changes det pruned) = Unit {0}
+IsEquation (node (Const v c) changes det pruned) = Unit {0}
+IsEquation (node (TestConst v c) changes det pruned) = Unit {0}
+IsEquation n = ⊥
+
+-- each run of the goal deconstructs x against a label before its first goal that is no equation
 abbrev mutual
   pub Opens : ℕ → Label → Node → Type 0
   Opens x l (node s changes det pruned) = OpensScheduled x l s
@@ -267,21 +291,14 @@ abbrev mutual
   OpensScheduled x l (Conj ns) = OneOpens x l ns
   OpensScheduled x l (Disj ns) = EachOpens x l ns
   OpensScheduled x l (Switch v arms) = EachArmOpens x l arms
-  OpensScheduled x l (Ite vs c t e) = ⊥
-  OpensScheduled x l (Not n) = ⊥
   OpensScheduled x l (Exists vs n) = Opens x l n
-  OpensScheduled x l (Assign v w) = ⊥
-  OpensScheduled x l (Test v w) = ⊥
-  OpensScheduled x l (Build v s ys) = ⊥
   OpensScheduled x l (Take v s ys) = (v ≡ x) × (l ≡ for_symbol s)
-  OpensScheduled x l (Const v c) = ⊥
   OpensScheduled x l (TestConst v c) = (v ≡ x) × (l ≡ for_constant c)
-  OpensScheduled x l (Call p xs implied last) = ⊥
-  OpensScheduled x l (Apply op xs ys) = ⊥
+  OpensScheduled x l s = ⊥
 
   pub OneOpens : ℕ → Label → Nodes → Type 0
   OneOpens x l no_nodes = ⊥
-  OneOpens x l (node_then n ns) = Opens x l n ⊎ OneOpens x l ns
+  OneOpens x l (node_then n ns) = IsEquation n × (Opens x l n ⊎ OneOpens x l ns)
 
   pub EachOpens : ℕ → Label → Nodes → Type 0
   EachOpens x l no_nodes = Unit {0}
@@ -290,6 +307,13 @@ abbrev mutual
   pub EachArmOpens : ℕ → Label → Arms → Type 0
   EachArmOpens x l no_arms = Unit {0}
   EachArmOpens x l (arm_then k n arms) = Opens x l n × EachArmOpens x l arms
+
+-- a label for a constant is an integer, a character or a string
+abbrev pub IsLabel : Label → Type 0
+IsLabel (for_symbol s) = Unit {0}
+IsLabel (for_constant (con s vs)) = ⊥
+IsLabel (for_constant (state written taken)) = ⊥
+IsLabel (for_constant v) = Unit {0}
 
 -- no arm has the label
 abbrev pub AbsentFrom : Label → Arms → Type 0
@@ -305,6 +329,17 @@ module _ (S : System) (T : ℕ → TypeTerm) where
   abbrev pub NoneState : List ℕ → Type 0
   NoneState [] = Unit {0}
   NoneState (x ∷ xs) = (is_state (T x) ≡ false) × NoneState xs
+
+  -- each pair is tested as an equation is: both variables have one type, not the state's, and are
+  -- bound
+  abbrev pub TestsInOrder : List (ℕ × ℕ) → Insts → Type 0
+  TestsInOrder [] c = Unit {0}
+  TestsInOrder (test ∷ tests) c =
+      (T test.0 ≡ T test.1)
+      × (is_state (T test.0) ≡ false)
+      × (c test.0 ≢ 0)
+      × (c test.1 ≢ 0)
+      × TestsInOrder tests c
 
   -- the bound inst of one symbol over these insts
   abbrev pub IsSymbolOver : ℕ → ℕ → List ℕ → Type 0
@@ -332,49 +367,56 @@ module _ (S : System) (T : ℕ → TypeTerm) where
   abbrev pub Usable : List Mode → List ℕ → Insts → Type 0
   Usable ms xs b = UsableAt xs ms xs b
 
-  -- the insts after a call, argument by argument
-  pub data After : List Mode → List ℕ → Insts → Insts → Type 0 where
-    no_more : {b : Insts} → After [] [] b b
+  -- The insts after a call, argument by argument. Which outputs are implied goes by what is bound
+  -- before the call, and by the outputs before.
+  pub data AfterArguments :
+      (is_there : ℕ → Bool) → List Mode → List ℕ → Insts → Insts → Type 0 where
+    no_more : {is_there : ℕ → Bool} {b : Insts} → AfterArguments is_there [] [] b b
     -- `free >> free` takes any variable and keeps its inst
     not_passed :
-        {b c : Insts} {x : ℕ} {ms : List Mode} {xs : List ℕ} → After ms xs b c
-        → After ((0, 0) ∷ ms) (x ∷ xs) b c
+        {is_there : ℕ → Bool} {b c : Insts} {x : ℕ} {ms : List Mode} {xs : List ℕ}
+        → AfterArguments is_there ms xs b c → AfterArguments is_there ((0, 0) ∷ ms) (x ∷ xs) b c
     -- an output has the final inst
     output :
-        {b c : Insts} {x l : ℕ} {ms : List Mode} {xs : List ℕ} → l ≢ 0 → b x ≡ 0
-        → After ms xs (also x l b) c → After ((0, l) ∷ ms) (x ∷ xs) b c
+        {is_there : ℕ → Bool} {b c : Insts} {x l : ℕ} {ms : List Mode} {xs : List ℕ} → l ≢ 0
+        → is_there x ≡ false
+        → AfterArguments (λ y. if nat_eq y x then true else is_there y) ms xs (also x l b) c
+        → AfterArguments is_there ((0, l) ∷ ms) (x ∷ xs) b c
     -- an implied argument is tested and keeps its inst
     implied :
-        {b c : Insts} {x l : ℕ} {ms : List Mode} {xs : List ℕ} → l ≢ 0 → b x ≢ 0 → After ms xs b c
-        → After ((0, l) ∷ ms) (x ∷ xs) b c
+        {is_there : ℕ → Bool} {b c : Insts} {x l : ℕ} {ms : List Mode} {xs : List ℕ} → l ≢ 0
+        → is_there x ≡ true → AfterArguments is_there ms xs b c
+        → AfterArguments is_there ((0, l) ∷ ms) (x ∷ xs) b c
     -- an input becomes dead where its final inst is; any other keeps its inst where the final inst
     -- includes it, else has the final inst
     dies :
-        {b c : Insts} {x i l : ℕ} {ms : List Mode} {xs : List ℕ} → i ≢ 0 → S.insts l ≡ dead
-        → After ms xs (also x l b) c → After ((i, l) ∷ ms) (x ∷ xs) b c
+        {is_there : ℕ → Bool} {b c : Insts} {x i l : ℕ} {ms : List Mode} {xs : List ℕ} → i ≢ 0
+        → S.insts l ≡ dead → AfterArguments is_there ms xs (also x l b) c
+        → AfterArguments is_there ((i, l) ∷ ms) (x ∷ xs) b c
     keeps :
-        {b c : Insts} {x i l : ℕ} {ms : List Mode} {xs : List ℕ} → i ≢ 0 → S.insts l ≢ dead
-        → Included S.world.source S.insts (b x) l (T x) → After ms xs b c
-        → After ((i, l) ∷ ms) (x ∷ xs) b c
+        {is_there : ℕ → Bool} {b c : Insts} {x i l : ℕ} {ms : List Mode} {xs : List ℕ} → i ≢ 0
+        → S.insts l ≢ dead → Included S.world.source S.insts (b x) l (T x)
+        → AfterArguments is_there ms xs b c → AfterArguments is_there ((i, l) ∷ ms) (x ∷ xs) b c
     becomes :
-        {b c : Insts} {x i l : ℕ} {ms : List Mode} {xs : List ℕ} → i ≢ 0 → S.insts l ≢ dead
-        → (Included S.world.source S.insts (b x) l (T x) → ⊥) → After ms xs (also x l b) c
-        → After ((i, l) ∷ ms) (x ∷ xs) b c
+        {is_there : ℕ → Bool} {b c : Insts} {x i l : ℕ} {ms : List Mode} {xs : List ℕ} → i ≢ 0
+        → S.insts l ≢ dead → (Included S.world.source S.insts (b x) l (T x) → ⊥)
+        → AfterArguments is_there ms xs (also x l b) c
+        → AfterArguments is_there ((i, l) ∷ ms) (x ∷ xs) b c
 
-  -- The insts after two branches: an unreachable one takes no part. A variable that occurs outside
-  -- is free after both or after neither, and then has the least inst above both; any other counts
-  -- as free.
-  abbrev pub Joined : List ℕ → Option Insts → Option Insts → Option Insts → Type 0
-  Joined O None None o = o ≡ None
-  Joined O (Some c) None None = ⊥
-  Joined O (Some c) None (Some e) = (x : ℕ) → (In x O → e x ≡ c x) × ((In x O → ⊥) → e x ≡ 0)
-  Joined O None (Some d) None = ⊥
-  Joined O None (Some d) (Some e) = (x : ℕ) → (In x O → e x ≡ d x) × ((In x O → ⊥) → e x ≡ 0)
-  Joined O (Some c) (Some d) None = ⊥
-  Joined O (Some c) (Some d) (Some e) =
+  abbrev pub After : List Mode → List ℕ → Insts → Insts → Type 0
+  After ms xs b c = AfterArguments (λ x. is_bound (b x)) ms xs b c
+
+  -- The insts after branches from one point, whose reachable ends these are; the point after them
+  -- is unreachable where no end is. A variable that occurs outside has the merged inst, so it is
+  -- free at all ends or at none; any other counts as free, or stays as it was.
+  abbrev pub Joined : List ℕ → Insts → List Insts → Option Insts → Type 0
+  Joined O b [] o = o ≡ None
+  Joined O b (c ∷ ends) None = ⊥
+  Joined O b (c ∷ ends) (Some e) =
       (x : ℕ)
-      → (In x O → Merged S.world.source S.insts (c x) (d x) (e x) (T x))
-      × ((In x O → ⊥) → e x ≡ 0)
+      → (In x O
+      → Merged S.world.source S.insts (map (λ (d : Insts). d x) (c ∷ ends)) (e x) (T x))
+      × ((In x O → ⊥) → (e x ≡ 0) ⊎ (e x ≡ b x))
 
   mutual
     -- Ordered O Q b g s o: a normal goal g, whose variables outside are O, and its scheduled goal
@@ -429,36 +471,45 @@ module _ (S : System) (T : ℕ → TypeTerm) where
           → Ordered O Q b (F.Call p xs)
           (Apply op (at_inputs (inputs_of op) xs) (at_outputs (inputs_of op) xs))
           (unless_never (builtin_most op) c)
+      -- a builtin with implied outputs that stands alone is the conjunction of it and their tests
+      implied_alone :
+          {O Q : List ℕ} {b : Insts} {p : ℕ} {xs : List ℕ} {n m : Node} {ns : Nodes}
+          {o : Option Insts}
+          → OrderedAll O Q b (flat_then (F.Call p xs) no_flat) (node_then n (node_then m ns)) o
+          → Ordered O Q b (F.Call p xs) (Conj (node_then n (node_then m ns))) o
       conj :
           {O Q : List ℕ} {b : Insts} {gs : Flat_goals} {ns : Nodes} {o : Option Insts}
           → OrderedAll O Q b gs ns o → Ordered O Q b (F.And gs) (Conj ns) o
       disj :
-          {O Q : List ℕ} {b : Insts} {gs : Flat_goals} {ns : Nodes} {o : Option Insts}
-          → OrderedAny O Q b gs ns o → Ordered O Q b (F.Or gs) (Disj ns) o
+          {O Q : List ℕ} {b : Insts} {gs : Flat_goals} {ns : Nodes} {os : List (Option Insts)}
+          {o : Option Insts} → OrderedAny O Q b gs ns os → Joined O b (reachable os) o
+          → Ordered O Q b (F.Or gs) (Disj ns) o
       switch :
-          {O Q : List ℕ} {b : Insts} {x : ℕ} {gs : Flat_goals} {arms : Arms} {o : Option Insts}
-          → b x ≢ 0 → OrderedArms O Q b x gs arms o → Ordered O Q b (F.Or gs) (Switch x arms) o
-      -- a condition binds nothing that occurs outside it and its then part, and its own variables
-      -- are quantified
+          {O Q : List ℕ} {b : Insts} {x : ℕ} {gs : Flat_goals} {arms : Arms}
+          {os : List (Option Insts)} {o : Option Insts} → b x ≢ 0 → In x (free_in_all gs)
+          → OrderedArms O Q b x gs arms os → Joined O b (reachable os) o
+          → Ordered O Q b (F.Or gs) (Switch x arms) o
+      -- A condition binds nothing that occurs outside it and its then part. The variables that are
+      -- free in a condition or a negation count as outside its parts.
       ite :
           {O Q : List ℕ} {b c : Insts} {vs : List ℕ} {g h k : Flat_goal} {n t u : Node}
-          {o o' o'' : Option Insts} → Apart vs O → Among (without (free_in g) vs) O
-          → OrderedNode (O ++ (vs ++ variables_of h)) (Q ++ (vs ++ variables_of_node t)) b g n
-          (Some c) → BindsNone (without (free_in g) vs) b (Some c)
-          → OrderedNode (O ++ (vs ++ variables_of g)) (Q ++ (vs ++ variables_of_node n)) c h t o
-          → OrderedNode O Q b k u o' → Joined O o o' o''
+          {o o' o'' : Option Insts} → Apart vs O
+          → OrderedNode (O ++ (without (free_in g) vs ++ variables_of h))
+          (Q ++ variables_of_node t) b g n (Some c) → BindsNone (without (free_in g) vs) b (Some c)
+          → OrderedNode (O ++ variables_of g) (Q ++ variables_of_node n) c h t o
+          → OrderedNode O Q b k u o' → Joined O b (reachable (o ∷ o' ∷ [])) o''
           → Ordered O Q b (F.If vs g h k) (Ite vs n t u) o''
       -- where the point after a condition is unreachable, its then part stands as the empty
       -- conjunction
       ite_never :
           {O Q : List ℕ} {b : Insts} {vs : List ℕ} {g h k : Flat_goal} {n t u : Node}
-          {o o'' : Option Insts} → Apart vs O → Among (without (free_in g) vs) O
-          → OrderedNode (O ++ (vs ++ variables_of h)) (Q ++ vs) b g n None → IsEmpty t
-          → OrderedNode O Q b k u o → Joined O None o o''
+          {o o'' : Option Insts} → Apart vs O
+          → OrderedNode (O ++ (without (free_in g) vs ++ variables_of h)) Q b g n None → IsEmpty t
+          → OrderedNode O Q b k u o → Joined O b (reachable (o ∷ [])) o''
           → Ordered O Q b (F.If vs g h k) (Ite vs n t u) o''
       neg :
           {O Q : List ℕ} {b : Insts} {g : Flat_goal} {n : Node} {o : Option Insts}
-          → Among (free_in g) O → OrderedNode O Q b g n o → BindsNone (free_in g) b o
+          → OrderedNode (O ++ free_in g) Q b g n o → BindsNone (free_in g) b o
           → Ordered O Q b (F.Not g) (Not n) (Some b)
       some :
           {O Q : List ℕ} {b : Insts} {vs : List ℕ} {g : Flat_goal} {n : Node} {o : Option Insts}
@@ -485,30 +536,42 @@ module _ (S : System) (T : ℕ → TypeTerm) where
           → OrderedNode (O ++ variables_of_all rest) (Q ++ variables_of_nodes ns) b g n (Some c)
           → OrderedAll (O ++ variables_of g) (Q ++ variables_of_node n) c rest ns o
           → OrderedAll O Q b gs (node_then n ns) o
-      -- an implied output of a builtin stands as a fresh variable, with a test after the builtin
+      -- an implied output of a builtin stands as a fresh variable of its type, which is tested
+      -- directly after the builtin
       implied_outputs :
-          {O Q : List ℕ} {b : Insts} {p : ℕ} {op : Builtin} {xs zs : List ℕ} {gs rest : Flat_goals}
-          {ns : Nodes} {o : Option Insts} (tests : Flat_goals) → Picks gs (F.Call p xs) rest
-          → (S.world.source.preds p).builtin ≡ Some op
+          {O Q : List ℕ} {b c : Insts} {p : ℕ} {op : Builtin} {xs zs : List ℕ}
+          {gs rest : Flat_goals} {changes : List (ℕ × ℕ)} {d : Det} {ns : Nodes}
+          {o : Option Insts} (tests : List (ℕ × ℕ)) → Picks gs (F.Call p xs) rest
+          → (S.world.source.preds p).builtin ≡ Some op → builtin_most op ≡ One
           → Freshened 0 (implied_places 0 (modes_of op) xs (λ x. is_bound (b x))) xs zs tests
-          → Apart (without zs xs) (O ++ variables_of_all gs)
-          → OrderedAll O Q b (flat_then (F.Call p zs) (before_goals tests rest)) ns o
-          → OrderedAll O Q b gs ns o
+          → NoneDead xs b → Distinct (firsts tests)
+          → Apart (firsts tests) (O ++ (Q ++ variables_of_all gs)) → TestsInOrder tests c
+          → Usable (modes_of op) zs b
+          → implied_places 0 (modes_of op) zs (λ x. is_bound (b x)) ≡ []
+          → After (modes_of op) zs b c → KeepsChanges b (Some c) changes
+          → OrderedAll (O ++ (xs ++ zs)) (Q ++ (xs ++ zs)) c rest ns o
+          → OrderedAll O Q b gs
+          (node_then
+          (node (Apply op (at_inputs (inputs_of op) zs) (at_outputs (inputs_of op) zs)) changes d
+          (is_pruned (Q ++ variables_of_nodes (tested_by tests ns)) b (Some c)))
+          (tested_by tests ns)) o
 
-    pub data OrderedAny : (O Q : List ℕ) → Insts → Flat_goals → Nodes → Option Insts → Type 0 where
-      no_other : {O Q : List ℕ} {b : Insts} → OrderedAny O Q b no_flat no_nodes None
+    -- disjuncts, with the insts after each
+    pub data OrderedAny :
+        (O Q : List ℕ) → Insts → Flat_goals → Nodes → List (Option Insts) → Type 0 where
+      no_other : {O Q : List ℕ} {b : Insts} → OrderedAny O Q b no_flat no_nodes []
       either :
           {O Q : List ℕ} {b : Insts} {g : Flat_goal} {gs : Flat_goals} {n : Node} {ns : Nodes}
-          {o o' o'' : Option Insts} → OrderedNode O Q b g n o → OrderedAny O Q b gs ns o'
-          → Joined O o o' o'' → OrderedAny O Q b (flat_then g gs) (node_then n ns) o''
+          {o : Option Insts} {os : List (Option Insts)} → OrderedNode O Q b g n o
+          → OrderedAny O Q b gs ns os → OrderedAny O Q b (flat_then g gs) (node_then n ns) (o ∷ os)
 
-    -- the arms of a switch on a variable: the disjuncts of one symbol or constant share an arm, in
-    -- order
+    -- the arms of a switch on a variable, with the insts after each: the disjuncts of one symbol or
+    -- constant share an arm, in order
     pub data OrderedArms :
-        (O Q : List ℕ) → Insts → ℕ → Flat_goals → Arms → Option Insts → Type 0 where
-      no_arm : {O Q : List ℕ} {b : Insts} {x : ℕ} → OrderedArms O Q b x no_flat no_arms None
+        (O Q : List ℕ) → Insts → ℕ → Flat_goals → Arms → List (Option Insts) → Type 0 where
+      no_arm : {O Q : List ℕ} {b : Insts} {x : ℕ} → OrderedArms O Q b x no_flat no_arms []
       arm :
           {O Q : List ℕ} {b : Insts} {x : ℕ} {gs hs ks : Flat_goals} {l : Label} {n : Node}
-          {arms : Arms} {o o' o'' : Option Insts} → Parts gs hs ks → Opens x l n → AbsentFrom l arms
-          → OrderedNode O Q b (arm_goal hs) n o → OrderedArms O Q b x ks arms o' → Joined O o o' o''
-          → OrderedArms O Q b x gs (arm_then l n arms) o''
+          {arms : Arms} {o : Option Insts} {os : List (Option Insts)} → Parts gs hs ks → IsLabel l
+          → Opens x l n → AbsentFrom l arms → OrderedNode O Q b (arm_goal hs) n o
+          → OrderedArms O Q b x ks arms os → OrderedArms O Q b x gs (arm_then l n arms) (o ∷ os)

@@ -2,8 +2,7 @@
 -- Syntax, implicit quantification.)
 use Rattle.std.specs.Prelude.{ℕ, List, [], ◌∷◌, ◌++◌}
 use Rattle.mc_program.specs.Programs.{Expression, variable, constant, made, applied, Expressions, no_expressions, expression_then, expressions, Formula, Equal, Call, And, Or, If, Not, Exists, Formulas, no_formulas, formula_then, ClauseForm}
-use Rattle.mc_model.specs.Truth.{In}
-use Rattle.mc_model.specs.Flat.{without}
+use Rattle.mc_model.specs.Lists.{Apart, Among, once, without}
 
 -- the variables of a term, in order
 abbrev mutual
@@ -47,11 +46,6 @@ abbrev mutual
   free_of_all no_formulas = []
   free_of_all (formula_then g gs) = free_of g ++ free_of_all gs
 
--- each number of a list once, in order of its first place
-abbrev pub once : List ℕ → List ℕ
-once [] = []
-once (x ∷ xs) = x ∷ without (once xs) (x ∷ [])
-
 abbrev pub quantified : List ℕ → Formula → Formula
 quantified [] g = g
 quantified (v ∷ vs) g = Exists (v ∷ vs) g
@@ -90,39 +84,33 @@ abbrev mutual
   scoped_disjuncts O no_formulas = no_formulas
   scoped_disjuncts O (formula_then g gs) = formula_then (scoped O g) (scoped_disjuncts O gs)
 
--- no number is in both lists; each number of the first is in the second
-abbrev pub Apart : List ℕ → List ℕ → Type 0
-Apart xs ys = (x : ℕ) → In x xs → In x ys → ⊥
-
-abbrev pub Among : List ℕ → List ℕ → Type 0
-Among xs ys = (x : ℕ) → In x xs → In x ys
-
--- Scopes are written out: a quantified variable doesn't occur outside its scope but in parallel
--- goals, and a variable that occurs free in a negation, or in a condition, and isn't quantified
--- there occurs outside it in the head or in a goal that isn't parallel.
+-- Scopes are written out, where O is what occurs outside the goal and Q the variables of the
+-- quantifiers around it: a quantified variable doesn't occur outside its scope but in parallel
+-- goals, and a variable that occurs free in a negation, or in a condition and isn't quantified
+-- there, occurs outside it in the head or in a goal that isn't parallel, or is quantified around it.
 abbrev mutual
-  pub HasScopes : (outside : List ℕ) → Formula → Type 0
-  HasScopes O (Equal a b) = Unit {0}
-  HasScopes O (Call p ts) = Unit {0}
-  HasScopes O (And gs) = PartsHaveScopes O gs
-  HasScopes O (Or gs) = DisjunctsHaveScopes O gs
-  HasScopes O (If vs c t e) =
+  pub HasScopes : (outside around : List ℕ) → Formula → Type 0
+  HasScopes O Q (Equal a b) = Unit {0}
+  HasScopes O Q (Call p ts) = Unit {0}
+  HasScopes O Q (And gs) = PartsHaveScopes O Q gs
+  HasScopes O Q (Or gs) = DisjunctsHaveScopes O Q gs
+  HasScopes O Q (If vs c t e) =
       Apart vs O
-      × Among (without (free_of c) vs) O
-      × HasScopes (O ++ (vs ++ occurring t)) c
-      × HasScopes (O ++ (vs ++ occurring c)) t
-      × HasScopes O e
-  HasScopes O (Not g) = Among (free_of g) O × HasScopes O g
-  HasScopes O (Exists vs g) = Apart vs O × HasScopes (O ++ vs) g
+      × Among (without (free_of c) vs) (O ++ Q)
+      × HasScopes (O ++ occurring t) (Q ++ vs) c
+      × HasScopes (O ++ occurring c) (Q ++ vs) t
+      × HasScopes O Q e
+  HasScopes O Q (Not g) = Among (free_of g) (O ++ Q) × HasScopes O Q g
+  HasScopes O Q (Exists vs g) = Apart vs O × HasScopes O (Q ++ vs) g
 
-  pub PartsHaveScopes : (outside : List ℕ) → Formulas → Type 0
-  PartsHaveScopes O no_formulas = Unit {0}
-  PartsHaveScopes O (formula_then g gs) =
-      HasScopes (O ++ occurring_all gs) g × PartsHaveScopes (O ++ occurring g) gs
+  pub PartsHaveScopes : (outside around : List ℕ) → Formulas → Type 0
+  PartsHaveScopes O Q no_formulas = Unit {0}
+  PartsHaveScopes O Q (formula_then g gs) =
+      HasScopes (O ++ occurring_all gs) Q g × PartsHaveScopes (O ++ occurring g) Q gs
 
-  pub DisjunctsHaveScopes : (outside : List ℕ) → Formulas → Type 0
-  DisjunctsHaveScopes O no_formulas = Unit {0}
-  DisjunctsHaveScopes O (formula_then g gs) = HasScopes O g × DisjunctsHaveScopes O gs
+  pub DisjunctsHaveScopes : (outside around : List ℕ) → Formulas → Type 0
+  DisjunctsHaveScopes O Q no_formulas = Unit {0}
+  DisjunctsHaveScopes O Q (formula_then g gs) = HasScopes O Q g × DisjunctsHaveScopes O Q gs
 
 -- a clause's scopes are taken with the variables of its head outside
 abbrev pub clause_scoped : ClauseForm → ClauseForm
@@ -130,4 +118,4 @@ clause_scoped c =
     record { head = c.head; body = scoped (variables_in_all (expressions c.head)) c.body }
 
 abbrev pub ClauseHasScopes : ClauseForm → Type 0
-ClauseHasScopes c = HasScopes (variables_in_all (expressions c.head)) c.body
+ClauseHasScopes c = HasScopes (variables_in_all (expressions c.head)) [] c.body

@@ -3,7 +3,7 @@
 use Rattle.std.specs.Prelude.{◌≡◌, ℕ, ℤ, List, [], ◌∷◌, ◌++◌, map, Contains, Some, Option, None}
 use Rattle.mc_program.specs.Values.{Val, int, char, str, con, state}
 use Rattle.mc_program.specs.Programs.{TypeTerm, int_type, char_type, string_type, union_type, Source}
-use Rattle.mc_model.specs.Types.{instance_of, argument_types}
+use Rattle.mc_model.specs.Types.{instance_of, argument_types, IsValue}
 use Rattle.mc_model.specs.Flat.{Flat_goal, Same, Made, Is, Call, And, Or, If, Not, Exists, Flat_goals, no_flat, flat_then}
 use Rattle.mc_source.specs.declared.name.Candidate.{Candidate}
 use Rattle.mc_source.specs.declared.name.Candidate.TheVariants as C
@@ -107,7 +107,7 @@ module _ (P : Source) (T : ℕ → TypeTerm) where
     pub TypedGoal : Flat_goal → Type 0
     TypedGoal (Same x y) = T x ≡ T y
     TypedGoal (Made x s ys) = constructor_types P s (T x) ≡ Some (map T ys)
-    TypedGoal (Is x v) = ConstantOf v (T x)
+    TypedGoal (Is x v) = IsValue P v × ConstantOf v (T x)
     TypedGoal (Call p xs) = (σ : ℕ → TypeTerm) × (map T xs ≡ map (instance_of σ) (P.preds p).types)
     TypedGoal (And gs) = TypedGoals gs
     TypedGoal (Or gs) = TypedGoals gs

@@ -2,7 +2,7 @@
 use Rattle.std.proofs.Common.{◌≡◌, ◌⊎◌, inl, inr, ℕ, List, [], ◌∷◌, Some, None, Bool, true, false, cond, not, nat_eq, refl, sym, ap, ◌∙◌, subst, arith, ⊎_elim}
 use Rattle.mc_program.specs.Programs.{TypeTerm, variable_type, Source}
 use Rattle.mc_model.specs.Types.{argument_types}
-use Rattle.mc_model.specs.Truth.{In}
+use Rattle.mc_model.specs.Lists.{In}
 use Rattle.mc_model.specs.Insts.{Graph}
 use Rattle.mc_accepted.specs.Inclusion.{Tip, symbol_tip, constant_tip, state_tip, Path, Allows, NoMore, Merged}
 use Rattle.mc_accepted.specs.Ordered.{Insts, also, change_at, here, there, no_part, to_part, to_rest, keeps, output, no_more, assign, take, build, call, conj, switch, OrderedNode, kept, next, done, arm, no_arm}

@@ -3,12 +3,10 @@
 use Rattle.std.proofs.Common.{◌≡◌, inl, inr, ℕ, zero, suc, List, [], ◌∷◌, replicate, Option, Some, None, Bool, true, false, cond, nat_eq, refl, sym, ap, ◌∙◌, subst, arith, ⊎_elim}
 use Rattle.std.proofs.lemmas.Bool.{eqb-true}
 use Rattle.mc_program.specs.Programs.{TypeTerm, Source}
-use Rattle.mc_model.specs.Truth.{In}
+use Rattle.mc_model.specs.Lists.{In, is_in, without, Apart, Among}
 use Rattle.mc_model.specs.Insts.{Graph}
 use Rattle.mc_accepted.specs.Inclusion.{Merged}
 use Rattle.mc_model.specs.Flat as F
-use Rattle.mc_model.specs.Flat.{is_in, without}
-use Rattle.mc_accepted.specs.Scope.{Apart, Among}
 use Rattle.mc_model.specs.Scheduled.{Node, Nodes}
 use Rattle.mc_accepted.specs.Ordered.{Insts, also, change_at, binds_one, take_all, Joined, is_state, assign, assign_back, test, take, take_never, build, conj, ite, ite_never, neg, some, OrderedNode, OrderedAll, kept, next, done, dropped, implied_outputs}
 use Rattle.mc_accepted.specs.Accepted.{entered, type_of, Accepted, AcceptedProcedure}

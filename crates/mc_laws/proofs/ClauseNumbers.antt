@@ -3,10 +3,9 @@ use Rattle.std.proofs.Common.{◌≡◌, ◌⊎◌, inl, inr, ℕ, zero, suc, �
 use Rattle.std.proofs.lemmas.Bool.{eqb-true, eqb-false}
 use Rattle.std.proofs.lemmas.Option.{none-some, same_Some}
 use Rattle.mc_program.specs.Programs.{Expression, variable, constant, made, applied, expressions, Formula, Equal, Call, And, Or, If, Not, Exists, Formulas, no_formulas, formula_then, ClauseForm}
-use Rattle.mc_model.specs.Truth.{In}
-use Rattle.mc_model.specs.Flat.{is_in, without}
-use Rattle.mc_accepted.specs.Scope.{Among, occurring, occurring_all, variables_in_all, once}
-use Rattle.mc_accepted.specs.Normal.{place_in, one_more, head_place, has_place, no_arguments, named_by_quantifiers, named_by_quantifiers_of_all, other_variables, place_or, names_in, is_place}
+use Rattle.mc_model.specs.Lists.{In, is_in, without, Among, once, place_in}
+use Rattle.mc_accepted.specs.Scope.{occurring, occurring_all, variables_in_all}
+use Rattle.mc_accepted.specs.Normal.{one_more, head_place, has_place, no_arguments, named_by_quantifiers, named_by_quantifiers_of_all, other_variables, place_or, names_in, is_place}
 use Rattle.mc_laws.specs.FlatLaws.{Uses, AllUse, Numbers}
 use Rattle.mc_laws.proofs.FlatGoals.{in_left, in_right}
 use Rattle.mc_laws.proofs.FlatWhole.{is_in_true}

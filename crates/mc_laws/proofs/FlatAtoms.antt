@@ -6,13 +6,14 @@ use Rattle.std.proofs.lemmas.List.{map-append}
 use Rattle.std.proofs.lemmas.Bool.{lt-ltb, le-ltb, eqb-true, eq-eqb, cases_lt}
 use Rattle.mc_program.specs.Values.{Val, con, vals, same_value}
 use Rattle.mc_program.specs.Programs.{Expression, variable, constant, made, applied, Expressions, no_expressions, expression_then}
-use Rattle.mc_model.specs.Truth.{Assignment, In, SameOff, Facts, parts, parts_all, value, values, Applied, AllApplied, Misapplied, OneMisapplied, AtomYes, AtomNo, AreEqual, Differ, pair}
+use Rattle.mc_model.specs.Truth.{Assignment, SameOff, Facts, parts, parts_all, value, values, Applied, AllApplied, Misapplied, OneMisapplied, AtomYes, AtomNo, AreEqual, Differ, pair}
 use Rattle.mc_model.specs.Flat as F
 use Rattle.mc_model.specs.Flat.{Flat_goal, FlatYes, FlatNo}
 use Rattle.mc_accepted.specs.Normal.{Conjuncts, the_variable, name_term, name_terms, equate, equation, before}
 use Rattle.mc_accepted.specs.Scope.{variables_in, variables_in_all}
 use Rattle.mc_laws.proofs.Equality.{value_same, same_of}
 use Rattle.mc_laws.proofs.FlatGoals.{in_left, in_right, in_either, AllFlatYes, OneFlatNo, all_split, one_split}
+use Rattle.mc_model.specs.Lists.{In}
 
 -- two values are the same or not
 pub same_or_not : (v w : Val) → (v ≡ w) ⊎ (v ≢ w)

@@ -1,10 +1,11 @@
 -- What flat conjunctions, and flat goals under made variables, say of their parts.
 use Rattle.std.proofs.Common.{◌≡◌, ◌⊎◌, inl, inr, ℕ, List, [], ◌∷◌, ◌++◌, refl, sym, ap, subst, ⊎_elim}
-use Rattle.mc_model.specs.Truth.{Assignment, In, SameOff, Facts}
+use Rattle.mc_model.specs.Truth.{Assignment, SameOff, Facts}
 use Rattle.mc_model.specs.Flat as F
 use Rattle.mc_model.specs.Flat.{Flat_goal, Flat_goals, no_flat, flat_then, FlatYes, FlatNo, FlatAllYes, FlatOneNo}
 use Rattle.mc_model.specs.Flat.{flats}
 use Rattle.mc_accepted.specs.Normal.{listed_flats, conjuncts, all_conjuncts, one_or_and, conjunction, around}
+use Rattle.mc_model.specs.Lists.{In}
 
 pub in_left : (x : ℕ) (xs ys : List ℕ) → In x xs → In x (xs ++ ys)
 in_left x [] ys h = absurd h

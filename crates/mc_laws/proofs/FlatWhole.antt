@@ -3,14 +3,15 @@ use Rattle.std.proofs.Common.{◌≡◌, ◌⊎◌, inl, inr, ℕ, pos, ◌+◌,
 use Rattle.std.proofs.lemmas.Bool.{lt-ltb, le-ltb, eqb-true, eqb-false, eq-eqb}
 use Rattle.mc_program.specs.Values.{Val, int}
 use Rattle.mc_program.specs.Programs.{Formula, Equal, Call, And, Or, If, Not, Exists, Formulas, no_formulas, formula_then}
-use Rattle.mc_model.specs.Truth.{Assignment, In, SameOff, Facts, Choice, ForSome, ForEach, atoms, atoms_all, AtomYes, AreEqual, pair, YesBy, NoBy, AllYesBy, OneNoBy, OneYes, AllNo, stage}
+use Rattle.mc_model.specs.Truth.{Assignment, SameOff, Facts, Choice, ForSome, ForEach, atoms, atoms_all, AtomYes, AreEqual, pair, YesBy, NoBy, AllYesBy, OneNoBy, OneYes, AllNo, stage}
 use Rattle.mc_model.specs.Flat as F
-use Rattle.mc_model.specs.Flat.{Flat_goal, Flat_goals, no_flat, flat_then, is_in, FlatYes, FlatNo, FlatAllYes, FlatOneYes, FlatAllNo, FlatOneNo}
+use Rattle.mc_model.specs.Flat.{Flat_goal, Flat_goals, no_flat, flat_then, FlatYes, FlatNo, FlatAllYes, FlatOneYes, FlatAllNo, FlatOneNo}
 use Rattle.mc_model.specs.Flat.{flats}
 use Rattle.mc_accepted.specs.Normal.{disjuncts, all_disjuncts, conjunction, name_terms, equation, conjuncts_of, conjuncts_of_all, disjuncts_of}
 use Rattle.mc_laws.specs.FlatLaws.{Uses, AllUse, Numbers, flat_goal, FlatGoalsCarry}
 use Rattle.mc_laws.proofs.FlatGoals.{in_left, in_right, in_either, AllFlatYes, OneFlatNo, all_split, one_split, flats_listed, conjunction_yes, conjunction_no, around_yes, around_no}
 use Rattle.mc_laws.proofs.FlatAtoms.{all_values_of, equation_values, HasValues, call_yes, call_no, equation_yes, equation_no, call_next, call_above, call_has, equation_numbered, put_in, put_at, put_off}
+use Rattle.mc_model.specs.Lists.{In, is_in}
 
 only : {A : Type 0} → A ⊎ ⊥ → A
 only h = ⊎_elim (λ a. a) (λ b. absurd b) h

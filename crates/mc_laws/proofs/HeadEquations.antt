@@ -2,10 +2,10 @@
 use Rattle.std.proofs.Common.{◌≡◌, ◌⊎◌, inl, inr, ℕ, zero, suc, ◌+◌, ◌-◌, ◌<◌, ◌≤◌, List, [], ◌∷◌, ◌++◌, map, length, get_or, Bool, true, false, cond, refl, sym, ap, ap₂, ◌∙◌, subst, arith, ⊎_elim, append-nil}
 use Rattle.mc_program.specs.Values.{Val}
 use Rattle.mc_program.specs.Programs.{Expression, variable, constant, made, applied, expressions, Formula}
-use Rattle.mc_model.specs.Truth.{Assignment, In, Facts, Choice, parts, parts_all, AtomYes, AtomNo, AreEqual, Differ, pair, YesBy, NoBy, AllYesBy, OneNoBy, equated}
+use Rattle.mc_model.specs.Truth.{Assignment, Facts, Choice, parts, parts_all, AtomYes, AtomNo, AreEqual, Differ, pair, YesBy, NoBy, AllYesBy, OneNoBy, equated}
 use Rattle.mc_accepted.specs.Normal.{equate, head_place, is_place, head_equation, head_equations}
 use Rattle.mc_accepted.specs.Scope.{variables_in, variables_in_all}
-use Rattle.mc_accepted.specs.Accepted.{from}
+use Rattle.mc_model.specs.Lists.{In, from}
 use Rattle.mc_laws.proofs.FlatGoals.{in_left, in_right, AllFlatYes, OneFlatNo, all_split, one_split}
 use Rattle.mc_laws.proofs.FlatAtoms.{same_or_not, inner, inner_values, inner_length, inner_next, equate_yes, equate_no, chosen, chosen_made, chosen_last, HasValues, put_in, put_low, put_high, put_at}
 use Rattle.mc_laws.proofs.FlatWhole.{nothing, joined, joined_first, joined_second, all_yes_same, values_same}

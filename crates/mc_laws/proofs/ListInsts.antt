@@ -3,7 +3,7 @@ use Rattle.std.proofs.Common.{◌≡◌, ◌≢◌, ◌⊎◌, inl, inr, ℕ, �
 use Rattle.std.proofs.lemmas.Bool.{eqb-true, eqb-false}
 use Rattle.mc_program.specs.Programs.{TypeTerm, variable_type, Source}
 use Rattle.mc_model.specs.Types.{argument_types}
-use Rattle.mc_model.specs.Truth.{In}
+use Rattle.mc_model.specs.Lists.{In}
 use Rattle.mc_model.specs.Insts.{Listed, bound, Graph, Lists, AllowsSymbol}
 use Rattle.mc_accepted.specs.Inclusion.{Tip, AllowsTip, symbol_tip, constant_tip, state_tip, Path, OnTypes, Allows, NoMore, Merged}
 use Rattle.mc_accepted.specs.Accepted.{entered}

@@ -2,7 +2,7 @@
 use Rattle.std.proofs.Common.{◌≡◌, inl, inr, ℕ, ◌+◌, ◌<◌, ◌≤◌, List, [], ◌∷◌, ◌++◌, length, refl, sym, ap, ◌∙◌, subst, arith, ⊎_elim}
 use Rattle.mc_program.specs.Values.{Val}
 use Rattle.mc_program.specs.Programs.{expressions, ClauseForm}
-use Rattle.mc_model.specs.Truth.{Assignment, In, Facts, Choice, Yes, No, at_arguments, OneNoBy, equated, SomeClause, NoClause, stage}
+use Rattle.mc_model.specs.Truth.{Assignment, Facts, Choice, Yes, No, at_arguments, OneNoBy, equated, SomeClause, NoClause, stage}
 use Rattle.mc_model.specs.Flat.{Flat_goal, FlatYes, FlatNo}
 use Rattle.mc_accepted.specs.Normal.{conjunction, conjuncts_of, named_by_quantifiers, other_variables, names_in, head_equations, clause_goal, clause_goals, one_or_either}
 use Rattle.mc_accepted.specs.Scope.{occurring, variables_in_all}
@@ -12,6 +12,7 @@ use Rattle.mc_laws.proofs.FlatGoals.{in_left, all_split, one_split, conjunction_
 use Rattle.mc_laws.proofs.FlatWhole.{OneFlatYes, AllFlatNo, disjuncts_yes, disjuncts_no, goal_next, goal_above, renamed, renamed_off, renamed_at, in_map, written, written_off, fits_same, written_fits, goal_yes, goal_no}
 use Rattle.mc_laws.proofs.ClauseNumbers.{clause_variables, has_number, clause_numbers, other_is_variable, other_above, place_number, body_uses}
 use Rattle.mc_laws.proofs.HeadEquations.{HaveFrom, have_from, mapped_from, have_same, listed, listed_have, AllMeet, met, head_yes, head_no, body_no, meet_or_not, head_next, head_written, written_low, written_high, written_fit}
+use Rattle.mc_model.specs.Lists.{In}
 
 module _ (C : Facts) (ws : List Val) (n : ℕ) (c : ClauseForm) (as_long : length ws ≡ length c.head) (below : length c.head ≤ n) where
   abbrev names : ℕ → ℕ

@@ -2,10 +2,11 @@
 -- project's normal form.)
 use Rattle.std.specs.Prelude.{◌≡◌, ℕ, ◌<◌, List, ◌++◌}
 use Rattle.mc_program.specs.Programs.{Formula, Equal, Call, And, Or, If, Not, Exists, Formulas, no_formulas, formula_then}
-use Rattle.mc_model.specs.Truth.{Assignment, In, Facts, World, Yes, No, stage}
+use Rattle.mc_model.specs.Truth.{Assignment, Facts, World, Yes, No, stage}
 use Rattle.mc_model.specs.Flat.{Flat_goal, FlatYes, FlatNo}
 use Rattle.mc_accepted.specs.Normal.{around, conjunction, conjuncts_of}
-use Rattle.mc_accepted.specs.Scope.{Among, variables_in, variables_in_all}
+use Rattle.mc_accepted.specs.Scope.{variables_in, variables_in_all}
+use Rattle.mc_model.specs.Lists.{In, Among}
 
 -- each variable that occurs in a goal, or that a quantifier of it names, is among these
 abbrev mutual

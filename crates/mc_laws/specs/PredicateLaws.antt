@@ -1,22 +1,18 @@
 -- The law that a predicate's one normal goal says of its head variables what its clauses say of
 -- arguments. (Mercury Language Reference Manual: Semantics, the completion of a predicate's
 -- clauses; this project's normal form.)
-use Rattle.std.specs.Prelude.{◌≡◌, ℕ, List, [], ◌∷◌, map, length}
+use Rattle.std.specs.Prelude.{◌≡◌, ℕ, List, map, length}
 use Rattle.mc_program.specs.Values.{Val}
 use Rattle.mc_program.specs.Programs.{ClauseForm}
 use Rattle.mc_model.specs.Truth.{Assignment, Facts, World, SomeClause, NoClause, stage}
 use Rattle.mc_model.specs.Flat.{FlatYes, FlatNo}
 use Rattle.mc_accepted.specs.Normal.{normal_goal}
-use Rattle.mc_accepted.specs.Accepted.{from}
+use Rattle.mc_model.specs.Lists.{from}
+use Rattle.mc_accepted.specs.Fits.{HeadsHave}
 
 -- the head variables 0, 1, .. have these values
 abbrev pub AtHead : List Val → Assignment → Type 0
 AtHead ws u = map u (from 0 (length ws)) ≡ ws
-
--- each clause's head has that many arguments
-abbrev pub HeadsHave : ℕ → List ClauseForm → Type 0
-HeadsHave arity [] = Unit {0}
-HeadsHave arity (c ∷ cs) = (length c.head ≡ arity) × HeadsHave arity cs
 
 -- An answer of the normal goal at these arguments makes a clause true of them; and where the goal
 -- is false for all values of its other variables, each clause is false of them. (The goal

@@ -1,31 +1,11 @@
--- Graphs of insts that are well formed, and what inclusion says of values. (Mercury Language
--- Reference Manual: Modes, insts.)
-use Rattle.std.specs.Prelude.{◌≡◌, ℕ, List, [], ◌∷◌, length}
+-- What inclusion says of values. (Mercury Language Reference Manual: Modes, insts.)
+use Rattle.std.specs.Prelude.{ℕ}
 use Rattle.mc_program.specs.Values.{Val}
 use Rattle.mc_program.specs.Programs.{TypeTerm, Source}
 use Rattle.mc_model.specs.Types.{OfType}
-use Rattle.mc_model.specs.Insts.{Listed, InstNode, free, ground, unique, dead, bound, Graph, Within}
+use Rattle.mc_model.specs.Insts.{Graph, Within}
 use Rattle.mc_accepted.specs.Inclusion.{Included}
-
--- no constructor of that name and arity is listed
-abbrev pub Unlisted : Listed → List Listed → Type 0
-Unlisted l [] = Unit {0}
-Unlisted l (k ∷ ks) = (l.name ≡ k.name → l.arity ≡ k.arity → ⊥) × Unlisted l ks
-
--- a bound inst lists a constructor once at most, with an inst for each argument
-abbrev pub ListsOnce : List Listed → Type 0
-ListsOnce [] = Unit {0}
-ListsOnce (l ∷ ls) = (length l.args ≡ l.arity) × Unlisted l ls × ListsOnce ls
-
-abbrev pub ProperNode : InstNode → Type 0
-ProperNode free = Unit {0}
-ProperNode ground = Unit {0}
-ProperNode unique = Unit {0}
-ProperNode dead = Unit {0}
-ProperNode (bound ls) = ListsOnce ls
-
-abbrev pub ProperGraph : Graph → Type 0
-ProperGraph G = (i : ℕ) → ProperNode (G i)
+use Rattle.mc_accepted.specs.Proper.{ProperGraph}
 
 -- included insts have included sets
 abbrev pub IncludedSets : Type 0

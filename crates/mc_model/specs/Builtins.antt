@@ -84,8 +84,8 @@ fits_64 (pos n) = nat_lt n (2 ^ 63)
 fits_64 (negsuc n) = nat_lt n (2 ^ 63)
 
 -- the number that a text writes: a sign, or none, and decimal digits
-abbrev pub number_of : List ℕ → Outcome
-number_of s =
+abbrev pub parsed_int : List ℕ → Outcome
+parsed_int s =
     if nat_lt 0 (length (without_leading_sign s))
     && all_ascii_digits (without_leading_sign s)
     && fits_64 (signed_digits_value 10 s)
@@ -153,7 +153,7 @@ outcome L input B.StringCodePoints = on_str (λ s. at_end (gives_int (pos (lengt
 outcome L input B.IntToString = on_int (λ a. at_end (gives_str (signed_decimal a)))
 outcome L input B.CharToString = on_char (λ c. at_end (gives_str (encode_utf8 c)))
 outcome L input B.ToCharList = on_str (λ s. at_end (gives (char_list L (chars s) ∷ [])))
-outcome L input B.StringToInt = on_str (λ s. at_end (number_of s))
+outcome L input B.StringToInt = on_str (λ s. at_end (parsed_int s))
 outcome L input B.CharToInt = on_char (λ c. at_end (gives_int (pos c)))
 outcome L input B.CharFromInt = on_int (λ a. at_end (char_of_code a))
 outcome L input B.CharIsDigit = on_char (λ c. at_end (succeeds_if (nat_le 48 c && nat_le c 57)))

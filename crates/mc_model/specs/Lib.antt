@@ -4,6 +4,7 @@ pub mod Events
 pub mod Flat
 pub mod Good
 pub mod Insts
+pub mod Lists
 pub mod Outcomes
 pub mod Output
 pub mod PlainGoals

@@ -20,9 +20,9 @@ same_name a b =
     && (pointwise nat_eq a.bytes b.bytes && nat_eq a.arity b.arity)
 
 -- the number of the first symbol of that name, and where there is none that of symbols
-abbrev pub number_of : FullName → List FullName → ℕ
-number_of n [] = zero
-number_of n (m ∷ ms) = if same_name n m then zero else suc (number_of n ms)
+abbrev pub symbol_number : FullName → List FullName → ℕ
+symbol_number n [] = zero
+symbol_number n (m ∷ ms) = if same_name n m then zero else suc (symbol_number n ms)
 
 abbrev pub full_names : Program → List FullName
 full_names P = map (λ (s : Symbol). plain_name s.name) P.symbols
@@ -32,10 +32,10 @@ full_names P = map (λ (s : Symbol). plain_name s.name) P.symbols
 abbrev pub library_of : Program → Library
 library_of P =
     record {
-      nil = number_of (library_name (codes "list") (codes "[]") 0) (full_names P);
-      cons = number_of (library_name (codes "list") (codes "[|]") 2) (full_names P);
-      ok = number_of (library_name (codes "io") (codes "ok") 1) (full_names P);
-      eof = number_of (library_name (codes "io") (codes "eof") 0) (full_names P);
+      nil = symbol_number (library_name (codes "list") (codes "[]") 0) (full_names P);
+      cons = symbol_number (library_name (codes "list") (codes "[|]") 2) (full_names P);
+      ok = symbol_number (library_name (codes "io") (codes "ok") 1) (full_names P);
+      eof = symbol_number (library_name (codes "io") (codes "eof") 0) (full_names P);
       text_of = printed (names_of P);
     }
 
