@@ -1,3 +1,4 @@
+pub mod Bare
 pub mod Builtins
 pub mod EventList
 pub mod Events
