@@ -4,6 +4,7 @@ pub mod Determined
 pub mod Fits
 pub mod Inclusion
 pub mod Normal
+pub mod NormalTypes
 pub mod Ordered
 pub mod Proper
 pub mod ProperTypes

@@ -1,4 +1,5 @@
-use mc_base::Row;
+use mc_base::{Row, Text};
+use mc_program::ty::Ty;
 use mc_program::value::Value;
 
 /// A goal whose atoms hold variables alone: an equation of two variables, of a variable and a constructor over
@@ -16,4 +17,15 @@ pub enum Flat {
     Made(u32, u32, Row<u32>),
     Const(u32, Value),
     Call(u32, Row<u32>),
+}
+
+/// The one goal of a predicate, over its head variables 0, 1, .. The types and names are those of all its variables, by
+/// their numbers; a variable without a name in the source has the empty name.
+#[derive(Drop)]
+pub struct Normal {
+    pub pred: u32,
+    pub head: Row<u32>,
+    pub var_types: Row<Ty>,
+    pub var_names: Row<Text>,
+    pub body: Flat,
 }
