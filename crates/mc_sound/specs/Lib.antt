@@ -1,0 +1,4 @@
+pub mod PredicateLaws
+pub mod Proper
+pub mod Soundness
+pub mod code

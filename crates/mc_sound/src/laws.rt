@@ -1,0 +1,12 @@
+//! The theorem and its parts. Each is the contract of a function that does nothing.
+ghost use Rattle.mc_sound.specs.Soundness.{QuerySoundness, Soundness};
+
+/// Accepted procedures are good.
+pub fn good()
+    ensures { Soundness }
+{}
+
+/// So are accepted queries.
+pub fn queries()
+    ensures { QuerySoundness }
+{}

@@ -1,0 +1,4 @@
+//! Accepted procedures are good: the theorem that the language's word stands on, over its definitions alone.
+#![tactic(auto)]
+
+pub mod laws;
