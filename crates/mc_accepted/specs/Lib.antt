@@ -1,8 +1,13 @@
 pub mod Accepted
+pub mod Arranged
 pub mod BuiltinFits
+pub mod Chosen
 pub mod Determined
 pub mod Fits
+pub mod Forms
+pub mod InOrder
 pub mod Inclusion
+pub mod Least
 pub mod Normal
 pub mod NormalTypes
 pub mod Ordered
@@ -11,3 +16,5 @@ pub mod ProperTypes
 pub mod Scope
 pub mod Tidy
 pub mod Typing
+pub mod Unmarked
+pub mod code

@@ -1,0 +1,29 @@
+-- Insts as nodes of a graph. Where a function that looks for a node answers None, the graph has no
+-- such node yet.
+use Rattle.std.specs.Prelude.{ℕ, List, Option, Bool}
+use Rattle.mc_program.specs.Programs.{TypeTerm}
+use Rattle.mc_model.specs.Stream.{is_bound}
+use Rattle.mc_accepted.specs.Arranged.{Operations}
+
+pub record Chosen : Type 0 where
+  pub is_dead : ℕ → Bool
+  pub over : (symbol : ℕ) → List ℕ → Option ℕ
+  pub joined : TypeTerm → List ℕ → Option ℕ
+  pub narrowed : ℕ → (symbol : ℕ) → Option (List ℕ)
+  pub takes_constants : ℕ → Bool
+  pub fits : ℕ → (node : ℕ) → TypeTerm → Bool
+  pub typed_as : (fresh v : ℕ) → Bool
+
+abbrev pub of_nodes : Chosen → Operations ℕ
+of_nodes C =
+    record {
+      node = λ i. i;
+      is_bound = is_bound;
+      is_dead = C.is_dead;
+      over = C.over;
+      joined = C.joined;
+      narrowed = C.narrowed;
+      takes_constants = C.takes_constants;
+      fits = C.fits;
+      typed_as = C.typed_as;
+    }

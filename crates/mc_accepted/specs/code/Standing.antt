@@ -1,0 +1,171 @@
+-- Ordered goals without what is kept of them: no changes, no determinisms, no marks, and builtins'
+-- fresh variables as the order numbers them. O is what occurs outside; n and m are the next numbers
+-- for a variable before and after. It stands between the order that is computed and the relation of
+-- ordered goals.
+use Rattle.std.specs.Prelude.{◌≡◌, ◌≢◌, ℕ, ◌+◌, ◌<◌, List, [], ◌∷◌, ◌++◌, map, length, Option, Some, None, false, if◌then◌else◌}
+use Rattle.mc_program.specs.Values.{Val}
+use Rattle.mc_program.specs.Programs.{TypeTerm}
+use Rattle.mc_model.specs.Insts.{AllowsSymbol, AllowsConstants}
+use Rattle.mc_model.specs.Outcomes.{inputs_of}
+use Rattle.mc_model.specs.Flat as F
+use Rattle.mc_model.specs.Flat.{Flat_goal, Flat_goals, no_flat, flat_then, variables_of, variables_of_all, free_in}
+use Rattle.mc_model.specs.Lists.{without}
+use Rattle.mc_model.specs.Scheduled.{Node, Conj, Disj, Ite, Not, Exists, Assign, Test, Build, Take, Const, TestConst, Call, Apply, Nodes, no_nodes, node_then}
+use Rattle.mc_model.specs.Stream.{is_bound}
+use Rattle.mc_model.specs.Good.{System}
+use Rattle.mc_accepted.specs.Ordered.{Insts, also, is_state, modes_of, modes_of_procedure, Picks, implied_places, at_inputs, at_outputs, reachable, unless_never, builtin_most, take_all, AllBound, BindsNone, NoneDead, NoneState, IsSymbolOver, Usable, After, Joined}
+use Rattle.mc_accepted.specs.Unmarked.{unmarked}
+use Rattle.mc_accepted.specs.Arranged.{fresh_at, tests_at, test_nodes, nodes_before}
+use Rattle.mc_program.specs.declared.builtin.Builtin.{Builtin}
+
+module _ (S : System) (T : ℕ → TypeTerm) where
+  abbrev pub implied_of : Builtin → List ℕ → Insts → List ℕ
+  implied_of op xs b = implied_places 0 (modes_of op) xs (λ x. is_bound (b x))
+
+  abbrev pub TestsTyped : List (ℕ × ℕ) → Type 0
+  TestsTyped [] = Unit {0}
+  TestsTyped (t ∷ ts) = ((T t.0 ≡ T t.1) × (is_state (T t.0) ≡ false)) × TestsTyped ts
+
+  -- a builtin with implied outputs, with the fresh variables that stand for them, and with their
+  -- tests
+  pub record Freshly (n : ℕ) (b c : Insts) (p : ℕ) (op : Builtin) (xs : List ℕ) : Type 0 where
+    pub builtin : (S.world.source.preds p).builtin ≡ Some op
+    pub usable : Usable S T (modes_of op) xs b
+    pub alive : NoneDead S T xs b
+    pub implies : implied_of op xs b ≢ []
+    pub after : After S T (modes_of op) (fresh_at 0 (implied_of op xs b) xs n) b c
+    pub typed : TestsTyped (tests_at 0 (implied_of op xs b) xs n)
+
+  abbrev pub fresh_nodes : (n : ℕ) → Insts → Builtin → List ℕ → Nodes
+  fresh_nodes n b op xs =
+      let zs = fresh_at 0 (implied_of op xs b) xs n in
+      node_then (unmarked (Apply op (at_inputs (inputs_of op) zs) (at_outputs (inputs_of op) zs)))
+      (test_nodes (tests_at 0 (implied_of op xs b) xs n))
+
+  mutual
+    pub data Standing :
+        (O : List ℕ) → (n : ℕ) → Insts → Flat_goal → Node → Option Insts → (m : ℕ) → Type 0 where
+      assign :
+          {O : List ℕ} {n : ℕ} {b : Insts} {x y : ℕ} → b x ≡ 0 → b y ≢ 0
+          → NoneDead S T (x ∷ y ∷ []) b
+          → Standing O n b (F.Same x y) (unmarked (Assign x y))
+          (Some (also x (b y) (if is_state (T y) then also y 3 b else b))) n
+      assign_back :
+          {O : List ℕ} {n : ℕ} {b : Insts} {x y : ℕ} → b x ≡ 0 → b y ≢ 0
+          → NoneDead S T (x ∷ y ∷ []) b
+          → Standing O n b (F.Same y x) (unmarked (Assign x y))
+          (Some (also x (b y) (if is_state (T y) then also y 3 b else b))) n
+      test :
+          {O : List ℕ} {n : ℕ} {b : Insts} {x y : ℕ} → b x ≢ 0 → b y ≢ 0
+          → is_state (T x) ≡ false → NoneDead S T (x ∷ y ∷ []) b
+          → Standing O n b (F.Same x y) (unmarked (Test x y)) (Some b) n
+      build :
+          {O : List ℕ} {n : ℕ} {b : Insts} {x s i : ℕ} {ys : List ℕ} → b x ≡ 0
+          → AllBound ys b → NoneState S T ys → NoneDead S T ys b
+          → IsSymbolOver S T i s (map b ys)
+          → Standing O n b (F.Made x s ys) (unmarked (Build x s ys)) (Some (also x i b)) n
+      take :
+          {O : List ℕ} {n : ℕ} {b : Insts} {x s i : ℕ} {ys is : List ℕ} → b x ≢ 0
+          → NoneDead S T (x ∷ ys) b
+          → AllowsSymbol S.world.source (S.insts (b x)) (b x) s (λ js. js ≡ is)
+          → IsSymbolOver S T i s is
+          → Standing O n b (F.Made x s ys) (unmarked (Take x s ys))
+          (Some (take_all ys is (also x i b))) n
+      take_never :
+          {O : List ℕ} {n : ℕ} {b : Insts} {x s : ℕ} {ys : List ℕ} → b x ≢ 0
+          → NoneDead S T (x ∷ ys) b
+          → (AllowsSymbol S.world.source (S.insts (b x)) (b x) s (λ js. Unit {0}) → ⊥)
+          → Standing O n b (F.Made x s ys) (unmarked (Take x s ys)) None n
+      put :
+          {O : List ℕ} {n : ℕ} {b : Insts} {x : ℕ} {v : Val} → b x ≡ 0
+          → Standing O n b (F.Is x v) (unmarked (Const x v)) (Some (also x 1 b)) n
+      test_constant :
+          {O : List ℕ} {n : ℕ} {b : Insts} {x : ℕ} {v : Val} → b x ≢ 0
+          → NoneDead S T (x ∷ []) b → AllowsConstants (S.insts (b x))
+          → Standing O n b (F.Is x v) (unmarked (TestConst x v)) (Some b) n
+      test_never :
+          {O : List ℕ} {n : ℕ} {b : Insts} {x : ℕ} {v : Val} → b x ≢ 0
+          → NoneDead S T (x ∷ []) b → (AllowsConstants (S.insts (b x)) → ⊥)
+          → Standing O n b (F.Is x v) (unmarked (TestConst x v)) None n
+      call :
+          {O : List ℕ} {n : ℕ} {b c : Insts} {p : ℕ} {xs : List ℕ} → p < S.count
+          → Usable S T (modes_of_procedure (S.procs p)) xs b → NoneDead S T xs b
+          → After S T (modes_of_procedure (S.procs p)) xs b c
+          → Standing O n b (F.Call (S.procs p).pred xs)
+          (unmarked
+          (Call p xs (implied_places 0 (modes_of_procedure (S.procs p)) xs (λ x. is_bound (b x)))
+          false))
+          (unless_never (S.procs p).det.most c) n
+      apply :
+          {O : List ℕ} {n : ℕ} {b c : Insts} {p : ℕ} {op : Builtin} {xs : List ℕ}
+          → (S.world.source.preds p).builtin ≡ Some op → Usable S T (modes_of op) xs b
+          → NoneDead S T xs b → implied_of op xs b ≡ [] → After S T (modes_of op) xs b c
+          → Standing O n b (F.Call p xs)
+          (unmarked (Apply op (at_inputs (inputs_of op) xs) (at_outputs (inputs_of op) xs)))
+          (unless_never (builtin_most op) c) n
+      apply_freshly :
+          {O : List ℕ} {n : ℕ} {b c : Insts} {p : ℕ} {op : Builtin} {xs : List ℕ}
+          → Freshly n b c p op xs
+          → Standing O n b (F.Call p xs) (unmarked (Conj (fresh_nodes n b op xs))) (Some c)
+          (n + length (implied_of op xs b))
+      conj :
+          {O : List ℕ} {n m : ℕ} {b : Insts} {gs : Flat_goals} {ns : Nodes} {o : Option Insts}
+          → StandingAll O n b gs ns o m → Standing O n b (F.And gs) (unmarked (Conj ns)) o m
+      disj :
+          {O : List ℕ} {n m : ℕ} {b : Insts} {gs : Flat_goals} {ns : Nodes}
+          {os : List (Option Insts)} {o : Option Insts} → StandingAny O n b gs ns os m
+          → Joined S T O b (reachable os) o → Standing O n b (F.Or gs) (unmarked (Disj ns)) o m
+      ite :
+          {O : List ℕ} {n n1 n2 m : ℕ} {b c : Insts} {vs : List ℕ} {g h k : Flat_goal}
+          {x y z : Node} {o o' o'' : Option Insts}
+          → Standing (O ++ (without (free_in g) vs ++ variables_of h)) n b g x (Some c) n1
+          → BindsNone (without (free_in g) vs) b (Some c)
+          → Standing (O ++ variables_of g) n1 c h y o n2 → Standing O n2 b k z o' m
+          → Joined S T O b (reachable (o ∷ o' ∷ [])) o''
+          → Standing O n b (F.If vs g h k) (unmarked (Ite vs x y z)) o'' m
+      ite_never :
+          {O : List ℕ} {n n1 m : ℕ} {b : Insts} {vs : List ℕ} {g h k : Flat_goal} {x z : Node}
+          {o o'' : Option Insts}
+          → Standing (O ++ (without (free_in g) vs ++ variables_of h)) n b g x None n1
+          → Standing O n1 b k z o m → Joined S T O b (reachable (o ∷ [])) o''
+          → Standing O n b (F.If vs g h k) (unmarked (Ite vs x (unmarked (Conj no_nodes)) z)) o'' m
+      neg :
+          {O : List ℕ} {n m : ℕ} {b : Insts} {g : Flat_goal} {x : Node} {o : Option Insts}
+          → Standing (O ++ free_in g) n b g x o m → BindsNone (free_in g) b o
+          → Standing O n b (F.Not g) (unmarked (Not x)) (Some b) m
+      some :
+          {O : List ℕ} {n m : ℕ} {b : Insts} {vs : List ℕ} {g : Flat_goal} {x : Node}
+          {o : Option Insts} → Standing O n b g x o m
+          → Standing O n b (F.Exists vs g) (unmarked (Exists vs x)) o m
+
+    pub data StandingAll :
+        (O : List ℕ) → (n : ℕ) → Insts → Flat_goals → Nodes → Option Insts → (m : ℕ)
+        → Type 0 where
+      done : {O : List ℕ} {n : ℕ} {b : Insts} → StandingAll O n b no_flat no_nodes (Some b) n
+      dropped :
+          {O : List ℕ} {n m : ℕ} {b : Insts} {g : Flat_goal} {gs rest : Flat_goals} {x : Node}
+          → Picks gs g rest → Standing (O ++ variables_of_all rest) n b g x None m
+          → StandingAll O n b gs (node_then x no_nodes) None m
+      next :
+          {O : List ℕ} {n n1 m : ℕ} {b c : Insts} {g : Flat_goal} {gs rest : Flat_goals}
+          {x : Node} {ns : Nodes} {o : Option Insts} → Picks gs g rest
+          → Standing (O ++ variables_of_all rest) n b g x (Some c) n1
+          → StandingAll (O ++ variables_of g) n1 c rest ns o m
+          → StandingAll O n b gs (node_then x ns) o m
+      implied_outputs :
+          {O : List ℕ} {n m : ℕ} {b c : Insts} {p : ℕ} {op : Builtin} {xs : List ℕ}
+          {gs rest : Flat_goals} {ns : Nodes} {o : Option Insts} → Picks gs (F.Call p xs) rest
+          → Freshly n b c p op xs
+          → StandingAll (O ++ (xs ++ fresh_at 0 (implied_of op xs b) xs n))
+          (n + length (implied_of op xs b)) c rest ns o m
+          → StandingAll O n b gs (nodes_before (fresh_nodes n b op xs) ns) o m
+
+    pub data StandingAny :
+        (O : List ℕ) → (n : ℕ) → Insts → Flat_goals → Nodes → List (Option Insts) → (m : ℕ)
+        → Type 0 where
+      no_other : {O : List ℕ} {n : ℕ} {b : Insts} → StandingAny O n b no_flat no_nodes [] n
+      either :
+          {O : List ℕ} {n n1 m : ℕ} {b : Insts} {g : Flat_goal} {gs : Flat_goals} {x : Node}
+          {ns : Nodes} {o : Option Insts} {os : List (Option Insts)} → Standing O n b g x o n1
+          → StandingAny O n1 b gs ns os m
+          → StandingAny O n b (flat_then g gs) (node_then x ns) (o ∷ os) m

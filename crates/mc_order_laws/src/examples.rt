@@ -1,0 +1,27 @@
+//! Computed orders of clauses' goals, and the rules that goals without an order break. Each is the contract of a
+//! function that does nothing, and each group has an equation that does not hold.
+ghost use Rattle.mc_order_laws.specs.code.ExamplesOfOrder.{NeededFirst, ModesChosen, ListsTakenApart, Conditions, Negations, ResultsCompared, StatesInTurn};
+ghost use Rattle.mc_order_laws.specs.code.ExamplesOfFaults.{NoGoalRuns, NegatedGoalsBind, BranchesDiffer, FinalInstsUnmet};
+
+/// Which goal runs first, and in which of its modes a call runs.
+pub fn orders()
+    ensures needed_first { NeededFirst }
+    ensures modes_chosen { ModesChosen }
+    ensures lists_taken_apart { ListsTakenApart }
+    ensures results_compared { ResultsCompared }
+    ensures states_in_turn { StatesInTurn }
+{}
+
+/// Conditions and negations in their order.
+pub fn compound_orders()
+    ensures conditions { Conditions }
+    ensures negations { Negations }
+{}
+
+/// The rules that goals without an order break.
+pub fn faults()
+    ensures no_goal_runs { NoGoalRuns }
+    ensures negated_goals_bind { NegatedGoalsBind }
+    ensures branches_differ { BranchesDiffer }
+    ensures final_insts_unmet { FinalInstsUnmet }
+{}
