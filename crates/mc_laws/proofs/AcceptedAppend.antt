@@ -1,20 +1,29 @@
 -- append in the mode (in, in, out) is accepted.
-use Rattle.std.proofs.Common.{◌≡◌, ◌⊎◌, inl, inr, ℕ, List, [], ◌∷◌, Some, None, Bool, true, false, cond, not, nat_eq, refl, sym, ap, ◌∙◌, subst, arith, ⊎_elim}
+use Rattle.std.proofs.Common.{◌≡◌, ◌⊎◌, inl, inr, ℕ, zero, suc, List, [], ◌∷◌, length, Some, Bool, true, false, cond, not, nat_eq, refl, sym, ap, ◌∙◌, subst, arith, ⊎_elim}
 use Rattle.mc_program.specs.Programs.{TypeTerm, variable_type, Source}
 use Rattle.mc_model.specs.Types.{argument_types}
 use Rattle.mc_model.specs.Lists.{In}
-use Rattle.mc_model.specs.Insts.{Graph}
+use Rattle.mc_model.specs.Insts.{Listed, bound, Graph}
 use Rattle.mc_accepted.specs.Inclusion.{Tip, symbol_tip, constant_tip, state_tip, Path, Allows, NoMore, Merged}
+use Rattle.mc_accepted.specs.Proper.{ProperGraph}
+use Rattle.mc_accepted.specs.ProperTypes.{EachProper, EachBelow}
+use Rattle.mc_accepted.specs.Fits.{type_of, NoArgumentFree, FitsInsts, FitsTypes, FitsProcedure, Fits}
 use Rattle.mc_accepted.specs.Ordered.{Insts, also, change_at, here, there, no_part, to_part, to_rest, keeps, output, no_more, assign, take, build, call, conj, switch, OrderedNode, kept, next, done, arm, no_arm}
-use Rattle.mc_accepted.specs.Accepted.{entered, type_of, AcceptedProcedure}
+use Rattle.mc_accepted.specs.Accepted.{entered, AcceptedProcedure}
 use Rattle.mc_model.specs.Flat as F
 use Rattle.mc_model.specs.Flat.{flats}
 use Rattle.mc_model.specs.Scheduled.{Procedure}
 use Rattle.mc_laws.specs.code.Examples.{det, nil, cell}
 use Rattle.mc_source.specs.declared.det.Det.{Det}
 use Rattle.mc_laws.specs.code.ExamplesOfGoals.{append, append_goal}
-use Rattle.mc_laws.specs.code.ExamplesOfProcedures.{list_source, list_insts, nil_listed, cell_listed, empty_arm, cell_arm, append_body, append_system, append_procedure, AppendIsAccepted}
-use Rattle.mc_laws.proofs.ListInsts.{swapped, entered_off, on_types, on_either, apart, differ, bound_below_ground, included_ground, both_ground, ground_or_cell}
+use Rattle.mc_laws.specs.code.ExamplesOfProcedures.{append_pred, list_parameters, list_source, list_insts, nil_listed, cell_listed, empty_arm, cell_arm, append_body, append_system, append_procedure, AppendIsAccepted}
+use Rattle.mc_laws.proofs.Inclusions.{on_types, on_either}
+use Rattle.mc_laws.proofs.Merging.{either_is_least}
+use Rattle.mc_laws.proofs.ListInsts.{swapped, entered_off, apart, differ, bound_below_ground, included_ground, both_ground, ground_or_cell, ground_tidy, free_tidy, types_proper}
+use Rattle.std.proofs.lemmas.Option.{same_Some}
+use Rattle.mc_program.specs.PlainPrograms.{no_pred}
+use Rattle.mc_program.specs.declared.builtin.Builtin.{Builtin}
+use Rattle.mc_program.specs.declared.builtin.Builtin.TheVariants as B
 
 abbrev P : Source
 P = list_source
@@ -109,47 +118,42 @@ cell_is_ordered =
 by_head : (Q : ℕ → Type 0) → Q 0 → Q 1 → Q 2 → (x : ℕ) → In x head → Q x
 by_head Q a b c x h = ⊎_elim (λ e. subst Q (sym e) a) (λ h. ⊎_elim (λ e. subst Q (sym e) b) (λ h. ⊎_elim (λ e. subst Q (sym e) c) (λ h. absurd h) h) h) h
 
-nil_or_cell : (t : TypeTerm) → Merged P G 4 5 6 t
-nil_or_cell t =
-    record {
-      least = least;
-      above_first = above_first;
-      above_second = above_second;
-    }
+nil_or_cell : (t : TypeTerm) → Merged P G (4 ∷ 5 ∷ []) 6 t
+nil_or_cell t = (((λ e. cc), ((λ e. cc), tt)), ((λ e. cc), ((λ e. cc), tt)), either_is_least P G 4 5 6 t (record { first = above_nil; second = above_cell; either = either }))
   where
-    least : (path : Path) (e : Tip) → Allows P G path e 6 t → Allows P G path e 4 t ⊎ Allows P G path e 5 t
-    least [] (symbol_tip s) a = on_either (argument_types P s t) _ _ _ (λ ts h. ⊎_elim (λ l. inl (inl l)) (λ r. inr r) h) a
-    least [] (constant_tip b) a = absurd a.1
-    least [] (state_tip m) a = absurd a.1
-    least ((s, k) ∷ path) e a = on_either (argument_types P s t) _ _ _ (λ ts h. ⊎_elim (λ l. inl (inl l)) (λ r. inr r) h) a
+    either : (path : Path) (e : Tip) → Allows P G path e 6 t → Allows P G path e 4 t ⊎ Allows P G path e 5 t
+    either [] (symbol_tip s) a = on_either (argument_types P s t) _ _ _ (λ ts h. ⊎_elim (λ l. inl (inl l)) (λ r. inr r) h) a
+    either [] (constant_tip b) a = absurd a.1
+    either [] (state_tip m) a = absurd a.1
+    either ((s, k) ∷ path) e a = on_either (argument_types P s t) _ _ _ (λ ts h. ⊎_elim (λ l. inl (inl l)) (λ r. inr r) h) a
 
-    above_first : NoMore P G 4 6 t
-    above_first [] (symbol_tip s) a = on_types (argument_types P s t) _ _ (λ ts h. ⊎_elim (λ l. inl l) (λ r. absurd r) h) a
-    above_first [] (constant_tip b) a = absurd a.1
-    above_first [] (state_tip m) a = absurd a.1
-    above_first ((s, k) ∷ path) e a = on_types (argument_types P s t) _ _ (λ ts h. ⊎_elim (λ l. inl l) (λ r. absurd r) h) a
+    above_nil : NoMore P G 4 6 t
+    above_nil [] (symbol_tip s) a = on_types (argument_types P s t) _ _ (λ ts h. ⊎_elim (λ l. inl l) (λ r. absurd r) h) a
+    above_nil [] (constant_tip b) a = absurd a.1
+    above_nil [] (state_tip m) a = absurd a.1
+    above_nil ((s, k) ∷ path) e a = on_types (argument_types P s t) _ _ (λ ts h. ⊎_elim (λ l. inl l) (λ r. absurd r) h) a
 
-    above_second : NoMore P G 5 6 t
-    above_second [] (symbol_tip s) a = on_types (argument_types P s t) _ _ (λ ts h. inr h) a
-    above_second [] (constant_tip b) a = absurd a.1
-    above_second [] (state_tip m) a = absurd a.1
-    above_second ((s, k) ∷ path) e a = on_types (argument_types P s t) _ _ (λ ts h. inr h) a
+    above_cell : NoMore P G 5 6 t
+    above_cell [] (symbol_tip s) a = on_types (argument_types P s t) _ _ (λ ts h. inr h) a
+    above_cell [] (constant_tip b) a = absurd a.1
+    above_cell [] (state_tip m) a = absurd a.1
+    above_cell ((s, k) ∷ path) e a = on_types (argument_types P s t) _ _ (λ ts h. inr h) a
 
 body_is_ordered : OrderedNode append_system T head head entry append_goal (append_body det) (Some after_both)
 body_is_ordered =
     kept
-    (switch (apart 1 0 refl)
-    (arm {o = Some after_empty} {o' = Some cell_alone} (to_part (to_rest no_part)) (inl (refl, refl)) ((λ e. cc), tt) empty_is_ordered
-    (arm {o = Some after_cell} {o' = None} (to_part no_part) (inl (refl, refl)) tt cell_is_ordered no_arm
-    (λ x. (by_head (λ y. cell_alone y ≡ after_cell y) refl refl refl x, entered_off head (5 ∷ 1 ∷ 5 ∷ []) x)))
-    (λ x. (by_head (λ y. Merged P G (after_empty y) (cell_alone y) (after_both y) (T y)) (nil_or_cell (T 0)) (both_ground P (T 1)) (ground_or_cell P (T 2)) x, entered_off head (6 ∷ 1 ∷ 1 ∷ []) x))))
+    (switch (apart 1 0 refl) (inl refl)
+    (arm {o = Some after_empty} (to_part (to_rest no_part)) tt (tt, inl (refl, refl)) ((λ e. cc), tt) empty_is_ordered
+    (arm {o = Some after_cell} (to_part no_part) tt (tt, inl (refl, refl)) tt cell_is_ordered no_arm))
+    (λ x. (
+      by_head (λ y. Merged P G (after_empty y ∷ after_cell y ∷ []) (after_both y) (T y)) (nil_or_cell (T 0)) (both_ground P (T 1)) (ground_or_cell P (T 2)) x,
+      (λ out. inl (entered_off head (6 ∷ 1 ∷ 1 ∷ []) x out)),
+    )))
     (changed_both, (omega arith, (omega arith, tt)), (apart 1 6 refl, (apart 0 1 refl, tt)))
 
 accepted_append : AcceptedProcedure append_system p
 accepted_append =
     record {
-      scopes = (tt, (tt, tt));
-      typed = ((refl, (refl, tt)), ((refl, (refl, ((variable_type, refl), tt))), tt));
       head = refl;
       lengths = (refl, refl);
       after = Some after_both;
@@ -157,9 +161,80 @@ accepted_append =
       final = (bound_below_ground P 6 (nil_listed ∷ cell_listed ∷ []) (T 0) refl (refl, (refl, tt)), (included_ground P (T 1), (included_ground P (T 2), tt)));
       kept = (refl, ((refl, ((refl, tt), ((refl, tt), tt))), ((refl, ((refl, tt), ((refl, tt), ((refl, tt), tt)))), tt)));
       allowed = ((λ h. h), omega arith);
+      declared = λ e. absurd (differ e);
       placed = ((tt, (tt, tt)), ((tt, ((λ e. absurd (differ e)), (tt, tt))), tt));
       io = (tt, ((tt, ((tt, tt), ((tt, tt), tt))), ((tt, ((tt, tt), ((tt, tt), ((tt, tt), tt)))), tt)));
     }
 
+-- the system fits
+append_fits : FitsProcedure append_system list_parameters p
+append_fits =
+    record {
+      heads = (refl, (refl, tt));
+      scopes = (tt, (tt, tt));
+      types = λ x. types_proper list_parameters p.var_types x (variable_type x) tt ((refl, (tt, tt)), ((refl, (tt, tt)), ((refl, (tt, tt)), (tt, ((refl, (tt, tt)), ((refl, (tt, tt)), tt))))));
+      head_types = refl;
+      typed = ((refl, (refl, tt)), ((refl, (refl, ((variable_type, refl), tt))), tt));
+      tidy = ((ground_tidy P (T 0), (ground_tidy P (T 1), (free_tidy P (T 2), tt))), (ground_tidy P (T 0), (ground_tidy P (T 1), (ground_tidy P (T 2), tt))));
+      no_builtin = refl;
+    }
+
+insts_fit : FitsInsts G
+insts_fit = record { is_free = refl; is_ground = refl; is_unique = refl; is_dead = refl; are_bound = are_bound; proper = proper }
+  where
+    are_bound : (i : ℕ) → (ls : List Listed) × (G (suc (suc (suc (suc i)))) ≡ bound ls) × NoArgumentFree ls
+    are_bound zero = (nil_listed ∷ [], refl, (tt, tt))
+    are_bound (suc zero) = (cell_listed ∷ [], refl, (((λ e. cc), ((λ e. cc), tt)), tt))
+    are_bound (suc (suc i)) = (nil_listed ∷ cell_listed ∷ [], refl, (tt, (((λ e. cc), ((λ e. cc), tt)), tt)))
+
+    proper : ProperGraph G
+    proper zero = tt
+    proper (suc zero) = tt
+    proper (suc (suc zero)) = tt
+    proper (suc (suc (suc zero))) = tt
+    proper (suc (suc (suc (suc zero)))) = (refl, tt, tt)
+    proper (suc (suc (suc (suc (suc zero))))) = (refl, tt, tt)
+    proper (suc (suc (suc (suc (suc (suc i)))))) = (refl, ((λ e f. apart 0 2 refl f), tt), (refl, tt, tt))
+
+types_fit : FitsTypes P list_parameters
+types_fit = record { arities = arities; parameters = parameters; arguments = arguments }
+  where
+    arities : (s : ℕ) → (P.symbols s).name.arity ≡ length (P.symbols s).args
+    arities zero = refl
+    arities (suc zero) = refl
+    arities (suc (suc s)) = refl
+
+    parameters : (s k : ℕ) → list_parameters (P.symbols s).of_type ≡ Some k → In s (P.symbols_of (P.symbols s).of_type) → EachBelow k (P.symbols s).args
+    parameters zero k e i = tt
+    parameters (suc zero) k e i = let one : ◌≡◌ {A = ℕ} 1 k = same_Some 1 k e in (omega (arith, one), ((omega (arith, one), tt), tt))
+    parameters (suc (suc s)) k e i = tt
+
+    arguments : (s k : ℕ) → list_parameters (P.symbols s).of_type ≡ Some k → In s (P.symbols_of (P.symbols s).of_type) → EachProper list_parameters (P.symbols s).args
+    arguments zero k e i = tt
+    arguments (suc zero) k e i = (tt, ((refl, (tt, tt)), tt))
+    arguments (suc (suc s)) k e i = tt
+
+-- there are no builtins
+no_builtins : (q : ℕ) (op : Builtin) → (P.preds q).builtin ≡ Some op → ⊥
+no_builtins q op = by_test (nat_eq q append)
+  where
+    by_test : (t : Bool) → (cond t append_pred no_pred).builtin ≡ Some op → ⊥
+    by_test true e = cc
+    by_test false e = cc
+
+system_fits : Fits append_system list_parameters
+system_fits =
+    record {
+      insts = insts_fit;
+      types = types_fit;
+      builtins =
+          record {
+            outputs = λ θ q op vs e. absurd (no_builtins q op e);
+            succeeds = λ θ q op vs e. absurd (no_builtins q op e);
+            error_throws = λ θ q vs e. absurd (no_builtins q B.Error e);
+          };
+      procedures = λ k lt. append_fits;
+    }
+
 pub append_is_accepted : AppendIsAccepted
-append_is_accepted = ((λ k lt. accepted_append), (λ a. differ (ap (λ (d : Det). not d.can_fail) a.kept.0)), (λ a. absurd (omega (arith, a.allowed.1))))
+append_is_accepted = ((λ k lt. accepted_append), system_fits, (λ a. differ (ap (λ (d : Det). not d.can_fail) a.kept.0)), (λ a. absurd (omega (arith, a.allowed.1))))

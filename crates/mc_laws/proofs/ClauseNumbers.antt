@@ -45,6 +45,11 @@ one_more_some (Some k) i e = (k, refl, sym (same_Some (suc k) i e))
 later : (x : ℕ) (t : Expression) (ts : List Expression) (i : ℕ) → ((k : ℕ) → head_place x ts ≡ Some k → IsArgument x k ts) → one_more (head_place x ts) ≡ Some i → IsArgument x i (t ∷ ts)
 later x t ts i rest e = let r = one_more_some (head_place x ts) i e in subst (λ k. IsArgument x k (t ∷ ts)) (sym r.2) (rest r.0 r.1)
 
+-- a variable that is met inside an argument has no place
+unless_met : (x : ℕ) (t : Expression) (ts : List Expression) (i : ℕ) (met : Bool) → ((k : ℕ) → head_place x ts ≡ Some k → IsArgument x k ts) → cond met None (one_more (head_place x ts)) ≡ Some i → IsArgument x i (t ∷ ts)
+unless_met x t ts i true rest e = absurd (none-some i e)
+unless_met x t ts i false rest e = later x t ts i rest e
+
 is_argument : (x : ℕ) (ts : List Expression) (i : ℕ) → head_place x ts ≡ Some i → IsArgument x i ts
 is_argument x [] i e = absurd (none-some i e)
 is_argument x (variable y ∷ ts) i e = by_test (nat_eq x y) (eqb-true x y) e (λ q. later x (variable y) ts i (λ k h. is_argument x ts k h) q)
@@ -53,8 +58,8 @@ is_argument x (variable y ∷ ts) i e = by_test (nat_eq x y) (eqb-true x y) e (�
     by_test true q e rest = subst (λ k. IsArgument x k (variable y ∷ ts)) (same_Some 0 i e) (ap variable (sym (q refl)))
     by_test false q e rest = rest e
 is_argument x (constant v ∷ ts) i e = later x (constant v) ts i (λ k h. is_argument x ts k h) e
-is_argument x (made f us ∷ ts) i e = later x (made f us) ts i (λ k h. is_argument x ts k h) e
-is_argument x (applied p us ∷ ts) i e = later x (applied p us) ts i (λ k h. is_argument x ts k h) e
+is_argument x (made f us ∷ ts) i e = unless_met x (made f us) ts i (is_in x (variables_in_all us)) (λ k h. is_argument x ts k h) e
+is_argument x (applied p us ∷ ts) i e = unless_met x (applied p us) ts i (is_in x (variables_in_all us)) (λ k h. is_argument x ts k h) e
 
 placed : (o : Option ℕ) → ((i : ℕ) × (o ≡ Some i)) ⊎ (o ≡ None)
 placed None = inr refl

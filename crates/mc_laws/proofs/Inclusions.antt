@@ -1,33 +1,47 @@
 -- Included insts have included sets.
-use Rattle.std.proofs.Common.{◌≡◌, inl, inr, ℕ, zero, suc, ◌<◌, List, [], ◌∷◌, length, get_or, replicate, Option, Some, None, true, refl, sym, ap, ◌∙◌, subst, arith, ⊎_elim}
+use Rattle.std.proofs.Common.{◌≡◌, ◌⊎◌, inl, inr, ℕ, zero, suc, ◌<◌, List, [], ◌∷◌, length, get_or, replicate, Option, Some, None, true, refl, sym, ap, ◌∙◌, subst, arith, ⊎_elim}
 use Rattle.std.proofs.lemmas.List.{length-replicate}
 use Rattle.mc_program.specs.Values.{Val, int, char, str, con, state, Vals, no_vals, val_then}
 use Rattle.mc_program.specs.Programs.{TypeTerm, int_type, char_type, string_type, variable_type, Source}
 use Rattle.mc_model.specs.Types.{takes, argument_types, OfType, AllOfTypes}
 use Rattle.mc_model.specs.Insts.{Listed, InstNode, free, ground, unique, dead, bound, Graph, Lists, AllowsSymbol, AllowsConstants, Within, AllWithin}
 use Rattle.mc_accepted.specs.Inclusion.{Mark, sole, Tip, symbol_tip, constant_tip, state_tip, Path, AllowsMark, OnTypes, Allows, NoMore, IncludedNodes}
-use Rattle.mc_laws.specs.Proper.{Unlisted, ListsOnce, ProperNode, ProperGraph, IncludedSets}
+use Rattle.mc_accepted.specs.Proper.{Unlisted, ListsOnce, ProperNode, ProperGraph}
+use Rattle.mc_laws.specs.Proper.{IncludedSets}
+
+-- what holds with the types of a constructor's arguments
+pub on_types : (o : Option (List TypeTerm)) (Q R : List TypeTerm → Type 0) → ((ts : List TypeTerm) → Q ts → R ts) → OnTypes o Q → OnTypes o R
+on_types None Q R f h = h
+on_types (Some ts) Q R f h = f ts h
+
+pub on_either : (o : Option (List TypeTerm)) (Q R S : List TypeTerm → Type 0) → ((ts : List TypeTerm) → Q ts → R ts ⊎ S ts) → OnTypes o Q → OnTypes o R ⊎ OnTypes o S
+on_either None Q R S f h = absurd h
+on_either (Some ts) Q R S f h = f ts h
+
+pub on_types_to : (o : Option (List TypeTerm)) (Q : List TypeTerm → Type 0) (R : Type 0) → ((ts : List TypeTerm) → Q ts → R) → OnTypes o Q → R
+on_types_to None Q R f h = absurd h
+on_types_to (Some ts) Q R f h = f ts h
 
 -- a node allows the constructor over these insts
-abbrev Over : Source → InstNode → ℕ → ℕ → List ℕ → Type 0
+abbrev pub Over : Source → InstNode → ℕ → ℕ → List ℕ → Type 0
 Over P N i s is = AllowsSymbol P N i s (λ js. js ≡ is)
 
-lists_over : (P : Source) (ls : List Listed) (s : ℕ) (Q : List ℕ → Type 0) → Lists P ls s Q → (is : List ℕ) × Lists P ls s (λ js. js ≡ is) × Q is
+pub lists_over : (P : Source) (ls : List Listed) (s : ℕ) (Q : List ℕ → Type 0) → Lists P ls s Q → (is : List ℕ) × Lists P ls s (λ js. js ≡ is) × Q is
 lists_over P [] s Q h = absurd h
 lists_over P (l ∷ ls) s Q h = ⊎_elim (λ a. (l.args, inl (a.0, a.1, refl), a.2)) (λ b. let r = lists_over P ls s Q b in (r.0, inr r.1, r.2)) h
 
-allows_over : (P : Source) (N : InstNode) (i s : ℕ) (Q : List ℕ → Type 0) → AllowsSymbol P N i s Q → (is : List ℕ) × Over P N i s is × Q is
+pub allows_over : (P : Source) (N : InstNode) (i s : ℕ) (Q : List ℕ → Type 0) → AllowsSymbol P N i s Q → (is : List ℕ) × Over P N i s is × Q is
 allows_over P free i s Q h = absurd h
 allows_over P ground i s Q h = (replicate (P.symbols s).name.arity i, refl, h)
 allows_over P unique i s Q h = (replicate (P.symbols s).name.arity i, refl, h)
 allows_over P dead i s Q h = (replicate (P.symbols s).name.arity i, refl, h)
 allows_over P (bound ls) i s Q h = lists_over P ls s Q h
 
-over_lists : (P : Source) (ls : List Listed) (s : ℕ) (Q : List ℕ → Type 0) (is : List ℕ) → Lists P ls s (λ js. js ≡ is) → Q is → Lists P ls s Q
+pub over_lists : (P : Source) (ls : List Listed) (s : ℕ) (Q : List ℕ → Type 0) (is : List ℕ) → Lists P ls s (λ js. js ≡ is) → Q is → Lists P ls s Q
 over_lists P [] s Q is h q = h
 over_lists P (l ∷ ls) s Q is h q = ⊎_elim (λ a. inl (a.0, a.1, subst Q (sym a.2) q)) (λ b. inr (over_lists P ls s Q is b q)) h
 
-over_allows : (P : Source) (N : InstNode) (i s : ℕ) (Q : List ℕ → Type 0) (is : List ℕ) → Over P N i s is → Q is → AllowsSymbol P N i s Q
+pub over_allows : (P : Source) (N : InstNode) (i s : ℕ) (Q : List ℕ → Type 0) (is : List ℕ) → Over P N i s is → Q is → AllowsSymbol P N i s Q
 over_allows P free i s Q is h q = h
 over_allows P ground i s Q is h q = subst Q (sym h) q
 over_allows P unique i s Q is h q = subst Q (sym h) q
@@ -47,7 +61,7 @@ listed_once P (l ∷ ls) s is js o h g =
     (λ a. ⊎_elim (λ b. absurd (unlisted P l ls s (λ ks. ks ≡ is) o.1 b.0 b.1 a)) (λ b. listed_once P ls s is js o.2 a b) g)
     h
 
-over_one : (P : Source) (N : InstNode) (i s : ℕ) (is js : List ℕ) → ProperNode N → Over P N i s is → Over P N i s js → is ≡ js
+pub over_one : (P : Source) (N : InstNode) (i s : ℕ) (is js : List ℕ) → ProperNode N → Over P N i s is → Over P N i s js → is ≡ js
 over_one P free i s is js p h g = absurd h
 over_one P ground i s is js p h g = sym h ∙ g
 over_one P unique i s is js p h g = sym h ∙ g
@@ -58,7 +72,7 @@ listed_length : (P : Source) (ls : List Listed) (s : ℕ) (is : List ℕ) → Li
 listed_length P [] s is o h = absurd h
 listed_length P (l ∷ ls) s is o h = ⊎_elim (λ a. ap length (sym a.2) ∙ o.0 ∙ a.1) (λ b. listed_length P ls s is o.2 b) h
 
-over_length : (P : Source) (N : InstNode) (i s : ℕ) (is : List ℕ) → ProperNode N → Over P N i s is → length is ≡ (P.symbols s).name.arity
+pub over_length : (P : Source) (N : InstNode) (i s : ℕ) (is : List ℕ) → ProperNode N → Over P N i s is → length is ≡ (P.symbols s).name.arity
 over_length P free i s is p h = absurd h
 over_length P ground i s is p h = ap length (sym h) ∙ length-replicate (P.symbols s).name.arity i
 over_length P unique i s is p h = ap length (sym h) ∙ length-replicate (P.symbols s).name.arity i
@@ -80,7 +94,7 @@ marked_allows unique m h = tt
 marked_allows dead m h = tt
 marked_allows (bound ls) m h = h
 
-no_types : (P : Source) (vs : Vals) → AllOfTypes P vs None → ⊥
+pub no_types : (P : Source) (vs : Vals) → AllOfTypes P vs None → ⊥
 no_types P no_vals h = h
 no_types P (val_then v vs) h = h
 
@@ -126,7 +140,7 @@ module _ (P : Source) (G : Graph) (proper : ProperGraph G) where
       (each r.0 q.0 ts (arguments_no_more i j s t r.0 q.0 ts types r.1 q.1 more) o r.2 lengths)
 
   mutual
-    within_more : (v : Val) (i j : ℕ) (t : TypeTerm) → NoMore P G i j t → OfType P v t → Within P G v i → Within P G v j
+    pub within_more : (v : Val) (i j : ℕ) (t : TypeTerm) → NoMore P G i j t → OfType P v t → Within P G v i → Within P G v j
     within_more (int n) i j t more o w = constants_more i j int_type t more o.1 w
     within_more (char c) i j t more o w = constants_more i j char_type t more o.1 w
     within_more (str bytes) i j t more o w = constants_more i j string_type t more o.1 w
@@ -150,7 +164,7 @@ module _ (P : Source) (G : Graph) (proper : ProperGraph G) where
 
   -- `dead` has every value of every inst, and `free` none
   mutual
-    within_dead : (v : Val) (i j : ℕ) → G j ≡ dead → Within P G v i → Within P G v j
+    pub within_dead : (v : Val) (i j : ℕ) → G j ≡ dead → Within P G v i → Within P G v j
     within_dead (int n) i j e w = subst AllowsConstants (sym e) tt
     within_dead (char c) i j e w = subst AllowsConstants (sym e) tt
     within_dead (str bytes) i j e w = subst AllowsConstants (sym e) tt

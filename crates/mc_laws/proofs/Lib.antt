@@ -9,6 +9,7 @@ pub mod HeadEquations
 pub mod Inclusions
 pub mod Levels
 pub mod ListInsts
+pub mod Merging
 pub mod Monotone
 pub mod NoOrder
 pub mod PredicateGoals

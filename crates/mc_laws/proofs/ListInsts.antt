@@ -1,13 +1,18 @@
 -- The insts of lists, over any program that has the symbols of lists.
-use Rattle.std.proofs.Common.{◌≡◌, ◌≢◌, ◌⊎◌, inl, inr, ℕ, ◌<◌, List, [], ◌∷◌, length, get_or, replicate, Option, Some, None, Bool, true, false, cond, nat_eq, refl, sym, ap, ◌∙◌, subst, ⊎_elim}
+use Rattle.std.proofs.Common.{◌≡◌, ◌≢◌, inl, inr, ℕ, zero, suc, ◌<◌, List, [], ◌∷◌, length, get_or, replicate, Bool, true, false, cond, nat_eq, refl, sym, ap, ◌∙◌, subst, arith, ⊎_elim}
 use Rattle.std.proofs.lemmas.Bool.{eqb-true, eqb-false}
+use Rattle.std.proofs.lemmas.List.{length-replicate, get_or-replicate}
 use Rattle.mc_program.specs.Programs.{TypeTerm, variable_type, Source}
 use Rattle.mc_model.specs.Types.{argument_types}
 use Rattle.mc_model.specs.Lists.{In}
-use Rattle.mc_model.specs.Insts.{Listed, bound, Graph, Lists, AllowsSymbol}
-use Rattle.mc_accepted.specs.Inclusion.{Tip, AllowsTip, symbol_tip, constant_tip, state_tip, Path, OnTypes, Allows, NoMore, Merged}
+use Rattle.mc_model.specs.Insts.{Listed, free, ground, unique, dead, bound, Graph, Lists, AllowsSymbol}
+use Rattle.mc_accepted.specs.Inclusion.{Tip, AllowsTip, symbol_tip, constant_tip, state_tip, Path, Allows, NoMore, Merged}
+use Rattle.mc_accepted.specs.ProperTypes.{Parameters, ProperType, EachProper}
+use Rattle.mc_accepted.specs.Tidy.{Leads, Tidy}
 use Rattle.mc_accepted.specs.Accepted.{entered}
 use Rattle.mc_laws.specs.code.ExamplesOfProcedures.{list_insts, cell_listed}
+use Rattle.mc_laws.proofs.Inclusions.{on_types, on_types_to}
+use Rattle.mc_laws.proofs.Merging.{either_is_least, one_is_merged}
 
 -- two variables get their insts in either order
 pub swapped : {A : Type 0} (x a b : ℕ) (p q r : A) → a ≢ b → cond (nat_eq x a) p (cond (nat_eq x b) q r) ≡ cond (nat_eq x b) q (cond (nat_eq x a) p r)
@@ -28,14 +33,6 @@ entered_off (y ∷ ys) (i ∷ is) x n = by_test (nat_eq x y) (eqb-true x y) (ent
     by_test : (t : Bool) → (t ≡ true → x ≡ y) → entered ys is x ≡ 0 → cond t i (entered ys is x) ≡ 0
     by_test true e later = absurd (n (inl (e refl)))
     by_test false e later = later
-
-pub on_types : (o : Option (List TypeTerm)) (Q R : List TypeTerm → Type 0) → ((ts : List TypeTerm) → Q ts → R ts) → OnTypes o Q → OnTypes o R
-on_types None Q R f h = h
-on_types (Some ts) Q R f h = f ts h
-
-pub on_either : (o : Option (List TypeTerm)) (Q R S : List TypeTerm → Type 0) → ((ts : List TypeTerm) → Q ts → R ts ⊎ S ts) → OnTypes o Q → OnTypes o R ⊎ OnTypes o S
-on_either None Q R S f h = absurd h
-on_either (Some ts) Q R S f h = f ts h
 
 pub apart : (a b : ℕ) → nat_eq a b ≡ false → a ≢ b
 apart a b e = eqb-false a b e
@@ -70,8 +67,44 @@ module _ (P : Source) where
   pub included_ground : (t : TypeTerm) → NoMore P G 1 1 t
   included_ground t path e a = a
 
-  pub both_ground : (t : TypeTerm) → Merged P G 1 1 1 t
-  both_ground t = record { least = λ path e a. inl a; above_first = λ path e a. a; above_second = λ path e a. a }
+  pub both_ground : (t : TypeTerm) → Merged P G (1 ∷ 1 ∷ []) 1 t
+  both_ground t = one_is_merged P G 1 1 t
 
-  pub ground_or_cell : (t : TypeTerm) → Merged P G 1 5 1 t
-  ground_or_cell t = record { least = λ path e a. inl a; above_first = λ path e a. a; above_second = bound_below_ground 5 (cell_listed ∷ []) t refl (refl, tt) }
+  pub ground_or_cell : (t : TypeTerm) → Merged P G (1 ∷ 5 ∷ []) 1 t
+  ground_or_cell t = (
+    ((λ e. cc), ((λ e. cc), tt)),
+    ((λ e. cc), ((λ e. cc), tt)),
+    either_is_least P G 1 5 1 t (record { first = λ path e a. a; second = bound_below_ground 5 (cell_listed ∷ []) t refl (refl, tt); either = λ path e a. inl a }),
+  )
+
+  pub cell_or_ground : (t : TypeTerm) → Merged P G (5 ∷ 1 ∷ []) 1 t
+  cell_or_ground t = (
+    ((λ e. cc), ((λ e. cc), tt)),
+    ((λ e. cc), ((λ e. cc), tt)),
+    either_is_least P G 5 1 1 t (record { first = bound_below_ground 5 (cell_listed ∷ []) t refl (refl, tt); second = λ path e a. a; either = λ path e a. inr a }),
+  )
+
+  -- `ground` leads to itself alone, and `free` to nothing, so neither has a `unique` or a `dead` inside
+  ground_leads : (path : Path) (j : ℕ) (u t : TypeTerm) → Leads P G path j u 1 t → j ≡ 1
+  ground_leads [] j u t h = sym h.0
+  ground_leads ((s, k) ∷ path) j u t h =
+      let n = (P.symbols s).name.arity in
+      on_types_to (argument_types P s t) (λ ts. (k < length (replicate {A = ℕ} n 1)) × Leads P G path j u (get_or (replicate {A = ℕ} n 1) k 0) (get_or ts k (variable_type 0))) (j ≡ 1)
+      (λ ts q.
+      ground_leads path j u (get_or ts k (variable_type 0))
+      (subst (λ i. Leads P G path j u i (get_or ts k (variable_type 0))) (get_or-replicate n k 1 0 (omega (arith, q.0, length-replicate {A = ℕ} n 1))) q.1)) h
+
+  pub ground_tidy : (t : TypeTerm) → Tidy P G 1 t
+  ground_tidy t path j u h marked =
+      let e = ground_leads path j u t h in
+      ⊎_elim (λ m. let f : ground ≡ unique = ap G (sym e) ∙ m in cc) (λ m. let f : ground ≡ dead = ap G (sym e) ∙ m in cc) marked
+
+  pub free_tidy : (t : TypeTerm) → Tidy P G 0 t
+  free_tidy t [] j u h marked = ⊎_elim (λ m. let f : free ≡ unique = ap G h.0 ∙ m in cc) (λ m. let f : free ≡ dead = ap G h.0 ∙ m in cc) marked
+  free_tidy t ((s, k) ∷ path) j u h marked = absurd (on_types_to (argument_types P s t) (λ ts. ⊥) ⊥ (λ ts q. q) h)
+
+-- each type that is read of a list is well formed
+pub types_proper : (D : Parameters) (ts : List TypeTerm) (x : ℕ) (t : TypeTerm) → ProperType D t → EachProper D ts → ProperType D (get_or ts x t)
+types_proper D [] x t p h = p
+types_proper D (u ∷ ts) zero t p h = h.0
+types_proper D (u ∷ ts) (suc x) t p h = types_proper D ts x t p h.1

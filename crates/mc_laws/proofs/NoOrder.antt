@@ -30,9 +30,9 @@ chosen true e f = cc
 chosen false e f = cc
 
 negation : (b : Insts) (x : ℕ) (v : Val) → b x ≡ 0 → HasNoOrder b (F.Not (F.Is x v))
-negation b x v e S T O Q s o (neg among (kept (put bx) keeps) none) = chosen (not (is_bound (b x)) && is_bound (also x 1 b x)) (binds b x e) none
-negation b x v e S T O Q s o (neg among (kept (test_constant bx nd a) keeps) none) = bx e
-negation b x v e S T O Q s o (neg among (kept (test_never bx nd a) keeps) none) = bx e
+negation b x v e S T O Q s o (neg (kept (put bx) keeps) none) = chosen (not (is_bound (b x)) && is_bound (also x 1 b x)) (binds b x e) none
+negation b x v e S T O Q s o (neg (kept (test_constant bx nd a) keeps) none) = bx e
+negation b x v e S T O Q s o (neg (kept (test_never bx nd a) keeps) none) = bx e
 
 pub goals_without_order : GoalsWithoutOrder
 goals_without_order = (both_free, free_argument, negation)

@@ -7,7 +7,8 @@ use Rattle.mc_model.specs.Flat.{Flat_goal, FlatYes, FlatNo}
 use Rattle.mc_accepted.specs.Normal.{conjunction, conjuncts_of, named_by_quantifiers, other_variables, names_in, head_equations, clause_goal, clause_goals, one_or_either}
 use Rattle.mc_accepted.specs.Scope.{occurring, variables_in_all}
 use Rattle.mc_laws.specs.FlatLaws.{Numbers}
-use Rattle.mc_laws.specs.PredicateLaws.{HeadsHave, PredicatesCarry}
+use Rattle.mc_accepted.specs.Fits.{HeadsHave}
+use Rattle.mc_laws.specs.PredicateLaws.{PredicatesCarry}
 use Rattle.mc_laws.proofs.FlatGoals.{in_left, all_split, one_split, conjunction_yes, conjunction_no}
 use Rattle.mc_laws.proofs.FlatWhole.{OneFlatYes, AllFlatNo, disjuncts_yes, disjuncts_no, goal_next, goal_above, renamed, renamed_off, renamed_at, in_map, written, written_off, fits_same, written_fits, goal_yes, goal_no}
 use Rattle.mc_laws.proofs.ClauseNumbers.{clause_variables, has_number, clause_numbers, other_is_variable, other_above, place_number, body_uses}

@@ -1,6 +1,7 @@
 //! The laws that show how the definitions fit together. Each is the contract of a function that does nothing.
 ghost use Rattle.mc_laws.specs.Laws.{GoalsStay, CallsStay, NoGoalIsBoth, NoCallIsBoth, LevelsSuffice, LevelsSufficeForCalls, LevelsSufficeForQueries, OneLevelMore, BudgetsExtend, BudgetsExtendCalls, BudgetsExtendQueries, SameIsEqual, PlainIsExact, PlainTypesAreExact, PlainTermsAreExact};
 ghost use Rattle.mc_laws.specs.Proper.{IncludedSets};
+ghost use Rattle.mc_laws.specs.MergeLaws.{EitherIsLeast, OneIsMerged, MergedAllowTheSame, OlderNodesKeepPaths, OlderNodesKeepValues};
 ghost use Rattle.mc_laws.specs.FlatLaws.{FlatGoalsCarry};
 ghost use Rattle.mc_laws.specs.PredicateLaws.{PredicatesCarry};
 ghost use Rattle.mc_laws.specs.DeterminismLaws.{ConjIsMonotone, DisjIsMonotone, IteIsMonotone, NegatedIsMonotone, PrunedIsMonotone, AllowsItself, AllowsInTurn, AllowsOneWay};
@@ -74,4 +75,18 @@ pub fn flat_goals_carry_over()
 /// the goal has an answer, and each is false where the goal is for all values of its other variables.
 pub fn predicates_carry_over()
     ensures { PredicatesCarry }
+{}
+
+/// Merged insts: one that allows exactly what one of two allows is the least above both; one inst alone is merged to
+/// itself; and what the same insts are merged to allows the same.
+pub fn merged_is_least()
+    ensures either { EitherIsLeast }
+    ensures alone { OneIsMerged }
+    ensures once { MergedAllowTheSame }
+{}
+
+/// Where a graph of insts only grows, its older nodes keep their meaning.
+pub fn older_nodes_keep_their_meaning()
+    ensures paths { OlderNodesKeepPaths }
+    ensures values { OlderNodesKeepValues }
 {}

@@ -6,10 +6,11 @@ use Rattle.mc_program.specs.PlainPrograms.{formulas, no_pred}
 use Rattle.mc_model.specs.Scheduled as S
 use Rattle.mc_model.specs.Scheduled.{Node, node, Ite, Assign, Take, Procedure}
 use Rattle.mc_model.specs.Good.{System}
+use Rattle.mc_accepted.specs.Fits.{FitsProcedure}
 use Rattle.mc_accepted.specs.Accepted.{Accepted, AcceptedProcedure}
 use Rattle.mc_laws.specs.code.Examples.{cell, det, semidet}
 use Rattle.mc_laws.specs.code.ExamplesOfGoals.{list_cell, only}
-use Rattle.mc_laws.specs.code.ExamplesOfProcedures.{item_type, list_type, list_source, list_insts, nothing_done}
+use Rattle.mc_laws.specs.code.ExamplesOfProcedures.{list_parameters, item_type, list_type, list_source, list_insts, nothing_done}
 use Rattle.mc_source.specs.declared.det.Det.{Det}
 
 -- a list has a first element and a rest
@@ -144,10 +145,12 @@ branch_system =
       insts = list_insts;
     }
 
--- first_or and is_empty are accepted; no body is where the condition binds a variable that occurs
--- outside it, or where one branch binds such a variable and the other doesn't
+-- first_or and is_empty are accepted, and fit; no body is accepted where the condition binds a
+-- variable that occurs outside it, or where one branch binds such a variable and the other doesn't
 abbrev pub BranchesAreAccepted : Type 0
 BranchesAreAccepted =
     Accepted branch_system
+    × FitsProcedure branch_system list_parameters first_or_procedure
+    × FitsProcedure branch_system list_parameters is_empty_procedure
     × ((body : Node) (d : Det) → AcceptedProcedure branch_system (binding_procedure body d) → ⊥)
     × ((body : Node) (d : Det) → AcceptedProcedure branch_system (missing_procedure body d) → ⊥)

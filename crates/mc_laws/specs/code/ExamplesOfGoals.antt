@@ -66,14 +66,14 @@ ConditionsQuantify =
 -- condition occurs outside it, and a quantified one does not, but in parallel goals.
 abbrev pub ScopesAreWritten : Type 0
 ScopesAreWritten =
-    HasScopes [] (Not (Exists (0 ∷ []) (p (0 ∷ []))))
-    × (HasScopes [] (Not (p (0 ∷ []))) → ⊥)
-    × HasScopes (0 ∷ []) (Not (p (0 ∷ [])))
-    × (HasScopes (0 ∷ []) (Not (Exists (0 ∷ []) (p (0 ∷ [])))) → ⊥)
-    × HasScopes [] (either (Exists (0 ∷ []) (p (0 ∷ []))) (q (0 ∷ [])))
-    × (HasScopes [] (both (Exists (0 ∷ []) (p (0 ∷ []))) (q (0 ∷ []))) → ⊥)
-    × HasScopes [] (If (0 ∷ []) (p (0 ∷ [])) (q (0 ∷ [])) (q (0 ∷ [])))
-    × (HasScopes [] (If [] (p (0 ∷ [])) (q (0 ∷ [])) (q (1 ∷ []))) → ⊥)
+    HasScopes [] [] (Not (Exists (0 ∷ []) (p (0 ∷ []))))
+    × (HasScopes [] [] (Not (p (0 ∷ []))) → ⊥)
+    × HasScopes (0 ∷ []) [] (Not (p (0 ∷ [])))
+    × (HasScopes (0 ∷ []) [] (Not (Exists (0 ∷ []) (p (0 ∷ [])))) → ⊥)
+    × HasScopes [] [] (either (Exists (0 ∷ []) (p (0 ∷ []))) (q (0 ∷ [])))
+    × (HasScopes [] [] (both (Exists (0 ∷ []) (p (0 ∷ []))) (q (0 ∷ []))) → ⊥)
+    × HasScopes [] [] (If (0 ∷ []) (p (0 ∷ [])) (q (0 ∷ [])) (q (0 ∷ [])))
+    × (HasScopes [] [] (If [] (p (0 ∷ [])) (q (0 ∷ [])) (q (1 ∷ []))) → ⊥)
 
 abbrev pub list_cell : Expression → Expression → Expression
 list_cell head tail = made cell (expressions (head ∷ tail ∷ []))

@@ -1,5 +1,5 @@
 -- Examples of procedures that are accepted, and of some that are not.
-use Rattle.std.specs.Prelude.{ℕ, zero, suc, List, [], ◌∷◌, nat_eq, true, false, None, codes, if◌then◌else◌}
+use Rattle.std.specs.Prelude.{ℕ, zero, suc, List, [], ◌∷◌, nat_eq, true, false, Some, None, codes, if◌then◌else◌}
 use Rattle.mc_program.specs.Values.{Val}
 use Rattle.mc_program.specs.Programs.{TypeTerm, variable_type, union_type, no_types, type_then, Constructor, Predicate, Source}
 use Rattle.mc_program.specs.PlainPrograms.{no_symbol, no_pred}
@@ -7,6 +7,8 @@ use Rattle.mc_model.specs.Insts.{Listed, free, ground, unique, dead, bound, Grap
 use Rattle.mc_model.specs.Outcomes.{Outcome, fails}
 use Rattle.mc_model.specs.Scheduled.{for_symbol, Node, node, Conj, Switch, Assign, Build, Take, Call, nodes, no_arms, arm_then, Procedure}
 use Rattle.mc_model.specs.Good.{System}
+use Rattle.mc_accepted.specs.ProperTypes.{Parameters}
+use Rattle.mc_accepted.specs.Fits.{Fits}
 use Rattle.mc_accepted.specs.Accepted.{Accepted, AcceptedProcedure}
 use Rattle.mc_laws.specs.code.Examples.{nil, cell, det, nondet}
 use Rattle.mc_laws.specs.code.ExamplesOfGoals.{append, append_clauses}
@@ -35,6 +37,10 @@ list_symbols (suc zero) =
       args = item_type ∷ list_type ∷ [];
     }
 list_symbols (suc (suc s)) = record { name = no_symbol.name; of_type = 1; args = [] }
+
+-- lists alone are a type, of one parameter
+abbrev pub list_parameters : Parameters
+list_parameters u = if nat_eq u 0 then Some 1 else None
 
 abbrev pub append_pred : Predicate
 append_pred =
@@ -132,10 +138,11 @@ append_system =
 abbrev pub failure : Det
 failure = record { can_fail = true; most = Zero; committed = false }
 
--- append is accepted; not so a procedure whose kept determinism isn't that of the table, or whose
--- declared one doesn't allow it
+-- append is accepted, in a system that fits; not so a procedure whose kept determinism isn't that of
+-- the table, or whose declared one doesn't allow it
 abbrev pub AppendIsAccepted : Type 0
 AppendIsAccepted =
     Accepted append_system
+    × Fits append_system list_parameters
     × (AcceptedProcedure append_system (append_procedure det nondet) → ⊥)
     × (AcceptedProcedure append_system (append_procedure failure det) → ⊥)

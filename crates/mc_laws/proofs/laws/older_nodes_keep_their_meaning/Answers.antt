@@ -1,0 +1,8 @@
+use Rattle.mc_laws.proofs.Merging.{older_nodes_keep_paths, older_nodes_keep_values}
+use Rattle.mc_laws.proofs.laws.older_nodes_keep_their_meaning.Goals as goal
+
+pub returns-clause-paths : goal.returns-clause-paths
+returns-clause-paths c = older_nodes_keep_paths
+
+pub returns-clause-values : goal.returns-clause-values
+returns-clause-values c = older_nodes_keep_values
