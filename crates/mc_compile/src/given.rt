@@ -8,7 +8,7 @@ pub struct Given {
     pub bytes: Text,
 }
 
-/// A query: the text of its goal, and whether its first answer alone is wanted.
+/// A query: the text of its goal with a full stop behind it, and whether its first answer alone is wanted.
 #[derive(Debug, Drop)]
 pub struct Query {
     pub text: Text,

@@ -119,7 +119,7 @@ fn files_and_a_query_are_read(rt: HostRuntime) -> Result<(), Fail> {
 #[test]
 fn each_faulty_item_is_told_in_the_order_of_the_files(rt: HostRuntime) -> Result<(), Fail> {
     let alloc = rt.alloc();
-    let query = query_of(alloc, b"\np q")?;
+    let query = query_of(alloc, b"\np q.")?;
     let first: &[u8] = b":- module a.\np :- 1.\n:- foo.\n";
     let second: &[u8] = b"p(.\nq.\np \x01.\n";
     let answer = read_shown(
@@ -150,7 +150,7 @@ fn blanks(alloc: Global, lengths: &[usize]) -> Result<Row<Given>, Memory> {
 fn sources_that_are_too_long(rt: HostRuntime) -> Result<(), Fail> {
     let alloc = rt.alloc();
     let longest = 4_194_304;
-    let query = query_of(alloc, b"p q")?;
+    let query = query_of(alloc, b"p q.")?;
     let cases: [(&[usize], &[u8]); 5] = [
         (&[longest, longest, longest, longest], b"4:1 S5"),
         (&[longest, longest + 1, 1], b"1:1 L1, 3:1 S5"),
@@ -200,7 +200,7 @@ fn legal_sources_have_names(rt: HostRuntime) -> Result<(), Fail> {
     let alloc = rt.alloc();
     let answer = named_shown(alloc, &given(alloc, &[])?, None)?;
     assert_eq!(rt; answer.as_slice(), b"ok 9".as_slice());
-    let query = query_of(alloc, b"p([X | Y])")?;
+    let query = query_of(alloc, b"p([X | Y]).")?;
     let answer = named_shown(alloc, &given(alloc, &[FIRST, SECOND])?, Some(&query))?;
     assert_eq!(rt; answer.as_slice(), b"ok 11".as_slice());
     Ok(())
@@ -222,7 +222,7 @@ fn faults_of_linking_are_told_where_none_of_reading_is(rt: HostRuntime) -> Resul
         Some(&invisible),
     )?;
     assert_eq!(rt; answer.as_slice(), b"2:1 S6".as_slice());
-    let unread = query_of(alloc, b"p(X")?;
+    let unread = query_of(alloc, b"p(X.")?;
     let answer = named_shown(alloc, &given(alloc, &[FIRST, FAULTY])?, Some(&unread))?;
     assert_eq!(rt; answer.as_slice(), b"2:1 S5".as_slice());
     Ok(())

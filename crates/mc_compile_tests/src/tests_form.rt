@@ -70,6 +70,7 @@ fn files_of(alloc: Global, files: &str) -> Result<Row<Given>, Memory> {
     Row::of(given)
 }
 
+// A goal's text, with a full stop where it has none.
 fn goal_text(alloc: Global, goal: &str) -> Result<Text, Memory> {
     let mut text = Vec::new(alloc);
     for byte in goal.as_bytes() {
@@ -77,6 +78,9 @@ fn goal_text(alloc: Global, goal: &str) -> Result<Text, Memory> {
             b'^' => text.push(b'\n')?,
             other => text.push(other)?,
         }
+    }
+    if !goal.ends_with('.') {
+        text.extend_from_slice(b" .")?;
     }
     Text::new(alloc, text.as_slice())
 }

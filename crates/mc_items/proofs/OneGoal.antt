@@ -11,7 +11,7 @@ use Rattle.mc_items.specs.declared.entry.ItemsFault.TheVariants as F
 use Rattle.mc_items.specs.Verdicts.{PlainVerdict, breaks}
 use Rattle.mc_items.specs.Files.{place, IsUnread, IsTooLong}
 use Rattle.mc_items.specs.Queries.{query_verdict, ReadsAs, IsGoal, Breaks, empty, unread, followed, refused, IsNoGoal, IsQueryRefusal}
-use Rattle.mc_items.proofs.Unique.{same_tree, read_not_refused, read_not_over, refused_not_over, one_item}
+use Rattle.mc_items.proofs.Unique.{same_tree, read_not_refused, read_not_over, refused_not_over, not_memory, one_item}
 
 -- what a verdict says of a rule that is broken
 abbrev SameRule : Rule → Rule → List ℕ → List ℕ → ℕ → ℕ → Type 0
@@ -38,7 +38,7 @@ module _ (at_most_one : AtMostOne) (text : List ℕ) where
 
   -- where it reads as one, its first item is read
   read_not_unread : (t : PlainTerm) (v : PlainVerdict) (next line stop : ℕ) → ReadsAs text t next → IsUnread text 0 v line stop → ⊥
-  read_not_unread t v next line stop a u = read_not_refused at_most_one text 0 a.0 next a.1 a.2 a.3 u.kind line stop u.told u.refused
+  read_not_unread t v next line stop a u = read_not_refused at_most_one text 0 a.0 next a.1 a.2 a.3 u.kind line stop (not_memory at_most_one text 0 u) u.refused
 
   -- and there is an item
   read_not_empty : (t : PlainTerm) (next : ℕ) → ReadsAs text t next → IsOver text 0 → ⊥
@@ -46,7 +46,7 @@ module _ (at_most_one : AtMostOne) (text : List ℕ) where
 
   -- as there is where the first one isn't read
   unread_not_empty : (v : PlainVerdict) (line next : ℕ) → IsUnread text 0 v line next → IsOver text 0 → ⊥
-  unread_not_empty v line next u o = refused_not_over at_most_one text 0 u.kind line next u.told u.refused o
+  unread_not_empty v line next u o = refused_not_over at_most_one text 0 u.kind line next (not_memory at_most_one text 0 u) u.refused o
 
   -- nothing stands behind it, or something does
   followed_not_alone : (t u : PlainTerm) (next stop : ℕ) → ReadsAs text t next → (IsOver text next → ⊥) → ReadsAs text u stop → IsOver text stop → ⊥

@@ -1,12 +1,11 @@
 -- The items of a file, and the rules that they break, in the order of the file.
-use Rattle.std.specs.Prelude.{◌≡◌, ◌≢◌, ℕ, ◌<◌, ◌≤◌, ◌⊎◌, List, [], ◌∷◌, map, length, slice_index_or, None}
+use Rattle.std.specs.Prelude.{◌≡◌, ◌≢◌, ℕ, ◌<◌, ◌≤◌, ◌⊎◌, List, [], ◌∷◌, map, length, slice_index_or, Some, None}
 use Rattle.mc_source.specs.declared.place.Place.{Place}
 use Rattle.mc_source.specs.declared.rule.Broken.{Broken}
 use Rattle.mc_source.specs.declared.rule.Rule.TheVariants as R
-use Rattle.mc_source.specs.Rules.{first_rules}
+use Rattle.mc_source.specs.Rules.{Fault, first_rules}
 use Rattle.mc_term_parser.specs.Tree.{Tree, depth, too_large, term}
 use Rattle.mc_terms.specs.declared.fault.ReadKind.{ReadKind}
-use Rattle.mc_terms.specs.declared.fault.ReadKind.TheVariants.{Memory}
 use Rattle.mc_terms.specs.Answers.{IsOver, ItemReads, IsRefused, StandsAt, item_line}
 use Rattle.mc_decl_syntax.specs.Plain.{PlainDecl, plain_item}
 use Rattle.mc_items.specs.declared.entry.Entry.{Entry}
@@ -29,14 +28,16 @@ pub record IsRead (text : List ℕ) (from : ℕ) (verdict : PlainVerdict) (line 
   pub is : verdict ≡ judged (term tree)
   pub begins : line ≡ item_line text from
 
--- The item from a place on doesn't read as a term, and this is why; the line is the fault's.
+-- The item from a place on doesn't read as a term, and this is the rule that it breaks; the line is
+-- the fault's.
 pub record IsUnread (text : List ℕ) (from : ℕ) (verdict : PlainVerdict) (line next : ℕ) : Type 0 where
   pub kind : ReadKind
   pub place : ℕ
-  pub told : kind ≢ Memory
   pub refused : IsRefused text from kind line next
   pub stands : StandsAt text from kind place
-  pub is : verdict ≡ unread kind (slice_index_or text place 0)
+  pub broken : Fault
+  pub told : unread kind (slice_index_or text place 0) ≡ Some broken
+  pub is : verdict ≡ breaks broken.0 broken.1
 
 -- what the item from a place on is, with its line and the place behind it
 abbrev pub IsItem : List ℕ → ℕ → PlainVerdict → ℕ → ℕ → Type 0

@@ -46,7 +46,7 @@ ReadsAs text t next =
     × (depth tree ≤ 256)
     × (t ≡ term tree)
 
--- The text is one goal, with nothing but blanks and comments behind it.
+-- The text is one goal with its full stop, and nothing but blanks and comments behind that.
 pub record IsGoal (text : List ℕ) (goal : Term) : Type 0 where
   pub short : length text ≤ greatest_text
   pub next : ℕ

@@ -56,14 +56,15 @@ unless_left_out t None = form_verdict t (declared_part t)
 abbrev pub judged : PlainTerm → PlainVerdict
 judged t = unless_left_out t (item_left_out t)
 
--- What an item is that isn't read, by the reader's fault and the byte at its place.
-abbrev pub unread : ReadKind → ℕ → PlainVerdict
-unread (K.Token F.BadChar) b = breaks R.S1 W.bad_character
-unread (K.Token F.Unterminated) b = breaks R.S2 W.not_closed
-unread (K.Token F.IntTooLarge) b = breaks R.S3 W.out_of_range
-unread (K.Token F.NotUtf8) b = breaks R.S4 W.not_utf8
-unread (K.Token F.LeftOut) b = breaks R.X1 (W.left_out (of_token b))
-unread K.NotATerm b = breaks R.S5 W.not_a_term
-unread K.IntTooLarge b = breaks R.S3 W.out_of_range
-unread K.TooNested b = breaks R.L2 W.nested_too_deep
-unread K.Memory b = breaks R.S5 W.not_a_term
+-- The rule that an item breaks which isn't read, with what is said of it, by the reader's fault and
+-- the byte at its place. Want of memory breaks none.
+abbrev pub unread : ReadKind → ℕ → Option Fault
+unread (K.Token F.BadChar) b = Some (R.S1, W.bad_character)
+unread (K.Token F.Unterminated) b = Some (R.S2, W.not_closed)
+unread (K.Token F.IntTooLarge) b = Some (R.S3, W.out_of_range)
+unread (K.Token F.NotUtf8) b = Some (R.S4, W.not_utf8)
+unread (K.Token F.LeftOut) b = Some (R.X1, W.left_out (of_token b))
+unread K.NotATerm b = Some (R.S5, W.not_a_term)
+unread K.IntTooLarge b = Some (R.S3, W.out_of_range)
+unread K.TooNested b = Some (R.L2, W.nested_too_deep)
+unread K.Memory b = None

@@ -1,6 +1,6 @@
-ghost use Rattle.std.specs.Prelude.{◌≡◌, ◌≢◌, slice_index_or, IfOk, IfNone, IfSome};
+ghost use Rattle.std.specs.Prelude.{◌≡◌, slice_index_or, IfOk, Some};
 ghost use Rattle.mc_items.specs.Words as W;
-ghost use Rattle.mc_items.specs.Verdicts.{unread, breaks};
+ghost use Rattle.mc_items.specs.Verdicts.{unread};
 
 use mc_base::{Memory, Text};
 use mc_source::rule::Rule;
@@ -19,11 +19,9 @@ pub fn left_out(alloc: Global, form: LeftOut) -> Result<Text, Memory>
 }
 
 // The rule that an item breaks which isn't read, and what is said of it, by the reader's fault and the byte at
-// its place; None where there was no room.
+// its place; want of memory breaks none.
 pub fn unread_rule(alloc: Global, kind: ReadKind, byte: u8) -> Result<Option<(Rule, Text)>, Memory>
-    ensures none { IfOk result (λ r. IfNone r (kind ≡ ReadKind.Memory)) }
-    ensures some { IfOk result
-        (λ r. IfSome r (λ b. (kind ≢ ReadKind.Memory) × (unread kind byte ≡ breaks b.0 b.1))) }
+    ensures { IfOk result (λ broken. broken ≡ unread kind byte) }
 {
     let (rule, words): (Rule, &[u8]) = match kind {
         ReadKind::Token(FaultKind::BadChar) => (Rule::S1, b"bad character"),
@@ -46,9 +44,7 @@ pub fn unread_rule(alloc: Global, kind: ReadKind, byte: u8) -> Result<Option<(Ru
 // The rule that an item of a text breaks which isn't read, and what is said of it, by the reader's fault.
 pub fn fault_rule(alloc: Global, text: &[u8], fault: ItemFault) -> Result<(Rule, Text), Memory>
     ensures { IfOk result
-        (λ b.
-        (fault.fault.kind ≢ ReadKind.Memory)
-        × (unread fault.fault.kind (slice_index_or text.now fault.at 0) ≡ breaks b.0 b.1)) }
+        (λ broken. unread fault.fault.kind (slice_index_or text.now fault.at 0) ≡ Some broken) }
 {
     let byte = text.get(fault.at).copied().unwrap_or(0);
     match unread_rule(alloc, fault.fault.kind, byte)? {

@@ -84,8 +84,8 @@ fn sole_goal(alloc: Global, file: u32, walk: &mut Walk, item: ReadItem) -> Resul
     }
 }
 
-/// The goal of a query, by its text, which has a number as a file has. The text may end with a full stop or
-/// without.
+/// The goal of a query, by its text, which has a number as a file has. A full stop stands behind the goal, as behind
+/// an item of a file.
 ///
 /// # Errors
 ///

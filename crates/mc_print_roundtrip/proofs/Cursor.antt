@@ -14,7 +14,7 @@ use Rattle.mc_tokens.specs.Contents.{stands_for}
 use Rattle.mc_tokens.specs.Items.{Piece, Item, ends}
 use Rattle.mc_tokens.specs.Items as I
 use Rattle.mc_tokens.specs.declared.token.Kind.{Kind}
-use Rattle.mc_tokens.specs.declared.token.Kind.TheVariants.{Eof}
+use Rattle.mc_tokens.specs.declared.token.Kind.TheVariants.{End, Eof}
 use Rattle.mc_tokens.proofs.Quotes.{yes, no}
 use Rattle.mc_tokens.proofs.Turns.{took}
 use Rattle.mc_terms.specs.Lines.{line_at}
@@ -131,13 +131,13 @@ abbrev pub onto : List Lexeme → List Lexeme → List Lexeme
 onto [] ts = ts
 onto (x ∷ done) ts = onto done (x ∷ ts)
 
--- From the place, after a token of a kind, the tokens up to the item's end are these, whatever
+-- From the place, after a token of a kind, the tokens up to the item's full stop are these, whatever
 -- tokens were read before but a dot.
 abbrev pub Spells : List ℕ → ℕ → Kind → List Lexeme → ℕ → Type 0
 Spells text place k ts stop =
     (done : List Lexeme)
     → qualifier done ≡ None
-    → (ps : List Piece) × Item text place k ps stop × (walked text done ps ≡ onto done ts)
+    → (ps : List Piece) × Item text place k ps End stop × (walked text done ps ≡ onto done ts)
 
 -- a token of the kind that stands for these bytes, on the line, is one more lexeme, which is no dot
 abbrev pub Adds : Kind → List ℕ → ℕ → Lexeme → Type 0
@@ -152,12 +152,12 @@ onto_reverse (x ∷ done) ts =
     ap (λ l. l ++ ts) (reverse-append (x ∷ []) done) ∙ append_assoc (reverse done) (x ∷ []) ts ∙
     onto_reverse done (x ∷ ts)
 
--- at the item's end
+-- at the item's full stop
 pub spells_end :
-    (text : List ℕ) (place start stop : ℕ) (k e : Kind)
-    → lexed text place k ≡ Tok e start stop → ends e ≡ true → Spells text place k [] stop
-spells_end text place start stop k e l h =
-    λ done q. ([], I.over l h, sym (append-nil (reverse done)) ∙ onto_reverse done [])
+    (text : List ℕ) (place start stop : ℕ) (k : Kind)
+    → lexed text place k ≡ Tok End start stop → Spells text place k [] stop
+spells_end text place start stop k l =
+    λ done q. ([], I.over l refl, sym (append-nil (reverse done)) ∙ onto_reverse done [])
 
 -- one more token
 pub spells_token : (text : List ℕ) (place start stop last : ℕ) (k e : Kind) (x : Lexeme) (ts : List Lexeme) → lexed text place k ≡ Tok e start stop → ends e ≡ false → Adds e (stands_for e (slice_range text start stop)) (line_at text start) x
@@ -171,9 +171,9 @@ spells_token text place start stop last k e x ts l h adds more = λ done q.
     )
 
 same_item :
-    {text : List ℕ} {place from last : ℕ} {k e : Kind} {ps : List Piece}
-    → lexed text place k ≡ lexed text from e → Item text from e ps last
-    → Item text place k ps last
+    {text : List ℕ} {place from last : ℕ} {k e end : Kind} {ps : List Piece}
+    → lexed text place k ≡ lexed text from e → Item text from e ps end last
+    → Item text place k ps end last
 same_item e (I.over l h) = I.over (e ∙ l) h
 same_item e (I.next l h i) = I.next (e ∙ l) h i
 

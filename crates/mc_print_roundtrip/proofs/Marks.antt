@@ -336,8 +336,8 @@ spells_stop text line place k rest h c =
     let lower = not_true (starts_name (at rest 0)) (left_true (not (starts_name (at rest 0))) (not (at rest 0 == 39)) parts) in
     let quote = not_true (at rest 0 == 39) (right_true (not (starts_name (at rest 0))) (not (at rest 0 == 39)) parts) in
     let no_joint : names k && (starts_name (at rest 0) || (at rest 0 == 39)) ≡ false = and_no (names k) (starts_name (at rest 0) || (at rest 0 == 39)) (neither (starts_name (at rest 0)) (at rest 0 == 39) lower quote) in
-    spells_end text place place (place + 1) k K.End
-    (lexed_here text line place k (46 ∷ rest) c refl ∙ no _ no_joint ∙ yes _ h) refl
+    spells_end text place place (place + 1) k
+    (lexed_here text line place k (46 ∷ rest) c refl ∙ no _ no_joint ∙ yes _ h)
   where
     and_no : (a b : Bool) → b ≡ false → a && b ≡ false
     and_no true b e = e

@@ -263,7 +263,7 @@ a.@@p(@ 1.5). ~ 3 X1 float\n\
 p(@ \"a@ ~ 2 S2\n\
 a.@a@= b = c.@b. ~ 2 S5\n\
 p. {. q. ~ 1 X1 tuple\n\
-p(99999999999999999999).@q ~ 1 S3\n\
+p(99999999999999999999).@q. ~ 1 S3\n\
 p(@9223372036854775808). ~ 2 S3\n\
 p(-9223372036854775808). ~ ok 1\n\
 p('\\q'). q.@:- foo. ~ 1 S1, 2 S6\n\
@@ -274,7 +274,7 @@ p(0'ab'c). q.@p(1). ~ 1 X1 integer tail\n\
 . ~ 1 S5\n\
 p :- ( true => some [X] X = 1 ). ~ 1 S5\n\
 % only a comment ~ ok 0\n\
-a. b. c ~ ok 3\n\
+a. b. c. ~ ok 3\n\
 :- module d.@p. ~ ok 2\n";
 
 #[test]
@@ -292,6 +292,35 @@ fn forms_left_out(rt: HostRuntime) -> Result<(), Fail> {
 #[test]
 fn lines(rt: HostRuntime) -> Result<(), Fail> {
     assert_eq!(rt; rows_hold(&rt, rt.alloc(), Reader::File, LINES)?, 18);
+    Ok(())
+}
+
+// A module with full stops at its items' ends alone.
+const MODULE: &str = "\
+:- module cut.
+:- interface.
+:- type t ---> aa ; bb.
+:- pred p(t::out, t::out) is nondet.
+:- implementation.
+p(aa, bb).
+p(aa, bb).
+";
+
+#[test]
+fn a_module_that_is_cut_off_within_an_item_breaks_a_rule(rt: HostRuntime) -> Result<(), Fail> {
+    let alloc = rt.alloc();
+    let mut start = Vec::new(alloc);
+    let mut cut_off = false;
+    for byte in MODULE.as_bytes() {
+        start.push(*byte)?;
+        match *byte {
+            b'.' => cut_off = false,
+            b' ' | b'\n' => {}
+            _ => cut_off = true,
+        }
+        let answer = shown(alloc, start.as_slice())?;
+        assert_eq!(rt; answer.as_slice().ends_with(b" S5"), cut_off);
+    }
     Ok(())
 }
 
@@ -409,15 +438,15 @@ fn each_faulty_item_has_its_line(rt: HostRuntime) -> Result<(), Fail> {
 
 // Goals, and the first broken rule of each text that is none.
 const QUERIES: &str = "\
-p(X), q(X) ~ goal\n\
+p(X), q(X) .@ ~ goal\n\
 p(X), q(X). ~ goal\n\
 p. % c ~ goal\n\
 /* c */@p.@% c@ ~ goal\n\
-X = 1 ~ goal\n\
+X = 1 .@ ~ goal\n\
 p ; q. ~ goal\n\
-( a -> b ; c ) ~ goal\n\
-some [X] p(X) ~ goal\n\
-some [!X] p(!X) ~ goal\n\
+( a -> b ; c ) .@ ~ goal\n\
+some [X] p(X) .@ ~ goal\n\
+some [!X] p(!X) .@ ~ goal\n\
 X = 1. { ~ 1 S5\n\
 X. { ~ 1 S5\n\
 @@X.@ {. ~ 3 S5\n\
@@ -427,6 +456,7 @@ p.@:- foo. ~ 1 S5\n\
 p. . ~ 1 S5\n\
 p. /* ~ 1 S5\n\
 p. 'a ~ 1 S5\n\
+X = 1 % no.@ ~ 1 S5\n\
 % c ~ 1 S5\n\
 @@% c@ ~ 1 S5\n\
 @. ~ 2 S5\n\
@@ -437,22 +467,22 @@ p. 'a ~ 1 S5\n\
 @/* a ~ 2 S2\n\
 p('\\q'). q ~ 1 S1\n\
 p(@9223372036854775808). q ~ 2 S3\n\
-X ~ 1 X1 higher-order\n\
+X .@ ~ 1 X1 higher-order\n\
 X. ~ 1 X1 higher-order\n\
-some [X] X ~ 1 X1 higher-order\n\
-@p,@q(Y^f) ~ 2 X1 field access\n\
-1, p(X^f) ~ 1 X1 field access\n\
-1 ~ 1 S6\n\
+some [X] X .@ ~ 1 X1 higher-order\n\
+@p,@q(Y^f) .@ ~ 2 X1 field access\n\
+1, p(X^f) .@ ~ 1 X1 field access\n\
+1 .@ ~ 1 S6\n\
 @1. ~ 2 S6\n\
-[a] ~ 1 S6\n\
-!.X = a ~ 1 S6\n\
-p(!X) ~ 1 S6\n\
-( a -> b ) ~ 1 S6\n\
-if a then b ~ 1 S6\n";
+[a] .@ ~ 1 S6\n\
+!.X = a .@ ~ 1 S6\n\
+p(!X) .@ ~ 1 S6\n\
+( a -> b ) .@ ~ 1 S6\n\
+if a then b .@ ~ 1 S6\n";
 
 #[test]
 fn queries(rt: HostRuntime) -> Result<(), Fail> {
-    assert_eq!(rt; rows_hold(&rt, rt.alloc(), Reader::Query, QUERIES)?, 40);
+    assert_eq!(rt; rows_hold(&rt, rt.alloc(), Reader::Query, QUERIES)?, 41);
     Ok(())
 }
 

@@ -140,7 +140,8 @@ f(). ~ NotATerm 1 4\n\
 $ % c$ . ~ NotATerm 3 8\n\
 \x20~ over\n\
 \x20/* c */ % d ~ over\n\
-a ~ a 1\n\
+a ~ NotATerm 1 1\n\
+a % b. ~ NotATerm 1 6\n\
 p(a ~ NotATerm 1 3\n\
 9223372036854775807. ~ 9223372036854775807 20\n\
 9223372036854775808. ~ IntTooLarge 1 20\n\
@@ -227,10 +228,11 @@ p('\\x4 ~ Unterminated 1 6\n\
 p('\\ ~ Unterminated 1 4\n\
 $ 'a$b'$ c. ~ NotATerm 2 11\n\
 a = [] ; b = '[]'. ~ |(=(a,[]),=(b,[])) 18\n\
-X = 9223372036854775807 + 1 ~ =(X,+(9223372036854775807,1)) 27\n\
-X = 9223372036854775808 ~ IntTooLarge 1 23\n\
-X = -9223372036854775808 ~ =(X,-9223372036854775808) 24\n\
-A = -7 // 2, B = -7 mod 2 ~ &(=(A,//(-7,2)),=(B,mod(-7,2))) 25\n\
+X = 9223372036854775807 + 1. ~ =(X,+(9223372036854775807,1)) 28\n\
+X = 9223372036854775808. ~ IntTooLarge 1 24\n\
+X = 9223372036854775808 ~ NotATerm 1 23\n\
+X = -9223372036854775808. ~ =(X,-9223372036854775808) 25\n\
+A = -7 // 2, B = -7 mod 2. ~ &(=(A,//(-7,2)),=(B,mod(-7,2))) 26\n\
 ";
 
 // A text of the table, in which `$` stands for a line end.
@@ -254,7 +256,7 @@ fn items(rt: HostRuntime) -> Result<(), Fail> {
             rows = rows.saturating_add(1);
         }
     }
-    assert_eq!(rt; rows, 130);
+    assert_eq!(rt; rows, 132);
     Ok(())
 }
 
@@ -395,7 +397,7 @@ fn items_in_turn(rt: HostRuntime) -> Result<(), Fail> {
         ),
         (
             "a. b c. $$ p($X).$q",
-            "a 1 2; NotATerm 1 7; p(X) 3 17; q 5 19; ",
+            "a 1 2; NotATerm 1 7; p(X) 3 17; NotATerm 5 19; ",
         ),
         (
             "p(\u{1}). q({). r(\\+). s.",

@@ -1,9 +1,9 @@
 -- What is known of an item where some of its tokens are read.
-use Rattle.std.proofs.Common.{◌≡◌, ◌≢◌, ◌⊎◌, inl, inr, ℕ, ◌+◌, ◌≤◌, ◌<◌, arith, true, false, List, [], ◌∷◌, reverse, sym, ap, ◌∙◌, subst, slice_range}
+use Rattle.std.proofs.Common.{◌≡◌, ◌≢◌, ◌⊎◌, inl, inr, refl, ℕ, ◌+◌, ◌≤◌, ◌<◌, arith, true, false, List, [], ◌∷◌, reverse, sym, ap, ◌∙◌, subst, slice_range}
 use Rattle.std.proofs.lemmas.List.{reverse-reverse}
 use Rattle.mc_term_parser.specs.declared.lexeme.Lexeme.{Lexeme}
 use Rattle.mc_tokens.specs.declared.token.Kind.{Kind}
-use Rattle.mc_tokens.specs.declared.token.Kind.TheVariants.{Eof}
+use Rattle.mc_tokens.specs.declared.token.Kind.TheVariants.{End, Eof}
 use Rattle.mc_tokens.specs.declared.token.FaultKind.{FaultKind}
 use Rattle.mc_tokens.specs.Contents.{stands_for}
 use Rattle.mc_tokens.specs.Tokens.{lexed, Tok, Fault}
@@ -18,25 +18,23 @@ use Rattle.mc_tokens.specs.declared.token.TokenFault.{TokenFault}
 use Rattle.mc_tokens.specs.declared.token.Token as D
 use Rattle.mc_terms.specs.declared.fault.ReadFault.{ReadFault}
 use Rattle.mc_terms.specs.declared.fault.ReadKind.TheVariants.{Token, NotATerm}
-use Rattle.mc_term_parser.specs.Tree.{Tree}
-use Rattle.mc_term_parser.specs.Reads.{ReadsTerm}
 use Rattle.mc_terms.specs.declared.fault.ReadKind.{ReadKind}
-use Rattle.mc_terms.specs.Answers.{AreItemTokens, IsRefused, StandsAt, item_line, token_line}
+use Rattle.mc_terms.specs.Answers.{AreItemTokens, AreNoTerm, IsRefused, StandsAt, item_line, token_line}
 
 -- the rest of the item, from a place after a token of a kind, completes the tokens so far
 pub record Continues (text : List ℕ) (from at : ℕ) (after : Kind) (tokens : List Lexeme) : Type 0 where
   pub items :
-      (ps : List Piece) (stop : ℕ)
-      → Item text at after ps stop
+      (ps : List Piece) (end : Kind) (stop : ℕ)
+      → Item text at after ps end stop
       → (qs : List Piece)
-      × Item text from Eof qs stop
+      × Item text from Eof qs end stop
       × (lexemes text qs ≡ walked text (reverse tokens) ps)
   pub faults :
       (f : FaultKind) (place : ℕ) → Faulty text at after f place → Faulty text from Eof f place
 
 pub begins : (text : List ℕ) (from : ℕ) → Continues text from from Eof []
 begins text from =
-    record { items = λ ps stop d. (ps, d, sym (walked_is text ps)); faults = λ f place d. d }
+    record { items = λ ps end stop d. (ps, d, sym (walked_is text ps)); faults = λ f place d. d }
 
 pub begins_with : (text : List ℕ) (from : ℕ) (tokens : List Lexeme) → tokens ≡ [] → Continues text from from Eof tokens
 begins_with text from tokens e = subst (λ ts. Continues text from from Eof ts) (sym e) (begins text from)
@@ -45,9 +43,9 @@ begins_with text from tokens e = subst (λ ts. Continues text from from Eof ts) 
 pub ended :
     (text : List ℕ) (from at : ℕ) (after e : Kind) (start stop : ℕ) (tokens : List Lexeme)
     → Continues text from at after tokens → lexed text at after ≡ Tok e start stop → ends e ≡ true
-    → AreItemTokens text from tokens stop
+    → AreItemTokens text from tokens e stop
 ended text from at after e start stop tokens c l h =
-    let (qs, item, is) = c.items [] stop (I.over l h) in
+    let (qs, item, is) = c.items [] e stop (I.over l h) in
     (qs, item, is ∙ reverse-reverse tokens)
 
 -- behind one more token
@@ -57,8 +55,8 @@ pub goes_on : (text : List ℕ) (from at : ℕ) (after e : Kind) (start stop : �
     (line_at text start)
     → Continues text from stop e more
 goes_on text from at after e start stop tokens more c l h m = record {
-  items = λ ps last d.
-      let (qs, item, is) = c.items (record { kind = e; bytes = slice_range text start stop; place = start } ∷ ps) last (I.next l h d) in
+  items = λ ps end last d.
+      let (qs, item, is) = c.items (record { kind = e; bytes = slice_range text start stop; place = start } ∷ ps) end last (I.next l h d) in
       (qs, item, is ∙ ap (λ done. walked text done ps) (sym m));
   faults = λ f place d. c.faults f place (I.later l h d);
 }
@@ -92,12 +90,19 @@ stands_by text before from at place after f tokens kind e c l k p =
     (subst (λ place. Faulty text from Eof f.kind place) (sym p)
     (subst (λ t. Faulty t from Eof f.kind f.at) e (faulty before from at after f.kind f.at tokens c (sym l))))
 
-pub ended_at : (text before : List ℕ) (from at : ℕ) (after : Kind) (t : D.Token) (tokens : List Lexeme) (stop : ℕ) → before ≡ text → Continues before from at after tokens → Tok t.kind t.start t.end ≡ lexed before at after
-    → ends t.kind ≡ true → stop ≡ t.end → AreItemTokens text from tokens stop
-ended_at text before from at after t tokens stop e c l h s =
-    subst (λ stop. AreItemTokens text from tokens stop) (sym s)
-    (subst (λ u. AreItemTokens u from tokens t.end) e
-    (ended before from at after t.kind t.start t.end tokens c (sym l) h))
+-- a token that ends an item is a full stop, or the text's end
+pub full_stop : (k : Kind) → ends k ≡ true → k ≢ Eof → k ≡ End
+full_stop End h n = refl
+full_stop Eof h n = absurd (n refl)
+full_stop _ h n = cc
+
+pub ended_at : (text before : List ℕ) (from at : ℕ) (after end : Kind) (t : D.Token) (tokens : List Lexeme) (stop : ℕ) → before ≡ text → Continues before from at after tokens → Tok t.kind t.start t.end ≡ lexed before at after
+    → ends t.kind ≡ true → t.kind ≡ end → stop ≡ t.end → AreItemTokens text from tokens end stop
+ended_at text before from at after end t tokens stop e c l h k s =
+    subst (λ end. AreItemTokens text from tokens end stop) k
+    (subst (λ stop. AreItemTokens text from tokens t.kind stop) (sym s)
+    (subst (λ u. AreItemTokens u from tokens t.kind t.end) e
+    (ended before from at after t.kind t.start t.end tokens c (sym l) h)))
 
 pub goes_on_at : (behind before : List ℕ) (from at : ℕ) (after : Kind) (t : D.Token) (tokens more : List Lexeme) (line stop : ℕ) → behind ≡ before → Continues before from at after tokens → Tok t.kind t.start t.end ≡ lexed before at after
     → ends t.kind ≡ false → t.text.now ≡ slice_range before t.start t.end
@@ -110,16 +115,19 @@ goes_on_at behind before from at after t tokens more line stop g c l h w n s m =
     (goes_on before from at after t.kind t.start t.end tokens more c (sym l) h
     (m ∙ (λ i. with_token (reverse tokens) t.kind (stands_for t.kind (w i)) ((n ∙ ap (λ u. line_at u t.start) g) i)))))
 
--- where nothing reads
-pub not_a_term : (text walk shown : List ℕ) (at : ℕ) (ts slice : List Lexeme) (stop line : ℕ) (first : D.Token) → walk ≡ text → AreItemTokens walk at ts stop → slice ≡ ts → ((t : Tree) → ReadsTerm slice t 1200 → ⊥)
+-- where the tokens are no term
+pub not_a_term : (text walk shown : List ℕ) (at : ℕ) (ts : List Lexeme) (end : Kind) (stop line : ℕ) (first : D.Token) (r : ReadFault) → walk ≡ text → AreItemTokens walk at ts end stop → AreNoTerm ts end
     → Tok first.kind first.start first.end ≡ lexed text at Eof → (first.kind ≡ Eof → ⊥)
-    → shown ≡ walk → line ≡ line_at shown first.start → IsRefused text at NotATerm line stop
-not_a_term text walk shown at ts slice stop line first e items s none l k w n = (
-  ts,
-  subst (λ u. AreItemTokens u at ts stop) e items,
-  subst (λ us. (t : Tree) → ReadsTerm us t 1200 → ⊥) s none,
-  (first.kind, first.start, first.end, sym l, k, n ∙ ap (λ u. line_at u first.start) (w ∙ e)),
-)
+    → shown ≡ walk → line ≡ line_at shown first.start
+    → r.kind ≡ NotATerm → r.line ≡ line → r.next ≡ stop → IsRefused text at r.kind r.line r.next
+not_a_term text walk shown at ts end stop line first r e items none l k w n kind on next =
+    subst (λ kind. IsRefused text at kind r.line r.next) (sym kind) (
+      ts,
+      end,
+      subst (λ stop. AreItemTokens text at ts end stop) (sym next) (subst (λ u. AreItemTokens u at ts end stop) e items),
+      none,
+      (first.kind, first.start, first.end, sym l, k, on ∙ n ∙ ap (λ u. line_at u first.start) (w ∙ e)),
+    )
 
 -- the place is behind the item's beginning, or nothing is read yet
 abbrev pub Past : (from at : ℕ) → Kind → Type 0

@@ -1,12 +1,12 @@
 -- What the reader answers for the item that begins in a place of a text (this project's profile).
-use Rattle.std.specs.Prelude.{◌≡◌, ◌≢◌, ℕ, ◌+◌, ◌<◌, ◌≤◌, List, Some, None, length}
+use Rattle.std.specs.Prelude.{◌≡◌, ◌≢◌, ℕ, ◌+◌, ◌<◌, ◌≤◌, ◌⊎◌, List, Some, None, length}
 use Rattle.mc_term_data.specs.Plain.{plain_term}
 use Rattle.mc_term_data.specs.declared.term.Term.{Term}
 use Rattle.mc_term_parser.specs.declared.lexeme.Lexeme.{Lexeme}
 use Rattle.mc_term_parser.specs.Tree.{Tree, depth, too_large, term}
 use Rattle.mc_term_parser.specs.Reads.{ReadsTerm}
 use Rattle.mc_tokens.specs.declared.token.Kind.{Kind}
-use Rattle.mc_tokens.specs.declared.token.Kind.TheVariants.{Eof}
+use Rattle.mc_tokens.specs.declared.token.Kind.TheVariants.{End, Eof}
 use Rattle.mc_tokens.specs.declared.token.FaultKind.{FaultKind}
 use Rattle.mc_tokens.specs.declared.token.FaultKind.TheVariants.{LeftOut}
 use Rattle.mc_tokens.specs.Tokens.{Lexed, lexed, Tok, Fault}
@@ -16,14 +16,24 @@ use Rattle.mc_terms.specs.declared.fault.ReadKind.TheVariants.{Token, NotATerm, 
 use Rattle.mc_terms.specs.Lines.{line_at}
 use Rattle.mc_terms.specs.Lexemes.{lexemes}
 
--- the tokens of the item that begins in a place, and the place behind its end
-abbrev pub AreItemTokens : List ℕ → ℕ → List Lexeme → ℕ → Type 0
-AreItemTokens text at ts stop =
-    (ps : List Piece) × Item text at Eof ps stop × (lexemes text ps ≡ ts)
+-- the tokens of the item that begins in a place, the kind of the token that ends it, and the place
+-- behind that one
+abbrev pub AreItemTokens : List ℕ → ℕ → List Lexeme → (end : Kind) → (stop : ℕ) → Type 0
+AreItemTokens text at ts end stop =
+    (ps : List Piece) × Item text at Eof ps end stop × (lexemes text ps ≡ ts)
 
--- the item's tokens stand for a term, of which this is the tree
+-- a full stop ends the item, and its tokens stand for a term, of which this is the tree
 abbrev pub ItemReads : List ℕ → ℕ → Tree → ℕ → Type 0
-ItemReads text at t stop = (ts : List Lexeme) × AreItemTokens text at ts stop × ReadsTerm ts t 1200
+ItemReads text at t stop =
+    (ts : List Lexeme) × AreItemTokens text at ts End stop × ReadsTerm ts t 1200
+
+-- why the tokens of an item are no term, by the kind of the token that ends it
+abbrev pub AreNoTerm : List Lexeme → (end : Kind) → Type 0
+AreNoTerm ts end =
+    -- the text ends before a full stop, so that the item is cut off
+    (end ≡ Eof)
+    -- no term reads as the tokens
+    ⊎ ((t : Tree) → ReadsTerm ts t 1200 → ⊥)
 
 -- nothing but blanks and comments is left
 abbrev pub IsOver : List ℕ → ℕ → Type 0
@@ -72,8 +82,9 @@ IsRefused text at (Token f) line next =
     × Passes text (place + 1) Eof next
 IsRefused text at NotATerm line next =
     (ts : List Lexeme)
-    × AreItemTokens text at ts next
-    × ((t : Tree) → ReadsTerm ts t 1200 → ⊥)
+    × (end : Kind)
+    × AreItemTokens text at ts end next
+    × AreNoTerm ts end
     × BeginsOn text at line
 IsRefused text at IntTooLarge line next =
     (t : Tree) × ItemReads text at t next × (too_large t ≡ Some line)

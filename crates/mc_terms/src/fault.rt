@@ -5,7 +5,7 @@ use mc_tokens::FaultKind;
 pub enum ReadKind {
     /// A token of the item is faulty; this is the first such.
     Token(FaultKind),
-    /// The tokens of the item are no term.
+    /// The tokens of the item are no term, or the text ends before a full stop ends them.
     NotATerm,
     /// A number is 2^63, and no minus sign stands directly before it.
     IntTooLarge,

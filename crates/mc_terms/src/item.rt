@@ -20,6 +20,16 @@ use std::alloc::Global;
 pub struct ItemTokens {
     pub tokens: Vec<Lexeme>,
     pub end: Position,
+    // Whether the text ends before a full stop.
+    pub cut_off: bool,
+}
+
+// Whether a token of the kind is the text's end.
+pub fn is_eof(kind: Kind) -> bool
+    ensures yes { IsTrue result → kind ≡ Kind.Eof }
+    ensures no { result ≡ false → kind ≢ Kind.Eof }
+{
+    matches!(kind, Kind::Eof)
 }
 
 // The parts and the line of a name that a dot goes on from, or the token where it is no name.
@@ -214,7 +224,8 @@ pub fn faulty_token(walk: &mut Walk, from: Position, line: u32, fault: TokenFaul
     ItemFault { fault, at }
 }
 
-// The tokens of the item that begins in a position, with its first token on a line.
+// The tokens of the item that begins in a position, with its first token on a line, up to its full stop or the text's
+// end.
 pub fn item_tokens(
     alloc: Global,
     walk: &mut Walk,
@@ -226,7 +237,14 @@ pub fn item_tokens(
     requires item { line ≡ item_line walk.old from.at }
     requires begun { (start stop : ℕ) → lexed walk.old from.at Kind.Eof ≢ Tok Kind.Eof start stop }
     requires small { length walk.old < 2 ^ 32 - 1 }
-    ensures tokens { IfOk result (λ item. AreItemTokens walk.old from.at item.tokens.items item.end.at) }
+    ensures whole { IfOk result
+        (λ item.
+        item.cut_off ≡ false
+        → AreItemTokens walk.old from.at item.tokens.items Kind.End item.end.at) }
+    ensures cut_off { IfOk result
+        (λ item.
+        IsTrue item.cut_off
+        → AreItemTokens walk.old from.at item.tokens.items Kind.Eof item.end.at) }
     ensures end { IfOk result
         (λ item.
         (item.end.line ≡ line_at walk.old item.end.at)
@@ -248,7 +266,12 @@ pub fn item_tokens(
         let start = place.moved(walk.text(), token.start);
         let end = start.moved(walk.text(), token.end);
         if token.kind.ends_item() {
-            return Ok(ItemTokens { tokens, end });
+            let cut_off = is_eof(token.kind);
+            return Ok(ItemTokens {
+                tokens,
+                end,
+                cut_off,
+            });
         }
         match push_token(alloc, &mut tokens, &token, start.line) {
             Err(_) => return Err(want_of_memory(from)),

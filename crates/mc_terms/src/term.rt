@@ -1,21 +1,14 @@
-ghost use Rattle.std.specs.Prelude.{◌≡◌, ◌≢◌, ◌-◌, ◌≤◌, ◌<◌, ◌^◌, length, IfOk, IfErr, IfSome, IfNone, MatchOption, None, IsTrue, false};
+ghost use Rattle.std.specs.Prelude.{◌≡◌, ◌≢◌, ◌-◌, ◌≤◌, ◌<◌, ◌^◌, length, IfOk, IfErr, IfSome, IfNone, MatchOption, None};
 ghost use Rattle.mc_terms.specs.Lines.{line_at};
 ghost use Rattle.mc_terms.specs.Answers.{IsOver, IsItem, IsRefused, IsOnward, StandsAt, item_line};
 
 use crate::fault::{ItemFault, ReadFault, ReadKind};
-use crate::item::{faulty_token, item_tokens, want_of_memory};
+use crate::item::{faulty_token, is_eof, item_tokens, want_of_memory};
 use crate::position::Position;
 use mc_term_data::Term;
 use mc_term_parser::{Reading, read};
 use mc_tokens::{Kind, Walk};
 use std::alloc::Global;
-
-fn is_eof(kind: Kind) -> bool
-    ensures yes { IsTrue result → kind ≡ Kind.Eof }
-    ensures no { result ≡ false → kind ≢ Kind.Eof }
-{
-    matches!(kind, Kind::Eof)
-}
 
 /// An item that was read.
 #[derive(Drop)]
@@ -25,6 +18,17 @@ pub struct ReadItem {
     pub line: u32,
     /// The position behind the item's end.
     pub end: Position,
+}
+
+// The fault of an item that is no term, which begins in a place and on a line, and the place behind it.
+fn no_term(at: usize, line: u32, next: usize) -> ItemFault
+    ensures kind { result.fault.kind ≡ ReadKind.NotATerm }
+    ensures line { result.fault.line ≡ line }
+    ensures next { result.fault.next ≡ next }
+{
+    let kind = ReadKind::NotATerm;
+    let fault = ReadFault { kind, line, next };
+    ItemFault { fault, at }
 }
 
 // An item that was read, which begins on a line and in a place, and ends before a position.
@@ -58,8 +62,8 @@ fn judged(reading: Reading, line: u32, at: usize, end: Position) -> Result<ReadI
     Ok(ReadItem { term, line, end })
 }
 
-/// The item that begins in a position; None where only blanks and comments are left. To read all
-/// items of a text in linear time, pass one walk on from item to item, and after a fault go on at
+/// The item that begins in a position; None where only blanks and comments are left. An item that the
+/// text's end cuts off before its full stop is no term. To read all items of a text in linear time, pass one walk on from item to item, and after a fault go on at
 /// its `next`, to which [`Position::moved`] leads.
 pub fn read_next(
     alloc: Global,
@@ -96,14 +100,12 @@ pub fn read_next(
     }
     let line = from.moved(walk.text(), first.start).line;
     let item = item_tokens(alloc, walk, from, line)?;
+    if item.cut_off {
+        return Err(no_term(from.at, line, item.end.at));
+    }
     match read(alloc, item.tokens.as_slice()) {
         Err(_) => Err(want_of_memory(from)),
-        Ok(None) => {
-            let kind = ReadKind::NotATerm;
-            let next = item.end.at;
-            let fault = ReadFault { kind, line, next };
-            Err(ItemFault { fault, at: from.at })
-        }
+        Ok(None) => Err(no_term(from.at, line, item.end.at)),
         Ok(Some(reading)) => match judged(reading, line, from.at, item.end) {
             Ok(item) => Ok(Some(item)),
             Err(fault) => Err(fault),

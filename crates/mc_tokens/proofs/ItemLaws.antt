@@ -36,22 +36,22 @@ after_same P e b start stop left right same h =
     subst (λ (c : Kind). P stop c) (sym (ap kind_of same)) (subst (λ (n : ℕ). P n b) (sym (ap stop_of same)) h)
 
 -- an item that has a list of tokens has no fault
-pub Item-Faulty : {text : List ℕ} {at last place : ℕ} {k : Kind} {ps : List Piece} {f : FaultKind} → Item text at k ps last → Faulty text at k f place → ⊥
+pub Item-Faulty : {text : List ℕ} {at last place : ℕ} {k end : Kind} {ps : List Piece} {f : FaultKind} → Item text at k ps end last → Faulty text at k f place → ⊥
 Item-Faulty (I.over e t) (I.here d) = cc
 Item-Faulty (I.over e t) (I.later d u r) = cc
 Item-Faulty (I.next e t i) (I.here d) = cc
 Item-Faulty {text = text} {place = place} {f = f} (I.next {start = s} {stop = n} {e = a} e t i) (I.later {start = v} {stop = m} {e = b} d u r) =
     Item-Faulty i (after_same (λ n c. Faulty text n c f place) a b s n v m (sym e ∙ d) r)
 
--- one list of tokens, and one end
-pub Item-unique : {text : List ℕ} {at last end : ℕ} {k : Kind} {ps qs : List Piece} → Item text at k ps last → Item text at k qs end → (ps ≡ qs) × (last ≡ end)
-Item-unique (I.over e t) (I.over d u) = (refl, ap stop_of (sym e ∙ d))
+-- one list of tokens, one token that ends it, and one place after that
+pub Item-unique : {text : List ℕ} {at last stop : ℕ} {k end other : Kind} {ps qs : List Piece} → Item text at k ps end last → Item text at k qs other stop → (ps ≡ qs) × (last ≡ stop) × (end ≡ other)
+Item-unique (I.over e t) (I.over d u) = (refl, ap stop_of (sym e ∙ d), ap kind_of (sym e ∙ d))
 Item-unique (I.over {start = s} {stop = n} {e = a} e t) (I.next {start = v} {stop = m} {e = b} d u j) = let same : a ≡ b = ap kind_of (sym e ∙ d) in cc
 Item-unique (I.next {start = s} {stop = n} {e = a} e t i) (I.over {start = v} {stop = m} {e = b} d u) = let same : a ≡ b = ap kind_of (sym e ∙ d) in cc
-Item-unique {text = text} {end = end} (I.next {start = s} {stop = n} {e = a} {ps = ps} e t i) (I.next {start = v} {stop = m} {e = b} {ps = qs} d u j) =
+Item-unique {text = text} {stop = stop} {other = other} (I.next {start = s} {stop = n} {e = a} {ps = ps} e t i) (I.next {start = v} {stop = m} {e = b} {ps = qs} d u j) =
     let same = sym e ∙ d in
-    let rest = Item-unique i (after_same (λ n c. Item text n c qs end) a b s n v m same j) in
-    ((λ w. record { kind = kind_of (same w); bytes = slice_range text (start_of (same w)) (stop_of (same w)); place = start_of (same w) } ∷ rest.0 w), rest.1)
+    let rest = Item-unique i (after_same (λ n c. Item text n c qs other stop) a b s n v m same j) in
+    ((λ w. record { kind = kind_of (same w); bytes = slice_range text (start_of (same w)) (stop_of (same w)); place = start_of (same w) } ∷ rest.0 w), rest.1, rest.2)
 
 -- one first fault, in one place
 pub Faulty-unique : {text : List ℕ} {at place there : ℕ} {k : Kind} {f g : FaultKind} → Faulty text at k f place → Faulty text at k g there → (f ≡ g) × (place ≡ there)
@@ -76,6 +76,6 @@ Passes-unique {text = text} {end = end} (I.past {place = p} {f = f} e i) (I.past
     Passes-unique i (subst (λ (n : ℕ). Passes text (n + 1) Eof end) (sym (ap place_of (sym e ∙ d))) j)
 
 -- the end of an item without faults
-pub Passes-Item : {text : List ℕ} {at last : ℕ} {k : Kind} {ps : List Piece} → Item text at k ps last → Passes text at k last
+pub Passes-Item : {text : List ℕ} {at last : ℕ} {k end : Kind} {ps : List Piece} → Item text at k ps end last → Passes text at k last
 Passes-Item (I.over e t) = I.over e t
 Passes-Item (I.next e t i) = I.next e t (Passes-Item i)

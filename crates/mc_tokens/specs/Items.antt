@@ -1,5 +1,5 @@
 -- The tokens of one item (this project's profile: an item is the tokens up to a full stop that ends
--- it).
+-- it; where the text ends before, the item is cut off).
 use Rattle.std.specs.Prelude.{◌≡◌, ℕ, ◌+◌, Bool, true, false, List, [], ◌∷◌, slice_range}
 use Rattle.mc_tokens.specs.Tokens.{Tok, Fault, lexed}
 use Rattle.mc_tokens.specs.declared.token.FaultKind.{FaultKind}
@@ -12,21 +12,21 @@ pub record Piece : Type 0 where
   pub bytes : List ℕ
   pub place : ℕ
 
--- whether a token of the kind ends an item
+-- whether a token of the kind ends an item: a full stop does, and the text's end cuts it off
 abbrev pub ends : Kind → Bool
 ends End = true
 ends Eof = true
 ends _ = false
 
--- Item text at k ps stop: from the place at, after a token of kind k, the tokens up to the first
--- End or Eof are ps, and stop is the place after that one.
-pub data Item : List ℕ → ℕ → Kind → List Piece → ℕ → Type 0 where
+-- Item text at k ps end stop: from the place at, after a token of kind k, the tokens up to the
+-- first End or Eof are ps; end is the kind of that one, and stop the place after it.
+pub data Item : List ℕ → ℕ → Kind → List Piece → (end : Kind) → (stop : ℕ) → Type 0 where
   over : {text : List ℕ} {at start stop : ℕ} {k e : Kind} →
-      lexed text at k ≡ Tok e start stop → ends e ≡ true → Item text at k [] stop
-  next : {text : List ℕ} {at start stop last : ℕ} {k e : Kind} {ps : List Piece} →
-      lexed text at k ≡ Tok e start stop → ends e ≡ false → Item text stop e ps last →
+      lexed text at k ≡ Tok e start stop → ends e ≡ true → Item text at k [] e stop
+  next : {text : List ℕ} {at start stop last : ℕ} {k e end : Kind} {ps : List Piece} →
+      lexed text at k ≡ Tok e start stop → ends e ≡ false → Item text stop e ps end last →
       Item text at k (record { kind = e; bytes = slice_range text start stop; place = start } ∷ ps)
-      last
+      end last
 
 -- Faulty text at k f place: the first fault of the item from the place at, after a token of kind k,
 -- is f at place.

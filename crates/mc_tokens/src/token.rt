@@ -39,7 +39,7 @@ impl Kind {
     ghost use Rattle.std.specs.Prelude.{◌≡◌};
     ghost use Rattle.mc_tokens.specs.Items.{ends};
 
-    /// Whether a token of the kind ends an item.
+    /// Whether a token of the kind ends an item: a full stop does, and the text's end cuts it off.
     pub fn ends_item(self) -> bool
         ensures { result ≡ ends self }
     {

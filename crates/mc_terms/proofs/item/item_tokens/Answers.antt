@@ -1,8 +1,9 @@
 use Rattle.std.proofs.Common.{inl, inr, refl, sym, ap, ◌∙◌, arith}
 use Rattle.std.proofs.lemmas.Grind.{common_steps}
 use Rattle.mc_terms.specs.Lines.{line_at}
+use Rattle.mc_tokens.specs.declared.token.Kind.TheVariants.{End, Eof}
 use Rattle.mc_tokens.specs.Tokens.{lexed}
-use Rattle.mc_terms.proofs.Items.{begins_with, refused_by, stands_by, past_end, ended_at, goes_on_at}
+use Rattle.mc_terms.proofs.Items.{begins_with, refused_by, stands_by, past_end, full_stop, ended_at, goes_on_at}
 use Rattle.mc_terms.proofs.item.item_tokens.Goals as goal
 
 pub returns-in-Err-clause-fault : goal.returns-in-Err-clause-fault
@@ -26,10 +27,16 @@ returns-then-ends_item-clause-end c =
     (c.in-Ok.ensures.value ∙ ap (λ u. lexed u c.item.place.at c.item.after) c.item.invariant.same) o.0 o.1 c.in-Ok.ensures.nonempty in
     (grind (arith, common_steps), omega (arith, p, c.moved-end.ensures.at), grind (arith, common_steps))
 
-pub returns-then-ends_item-clause-tokens : goal.returns-then-ends_item-clause-tokens
-returns-then-ends_item-clause-tokens c =
-    ended_at c.args.walk.now c.item.walk c.args.from.at c.item.place.at c.item.after c.in-Ok.token c.item.tokens.items _
-    c.item.invariant.same c.item.invariant.continues c.in-Ok.ensures.value (sym c.ends_item.ensures ∙ c.if-ends_item.true) c.moved-end.ensures.at
+pub returns-then-ends_item-clause-whole : goal.returns-then-ends_item-clause-whole
+returns-then-ends_item-clause-whole c other =
+    let ends = sym c.ends_item.ensures ∙ c.if-ends_item.true in
+    ended_at c.args.walk.now c.item.walk c.args.from.at c.item.place.at c.item.after End c.in-Ok.token c.item.tokens.items _
+    c.item.invariant.same c.item.invariant.continues c.in-Ok.ensures.value ends (full_stop c.in-Ok.token.kind ends (c.is_eof-cut_off.ensures.no other)) c.moved-end.ensures.at
+
+pub returns-then-ends_item-clause-cut_off : goal.returns-then-ends_item-clause-cut_off
+returns-then-ends_item-clause-cut_off c eof =
+    ended_at c.args.walk.now c.item.walk c.args.from.at c.item.place.at c.item.after Eof c.in-Ok.token c.item.tokens.items _
+    c.item.invariant.same c.item.invariant.continues c.in-Ok.ensures.value (sym c.ends_item.ensures ∙ c.if-ends_item.true) (c.is_eof-cut_off.ensures.yes eof) c.moved-end.ensures.at
 
 pub item-preserved : goal.item-preserved
 item-preserved c = record {
