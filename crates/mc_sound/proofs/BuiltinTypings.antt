@@ -22,7 +22,7 @@ use Rattle.mc_model.specs.Builtins.{Library, on_int, on_char, on_str, on_state, 
 use Rattle.mc_accepted.specs.Determined.{builtin_determinism}
 use Rattle.mc_model.specs.Good.{TypeChoice}
 use Rattle.mc_accepted.specs.BuiltinFits.{at_places, EachOf, GivesOf, Throws}
-use Rattle.mc_accepted.specs.BuiltinTypes.{Library_types, list_of, Has_types, HasBuiltins, builtin_types}
+use Rattle.mc_accepted.specs.BuiltinTypes.{Library_types, list_of, Has_types, builtin_types}
 use Rattle.mc_sound.specs.BuiltinLaws.{BuiltinsFit}
 use Rattle.mc_program.specs.declared.builtin.Builtin.{Builtin}
 use Rattle.mc_program.specs.declared.builtin.Builtin.TheVariants as B

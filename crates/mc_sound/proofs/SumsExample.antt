@@ -1,18 +1,18 @@
 -- A system meets all that the theorem asks.
 use Rattle.std.proofs.Common.{◌≡◌, ◌≢◌, ◌⊎◌, ℕ, zero, suc, ◌<◌, List, [], ◌∷◌, ◌∙◌, Some, None, Bool, true, false, cond, nat_eq, refl, sym, ap, subst, arith, ⊎_elim}
 use Rattle.std.proofs.lemmas.Bool.{eqb-false}
-use Rattle.mc_program.specs.Programs.{TypeTerm, int_type, state_type}
+use Rattle.mc_program.specs.Programs.{TypeTerm, int_type}
 use Rattle.mc_model.specs.Lists.{In, is_in, Apart}
-use Rattle.mc_model.specs.Insts.{InstNode, ground, unique, dead}
-use Rattle.mc_accepted.specs.Inclusion.{Path, Included}
-use Rattle.mc_accepted.specs.Tidy.{Leads, Tidy}
+use Rattle.mc_model.specs.Insts.{ground, unique, dead}
+use Rattle.mc_accepted.specs.Inclusion.{Included}
+use Rattle.mc_accepted.specs.Tidy.{Tidy}
 use Rattle.mc_accepted.specs.Proper.{ProperGraph}
 use Rattle.mc_accepted.specs.Ordered.{Insts, also, here, implied_alone, implied_outputs, done, kept, no_more, output, keeps}
 use Rattle.mc_accepted.specs.ProperTypes.{ProperType, EachProper, EachBelow}
-use Rattle.mc_accepted.specs.Fits.{FitsInsts, FitsTypes, FitsProcedure, Fits, type_of}
+use Rattle.mc_accepted.specs.Fits.{FitsInsts, FitsTypes, FitsProcedure, type_of}
 use Rattle.mc_accepted.specs.Accepted.{entered, AcceptedProcedure}
 use Rattle.mc_accepted.specs.BuiltinTypes.{Has_types, HasBuiltins, builtin_name, builtin_types}
-use Rattle.mc_sound.specs.code.Examples.{symbols, symbols_of, parameters, library, library_types, sum_pred, plus_pred, source, graph, sum_procedure, sums, SumsFit}
+use Rattle.mc_sound.specs.code.Examples.{symbols, parameters, library, library_types, sum_pred, plus_pred, source, graph, sum_procedure, sums, SumsFit}
 use Rattle.mc_program.specs.declared.builtin.Builtin.{Builtin}
 use Rattle.mc_program.specs.declared.builtin.Builtin.TheVariants as B
 use Rattle.mc_sound.proofs.BuiltinTypings.{builtins_fit}
@@ -102,6 +102,7 @@ tidy [] j u l c = absurd (⊎_elim (λ e. not_unique (ap graph l.0 ∙ e)) (λ e
   where
     not_unique : ground ≡ unique → ⊥
     not_unique e = cc
+
     not_dead : ground ≡ dead → ⊥
     not_dead e = cc
 tidy (step ∷ path) j u l c = absurd l

@@ -7,7 +7,7 @@ use Rattle.mc_model.specs.Builtins.{Library, outcome}
 use Rattle.mc_model.specs.Worlds.{library_name}
 use Rattle.mc_model.specs.Scheduled as S
 use Rattle.mc_model.specs.Scheduled.{Node, node, Procedure, nodes}
-use Rattle.mc_model.specs.Good.{System, GoodProcedures}
+use Rattle.mc_model.specs.Good.{System}
 use Rattle.mc_accepted.specs.ProperTypes.{Parameters}
 use Rattle.mc_accepted.specs.BuiltinTypes.{Library_types, builtin_name}
 use Rattle.mc_accepted.specs.Fits.{Fits}
