@@ -1,6 +1,7 @@
 pub mod Accepted
 pub mod Arranged
 pub mod BuiltinFits
+pub mod BuiltinTypes
 pub mod Chosen
 pub mod Determined
 pub mod Fits

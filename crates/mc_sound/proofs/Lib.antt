@@ -1,6 +1,7 @@
 pub mod Arguments
 pub mod Atoms
 pub mod Binds
+pub mod BuiltinTypings
 pub mod CallLists
 pub mod Callings
 pub mod Changes
@@ -16,6 +17,7 @@ pub mod Opens
 pub mod Procedures
 pub mod Scopes
 pub mod Sound
+pub mod SumsExample
 pub mod Takes
 pub mod TellAtoms
 pub mod TellCalls

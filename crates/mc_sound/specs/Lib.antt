@@ -1,3 +1,4 @@
+pub mod BuiltinLaws
 pub mod PredicateLaws
 pub mod Proper
 pub mod Soundness

@@ -1,4 +1,5 @@
 //! The theorem and its parts. Each is the contract of a function that does nothing.
+ghost use Rattle.mc_sound.specs.BuiltinLaws.{BuiltinsFit};
 ghost use Rattle.mc_sound.specs.Soundness.{QuerySoundness, Soundness};
 
 /// Accepted procedures are good.
@@ -9,4 +10,9 @@ pub fn good()
 /// So are accepted queries.
 pub fn queries()
     ensures { QuerySoundness }
+{}
+
+/// What builtins do fits the types of their predicates and their determinisms.
+pub fn builtins_fit()
+    ensures { BuiltinsFit }
 {}

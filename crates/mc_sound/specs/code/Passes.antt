@@ -79,8 +79,8 @@ pub record CallSound (S : System) (θ : TypeChoice) (p : Procedure) (vs : List (
 abbrev pub CallsSound : System → Calls → Type 0
 CallsSound S C =
     (θ :
-        TypeChoice) (h k : ℕ) (vs : List (Option Val)) → k < S.count → Given S θ (S.procs k).first
-        (types_of S (S.procs k)) vs → CallSound S θ (S.procs k) vs (C h k vs)
+    TypeChoice) (h k : ℕ) (vs : List (Option Val)) → k < S.count → Given S θ (S.procs k).first
+    (types_of S (S.procs k)) vs → CallSound S θ (S.procs k) vs (C h k vs)
 
 -- The first pass at a goal.
 abbrev pub GoalSound : System → (T : ℕ → TypeTerm) → Calls → Type 0
@@ -128,16 +128,16 @@ Scoped O Q vars = (x : ℕ) → In x vars → In x Q → In x O
 abbrev pub CallsTell : System → Calls → Facts → Type 0
 CallsTell S R C =
     (θ :
-        TypeChoice) (h k : ℕ) (vs : List (Option Val)) → k < S.count → Given S θ (S.procs k).first
-        (types_of S (S.procs k)) vs → CallTells C (S.procs k) vs (R h k vs)
+    TypeChoice) (h k : ℕ) (vs : List (Option Val)) → k < S.count → Given S θ (S.procs k).first
+    (types_of S (S.procs k)) vs → CallTells C (S.procs k) vs (R h k vs)
 
 -- what is said of builtins' predicates is what their outcomes say
 abbrev pub SaysBuiltins : System → Facts → Type 0
 SaysBuiltins S C =
     (p :
-        ℕ) (op : Builtin) (ws : List Val) → (S.world.source.preds p).builtin ≡ Some op
-        → (GivenBy S.world.outcome op ws → C.yes p ws)
-        × (DeniedBy S.world.outcome op ws → C.no p ws)
+    ℕ) (op : Builtin) (ws : List Val) → (S.world.source.preds p).builtin ≡ Some op
+    → (GivenBy S.world.outcome op ws → C.yes p ws)
+    × (DeniedBy S.world.outcome op ws → C.no p ws)
 
 -- The second pass at a goal.
 abbrev pub GoalTells : System → (T : ℕ → TypeTerm) → Calls → Facts → Type 0
