@@ -1,0 +1,10 @@
+mod Enough
+mod Equality
+mod Forms
+mod Grouping
+mod Inferring
+mod Labels
+mod Monotone
+mod Placing
+mod Quiet
+mod Tables

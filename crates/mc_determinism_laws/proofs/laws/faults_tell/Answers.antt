@@ -1,0 +1,8 @@
+use Rattle.mc_determinism_laws.proofs.Placing.{misplaced_tells, misplaces_io_tells}
+use Rattle.mc_determinism_laws.proofs.laws.faults_tell.Goals as goal
+
+pub returns-clause-calls : goal.returns-clause-calls
+returns-clause-calls c = misplaced_tells
+
+pub returns-clause-io : goal.returns-clause-io
+returns-clause-io c = misplaces_io_tells

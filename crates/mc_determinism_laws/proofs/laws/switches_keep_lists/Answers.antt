@@ -1,0 +1,9 @@
+use Rattle.mc_determinism_laws.proofs.Grouping.{switches_keep_lists}
+use Rattle.mc_determinism_laws.proofs.Forms.{forms_keep_lists}
+use Rattle.mc_determinism_laws.proofs.laws.switches_keep_lists.Goals as goal
+
+pub returns-clause-disjuncts : goal.returns-clause-disjuncts
+returns-clause-disjuncts c = switches_keep_lists
+
+pub returns-clause-goals : goal.returns-clause-goals
+returns-clause-goals c = forms_keep_lists

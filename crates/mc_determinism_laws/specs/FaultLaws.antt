@@ -1,0 +1,43 @@
+-- The laws of the rules of determinism: what the computed faults tell of the relations that
+-- accepted procedures meet, and that the least determinisms are one assignment. (Mercury Language
+-- Reference Manual: Determinism; this project's profile of io.)
+use Rattle.std.specs.Prelude.{◌≡◌, ◌↔◌, ℕ, ◌<◌, Bool, true, false, None}
+use Rattle.mc_program.specs.Programs.{TypeTerm}
+use Rattle.mc_source.specs.Determinism.{Determinism, Allows}
+use Rattle.mc_source.specs.declared.det.Det.{Det}
+use Rattle.mc_model.specs.Good.{System}
+use Rattle.mc_model.specs.Scheduled.{Node}
+use Rattle.mc_accepted.specs.Ordered.{Insts}
+use Rattle.mc_accepted.specs.Determined.{Known, Placed, IoPlaced}
+use Rattle.mc_accepted.specs.Inferred.{join, DeclaredSystem, LeastClosed}
+use Rattle.mc_accepted.specs.DeterminismFaults.{allows, first_misplaced, misplaces_io}
+
+-- the test of allowing tells it
+abbrev pub AllowsTells : Type 0
+AllowsTells = (d i : Determinism) → (allows d i ≡ true) ↔ Allows d i
+
+-- there is no misplaced call exactly where all committed calls stand where they may
+abbrev pub MisplacedTells : Type 0
+MisplacedTells =
+    (S : System) (T : ℕ → TypeTerm) (b : Insts) (known : Known) (first : Bool) (n : Node)
+    → (first_misplaced S T b known first n ≡ None) ↔ Placed S T b known first n
+
+-- no io goal is misplaced exactly where all stand where they may
+abbrev pub MisplacesIoTells : Type 0
+MisplacesIoTells =
+    (S : System) (T : ℕ → TypeTerm) (b : Insts) (known : Known) (first : Bool) (n : Node)
+    → (misplaces_io S T b known first n ≡ false) ↔ IoPlaced S T b known first n
+
+-- `join` allows both, and what allows both allows it
+abbrev pub JoinIsLeast : Type 0
+JoinIsLeast =
+    (a b : Determinism)
+    → Allows (join a b) a
+    × Allows (join a b) b
+    × ((c : Determinism) → Allows c a → Allows c b → Allows c (join a b))
+
+-- there is one least assignment
+abbrev pub LeastIsOne : Type 0
+LeastIsOne =
+    (D : DeclaredSystem) (ds es : ℕ → Det)
+    → LeastClosed D ds → LeastClosed D es → (k : ℕ) → k < D.count → ds k ≡ es k

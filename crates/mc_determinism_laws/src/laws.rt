@@ -1,0 +1,38 @@
+//! The laws of switch forms and of determinisms. Each is the contract of a function that does nothing.
+ghost use Rattle.mc_determinism_laws.specs.FaultLaws.{AllowsTells, JoinIsLeast, LeastIsOne, MisplacedTells, MisplacesIoTells};
+ghost use Rattle.mc_determinism_laws.specs.SwitchLaws.{SwitchesKeepLists, FormsKeepLists, FormsAreWhole};
+ghost use Rattle.mc_determinism_laws.specs.TableLaws.{TableIsMonotone, TableDepends};
+
+/// A disjunction and the switch that is made of the same disjuncts have one event list.
+pub fn switches_keep_lists()
+    ensures disjuncts { SwitchesKeepLists }
+    ensures goals { FormsKeepLists }
+{}
+
+/// To look at the arms of switches again more often changes nothing.
+pub fn forms_are_whole()
+    ensures { FormsAreWhole }
+{}
+
+/// What allows the determinisms of the procedures has a table value that allows the table value.
+pub fn table_is_monotone()
+    ensures { TableIsMonotone }
+{}
+
+/// A table value follows from the determinisms of the procedures that are called.
+pub fn table_depends()
+    ensures { TableDepends }
+{}
+
+/// The test of allowing tells it, `join` is the least determinism that allows both, and there is one least assignment.
+pub fn inferred_ones_are_least()
+    ensures allows { AllowsTells }
+    ensures join { JoinIsLeast }
+    ensures one { LeastIsOne }
+{}
+
+/// Faults are found exactly where a committed call, or an io goal, stands where it may not.
+pub fn faults_tell()
+    ensures calls { MisplacedTells }
+    ensures io { MisplacesIoTells }
+{}

@@ -1,0 +1,4 @@
+//! The laws of switch forms and of determinisms, and computed examples of them.
+#![tactic(auto)]
+
+pub mod laws;
