@@ -1,0 +1,10 @@
+pub mod Overwritten
+pub mod Noted
+pub mod Joining
+pub mod Turns
+pub mod Visiting
+pub mod Ranks
+pub mod Adding
+pub mod Solutions
+pub mod Nothing
+pub mod Depths

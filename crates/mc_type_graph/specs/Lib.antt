@@ -1,0 +1,6 @@
+pub mod Shapes
+pub mod Holds
+pub mod Changes
+pub mod Founded
+pub mod Solved
+pub mod code

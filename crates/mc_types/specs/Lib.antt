@@ -1,0 +1,4 @@
+pub mod Substitutions
+pub mod Trees
+pub mod Placed
+pub mod code
