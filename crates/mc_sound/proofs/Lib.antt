@@ -8,8 +8,6 @@ pub mod Changes
 pub mod Combine
 pub mod Counts
 pub mod Entry
-pub mod Equality
-pub mod Inclusions
 pub mod Levels
 pub mod Lists
 pub mod Numbers
