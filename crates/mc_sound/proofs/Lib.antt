@@ -22,5 +22,6 @@ pub mod TellCalls
 pub mod TellFresh
 pub mod TellLists
 pub mod Told
+pub mod TurnedPremises
 pub mod TypeInstances
 pub mod Typed

@@ -1,8 +1,8 @@
 //! The theorem and its parts. Each is the contract of a function that does nothing but call others of the kind.
-use mc_laws::laws::predicates_carry_over;
-
 ghost use Rattle.mc_sound.specs.BuiltinLaws.{BuiltinsFit};
 ghost use Rattle.mc_sound.specs.Soundness.{AcceptedAreGood, AcceptedQueriesAreGood};
+
+use mc_laws::laws::predicates_carry_over;
 
 /// Accepted procedures are good, and so are accepted queries.
 pub fn accepted_are_good()
