@@ -5,6 +5,7 @@ mod Grouping
 mod Inferring
 mod Labels
 mod Monotone
+mod Opened
 mod Placing
 mod Quiet
 mod Tables

@@ -7,11 +7,11 @@ use Rattle.mc_program.specs.declared.builtin.Builtin.{Builtin}
 use Rattle.mc_source.specs.declared.det.Det.{Det}
 use Rattle.mc_model.specs.EventList.{Each}
 use Rattle.mc_model.specs.Outcomes.{Outcome}
-use Rattle.mc_model.specs.Scheduled.{Label, node, Disj, Nodes}
+use Rattle.mc_model.specs.Scheduled.{Label, Node, node, Disj, Nodes}
 use Rattle.mc_model.specs.Stream.{Bindings, Calls, stream, stream_of}
 use Rattle.mc_model.specs.Good.{System}
-use Rattle.mc_accepted.specs.Ordered.{Insts}
-use Rattle.mc_accepted.specs.Switched.{Disjunct, openings, goals_of, Kept, chosen, labels_of, those, opens_with, grouped, formed, disjuncts, openings_of}
+use Rattle.mc_accepted.specs.Ordered.{Insts, Opens, IsLabel}
+use Rattle.mc_accepted.specs.Switched.{Disjunct, openings, goals_of, Kept, label_in, chosen, labels_of, those, opens_with, grouped, formed, disjuncts, openings_of}
 
 -- what a disjunct is said to open is what its goal opens
 abbrev pub Told : List Disjunct → Type 0
@@ -80,3 +80,9 @@ abbrev pub FormsAreWhole : Type 0
 FormsAreWhole =
     (S : System) (T : ℕ → TypeTerm) (kept : Kept) (b : Insts) (ds : List Disjunct) (more : ℕ)
     → grouped S T kept (openings_of ds + more) b [] ds ≡ grouped S T kept (openings_of ds) b [] ds
+
+-- What a goal is computed to open, it opens in the relation of ordered goals.
+abbrev pub OpeningsOpen : Type 0
+OpeningsOpen =
+    (x : ℕ) (n : Node) (l : Label)
+    → label_in x (openings n) ≡ Some l → Opens x l n × IsLabel l

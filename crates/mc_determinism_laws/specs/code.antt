@@ -1,4 +1,5 @@
 pub mod Examples
-pub mod ExamplesOfSwitches
 pub mod ExamplesOfDeterminisms
 pub mod ExamplesOfFaults
+pub mod ExamplesOfInsts
+pub mod ExamplesOfSwitches

@@ -1,5 +1,6 @@
 //! Computed switch forms, determinisms, and rules of determinism that procedures break. Each is the contract of a
 //! function that does nothing, and each group has an equation that does not hold.
+ghost use Rattle.mc_determinism_laws.specs.code.ExamplesOfInsts.{Unfounded, FreeInside, OtherParameters, TidyModes, UnfoundedModes};
 ghost use Rattle.mc_determinism_laws.specs.code.ExamplesOfSwitches.{FactsSwitched, ListsSwitched, WhatIsLookedThrough, SeveralVariables, LabelsDontOverlap};
 ghost use Rattle.mc_determinism_laws.specs.code.ExamplesOfDeterminisms.{ListsDetermined, FactsDetermined, HeadsDetermined, CallsDetermined, Marks};
 ghost use Rattle.mc_determinism_laws.specs.code.ExamplesOfFaults.{NotAllowed, Undeclared, MisplacedCalls, MisplacedIo, MainIsAsked, FaultsInOrder};
@@ -34,4 +35,13 @@ pub fn faults()
 pub fn lists_of_faults()
     ensures main { MainIsAsked }
     ensures order { FaultsInOrder }
+{}
+
+/// Definitions of insts and modes that break rules, and such as don't.
+pub fn insts()
+    ensures unfounded { Unfounded }
+    ensures free_inside { FreeInside }
+    ensures other_parameters { OtherParameters }
+    ensures modes { UnfoundedModes }
+    ensures tidy { TidyModes }
 {}

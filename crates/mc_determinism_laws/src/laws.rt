@@ -1,12 +1,17 @@
 //! The laws of switch forms and of determinisms. Each is the contract of a function that does nothing.
 ghost use Rattle.mc_determinism_laws.specs.FaultLaws.{AllowsTells, JoinIsLeast, LeastIsOne, MisplacedTells, MisplacesIoTells};
-ghost use Rattle.mc_determinism_laws.specs.SwitchLaws.{SwitchesKeepLists, FormsKeepLists, FormsAreWhole};
+ghost use Rattle.mc_determinism_laws.specs.SwitchLaws.{SwitchesKeepLists, FormsKeepLists, FormsAreWhole, OpeningsOpen};
 ghost use Rattle.mc_determinism_laws.specs.TableLaws.{TableIsMonotone, TableDepends};
 
 /// A disjunction and the switch that is made of the same disjuncts have one event list.
 pub fn switches_keep_lists()
     ensures disjuncts { SwitchesKeepLists }
     ensures goals { FormsKeepLists }
+{}
+
+/// What a goal is computed to open, it opens in the relation of ordered goals.
+pub fn openings_open()
+    ensures { OpeningsOpen }
 {}
 
 /// To look at the arms of switches again more often changes nothing.

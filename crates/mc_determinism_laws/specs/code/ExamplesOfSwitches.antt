@@ -18,8 +18,8 @@ fact x y = in_a_row (test 0 x ∷ const 1 y ∷ [])
 abbrev pub integers : ℕ → TypeTerm
 integers = typed [] []
 
--- The facts of one integer share an arm, which stays a disjunction, since no other variable is taken
--- apart. Where the first argument isn't given, nothing is.
+-- The facts of one integer share an arm, which stays a disjunction, since no other variable is
+-- taken apart. Where the first argument isn't given, nothing is.
 abbrev pub FactsSwitched : Type 0
 FactsSwitched =
     (form_of integers (ground_are (0 ∷ [])) (one_of (fact 1 3 ∷ fact 1 2 ∷ []))
@@ -49,8 +49,8 @@ abbrev pub select_later : Node
 select_later =
     in_a_row (take 1 cell (5 ∷ 6 ∷ []) ∷ call 0 (0 ∷ 6 ∷ 7 ∷ []) ∷ build 2 cell (5 ∷ 7 ∷ []) ∷ [])
 
--- `safe(_, _, []).` and `safe(Q, D, [P | Ps]) :- Q \= P + D, safe(Q, D, Ps).`, where a fresh variable
--- stands for the result of the sum
+-- `safe(_, _, []).` and `safe(Q, D, [P | Ps]) :- Q \= P + D, safe(Q, D, Ps).`, where a fresh
+-- variable stands for the result of the sum
 abbrev pub safe_empty : Node
 safe_empty = take 2 nil []
 
@@ -189,8 +189,8 @@ overlapping =
     ∷ told (for_symbol red) (then_two (take 1 red []) 3)
     ∷ []
 
--- Such a constant is no label: if it were one, a switch could have its answers in another order than
--- its disjunction has.
+-- Such a constant is no label: if it were one, a switch could have its answers in another order
+-- than its disjunction has.
 abbrev pub LabelsDontOverlap : Type 0
 LabelsDontOverlap =
     (openings (unmarked (TestConst 1 (con red no_vals))) ≡ [])
