@@ -2,6 +2,7 @@
 use Rattle.std.specs.Prelude.{ℕ, zero, suc, List, [], ◌∷◌, Option, Some, None, false, codes}
 use Rattle.mc_model.specs.declared.inst.InstRef.{InstRef}
 use Rattle.mc_model.specs.declared.inst.InstRef.TheVariants.{Old, New}
+use Rattle.mc_model.specs.Scheduled.{Procedure}
 use Rattle.mc_accepted.specs.InstRules.{PlainChoice, PlainInstDef, same_inst, bound_inst, IsUnfounded, HasFreeInside, InstTerm, parameter, inst_node, defined, bound_over, InstTerms, no_insts, inst_then, Bodies, ReachesOthers, ModeIsUnfounded, IsUntidy}
 use Rattle.mc_determinism_laws.specs.code.Examples.{main, pick, program, procedure, uncommitted, nothing}
 
@@ -75,9 +76,12 @@ abbrev pub UnfoundedModes : Type 0
 UnfoundedModes =
     ModeIsUnfounded named 0 × (ModeIsUnfounded named 2 → ⊥) × (ModeIsUnfounded named 3 → ⊥)
 
--- `main(io::di, io::uo)`, and a mode whose integer is `unique` at the call
+-- `main(io::di, io::uo)`, and modes whose integer is `unique` at the call, and `dead` at an answer
+abbrev pub mode_of : (predicate : ℕ) → (first last : List ℕ) → Procedure
+mode_of k is ls = procedure k [] is ls (uncommitted false) nothing
+
 abbrev pub TidyModes : Type 0
 TidyModes =
-    (IsUntidy (program []) (procedure main (0 ∷ 1 ∷ []) (2 ∷ 0 ∷ []) (3 ∷ 2 ∷ []) (uncommitted false) nothing) → ⊥)
-    × IsUntidy (program []) (procedure pick (0 ∷ []) (2 ∷ []) (1 ∷ []) (uncommitted false) nothing)
-    × IsUntidy (program []) (procedure pick (0 ∷ []) (1 ∷ []) (3 ∷ []) (uncommitted false) nothing)
+    (IsUntidy (program []) (mode_of main (2 ∷ 0 ∷ []) (3 ∷ 2 ∷ [])) → ⊥)
+    × IsUntidy (program []) (mode_of pick (2 ∷ []) (1 ∷ []))
+    × IsUntidy (program []) (mode_of pick (1 ∷ []) (3 ∷ []))
