@@ -1,5 +1,6 @@
 mod Enough
 mod Equality
+mod Faultless
 mod Forms
 mod Grouping
 mod Inferring

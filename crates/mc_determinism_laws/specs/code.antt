@@ -1,5 +1,6 @@
 pub mod Examples
 pub mod ExamplesOfDeterminisms
 pub mod ExamplesOfFaults
+pub mod ExamplesOfInference
 pub mod ExamplesOfInsts
 pub mod ExamplesOfSwitches

@@ -1,5 +1,5 @@
 //! The laws of switch forms and of determinisms. Each is the contract of a function that does nothing.
-ghost use Rattle.mc_determinism_laws.specs.FaultLaws.{AllowsTells, JoinIsLeast, LeastIsOne, MisplacedTells, MisplacesIoTells};
+ghost use Rattle.mc_determinism_laws.specs.FaultLaws.{AllowsTells, FaultlessMeets, JoinIsLeast, LeastIsOne, MisplacedTells, MisplacesIoTells};
 ghost use Rattle.mc_determinism_laws.specs.SwitchLaws.{SwitchesKeepLists, FormsKeepLists, FormsAreWhole, OpeningsOpen};
 ghost use Rattle.mc_determinism_laws.specs.TableLaws.{TableIsMonotone, TableDepends};
 
@@ -36,8 +36,10 @@ pub fn inferred_ones_are_least()
     ensures one { LeastIsOne }
 {}
 
-/// Faults are found exactly where a committed call, or an io goal, stands where it may not.
+/// Faults are found exactly where a committed call, or an io goal, stands where it may not; a procedure without one
+/// meets what is asked of its determinism.
 pub fn faults_tell()
     ensures calls { MisplacedTells }
     ensures io { MisplacesIoTells }
+    ensures none { FaultlessMeets }
 {}

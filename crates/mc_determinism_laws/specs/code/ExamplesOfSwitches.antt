@@ -4,11 +4,12 @@ use Rattle.mc_program.specs.Values.{Val, int, con, no_vals}
 use Rattle.mc_program.specs.Programs.{TypeTerm}
 use Rattle.mc_model.specs.EventList.{Items, End, Stuck, Stopped, Answer, Called, Wrote, Read}
 use Rattle.mc_model.specs.Outcomes.{fails}
-use Rattle.mc_model.specs.Scheduled.{Label, for_symbol, for_constant, Node, Exists, Not, Assign, Test, TestConst}
+use Rattle.mc_model.specs.Scheduled.{Label, for_symbol, for_constant, Node, Conj, Disj, Exists, Not, Assign, Test, Const, TestConst, nodes}
 use Rattle.mc_model.specs.Stream.{Bindings, stream}
 use Rattle.mc_accepted.specs.Unmarked.{unmarked}
-use Rattle.mc_accepted.specs.Switched.{Disjunct, openings, grouped}
-use Rattle.mc_determinism_laws.specs.code.Examples.{nil, cell, red, blue, in_a_row, one_of, switch_on, const, test, number, take, build, call, apply, ground_are, typed, program, form_of}
+use Rattle.mc_accepted.specs.Switched.{Disjunct, openings, grouped, formed}
+use Rattle.mc_accepted.specs.MergedArms.{ArmsMerge}
+use Rattle.mc_determinism_laws.specs.code.Examples.{nil, cell, red, blue, in_a_row, one_of, switch_on, const, test, number, take, build, call, apply, changing, ground_are, typed, program, form_of}
 use Rattle.mc_program.specs.declared.builtin.Builtin.TheVariants as B
 
 -- `q(1, 3). q(1, 2).` and `r(2, 20). r(3, 30).`, whose first argument is given
@@ -152,6 +153,24 @@ SeveralVariables =
     ((for_symbol red, take 1 red [])
     ∷ (for_symbol blue, one_of (both 1 blue ∷ both 2 blue ∷ []))
     ∷ []))
+
+-- `q(1, 3). q(1, 2).` with the insts that are kept, where the arm of both keeps these
+abbrev pub kept_fact : (y : ℕ) → Node
+kept_fact y =
+    changing
+    (Conj (nodes (test 0 1 ∷ changing (Const 1 (int (pos y))) ((1, 1) ∷ []) ∷ [])))
+    ((1, 1) ∷ [])
+
+abbrev pub kept_facts : List (ℕ × ℕ) → Node
+kept_facts changes =
+    formed (program []) integers (λ before after ds. changes) (ground_are (0 ∷ []))
+    (changing (Disj (nodes (kept_fact 3 ∷ kept_fact 2 ∷ []))) ((1, 1) ∷ []))
+
+-- the arm changes what both change, and not nothing
+abbrev pub ArmsMerged : Type 0
+ArmsMerged =
+    ArmsMerge (program []) integers (ground_are (0 ∷ [])) (kept_facts ((1, 1) ∷ []))
+    × (ArmsMerge (program []) integers (ground_are (0 ∷ [])) (kept_facts []) → ⊥)
 
 -- what variable 2 is in each answer
 abbrev pub seconds : Items Bindings → List (Option Val)
