@@ -10,3 +10,4 @@ mod Opened
 mod Placing
 mod Quiet
 mod Tables
+mod WholeGoals

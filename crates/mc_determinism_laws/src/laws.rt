@@ -1,12 +1,14 @@
 //! The laws of switch forms and of determinisms. Each is the contract of a function that does nothing.
 ghost use Rattle.mc_determinism_laws.specs.FaultLaws.{AllowsTells, FaultlessMeets, JoinIsLeast, LeastIsOne, MisplacedTells, MisplacesIoTells};
-ghost use Rattle.mc_determinism_laws.specs.SwitchLaws.{SwitchesKeepLists, FormsKeepLists, FormsAreWhole, OpeningsOpen};
+ghost use Rattle.mc_determinism_laws.specs.SwitchLaws.{SwitchesKeepLists, GoalsKeepLists, FormsKeepLists, FormsAreWhole, OpeningsOpen};
 ghost use Rattle.mc_determinism_laws.specs.TableLaws.{TableIsMonotone, TableDepends};
 
-/// A disjunction and the switch that is made of the same disjuncts have one event list.
+/// A disjunction and the switch that is made of the same disjuncts have one event list, and so have a whole goal and its
+/// switch form.
 pub fn switches_keep_lists()
     ensures disjuncts { SwitchesKeepLists }
     ensures goals { FormsKeepLists }
+    ensures whole { GoalsKeepLists }
 {}
 
 /// What a goal is computed to open, it opens in the relation of ordered goals.
