@@ -1,7 +1,9 @@
+pub mod AcceptedLaws
 pub mod DeterminismLaws
 pub mod FlatLaws
 pub mod Laws
 pub mod MergeLaws
 pub mod PredicateLaws
 pub mod Proper
+pub mod ScopeLaws
 pub mod code
