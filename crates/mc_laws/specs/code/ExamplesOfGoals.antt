@@ -75,6 +75,22 @@ ScopesAreWritten =
     × HasScopes [] [] (If (0 ∷ []) (p (0 ∷ [])) (q (0 ∷ [])) (q (0 ∷ [])))
     × (HasScopes [] [] (If [] (p (0 ∷ [])) (q (0 ∷ [])) (q (1 ∷ []))) → ⊥)
 
+-- Legal goals with quantifiers inside quantifiers: X in the inner negation is its own, since the other
+-- disjunct is parallel, and so it is where the disjunction is a condition.
+abbrev pub ScopesInScopes : Type 0
+ScopesInScopes =
+    (scoped [] (Not (either (Not (p (0 ∷ []))) (q (0 ∷ []))))
+    ≡ Not (Exists (0 ∷ []) (either (Not (Exists (0 ∷ []) (p (0 ∷ [])))) (q (0 ∷ [])))))
+    × HasScopes [] []
+    (Not (Exists (0 ∷ []) (either (Not (Exists (0 ∷ []) (p (0 ∷ [])))) (q (0 ∷ [])))))
+    × (scoped [] (If [] (either (Not (p (0 ∷ []))) (q (0 ∷ []))) (q (1 ∷ [])) (q (1 ∷ [])))
+    ≡ If (0 ∷ []) (either (Not (Exists (0 ∷ []) (p (0 ∷ [])))) (q (0 ∷ []))) (q (1 ∷ []))
+    (q (1 ∷ [])))
+    × HasScopes [] []
+    (If (0 ∷ []) (either (Not (Exists (0 ∷ []) (p (0 ∷ [])))) (q (0 ∷ []))) (q (1 ∷ [])) (q (1 ∷ [])))
+    × HasScopes [] [] (Exists (0 ∷ []) (Not (p (0 ∷ []))))
+    × (HasScopes [] [] (Exists (1 ∷ []) (Not (p (0 ∷ [])))) → ⊥)
+
 abbrev pub list_cell : Expression → Expression → Expression
 list_cell head tail = made cell (expressions (head ∷ tail ∷ []))
 
@@ -168,5 +184,14 @@ NormalGoals =
       variables = 3;
       body = F.And (flats (F.Is 0 (int (pos 3)) ∷ F.Is 1 (int (pos 1)) ∷ F.Is 2 (int (pos 2))
           ∷ F.Call plus (1 ∷ 2 ∷ 0 ∷ []) ∷ []));
+    })
+    -- `r([X | Xs], X, Xs) :- true.`: X and Xs are met inside the first argument, so both others are
+    -- equations
+    × (normal_goal 3 (only
+    (list_cell (variable 0) (variable 1) ∷ variable 0 ∷ variable 1 ∷ []) (And (formulas [])))
+    ≡ record {
+      arity = 3;
+      variables = 5;
+      body = F.And (flats (F.Made 0 cell (3 ∷ 4 ∷ []) ∷ F.Same 1 3 ∷ F.Same 2 4 ∷ []));
     })
     × ((normal_goal 2 (only (variable 0 ∷ variable 0 ∷ []) (p (0 ∷ [])))).body ≢ F.Call 0 (0 ∷ []))
