@@ -1,5 +1,5 @@
 -- What ties the one order of goals, which is computed, to the relation of ordered goals.
-use Rattle.std.specs.Prelude.{◌≡◌, ◌⊎◌, ℕ, ◌<◌, ◌≤◌, List, ◌++◌, length, Option, Some, Bool}
+use Rattle.std.specs.Prelude.{◌≡◌, ◌≢◌, ◌↔◌, ◌⊎◌, ℕ, ◌<◌, ◌≤◌, List, [], ◌∷◌, ◌++◌, length, Option, Some, None, Bool, true, false}
 use Rattle.mc_program.specs.Programs.{TypeTerm, Source}
 use Rattle.mc_model.specs.Flat as F
 use Rattle.mc_model.specs.Flat.{Flat_goal, Flat_goals, no_flat, flat_then, variables_of, variables_of_all, free_in}
@@ -10,8 +10,9 @@ use Rattle.mc_model.specs.Scheduled.{Node, Nodes, Procedure}
 use Rattle.mc_accepted.specs.Ordered.{Insts, OrderedNode}
 use Rattle.mc_accepted.specs.Fits.{type_of}
 use Rattle.mc_accepted.specs.Accepted.{entered, FinalAfter}
+use Rattle.mc_accepted.specs.Least.{least}
 use Rattle.mc_accepted.specs.Unmarked.{unmarked_node}
-use Rattle.mc_accepted.specs.Arranged.{Operations, Declared, Point, runs, trial, alone, in_order, arrange}
+use Rattle.mc_accepted.specs.Arranged.{Operations, Declared, Point, runs, trial, alone, lacks, in_order, faulty, ascending, arrange}
 use Rattle.mc_accepted.specs.Chosen.{Chosen, of_nodes}
 use Rattle.mc_accepted.specs.Forms.{Form, of_forms}
 use Rattle.mc_accepted.specs.InOrder.{Tells}
@@ -112,3 +113,27 @@ OneOrder =
     → (next : ℕ) (head first last : List ℕ) (g : Flat_goal)
     → arrange (of_forms P G f) P declared T next head first last g
     ≡ arrange (of_forms P G h) P declared T next head first last g
+
+-- Over forms no inst is ever lacking: a goal has its order, or breaks a rule.
+abbrev pub NothingLacks : Type 0
+NothingLacks =
+    (P : Source) (G : Graph) (declared : ℕ → List Declared) (T : ℕ → TypeTerm)
+    (f : Form → ℕ → TypeTerm → Bool) (next : ℕ) (head first last : List ℕ) (g : Flat_goal)
+    → arrange (of_forms P G f) P declared T next head first last g ≢ faulty lacks
+
+-- What a fault names: those variables of a list for which a test holds, rising and so each once;
+-- and the least of them.
+abbrev pub Rising : List ℕ → Type 0
+Rising [] = Unit {0}
+Rising (x ∷ xs) = ((y : ℕ) → In y xs → x < y) × Rising xs
+
+abbrev pub IsLeast : (ℕ → Bool) → List ℕ → Option ℕ → Type 0
+IsLeast f xs None = (y : ℕ) → In y xs → f y ≡ false
+IsLeast f xs (Some v) = In v xs × (f v ≡ true) × ((y : ℕ) → In y xs → f y ≡ true → v ≤ y)
+
+abbrev pub NamedByFaults : Type 0
+NamedByFaults =
+    (f : ℕ → Bool) (xs : List ℕ)
+    → Rising (ascending f xs)
+    × ((y : ℕ) → In y (ascending f xs) ↔ (In y xs × (f y ≡ true)))
+    × IsLeast f xs (least f xs)

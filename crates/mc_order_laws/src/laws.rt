@@ -2,7 +2,7 @@
 //! does nothing.
 ghost use Rattle.std.specs.Prelude.{ℕ};
 ghost use Rattle.mc_accepted.specs.Forms.{Form};
-ghost use Rattle.mc_order_laws.specs.OrderLaws.{ArrangedStands, InOrderIsOrdered, OneOrder, OthersStay, StandingIsOrdered};
+ghost use Rattle.mc_order_laws.specs.OrderLaws.{ArrangedStands, InOrderIsOrdered, NamedByFaults, NothingLacks, OneOrder, OthersStay, StandingIsOrdered};
 
 /// A goal changes no variable but its own, and those that are numbered on.
 pub fn others_stay()
@@ -29,4 +29,14 @@ pub fn standing_is_ordered()
 /// insts.
 pub fn in_order_is_ordered()
     ensures { InOrderIsOrdered }
+{}
+
+/// Insts without numbers never lack: a goal has its order, or breaks a rule.
+pub fn nothing_lacks()
+    ensures { NothingLacks }
+{}
+
+/// The variables that a fault names: all that a test tells, rising, or the least of them.
+pub fn named_by_faults()
+    ensures { NamedByFaults }
 {}
