@@ -8,3 +8,4 @@ pub mod NothingLacks
 pub mod OneOrder
 pub mod OthersStay
 pub mod StandingFacts
+pub mod TruthOfNodes

@@ -198,14 +198,14 @@ free-later : (own : List ℕ) (n m : ℕ) (b c : Insts) → Below n own → n �
 free-later own n m b c bo le s fr y ly = s y (λ i. not-le_of_lt (lt_of_lt_of_le (bo y i) le) ly) (inr ly) ∙ fr y (le_trans le ly)
 
 module _ (Y : System) (T : ℕ → TypeTerm) where
-  abbrev P : Source
+  abbrev pub P : Source
   P = Y.world.source
 
   -- insts that are one merge to it
   abbrev insts_at : List Insts → ℕ → List ℕ
   insts_at cs x = map (λ (c : Insts). c x) cs
 
-  abbrev Each : ℕ → List ℕ → Type 0
+  abbrev pub Each : ℕ → List ℕ → Type 0
   Each i [] = Unit {0}
   Each i (j ∷ js) = (j ≡ i) × Each i js
 
@@ -221,7 +221,7 @@ module _ (Y : System) (T : ℕ → TypeTerm) where
   none-more i [] t h = tt
   none-more i (j ∷ js) t h = (subst (λ k. NoMoreThere P Y.insts k Y.insts i t) (sym h.0) (λ path e a. a), none-more i js t h.1)
 
-  merged-one : (i j : ℕ) (js : List ℕ) (t : TypeTerm) → Each i (j ∷ js) → Merged P Y.insts (j ∷ js) i t
+  pub merged-one : (i j : ℕ) (js : List ℕ) (t : TypeTerm) → Each i (j ∷ js) → Merged P Y.insts (j ∷ js) i t
   merged-one i j js t h = at (Y.insts i) refl
     where
       least-above : LeastAbove P Y.insts (j ∷ js) i t
