@@ -1,19 +1,17 @@
 -- Over forms no inst is ever lacking.
-use Rattle.std.proofs.Common.{◌≡◌, ◌≢◌, ℕ, zero, suc, Bool, true, false, cond, not, ◌&&◌, ◌||◌, List, [], ◌∷◌, ◌++◌, map, Option, Some, None, refl, ap, ◌∙◌}
+use Rattle.std.proofs.Common.{◌≡◌, ℕ, zero, suc, Bool, true, false, cond, not, ◌&&◌, ◌||◌, List, [], ◌∷◌, ◌++◌, map, Option, Some, None, refl, ap, ◌∙◌}
 use Rattle.std.specs.List.{list_any, list_all}
 use Rattle.mc_program.specs.Values.{Val}
 use Rattle.mc_program.specs.Programs.{TypeTerm, Source}
-use Rattle.mc_model.specs.Insts.{Graph}
 use Rattle.mc_model.specs.Flat as F
 use Rattle.mc_model.specs.Flat.{Flat_goal, Flat_goals, no_flat, flat_then, variables_of, variables_of_all, free_in}
 use Rattle.mc_model.specs.Lists.{without}
-use Rattle.mc_model.specs.Scheduled.{Node, Scheduled, Conj, Disj, Ite, Not, Exists, Const, TestConst, Nodes, no_nodes}
-use Rattle.mc_model.specs.Stream.{is_bound}
-use Rattle.mc_accepted.specs.Ordered.{Mode, is_state, modes_of}
+use Rattle.mc_model.specs.Scheduled.{Node, Scheduled, Conj, Disj, Ite, Exists, Nodes, no_nodes}
+use Rattle.mc_accepted.specs.Ordered.{is_state, modes_of}
 use Rattle.mc_accepted.specs.Unmarked.{unmarked}
 use Rattle.mc_accepted.specs.Least.{least}
-use Rattle.mc_accepted.specs.Arranged.{Operations, Declared, Fault, waits, negated_binds, branches_differ, lacks, alone, two_goals, count_flat, is_there, tests_at, those_in, Point, Arranged, runs, breaks, Trial, Waiting, Picked, takes, none_runs, Branches, all_run, one_breaks, variables_of_waiting, or_first, picked, pick, behind, goes_on, with_branch, and_branches, no_branch, each_branch, unless, wrapped, stuck, in_turn, atom, same, built, took, take, made, constant, best, called, applied_with, call_of, binds, differs, joined_at, merges, branched, conditional, negation, trial, trials, usable, implied_in, Verdict, in_order, faulty, unmet, unless_unmet, first_unmet, judged, entry, arrange}
-use Rattle.mc_accepted.specs.Forms.{Form, of_forms}
+use Rattle.mc_accepted.specs.Arranged.{Operations, Declared, Fault, waits, negated_binds, branches_differ, lacks, alone, two_goals, count_flat, is_there, tests_at, those_in, Point, Arranged, runs, breaks, Trial, Waiting, Picked, takes, none_runs, Branches, all_run, one_breaks, variables_of_waiting, or_first, picked, pick, behind, goes_on, with_branch, and_branches, no_branch, each_branch, unless, wrapped, stuck, in_turn, atom, same, built, took, take, made, constant, best, called, applied_with, call_of, binds, differs, joined_at, merges, branched, conditional, negation, trial, trials, usable, implied_in, faulty, unless_unmet, first_unmet, judged, entry}
+use Rattle.mc_accepted.specs.Forms.{of_forms}
 use Rattle.mc_program.specs.declared.builtin.Builtin.{Builtin}
 use Rattle.mc_order_laws.specs.OrderLaws.{NothingLacks}
 
