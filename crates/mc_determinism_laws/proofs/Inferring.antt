@@ -1,5 +1,5 @@
 -- Allowing as a test, `join`, and the one least assignment.
-use mathlib.Core.Path.{fun_ext}
+use Rattle.std.proofs.Math.Path.{fun_ext}
 use Rattle.std.proofs.lemmas.Bool.{cases_lt}
 use Rattle.std.proofs.Common.{⊎_elim, ℕ, ◌≡◌, ◌<◌, ◌≤◌, Bool, true, false, ◌||◌, IsTrue, Option, Some, None, refl, sym, ap, ap₂, ◌∙◌, arith}
 use Rattle.mc_source.specs.Determinism.{Determinism, row_of, rank, greater}
