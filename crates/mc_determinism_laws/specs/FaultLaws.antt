@@ -12,7 +12,7 @@ use Rattle.mc_accepted.specs.Determined.{Known, nothing_known, Placed, IoPlaced}
 use Rattle.mc_accepted.specs.Fits.{type_of}
 use Rattle.mc_accepted.specs.Accepted.{entered}
 use Rattle.mc_accepted.specs.Inferred.{join, DeclaredSystem, system_of, body_determinism, Closed, LeastClosed}
-use Rattle.mc_accepted.specs.DeterminismFaults.{allows, first_misplaced, misplaces_io, procedure_fault}
+use Rattle.mc_accepted.specs.DeterminismFaults.{allows, first_misplaced, misplaces_io, procedure_fault, determinism_faults}
 
 -- the test of allowing tells it
 abbrev pub AllowsTells : Type 0
@@ -38,11 +38,16 @@ JoinIsLeast =
     × Allows (join a b) b
     × ((c : Determinism) → Allows c a → Allows c b → Allows c (join a b))
 
--- there is one least assignment
+-- there is one least assignment, and so one list of faults
 abbrev pub LeastIsOne : Type 0
 LeastIsOne =
-    (D : DeclaredSystem) (ds es : ℕ → Det)
-    → LeastClosed D ds → LeastClosed D es → (k : ℕ) → k < D.count → ds k ≡ es k
+    (D : DeclaredSystem) (ds es : ℕ → Det) → LeastClosed D ds → LeastClosed D es → ds ≡ es
+
+abbrev pub FaultsAreOne : Type 0
+FaultsAreOne =
+    (runs : Bool) (D : DeclaredSystem) (ds es : ℕ → Det)
+    → LeastClosed D ds → LeastClosed D es →
+    determinism_faults runs D ds ≡ determinism_faults runs D es
 
 -- What is asked of a procedure's determinism where it is accepted: it allows the body's, and
 -- committed calls and io goals stand where they may.

@@ -75,8 +75,8 @@ FormsKeepLists =
     ≡ stream outcome C h
     (node (Disj (goals_of (disjuncts S T kept b ns))) changes d is_pruned) e
 
--- In a run of a goal from bindings both conditions hold wherever a disjunction of it is reached, and
--- no list of a part on the way there ends by Stuck.
+-- In a run of a goal from bindings both conditions hold wherever a disjunction of it is reached,
+-- and no list of a part on the way there ends by Stuck.
 module _ (outcome : Builtin → List Val → Outcome) (C : Calls) (h : ℕ) (S : System)
     (T : ℕ → TypeTerm) (kept : (before after : Insts) → Kept) where
   abbrev mutual

@@ -1,4 +1,5 @@
 pub mod Examples
+pub mod ExamplesOfClauses
 pub mod ExamplesOfDeterminisms
 pub mod ExamplesOfFaults
 pub mod ExamplesOfInference

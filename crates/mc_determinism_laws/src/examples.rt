@@ -2,6 +2,7 @@
 //! function that does nothing, and each group has an equation that does not hold.
 ghost use Rattle.mc_determinism_laws.specs.code.ExamplesOfInference.{LeastOnes};
 ghost use Rattle.mc_determinism_laws.specs.code.ExamplesOfInsts.{Unfounded, FreeInside, OtherParameters, TidyModes, UnfoundedModes};
+ghost use Rattle.mc_determinism_laws.specs.code.ExamplesOfClauses.{ClausesSwitched};
 ghost use Rattle.mc_determinism_laws.specs.code.ExamplesOfSwitches.{ArmsMerged, FactsSwitched, ListsSwitched, WhatIsLookedThrough, SeveralVariables, LabelsDontOverlap};
 ghost use Rattle.mc_determinism_laws.specs.code.ExamplesOfDeterminisms.{ListsDetermined, FactsDetermined, HeadsDetermined, CallsDetermined, Marks};
 ghost use Rattle.mc_determinism_laws.specs.code.ExamplesOfFaults.{NotAllowed, Undeclared, MisplacedCalls, MisplacedIo, MainIsAsked, FaultsInOrder};
@@ -14,6 +15,7 @@ pub fn switches()
     ensures several { SeveralVariables }
     ensures labels { LabelsDontOverlap }
     ensures kept { ArmsMerged }
+    ensures clauses { ClausesSwitched }
 {}
 
 /// The determinisms of goals in switch form, and which goals are pruned.

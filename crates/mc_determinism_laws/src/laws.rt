@@ -1,5 +1,5 @@
 //! The laws of switch forms and of determinisms. Each is the contract of a function that does nothing.
-ghost use Rattle.mc_determinism_laws.specs.FaultLaws.{AllowsTells, FaultlessMeets, JoinIsLeast, LeastIsOne, MisplacedTells, MisplacesIoTells};
+ghost use Rattle.mc_determinism_laws.specs.FaultLaws.{AllowsTells, FaultlessMeets, FaultsAreOne, JoinIsLeast, LeastIsOne, MisplacedTells, MisplacesIoTells};
 ghost use Rattle.mc_determinism_laws.specs.SwitchLaws.{SwitchesKeepLists, GoalsKeepLists, FormsKeepLists, FormsAreWhole, OpeningsOpen};
 ghost use Rattle.mc_determinism_laws.specs.TableLaws.{TableIsMonotone, TableDepends};
 
@@ -31,11 +31,13 @@ pub fn table_depends()
     ensures { TableDepends }
 {}
 
-/// The test of allowing tells it, `join` is the least determinism that allows both, and there is one least assignment.
+/// The test of allowing tells it, `join` is the least determinism that allows both, and there is one least assignment,
+/// and so one list of faults.
 pub fn inferred_ones_are_least()
     ensures allows { AllowsTells }
     ensures join { JoinIsLeast }
     ensures one { LeastIsOne }
+    ensures faults { FaultsAreOne }
 {}
 
 /// Faults are found exactly where a committed call, or an io goal, stands where it may not; a procedure without one

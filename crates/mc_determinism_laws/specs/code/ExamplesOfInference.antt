@@ -1,5 +1,5 @@
 -- The least determinisms of procedures that declare none, and such as aren't the least.
-use Rattle.std.specs.Prelude.{ℕ, [], ◌∷◌, None, true, false}
+use Rattle.std.specs.Prelude.{ℕ, zero, suc, [], ◌∷◌, None, true, false}
 use Rattle.mc_source.specs.declared.det.Det.{Det}
 use Rattle.mc_accepted.specs.Inferred.{DeclaredSystem, Closed, LeastClosed}
 use Rattle.mc_determinism_laws.specs.code.Examples.{pick, uncommitted, call, procedure}
@@ -18,15 +18,17 @@ one_fact =
     (on_line 4 false None
     (procedure pick (0 ∷ 1 ∷ []) (1 ∷ 0 ∷ []) (1 ∷ 1 ∷ []) (uncommitted false) (fact 1 2)) ∷ [])
 
-abbrev pub all_are : Det → ℕ → Det
-all_are d k = d
+-- the one procedure has this determinism
+abbrev pub it_is : Det → ℕ → Det
+it_is d zero = d
+it_is d (suc k) = uncommitted false
 
 -- `loop` is det, since nothing in it can fail, though it is closed too that it is nondet; the fact
 -- is semidet
 abbrev pub LeastOnes : Type 0
 LeastOnes =
-    LeastClosed loops (all_are (uncommitted false))
-    × Closed loops (all_are many_or_none)
-    × (LeastClosed loops (all_are many_or_none) → ⊥)
-    × LeastClosed one_fact (all_are (uncommitted true))
-    × (Closed one_fact (all_are (uncommitted false)) → ⊥)
+    LeastClosed loops (it_is (uncommitted false))
+    × Closed loops (it_is many_or_none)
+    × (LeastClosed loops (it_is many_or_none) → ⊥)
+    × LeastClosed one_fact (it_is (uncommitted true))
+    × (Closed one_fact (it_is (uncommitted false)) → ⊥)
