@@ -2,7 +2,7 @@
 //! the contract of a function that does nothing, and each group has an equation that does not hold.
 ghost use Rattle.mc_laws.specs.code.ExamplesOfBranches.{BranchesAreAccepted};
 ghost use Rattle.mc_laws.specs.code.ExamplesOfBuiltins.{NumbersWrap, DivisionRounds, DivisionAtItsEnds, Comparisons, NumbersInTexts, CharactersInTexts, Writing, Reading, InPrograms};
-ghost use Rattle.mc_laws.specs.code.ExamplesOfGoals.{NegationsQuantify, ConditionsQuantify, ScopesAreWritten, ScopesInScopes, NormalGoals};
+ghost use Rattle.mc_laws.specs.code.ExamplesOfGoals.{NegationsQuantify, ConditionsQuantify, ScopesAreWritten, ScopesInScopes, NormalGoals, QueriesAsk, NormalVariables};
 ghost use Rattle.mc_laws.specs.code.ExamplesOfLegalGoals.{ConditionAnswersOnce, BuiltinAlone, SwitchThroughSome, BranchesUnderSome};
 ghost use Rattle.mc_laws.specs.code.ExamplesOfLists.{Facts, Appends, Members, Queens};
 ghost use Rattle.mc_laws.specs.code.ExamplesOfModes.{Determinisms, CommittedCalls, IoGoals, GoalsWithoutOrder};
@@ -76,6 +76,12 @@ pub fn scopes()
 /// Predicates as one goal whose atoms hold variables alone.
 pub fn normal_goals()
     ensures { NormalGoals }
+{}
+
+/// The clause that a query is, and the types and names of a normal goal's variables.
+pub fn queries_and_variables()
+    ensures queries { QueriesAsk }
+    ensures variables { NormalVariables }
 {}
 
 /// A procedure that is accepted, and two that are not.
