@@ -1,5 +1,5 @@
--- Computed switch forms of clauses: their one goal in its one order, with its switches. The group has
--- an equation that doesn't hold.
+-- Computed switch forms of clauses: their one goal in its one order, with its switches. The group
+-- has an equation that doesn't hold.
 use Rattle.std.specs.Prelude.{◌≡◌, ◌≢◌, ℕ, List, [], ◌∷◌, length, Option, Some, None, Bool, false, not, nat_eq, pos, if◌then◌else◌}
 use Rattle.mc_program.specs.Values.{int}
 use Rattle.mc_program.specs.Programs.{TypeTerm, Expression, variable, constant, made, expressions, Formula, And, Formulas, no_formulas, formula_then, ClauseForm}
@@ -120,6 +120,27 @@ place_clauses =
     ∷ [])))
     ∷ []
 
+-- the arms of lists that aren't empty
+abbrev pub append_cell : Node
+append_cell =
+    in_a_row
+    (take 0 cell (3 ∷ 4 ∷ []) ∷ call append (4 ∷ 1 ∷ 5 ∷ []) ∷ build 2 cell (3 ∷ 5 ∷ []) ∷ [])
+
+abbrev pub select_first : Node
+select_first = in_a_row (take 1 cell (0 ∷ 3 ∷ []) ∷ unmarked (Assign 2 3) ∷ [])
+
+abbrev pub select_later : Node
+select_later =
+    in_a_row
+    (take 1 cell (4 ∷ 5 ∷ []) ∷ call select (0 ∷ 5 ∷ 6 ∷ []) ∷ build 2 cell (4 ∷ 6 ∷ []) ∷ [])
+
+abbrev pub place_cell : Node
+place_cell =
+    in_a_row
+    (take 0 cell (3 ∷ 4 ∷ []) ∷ build 8 cell (3 ∷ 4 ∷ []) ∷ call select (5 ∷ 8 ∷ 7 ∷ [])
+    ∷ const 9 1 ∷ call safe (5 ∷ 9 ∷ 1 ∷ []) ∷ build 10 cell (5 ∷ 1 ∷ [])
+    ∷ call place (7 ∷ 10 ∷ 6 ∷ []) ∷ build 2 cell (5 ∷ 6 ∷ []) ∷ [])
+
 abbrev pub lists : ℕ → TypeTerm
 lists = typed (0 ∷ 1 ∷ 2 ∷ []) []
 
@@ -134,35 +155,15 @@ ClausesSwitched =
     ≡ Some
     (switch_on 0
     ((for_symbol nil, in_a_row (take 0 nil [] ∷ unmarked (Assign 2 1) ∷ []))
-    ∷ (
-      for_symbol cell,
-      in_a_row
-          (take 0 cell (3 ∷ 4 ∷ []) ∷ call append (4 ∷ 1 ∷ 5 ∷ []) ∷ build 2 cell (3 ∷ 5 ∷ []) ∷ []),
-    )
+    ∷ (for_symbol cell, append_cell)
     ∷ [])))
     × (switched lists (0 ∷ 1 ∷ 0 ∷ []) (1 ∷ 1 ∷ 1 ∷ []) select_clauses
-    ≡ Some
-    (switch_on 1
-    ((
-      for_symbol cell,
-      one_of
-          (in_a_row (take 1 cell (0 ∷ 3 ∷ []) ∷ unmarked (Assign 2 3) ∷ [])
-          ∷ in_a_row
-          (take 1 cell (4 ∷ 5 ∷ []) ∷ call select (0 ∷ 5 ∷ 6 ∷ []) ∷ build 2 cell (4 ∷ 6 ∷ []) ∷ [])
-          ∷ []),
-    )
-    ∷ [])))
+    ≡ Some (switch_on 1 ((for_symbol cell, one_of (select_first ∷ select_later ∷ [])) ∷ [])))
     × (switched lists (1 ∷ 1 ∷ 0 ∷ []) (1 ∷ 1 ∷ 1 ∷ []) place_clauses
     ≡ Some
     (switch_on 0
     ((for_symbol nil, in_a_row (take 0 nil [] ∷ build 2 nil [] ∷ []))
-    ∷ (
-      for_symbol cell,
-      in_a_row
-          (take 0 cell (3 ∷ 4 ∷ []) ∷ build 8 cell (3 ∷ 4 ∷ []) ∷ call select (5 ∷ 8 ∷ 7 ∷ [])
-          ∷ const 9 1 ∷ call safe (5 ∷ 9 ∷ 1 ∷ []) ∷ build 10 cell (5 ∷ 1 ∷ [])
-          ∷ call place (7 ∷ 10 ∷ 6 ∷ []) ∷ build 2 cell (5 ∷ 6 ∷ []) ∷ []),
-    )
+    ∷ (for_symbol cell, place_cell)
     ∷ [])))
     × (switched (typed [] []) (1 ∷ 0 ∷ []) (1 ∷ 1 ∷ []) (fact 2 20 ∷ fact 3 30 ∷ [])
     ≢ Some (one_of (in_order_fact 2 20 ∷ in_order_fact 3 30 ∷ [])))
