@@ -16,4 +16,3 @@ pub mod PredicateGoals
 pub mod Prefixes
 pub mod Stages
 pub mod TermViews
-pub mod Typings

@@ -6,4 +6,3 @@ pub mod ExamplesOfLists
 pub mod ExamplesOfModes
 pub mod ExamplesOfProcedures
 pub mod ExamplesOfRuns
-pub mod ExamplesOfTypes
