@@ -356,15 +356,14 @@ module _ {I : Type 0} (Op : Operations I) (P : Source) (declared : ℕ → List 
       Builtin → (freshened : List ℕ) → List (ℕ × ℕ) → ℕ → Point I → Arranged I
   applied_freshly op zs ts n b =
       if list_all (λ (t : ℕ × ℕ). Op.typed_as t.0 t.1) ts
-      then runs (node_then (apply_node op zs) (test_nodes ts)) (Some (after (modes_of op) zs b)) n
-      zs
+      then runs (node_then (apply_node op zs) (test_nodes ts)) (Some (after (modes_of op) zs b))
+      (n + length ts) zs
       else breaks lacks
 
   abbrev pub applied_with : (implied : List ℕ) → Builtin → List ℕ → ℕ → Point I → Arranged I
   applied_with [] op xs n b = applied_to op xs n b
   applied_with (i ∷ is) op xs n b =
-      applied_freshly op (fresh_at 0 (i ∷ is) xs n) (tests_at 0 (i ∷ is) xs n) (n + length (i ∷ is))
-      b
+      applied_freshly op (fresh_at 0 (i ∷ is) xs n) (tests_at 0 (i ∷ is) xs n) n b
 
   abbrev pub applied : Builtin → List ℕ → ℕ → Point I → Arranged I
   applied op xs n b =

@@ -79,7 +79,7 @@ fn goal_text(alloc: Global, goal: &str) -> Result<Text, Memory> {
             other => text.push(other)?,
         }
     }
-    if !goal.ends_with('.') {
+    if !goal.as_bytes().ends_with(b".") {
         text.extend_from_slice(b" .")?;
     }
     Text::new(alloc, text.as_slice())

@@ -1,3 +1,4 @@
 pub mod FaultLaws
 pub mod SwitchLaws
 pub mod TableLaws
+pub mod code

@@ -1,10 +1,12 @@
 -- The program that modules of facts are fits, and a query of it asks one of its predicates.
-use Rattle.std.proofs.Common.{◌≡◌, ℕ, zero, suc, ◌+◌, ◌<◌, Bool, true, false, cond, ◌&&◌, List, [], ◌∷◌, ◌++◌, length, Option, Some, None, refl, sym, ap, subst, ◌∙◌, arith}
+use Rattle.std.proofs.Common.{◌≡◌, ◌⊎◌, inl, inr, ℕ, zero, suc, ◌+◌, ◌-◌, ◌<◌, ◌≤◌, Bool, true, false, cond, ◌&&◌, List, [], ◌∷◌, ◌++◌, length, Option, Some, None, refl, sym, ap, subst, ◌∙◌, arith}
 use Rattle.std.proofs.lemmas.Option.{get_or_from_slice_get, slice_get_within, none-some}
-use Rattle.std.proofs.lemmas.Bool.{eqb-true, ltb-true}
+use Rattle.std.proofs.lemmas.Bool.{eqb-true, eq-eqb, ltb-true, cases_lt}
+use Rattle.std.proofs.lemmas.List.{get_or_append_left, get_or-append_right, length-append}
+use Rattle.mc_model.specs.Lists.{is_in}
 use Rattle.std.specs.Prelude.{nat_eq, nat_lt, slice_get, slice_index_or, get_or}
 use Rattle.std.specs.Option.{is_some}
-use Rattle.mc_term_data.specs.Plain.{PlainTerm, PlainTerms, at, Var, Int, Str, App, Items, Tailed, Conj, Disj}
+use Rattle.mc_term_data.specs.Plain.{PlainTerm, PlainTerms, at, no_term, more_terms, Var, Int, Str, App, Items, Tailed, Conj, Disj}
 use Rattle.mc_term_data.specs.Names.{count}
 use Rattle.mc_decl_syntax.specs.Plain.{Path, PlainDecl, ModuleStart, ModuleEnd, Interface, Implementation, Imports, UseOnly, AbstractType, UnionType, SameType, SameInst, BoundInst, ModeDef, Pred, Func, Mode, Pragma, Clause}
 use Rattle.mc_decl_syntax.specs.Terms.{is_distinct}
@@ -13,9 +15,9 @@ use Rattle.mc_linking.specs.Files.{File, PlainItemInFile, items_in_file}
 use Rattle.mc_linking.specs.Faults.{is_number}
 use Rattle.mc_modules.specs.Linked.{Defined}
 use Rattle.mc_modules.specs.Candidates.{candidates}
-use Rattle.mc_ground_form.specs.Database.{Constant, no_constant, no_relation, Database, Question, constant_at}
-use Rattle.mc_ground_form.specs.Laws.{RowFits, RowsFit, Fits, Asks}
-use Rattle.mc_ground_form.specs.Facts.{LinkedFiles, Fact, facts, facts_from, facts_in, facts_by, both, as_list, nothing_where, database, constants, signatures, or_none, type_at, type_in, are_of, fact_of, fact_over, bare_fact, those_of, relations_from, names_of, constant_numbers, own_predicate, is_rule_or_function, are_given, has_no_parameters, are_constants, is_nondet, signature, given_preds, below, asked, variables, predicates, sole_predicate, is_call, question}
+use Rattle.mc_ground_form.specs.Database.{Constant, no_constant, no_relation, Database, Question, constant_at, from}
+use Rattle.mc_ground_form.specs.Laws.{IsOf, RowFits, RowsFit, Fits, Asks}
+use Rattle.mc_ground_form.specs.Facts.{LinkedFiles, Fact, facts, facts_from, facts_in, facts_by, both, as_list, nothing_where, database, constants, constants_in, constants_by, constants_from, how_many, groups_from, given_types, signatures, or_none, type_at, type_in, are_of, fact_of, fact_over, bare_fact, those_of, relations_from, names_of, constant_numbers, own_predicate, is_rule_or_function, are_given, has_no_parameters, are_constants, is_nondet, signature, given_preds, below, asked, variables, predicates, sole_predicate, is_call, question}
 use Rattle.mc_ground_form.specs.FormLaws.{FactsFit, QuestionAsks}
 
 and_first : (a b : Bool) → a && b ≡ true → a ≡ true
@@ -26,10 +28,113 @@ and_second : (a b : Bool) → a && b ≡ true → b ≡ true
 and_second true b e = e
 and_second false b e = let f : false ≡ true = e in cc
 
-module _ (d : Database) where
-  of_type : (c : Option Constant) (u k : ℕ) → slice_get d.constants k ≡ c → is_number (type_in c) u ≡ true → (k < length d.constants) × ((constant_at d k).of_type ≡ u)
+-- each constant is in the list of its type
+abbrev ListsAll : Database → Type 0
+ListsAll d = (k : ℕ) → k < length d.constants → is_in k (get_or d.types (constant_at d k).of_type []) ≡ true
+
+-- types from u on, whose constants are numbered from n on: constant k is in the list of its type
+abbrev IsListed : (u n k : ℕ) → Constant → List (List ℕ) → Type 0
+IsListed u n k c groups = (j : ℕ) × (c.of_type ≡ u + j) × (is_in (n + k) (get_or groups j []) ≡ true)
+
+in_numbers : (n c k : ℕ) → k < c → is_in (n + k) (from n c) ≡ true
+in_numbers n zero k h = absurd (omega (arith, h))
+in_numbers n (suc c) zero h = first (nat_eq (n + 0) n) (eq-eqb (n + 0) n (omega arith))
+  where
+    first : (b : Bool) → b ≡ true → cond b true (is_in (n + 0) (from (suc n) c)) ≡ true
+    first true e = refl
+    first false e = cc
+in_numbers n (suc c) (suc k) h = later (nat_eq (n + suc k) n) (ap (λ x. is_in x (from (suc n) c)) (omega arith) ∙ in_numbers (suc n) c k (omega (arith, h)))
+  where
+    later : (b : Bool) → is_in (n + suc k) (from (suc n) c) ≡ true → cond b true (is_in (n + suc k) (from (suc n) c)) ≡ true
+    later true e = refl
+    later false e = e
+
+constants_length : (m : List ℕ) (u : ℕ) (ts : PlainTerms) → length (constants_in m u ts) ≡ count ts
+constants_length m u no_term = refl
+constants_length m u (more_terms t ts) = omega (arith, constants_length m u ts)
+
+constants_type : (m : List ℕ) (u k : ℕ) (ts : PlainTerms) → k < length (constants_in m u ts) → (get_or (constants_in m u ts) k no_constant).of_type ≡ u
+constants_type m u k no_term h = absurd (omega (arith, h))
+constants_type m u zero (more_terms t ts) h = refl
+constants_type m u (suc k) (more_terms t ts) h = constants_type m u k ts (omega (arith, h))
+
+-- the constants of one type, before those of others
+by_count : (m : List ℕ) (u : ℕ) (i : PlainDecl) → length (constants_by m u i) ≡ how_many i
+by_count m u (UnionType h ts) = constants_length m u ts
+by_count m u (ModuleStart w) = refl
+by_count m u (ModuleEnd w) = refl
+by_count m u Interface = refl
+by_count m u Implementation = refl
+by_count m u (Imports ws) = refl
+by_count m u (UseOnly ws) = refl
+by_count m u (AbstractType h) = refl
+by_count m u (SameType h t) = refl
+by_count m u (SameInst h t) = refl
+by_count m u (BoundInst h ts) = refl
+by_count m u (ModeDef h t) = refl
+by_count m u (Pred t d) = refl
+by_count m u (Func t d) = refl
+by_count m u (Mode t d) = refl
+by_count m u Pragma = refl
+by_count m u (Clause t) = refl
+
+by_type : (m : List ℕ) (u k : ℕ) (i : PlainDecl) → k < how_many i → (get_or (constants_by m u i) k no_constant).of_type ≡ u
+by_type m u k (UnionType h ts) l = constants_type m u k ts (omega (arith, l, constants_length m u ts))
+by_type m u k (ModuleStart w) l = absurd (omega (arith, l))
+by_type m u k (ModuleEnd w) l = absurd (omega (arith, l))
+by_type m u k Interface l = absurd (omega (arith, l))
+by_type m u k Implementation l = absurd (omega (arith, l))
+by_type m u k (Imports ws) l = absurd (omega (arith, l))
+by_type m u k (UseOnly ws) l = absurd (omega (arith, l))
+by_type m u k (AbstractType h) l = absurd (omega (arith, l))
+by_type m u k (SameType h t) l = absurd (omega (arith, l))
+by_type m u k (SameInst h t) l = absurd (omega (arith, l))
+by_type m u k (BoundInst h ts) l = absurd (omega (arith, l))
+by_type m u k (ModeDef h t) l = absurd (omega (arith, l))
+by_type m u k (Pred t d) l = absurd (omega (arith, l))
+by_type m u k (Func t d) l = absurd (omega (arith, l))
+by_type m u k (Mode t d) l = absurd (omega (arith, l))
+by_type m u k Pragma l = absurd (omega (arith, l))
+by_type m u k (Clause t) l = absurd (omega (arith, l))
+
+listed_from : (u n k : ℕ) (ds : List Defined) → k < length (constants_from u ds) → IsListed u n k (get_or (constants_from u ds) k no_constant) (groups_from n ds)
+listed_from u n k [] h = absurd (omega (arith, h))
+listed_from u n k (d ∷ ds) h = by_side (cases_lt k (how_many d.item)) (λ l. listed_from (u + 1) (n + how_many d.item) (k - how_many d.item) ds l)
+  where
+    by_side : (k < how_many d.item) ⊎ (how_many d.item ≤ k) →
+        (k - how_many d.item < length (constants_from (u + 1) ds) → IsListed (u + 1) (n + how_many d.item) (k - how_many d.item) (get_or (constants_from (u + 1) ds) (k - how_many d.item) no_constant) (groups_from (n + how_many d.item) ds)) →
+        IsListed u n k (get_or (constants_by d.name.module u d.item ++ constants_from (u + 1) ds) k no_constant) (groups_from n (d ∷ ds))
+    by_side (inl l) rest =
+        let own : List Constant = constants_by d.name.module u d.item in
+        let others : List Constant = constants_from (u + 1) ds in (
+          0,
+          ap (λ (c : Constant). c.of_type) (get_or_append_left own others no_constant k (omega (arith, l, by_count d.name.module u d.item))) ∙ by_type d.name.module u k d.item l ∙ omega arith,
+          in_numbers n (how_many d.item) k l,
+        )
+    by_side (inr l) rest =
+        let own : List Constant = constants_by d.name.module u d.item in
+        let others : List Constant = constants_from (u + 1) ds in
+        let m = how_many d.item in
+        let e : length own ≡ m = by_count d.name.module u d.item in
+        let r = rest (omega (arith, h, l, e, length-append own others)) in (
+          suc r.0,
+          ap (λ (c : Constant). c.of_type) (get_or-append_right own others m k no_constant e l) ∙ r.1 ∙ omega arith,
+          ap (λ x. is_in x (get_or (groups_from (n + m) ds) r.0 [])) (omega (arith, l)) ∙ r.2,
+        )
+
+lists_all : (P : LinkedFiles) (fs : List Fact) → ListsAll (database P fs)
+lists_all P fs k h =
+    let groups = groups_from 0 (given_types P) in
+    let r = listed_from 0 0 k (given_types P) h in
+    ap (λ u. is_in k (get_or groups u [])) (r.1 ∙ omega arith) ∙ ap (λ x. is_in x (get_or groups r.0 [])) (omega arith) ∙ r.2
+
+module _ (d : Database) (all : ListsAll d) where
+  of_type : (c : Option Constant) (u k : ℕ) → slice_get d.constants k ≡ c → is_number (type_in c) u ≡ true → (k < length d.constants) × IsOf d u k
   of_type None u k g e = let f : false ≡ true = e in cc
-  of_type (Some c) u k g e = (slice_get_within d.constants k c g, ap (λ x. x.of_type) (get_or_from_slice_get d.constants k c no_constant g) ∙ eqb-true c.of_type u e)
+  of_type (Some c) u k g e =
+      let within = slice_get_within d.constants k c g in
+      let same : (constant_at d k).of_type ≡ u = ap (λ x. x.of_type) (get_or_from_slice_get d.constants k c no_constant g) ∙ eqb-true c.of_type u e in
+      (within, record { typed = same; listed = ap (λ v. is_in k (get_or d.types v [])) (sym same) ∙ all k within })
 
   row_fits : (us row : List ℕ) → are_of d.constants us row ≡ true → RowFits d us row
   row_fits [] [] e = tt
@@ -63,7 +168,7 @@ module _ (P : LinkedFiles) (every : List Fact) where
     where
       where_of : (b : Bool) → are_of (constants P) us row ≡ b → GoodWhere (as_list (cond b (Some (p, row)) None))
       where_of false q = tt
-      where_of true q = (subst (λ (s : Option (List ℕ)). RowFits (database P every) (or_none s) row) (sym e) (row_fits (database P every) us row q), tt)
+      where_of true q = (subst (λ (s : Option (List ℕ)). RowFits (database P every) (or_none s) row) (sym e) (row_fits (database P every) (lists_all P every) us row q), tt)
 
   over_good : (own : ℕ) (p : Option ℕ) (ts : PlainTerms) → GoodWhere (as_list (fact_over P own p ts))
   over_good own None ts = tt

@@ -1,5 +1,5 @@
 -- The runs of ground facts are good.
-use Rattle.std.proofs.Common.{◌≡◌, ℕ, zero, suc, ◌<◌, List, [], ◌∷◌, map, length, replicate, Option, Some, None, Bool, cond, nat_eq, false, refl, sym, ap, ◌∙◌, subst, arith}
+use Rattle.std.proofs.Common.{◌≡◌, ℕ, zero, suc, ◌<◌, List, [], ◌∷◌, map, length, get_or, replicate, Option, Some, None, Bool, cond, nat_eq, ◌&&◌, false, refl, sym, ap, ap₂, ◌∙◌, subst, arith}
 use Rattle.std.proofs.lemmas.Bool.{eq-eqb}
 use Rattle.std.proofs.lemmas.List.{get_or-map, get_or_append_left, get_or_push, length-map}
 use Rattle.mc_program.specs.Values.{Val, no_vals}
@@ -7,13 +7,14 @@ use Rattle.mc_program.specs.Programs.{union_type, no_types, Constructor, Predica
 use Rattle.mc_program.specs.PlainPrograms.{no_symbol, no_pred}
 use Rattle.mc_model.specs.Types.{type_at, instance_of, AllOfTypes}
 use Rattle.mc_model.specs.Insts.{AllWithin}
+use Rattle.mc_model.specs.Lists.{is_in}
 use Rattle.mc_model.specs.EventList.{Halt, Items, Made_call, Stopped, Called, budget, too_deep, cut, Each, EachCall}
 use Rattle.mc_model.specs.Scheduled.{Node}
 use Rattle.mc_model.specs.Stream.{calls, body_items, run_call}
 use Rattle.mc_model.specs.Truth.{Facts, stage, builtin_or, GivenBy, DeniedBy, SomeClause, NoClause}
 use Rattle.mc_model.specs.Good.{TypeChoice, Shape, Given, BoundAs, Keeps, Extends, Hit, types_of, GivenCall, GoodRun}
 use Rattle.mc_ground_form.specs.Database.{no_relation, no_constant, Database, Question, constant_at, relation_at, asked_types, constant_of, constructor_of, from, fact, the_types, predicate_of, query_predicate, query_predicates, source_of, all_out, procedure_at, query_procedure, no_outcomes, builtin_insts, system_of, query_run}
-use Rattle.mc_ground_form.specs.Laws.{RowFits, RowsFit, Fits, Asks, answers_of, answer_of, rows_of, FactsAreGood, QueriesAreGood}
+use Rattle.mc_ground_form.specs.Laws.{IsOf, RowFits, RowsFit, Fits, Asks, answers_of, answer_of, rows_of, FactsAreGood, QueriesAreGood}
 use Rattle.mc_ground_form.proofs.Bodies.{firsts, lasts, cut_answers}
 use Rattle.mc_ground_form.proofs.Runs.{unbound, length_nones, open_arguments, length_open, facts_answered, query_answered, query_too_deep, rows_fit, answered}
 use Rattle.mc_ground_form.proofs.Truths.{facts_true, facts_false, query_clause, query_clauses_true, query_clause_false}
@@ -43,11 +44,11 @@ module _ (d : Database) (q : Option Question) (θ : TypeChoice) where
   given_length (u ∷ us) (v ∷ vs) g = omega (arith, given_length us vs g.1)
 
   -- a constant is of its type
-  typed : (u s : ℕ) → s < length d.constants → (constant_at d s).of_type ≡ u → BoundAs (system_of d q) θ 1 (union_type u no_types) (Some (constant_of s))
-  typed u s h e = (
+  typed : (u s : ℕ) → s < length d.constants → IsOf d u s → BoundAs (system_of d q) θ 1 (union_type u no_types) (Some (constant_of s))
+  typed u s h of = (
     (λ z. omega (arith, z)),
-    subst (λ (c : Constructor). AllOfTypes (source_of d q) no_vals (cond (nat_eq c.of_type u) (Some (map (instance_of (type_at no_types)) c.args)) None)) (sym (the_symbol s h))
-        (subst (λ (t : Bool). AllOfTypes (source_of d q) no_vals (cond t (Some []) None)) (sym (eq-eqb (constant_at d s).of_type u e)) tt),
+    subst (λ (c : Constructor). AllOfTypes (source_of d q) no_vals (cond (nat_eq c.of_type u && is_in s (get_or d.types u [])) (Some (map (instance_of (type_at no_types)) c.args)) None)) (sym (the_symbol s h))
+        (subst (λ (t : Bool). AllOfTypes (source_of d q) no_vals (cond t (Some []) None)) (sym (ap₂ (λ a b. a && b) (eq-eqb (constant_at d s).of_type u of.typed) of.listed)) tt),
     subst (λ (c : Constructor). AllWithin (source_of d q) builtin_insts no_vals (replicate c.name.arity 1)) (sym (the_symbol s h)) tt,
   )
 

@@ -1,15 +1,21 @@
 -- What is proved of every program of ground facts.
-use Rattle.std.specs.Prelude.{◌≡◌, ℕ, suc, ◌<◌, List, [], ◌∷◌, map, length, Option, Some, None}
+use Rattle.std.specs.Prelude.{◌≡◌, ℕ, suc, ◌<◌, List, [], ◌∷◌, map, length, get_or, Option, Some, None, true}
 use Rattle.mc_program.specs.Values.{Val}
+use Rattle.mc_model.specs.Lists.{is_in}
 use Rattle.mc_model.specs.EventList.{Items, End, Answer, Called, Ends}
 use Rattle.mc_model.specs.Good.{GoodProcedures, GoodQuery}
 use Rattle.mc_ground_form.specs.Database.{Relation, Database, Question, constant_at, relation_at, asked_types, constant_of, query_procedure, system_of, query_run}
+
+-- a constant is of a type, which lists it
+pub record IsOf (d : Database) (u s : ℕ) : Type 0 where
+  pub typed : (constant_at d s).of_type ≡ u
+  pub listed : is_in s (get_or d.types u []) ≡ true
 
 -- a fact has a constant of each argument's type
 abbrev pub RowFits : Database → (types row : List ℕ) → Type 0
 RowFits d [] [] = Unit {0}
 RowFits d (u ∷ us) (s ∷ row) =
-    (s < length d.constants) × (((constant_at d s).of_type ≡ u) × RowFits d us row)
+    (s < length d.constants) × (IsOf d u s × RowFits d us row)
 RowFits d _ _ = ⊥
 
 abbrev pub RowsFit : Database → (types : List ℕ) → List (List ℕ) → Type 0

@@ -1,5 +1,6 @@
 pub mod AcceptedAppend
 pub mod AcceptedBranches
+pub mod BareRuns
 pub mod ClauseNumbers
 pub mod Equality
 pub mod FlatAtoms

@@ -1,3 +1,4 @@
+pub mod BareLaws
 pub mod DeterminismLaws
 pub mod FlatLaws
 pub mod Laws

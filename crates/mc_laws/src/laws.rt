@@ -1,4 +1,5 @@
 //! The laws that show how the definitions fit together. Each is the contract of a function that does nothing.
+ghost use Rattle.mc_laws.specs.BareLaws.{GoalsRunBare, CallsRunBare, QueriesRunBare};
 ghost use Rattle.mc_laws.specs.Laws.{GoalsStay, CallsStay, NoGoalIsBoth, NoCallIsBoth, LevelsSuffice, LevelsSufficeForCalls, LevelsSufficeForQueries, OneLevelMore, BudgetsExtend, BudgetsExtendCalls, BudgetsExtendQueries, SameIsEqual, PlainIsExact, PlainTypesAreExact, PlainTermsAreExact};
 ghost use Rattle.mc_laws.specs.Proper.{IncludedSets};
 ghost use Rattle.mc_laws.specs.MergeLaws.{EitherIsLeast, OneIsMerged, MergedAllowTheSame, OlderNodesKeepPaths, OlderNodesKeepValues};
@@ -89,4 +90,11 @@ pub fn merged_is_least()
 pub fn older_nodes_keep_their_meaning()
     ensures paths { OlderNodesKeepPaths }
     ensures values { OlderNodesKeepValues }
+{}
+
+/// Goals, procedures and queries run as their bare forms do.
+pub fn bare_runs_alike()
+    ensures goals { GoalsRunBare }
+    ensures calls { CallsRunBare }
+    ensures queries { QueriesRunBare }
 {}

@@ -25,7 +25,7 @@ use Rattle.mc_sound.proofs.Lists
 use Rattle.mc_sound.proofs.Typed
 use Rattle.mc_sound.proofs.Typed.{true_not_false, bound_is, free_is, is_bound_of, is_free_of}
 use Rattle.mc_sound.proofs.TypeInstances.{IsPlain, arguments_instance}
-use Rattle.mc_sound.proofs.Equality.{value_same, same_of}
+use Rattle.mc_laws.proofs.Equality.{value_same, same_of}
 
 -- what is bound
 put_on : (t : Bool) (v w : Val) (o : Option Val) (x y : ℕ) → (t ≡ true → y ≡ x) → cond t (Some v) o ≡ Some w → (o ≡ Some w) ⊎ In y (x ∷ [])

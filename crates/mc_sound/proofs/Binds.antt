@@ -8,7 +8,7 @@ use Rattle.mc_model.specs.EventList.{Each, Succeeds, Covers, of_option}
 use Rattle.mc_model.specs.Stream.{Bindings, put, meet, and_then, unify}
 use Rattle.mc_model.specs.Good.{Extends}
 use Rattle.mc_sound.specs.code.Passes.{Agrees, Grows}
-use Rattle.mc_sound.proofs.Equality.{value_same, same_of}
+use Rattle.mc_laws.proofs.Equality.{value_same, same_of}
 
 -- of these variables, those are bound that b says
 abbrev pub Matches : List ℕ → (ℕ → Bool) → Bindings → Type 0

@@ -8,8 +8,6 @@ pub mod Changes
 pub mod Combine
 pub mod Counts
 pub mod Entry
-pub mod Equality
-pub mod Inclusions
 pub mod Levels
 pub mod Lists
 pub mod Numbers
@@ -24,5 +22,6 @@ pub mod TellCalls
 pub mod TellFresh
 pub mod TellLists
 pub mod Told
+pub mod TurnedPremises
 pub mod TypeInstances
 pub mod Typed

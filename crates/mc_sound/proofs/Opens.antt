@@ -11,7 +11,7 @@ use Rattle.mc_sound.specs.code.Passes.{Grows, HasLabel}
 use Rattle.mc_program.specs.declared.builtin.Builtin.{Builtin}
 use Rattle.mc_sound.proofs.Binds
 use Rattle.mc_sound.proofs.Binds.{some_inj}
-use Rattle.mc_sound.proofs.Equality.{value_same}
+use Rattle.mc_laws.proofs.Equality.{value_same}
 use Rattle.mc_sound.proofs.Lists
 
 -- P of each answer

@@ -15,9 +15,9 @@ use Rattle.mc_model.specs.Good.{System, TypeChoice, BoundAs, Shape, Given, Keeps
 use Rattle.mc_accepted.specs.ProperTypes.{Parameters}
 use Rattle.mc_accepted.specs.Fits.{Fits, type_of, goal_of, FitsProcedure}
 use Rattle.mc_accepted.specs.Accepted.{entered, Final, FinalAfter, AcceptedProcedure, Accepted}
-use Rattle.mc_sound.specs.PredicateLaws.{AtHead, PredicateCarries, PredicatesCarry}
+use Rattle.mc_laws.specs.PredicateLaws.{AtHead, PredicateCarries, PredicatesCarry}
 use Rattle.mc_sound.specs.code.Passes.{Grows, BindsOnly, Shared, Agrees, AgreesFor, Hit, TypedAt, Reached, Sound, Tells, HitArguments, CallSound, CallTells, CallsSound, CallsTell, SaysBuiltins}
-use Rattle.mc_sound.specs.Soundness.{Soundness, NoInputs, QuerySoundness}
+use Rattle.mc_sound.specs.Soundness.{AcceptedAreGood, NoInputs, AcceptedQueriesAreGood}
 use Rattle.mc_model.specs.Good as Good
 use Rattle.mc_sound.proofs.Atoms.{none_at_most}
 use Rattle.mc_sound.proofs.Binds
@@ -369,7 +369,7 @@ module _ (S : System) (θ : TypeChoice) (C : Facts) (p : Procedure) (vs : List (
   below_told zero f t = record { yes = tt; no = λ ws x. tt }
   below_told (suc h) f t = t h
 
-pub soundness : Soundness
+pub soundness : PredicatesCarry → AcceptedAreGood
 soundness carry S D F A θ n h k vs l g =
     let p = S.procs k in
     let f : ℕ → Items (List (Option Val)) = λ j. calls S.world.outcome S.procs n j k vs in
@@ -401,7 +401,7 @@ no_inputs_given S θ (i ∷ is) (t ∷ ts) (y ∷ ys) n e f = ((λ b. absurd (b 
     less : (m k : ℕ) → suc m ≡ suc k → m ≡ k
     less m k e = cc
 
-pub query_soundness : QuerySoundness
+pub query_soundness : PredicatesCarry → AcceptedQueriesAreGood
 query_soundness carry S D F A q fit ok none n h θ =
     let vs : List (Option Val) = map (λ x. None) q.head in
     let g = no_inputs_given S θ q.first (types_of S q) q.head none ok.lengths.0 (ap length ok.head ∙ from_length 0 (goal_of S q).arity) in

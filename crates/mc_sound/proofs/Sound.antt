@@ -34,7 +34,7 @@ use Rattle.mc_sound.proofs.Changes.{node_after, closed_after, closed_more, tests
 use Rattle.mc_sound.proofs.Numbers.{is_in_true}
 use Rattle.mc_sound.proofs.Combine
 use Rattle.mc_sound.proofs.Combine.{in_left, in_right, in_split, in_cases, among_both, among_left, among_two, greater_either}
-use Rattle.mc_sound.proofs.Equality.{value_same, same_of}
+use Rattle.mc_laws.proofs.Equality.{value_same, same_of}
 use Rattle.mc_sound.proofs.Lists
 use Rattle.mc_sound.proofs.Opens.{opens_none}
 use Rattle.mc_sound.proofs.Takes

@@ -44,7 +44,7 @@ proper (suc (suc zero)) = tt
 proper (suc (suc (suc zero))) = tt
 proper (suc (suc (suc (suc i)))) = tt
 
-insts_fit : FitsInsts graph
+pub insts_fit : FitsInsts graph
 insts_fit = record { is_free = refl; is_ground = refl; is_unique = refl; is_dead = refl; are_bound = λ i. ([], refl, tt); proper = proper }
 
 -- types
@@ -73,14 +73,14 @@ types_fit = record { arities = arities; parameters = λ s k e i. below s k e; ar
     arities (suc (suc (suc (suc s)))) = refl
 
 -- builtins
-has_types : Has_types source library library_types
+pub has_types : Has_types source library library_types
 has_types = record { nil = refl; cons = refl; ok = refl; eof = refl }
 
 named : (t : Bool) (op : Builtin) → (cond t plus_pred sum_pred).builtin ≡ Some op → ((cond t plus_pred sum_pred).name ≡ (builtin_name op).name) × ((cond t plus_pred sum_pred).types ≡ builtin_types library_types op)
 named true op e = let q = some_is B.IntPlus op e in (ap (λ o. (builtin_name o).name) q, ap (λ o. builtin_types library_types o) q)
 named false op e = absurd (none_some op e)
 
-has_builtins : HasBuiltins source library_types
+pub has_builtins : HasBuiltins source library_types
 has_builtins p op e = named (nat_eq p 9) op e
 
 -- the procedure
@@ -128,7 +128,7 @@ after_sum = also 3 1 entry
 ground_in_ground : (t : TypeTerm) → Included source graph 1 1 t
 ground_in_ground t path e a = a
 
-accepted : AcceptedProcedure sums sum_procedure
+pub accepted : AcceptedProcedure sums sum_procedure
 accepted =
     record {
       head = refl;

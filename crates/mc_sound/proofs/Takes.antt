@@ -25,7 +25,7 @@ use Rattle.mc_sound.proofs.Typed
 use Rattle.mc_sound.proofs.Typed.{true_not_false}
 use Rattle.mc_sound.proofs.Atoms
 use Rattle.mc_sound.proofs.Atoms.{union_view, unify_binds, binds_more}
-use Rattle.mc_sound.proofs.Inclusions.{over_allows, allows_over, over_one}
+use Rattle.mc_laws.proofs.Inclusions.{over_allows, allows_over, over_one}
 use Rattle.mc_sound.proofs.TypeInstances.{con_arguments}
 
 -- a node that allows a constructor allows it by its name

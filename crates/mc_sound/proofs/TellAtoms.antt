@@ -11,7 +11,7 @@ use Rattle.mc_model.specs.Good.{Extends}
 use Rattle.mc_sound.specs.code.Passes.{Grows, Agrees, AgreesFor, Hit, Tells}
 use Rattle.mc_sound.proofs.Binds
 use Rattle.mc_sound.proofs.Lists
-use Rattle.mc_sound.proofs.Equality.{value_same, same_of}
+use Rattle.mc_laws.proofs.Equality.{value_same, same_of}
 use Rattle.mc_sound.proofs.TellLists.{value_cases, hit_covers}
 use Rattle.mc_sound.proofs.Typed.{true_not_false}
 

@@ -10,7 +10,7 @@ use Rattle.mc_sound.specs.code.Passes.{Grows, Agrees, AgreesFor, Hit, Tells}
 use Rattle.mc_sound.proofs.Binds
 use Rattle.mc_sound.proofs.Binds.{Matches, some_inj}
 use Rattle.mc_sound.proofs.Combine.{in_cases}
-use Rattle.mc_sound.proofs.Equality.{value_same, same_of}
+use Rattle.mc_laws.proofs.Equality.{value_same, same_of}
 use Rattle.mc_sound.proofs.Lists
 use Rattle.mc_sound.proofs.Numbers.{is_in_true}
 use Rattle.mc_sound.proofs.Typed.{true_not_false}

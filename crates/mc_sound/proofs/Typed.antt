@@ -18,9 +18,9 @@ use Rattle.mc_sound.specs.code.Passes.{TypedAt, Reached}
 use Rattle.mc_sound.proofs.Binds
 use Rattle.mc_sound.proofs.Binds.{Matches, and_also}
 use Rattle.mc_sound.proofs.Lists
-use Rattle.mc_sound.proofs.Inclusions.{included_sets, within_dead, within_more}
+use Rattle.mc_laws.proofs.Inclusions.{included_sets, within_dead, within_more}
 use Rattle.mc_sound.proofs.TypeInstances.{IsPlain, within_plain, is_value, of_general}
-use Rattle.mc_sound.proofs.Equality.{value_same}
+use Rattle.mc_laws.proofs.Equality.{value_same}
 
 pub true_not_false : true ≡ false → ⊥
 true_not_false e = cc

@@ -1,5 +1,3 @@
 pub mod BuiltinLaws
-pub mod PredicateLaws
-pub mod Proper
 pub mod Soundness
 pub mod code

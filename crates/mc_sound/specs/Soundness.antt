@@ -2,17 +2,14 @@
 -- each procedure is good, from all inputs of its types and insts and at every budget and height.
 -- (Mercury Language Reference Manual: Semantics; Modes; Determinism; this project's certificates.)
 use Rattle.std.specs.Prelude.{◌≡◌, ℕ, List, [], ◌∷◌}
-use Rattle.mc_sound.specs.PredicateLaws.{PredicatesCarry}
 use Rattle.mc_model.specs.Scheduled.{Procedure}
 use Rattle.mc_model.specs.Good.{System, GoodProcedures, GoodQuery}
 use Rattle.mc_accepted.specs.ProperTypes.{Parameters}
 use Rattle.mc_accepted.specs.Fits.{Fits, FitsProcedure}
 use Rattle.mc_accepted.specs.Accepted.{AcceptedProcedure, Accepted}
 
--- (That a predicate's one normal goal says what its clauses say is a law of its own.)
-abbrev pub Soundness : Type 0
-Soundness =
-    PredicatesCarry → (S : System) (D : Parameters) → Fits S D → Accepted S → GoodProcedures S
+abbrev pub AcceptedAreGood : Type 0
+AcceptedAreGood = (S : System) (D : Parameters) → Fits S D → Accepted S → GoodProcedures S
 
 -- a query has no inputs
 abbrev pub NoInputs : List ℕ → Type 0
@@ -20,9 +17,9 @@ NoInputs [] = Unit {0}
 NoInputs (i ∷ is) = (i ≡ 0) × NoInputs is
 
 -- so is each run of a query that fits and is accepted
-abbrev pub QuerySoundness : Type 0
-QuerySoundness =
-    PredicatesCarry → (S : System) (D : Parameters)
+abbrev pub AcceptedQueriesAreGood : Type 0
+AcceptedQueriesAreGood =
+    (S : System) (D : Parameters)
     → Fits S D → Accepted S → (q : Procedure)
     → FitsProcedure S D q → AcceptedProcedure S q → NoInputs q.first → (n h : ℕ)
     → GoodQuery S n h q

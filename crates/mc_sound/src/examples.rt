@@ -1,7 +1,19 @@
-//! A system that meets all that the theorem asks.
+//! A system that meets all that the theorem asks, and what is turned away.
 ghost use Rattle.mc_sound.specs.code.Examples.{SumsFit};
+ghost use Rattle.mc_sound.specs.code.Premises.{ArmsAreAsked, BuiltinsAreAsked, DeterminismsAreAsked, InstsAreAsked, MarksAreAsked, SumsFail, SymbolsAreAsked};
 
 /// `p(X, Y, Z) :- X + Y = Z.`, over the real builtins.
 pub fn sums()
     ensures { SumsFit }
+{}
+
+/// What each premise turns away.
+pub fn premises()
+    ensures insts { InstsAreAsked }
+    ensures symbols { SymbolsAreAsked }
+    ensures builtins { BuiltinsAreAsked }
+    ensures determinisms { DeterminismsAreAsked }
+    ensures sums { SumsFail }
+    ensures marks { MarksAreAsked }
+    ensures arms { ArmsAreAsked }
 {}

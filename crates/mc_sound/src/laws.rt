@@ -1,16 +1,16 @@
-//! The theorem and its parts. Each is the contract of a function that does nothing.
+//! The theorem and its parts. Each is the contract of a function that does nothing but call others of the kind.
 ghost use Rattle.mc_sound.specs.BuiltinLaws.{BuiltinsFit};
-ghost use Rattle.mc_sound.specs.Soundness.{QuerySoundness, Soundness};
+ghost use Rattle.mc_sound.specs.Soundness.{AcceptedAreGood, AcceptedQueriesAreGood};
 
-/// Accepted procedures are good.
-pub fn good()
-    ensures { Soundness }
-{}
+use mc_laws::laws::predicates_carry_over;
 
-/// So are accepted queries.
-pub fn queries()
-    ensures { QuerySoundness }
-{}
+/// Accepted procedures are good, and so are accepted queries.
+pub fn accepted_are_good()
+    ensures procedures { AcceptedAreGood }
+    ensures queries { AcceptedQueriesAreGood }
+{
+    predicates_carry_over()
+}
 
 /// What builtins do fits the types of their predicates and their determinisms.
 pub fn builtins_fit()

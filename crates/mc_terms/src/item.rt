@@ -224,8 +224,8 @@ pub fn faulty_token(walk: &mut Walk, from: Position, line: u32, fault: TokenFaul
     ItemFault { fault, at }
 }
 
-// The tokens of the item that begins in a position, with its first token on a line, up to its full stop or the text's
-// end.
+// The tokens of the item that begins in a position, with its first token on a line, up to its full
+// stop or the text's end.
 pub fn item_tokens(
     alloc: Global,
     walk: &mut Walk,

@@ -62,9 +62,10 @@ fn judged(reading: Reading, line: u32, at: usize, end: Position) -> Result<ReadI
     Ok(ReadItem { term, line, end })
 }
 
-/// The item that begins in a position; None where only blanks and comments are left. An item that the
-/// text's end cuts off before its full stop is no term. To read all items of a text in linear time, pass one walk on from item to item, and after a fault go on at
-/// its `next`, to which [`Position::moved`] leads.
+/// The item that begins in a position; None where only blanks and comments are left. An item that
+/// the text's end cuts off before its full stop is no term. To read all items of a text in linear
+/// time, pass one walk on from item to item, and after a fault go on at its `next`, to which
+/// [`Position::moved`] leads.
 pub fn read_next(
     alloc: Global,
     walk: &mut Walk,

@@ -22,6 +22,13 @@ module _ (S : System) (T : ℕ → TypeTerm) where
   abbrev pub implied_of : Builtin → List ℕ → Insts → List ℕ
   implied_of op xs b = implied_places 0 (modes_of op) xs (λ x. is_bound (b x))
 
+  -- the arguments with fresh variables at implied places, and the tests of those
+  abbrev pub freshened : (n : ℕ) → Insts → Builtin → List ℕ → List ℕ
+  freshened n b op xs = fresh_at 0 (implied_of op xs b) xs n
+
+  abbrev pub fresh_tests : (n : ℕ) → Insts → Builtin → List ℕ → List (ℕ × ℕ)
+  fresh_tests n b op xs = tests_at 0 (implied_of op xs b) xs n
+
   abbrev pub TestsTyped : List (ℕ × ℕ) → Type 0
   TestsTyped [] = Unit {0}
   TestsTyped (t ∷ ts) = ((T t.0 ≡ T t.1) × (is_state (T t.0) ≡ false)) × TestsTyped ts
@@ -33,14 +40,14 @@ module _ (S : System) (T : ℕ → TypeTerm) where
     pub usable : Usable S T (modes_of op) xs b
     pub alive : NoneDead S T xs b
     pub implies : implied_of op xs b ≢ []
-    pub after : After S T (modes_of op) (fresh_at 0 (implied_of op xs b) xs n) b c
-    pub typed : TestsTyped (tests_at 0 (implied_of op xs b) xs n)
+    pub after : After S T (modes_of op) (freshened n b op xs) b c
+    pub typed : TestsTyped (fresh_tests n b op xs)
 
   abbrev pub fresh_nodes : (n : ℕ) → Insts → Builtin → List ℕ → Nodes
   fresh_nodes n b op xs =
-      let zs = fresh_at 0 (implied_of op xs b) xs n in
+      let zs = freshened n b op xs in
       node_then (unmarked (Apply op (at_inputs (inputs_of op) zs) (at_outputs (inputs_of op) zs)))
-      (test_nodes (tests_at 0 (implied_of op xs b) xs n))
+      (test_nodes (fresh_tests n b op xs))
 
   mutual
     pub data Standing :
@@ -107,7 +114,7 @@ module _ (S : System) (T : ℕ → TypeTerm) where
           {O : List ℕ} {n : ℕ} {b c : Insts} {p : ℕ} {op : Builtin} {xs : List ℕ}
           → Freshly n b c p op xs
           → Standing O n b (F.Call p xs) (unmarked (Conj (fresh_nodes n b op xs))) (Some c)
-          (n + length (implied_of op xs b))
+          (n + length (fresh_tests n b op xs))
       conj :
           {O : List ℕ} {n m : ℕ} {b : Insts} {gs : Flat_goals} {ns : Nodes} {o : Option Insts}
           → StandingAll O n b gs ns o m → Standing O n b (F.And gs) (unmarked (Conj ns)) o m
@@ -156,8 +163,8 @@ module _ (S : System) (T : ℕ → TypeTerm) where
           {O : List ℕ} {n m : ℕ} {b c : Insts} {p : ℕ} {op : Builtin} {xs : List ℕ}
           {gs rest : Flat_goals} {ns : Nodes} {o : Option Insts} → Picks gs (F.Call p xs) rest
           → Freshly n b c p op xs
-          → StandingAll (O ++ (xs ++ fresh_at 0 (implied_of op xs b) xs n))
-          (n + length (implied_of op xs b)) c rest ns o m
+          → StandingAll (O ++ (xs ++ freshened n b op xs)) (n + length (fresh_tests n b op xs)) c
+          rest ns o m
           → StandingAll O n b gs (nodes_before (fresh_nodes n b op xs) ns) o m
 
     pub data StandingAny :

@@ -1,0 +1,4 @@
+pub mod Examples
+pub mod ExamplesOfSwitches
+pub mod ExamplesOfDeterminisms
+pub mod ExamplesOfFaults

@@ -1,0 +1,37 @@
+//! Computed switch forms, determinisms, and rules of determinism that procedures break. Each is the contract of a
+//! function that does nothing, and each group has an equation that does not hold.
+ghost use Rattle.mc_determinism_laws.specs.code.ExamplesOfSwitches.{FactsSwitched, ListsSwitched, WhatIsLookedThrough, SeveralVariables, LabelsDontOverlap};
+ghost use Rattle.mc_determinism_laws.specs.code.ExamplesOfDeterminisms.{ListsDetermined, FactsDetermined, HeadsDetermined, CallsDetermined, Marks};
+ghost use Rattle.mc_determinism_laws.specs.code.ExamplesOfFaults.{NotAllowed, Undeclared, MisplacedCalls, MisplacedIo, MainIsAsked, FaultsInOrder};
+
+/// Which disjunctions are switches, and their arms.
+pub fn switches()
+    ensures facts { FactsSwitched }
+    ensures lists { ListsSwitched }
+    ensures looked_through { WhatIsLookedThrough }
+    ensures several { SeveralVariables }
+    ensures labels { LabelsDontOverlap }
+{}
+
+/// The determinisms of goals in switch form, and which goals are pruned.
+pub fn determinisms()
+    ensures lists { ListsDetermined }
+    ensures facts { FactsDetermined }
+    ensures heads { HeadsDetermined }
+    ensures calls { CallsDetermined }
+    ensures marks { Marks }
+{}
+
+/// The rules that procedures break, one at a time.
+pub fn faults()
+    ensures not_allowed { NotAllowed }
+    ensures undeclared { Undeclared }
+    ensures calls { MisplacedCalls }
+    ensures io { MisplacedIo }
+{}
+
+/// What `run` asks of `main`, and the order of faults.
+pub fn lists_of_faults()
+    ensures main { MainIsAsked }
+    ensures order { FaultsInOrder }
+{}

@@ -1,0 +1,23 @@
+use Rattle.mc_sound.proofs.TurnedPremises.{insts_asked, symbols_asked, builtins_asked, determinisms_asked, sums_fail, marks_asked, arms_asked}
+use Rattle.mc_sound.proofs.examples.premises.Goals as goal
+
+pub returns-clause-insts : goal.returns-clause-insts
+returns-clause-insts c = insts_asked
+
+pub returns-clause-symbols : goal.returns-clause-symbols
+returns-clause-symbols c = symbols_asked
+
+pub returns-clause-builtins : goal.returns-clause-builtins
+returns-clause-builtins c = builtins_asked
+
+pub returns-clause-determinisms : goal.returns-clause-determinisms
+returns-clause-determinisms c = determinisms_asked
+
+pub returns-clause-sums : goal.returns-clause-sums
+returns-clause-sums c = sums_fail
+
+pub returns-clause-arms : goal.returns-clause-arms
+returns-clause-arms c = arms_asked
+
+pub returns-clause-marks : goal.returns-clause-marks
+returns-clause-marks c = marks_asked
