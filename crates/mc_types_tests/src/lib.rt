@@ -1,4 +1,5 @@
-//! The tests of mc_type_graph and mc_types. They stand in a crate of their own, since a crate with tests is proved twice.
+//! The tests of mc_type_graph and mc_types. They stand in a crate of their own, since a crate with tests is proved
+//! twice.
 #![tactic(auto)]
 
 #[cfg(test)]
