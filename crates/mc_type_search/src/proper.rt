@@ -1,8 +1,8 @@
 ghost use Rattle.std.specs.Prelude.{◌≡◌, ◌<◌, ◌≤◌, ◌+◌, ℕ, List, length, slice_index_or, slice_index, IsTrue};
 ghost use Rattle.mc_type_search.specs.Typed.{Proper, AllProper};
 
-use crate::steps::Step;
 use crate::signature::Signature;
+use crate::steps::Step;
 
 /// Whether a step names places and candidates that are there, and as many places as each candidate has types.
 fn step_is_proper(signatures: &[Signature], step: &Step, places: usize) -> bool

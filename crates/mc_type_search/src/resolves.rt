@@ -13,9 +13,9 @@ use crate::state::{Level, Search};
 use crate::steps::Step;
 use crate::written::write_types;
 use crate::written_types::Written;
-use std::alloc::Global;
 use mc_base::Memory;
 use mc_type_graph::{Graph, add_free};
+use std::alloc::Global;
 
 /// Types that are nested deeper, or are larger together, count as such that find no room.
 const TYPE_DEPTH: usize = 10_000;
@@ -24,7 +24,8 @@ const TYPE_BUDGET: usize = 1 << 20;
 
 /// A search that has made no choice.
 fn start(alloc: Global, places: usize) -> Result<Search, Memory>
-    ensures stands { IfOk result (λ s. (signatures : List Signature) (steps : List Step) → Stands signatures steps places s) }
+    ensures stands { IfOk result
+        (λ s. (signatures : List Signature) (steps : List Step) → Stands signatures steps places s) }
     ensures at_root { IfOk result (λ s. (s.path.items ≡ []) × (s.next ≡ 0)) }
 {
     let mut graph = Graph::new(alloc);
@@ -45,7 +46,8 @@ fn note(
     path: &[Level],
     all_steps: bool,
 ) -> Result<(), Memory>
-    ensures { OnOk result (map (λ v. v.items) found.new.items ≡ noted all_steps (map (λ v. v.items) found.old.items) (choices path.now)) }
+    ensures { OnOk result (map (λ v. v.items) found.new.items
+        ≡ noted all_steps (map (λ v. v.items) found.old.items) (choices path.now)) }
 {
     if all_steps && found.len() < 2 {
         let mut choices = Vec::new(alloc);
@@ -68,7 +70,8 @@ fn keep_types(
 ) -> Result<Vec<Written>, Memory>
     requires in_order { InOrder graph.now.cells.items }
     requires room { vars ≤ length graph.now.cells.items }
-    ensures { IfOk result (λ ws. TypesKept all_steps found graph.now.cells.items vars types.items ws.items) }
+    ensures { IfOk result
+        (λ ws. TypesKept all_steps found graph.now.cells.items vars types.items ws.items) }
 {
     if all_steps && found == 0 {
         let mut budget = TYPE_BUDGET;
@@ -92,8 +95,8 @@ fn outcome(mut found: Vec<Vec<usize>>, types: Vec<Written>) -> Outcome
     }
 }
 
-/// The one choice of candidates that types all steps, with the types of the clause's variables, which are the first places,
-/// or why there is none. At no moment are more choices live than the limit.
+/// The one choice of candidates that types all steps, with the types of the clause's variables, which are the first
+/// places, or why there is none. At no moment are more choices live than the limit.
 pub fn resolve(
     alloc: Global,
     signatures: &[Signature],

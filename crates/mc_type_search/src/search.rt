@@ -9,9 +9,9 @@ ghost use Rattle.mc_type_search.specs.code.Standing.{Tried, Stands, Moved};
 use crate::signature::{Signature, fit};
 use crate::state::{Level, Search};
 use crate::steps::Step;
-use std::alloc::Global;
 use mc_base::Memory;
 use mc_type_graph::{Graph, enough_marks, founded, restore};
+use std::alloc::Global;
 
 /// Tries a candidate; where it doesn't type, all is as before.
 fn try_candidate(
@@ -30,7 +30,8 @@ fn try_candidate(
     requires some_round { 0 < round }
     requires small { round < 2 ^ 62 }
     ensures past { AllPast (round + 1) marks.new.items }
-    ensures answer { IfOk result (λ yes. Tried yes g.old.cells.items g.old.changes.items g.new.cells.items g.new.changes.items signature.now places.now) }
+    ensures answer { IfOk result (λ yes. Tried yes g.old.cells.items g.old.changes.items
+        g.new.cells.items g.new.changes.items signature.now places.now) }
 {
     let cells = g.cells.len();
     let changes = g.changes.len();

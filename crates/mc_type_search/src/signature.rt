@@ -29,7 +29,8 @@ pub fn fit(
     requires lengths { length places.now ≡ length signature.now.types.items }
     ensures in_order { InOrder g.new.cells.items }
     ensures grown { Grown g.old.cells.items g.old.changes.items g.new.cells.items g.new.changes.items }
-    ensures says { IfOk result (λ yes. FitSays yes g.old.cells.items g.new.cells.items signature.now places.now) }
+    ensures says { IfOk result
+        (λ yes. FitSays yes g.old.cells.items g.new.cells.items signature.now places.now) }
 {
     let base = g.cells.len();
     add_free(g, signature.vars as usize)?;

@@ -8,8 +8,8 @@ use mc_base::Memory;
 use mc_type_graph::{Cell, Graph, root};
 use std::alloc::Global;
 
-/// The type at a place. One that is nested deeper than the depth, or has more parts than the budget, counts as one that
-/// finds no room.
+/// The type at a place. One that is nested deeper than the depth, or has more parts than the budget, counts as one
+/// that finds no room.
 pub fn write_type(
     alloc: Global,
     g: &Graph,

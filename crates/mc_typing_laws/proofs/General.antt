@@ -1,5 +1,5 @@
 -- Which types of the example are the most general.
-use Rattle.std.proofs.Common.{◌≡◌, ℕ, zero, suc, ◌<◌, cond, Bool, true, false, List, [], ◌∷◌, Option, Some, None, refl, sym, ap, ◌∙◌, subst, arith}
+use Rattle.std.proofs.Common.{◌≡◌, ℕ, suc, cond, Bool, true, false, List, [], ◌∷◌, Option, Some, None, refl, sym, ap, subst, arith}
 use Rattle.std.specs.Prelude.{nat_eq, ◌&&◌}
 use Rattle.std.proofs.lemmas.Bool.{eqb-true}
 use Rattle.mc_program.specs.Programs.{TypeTerm, int_type, char_type, string_type, state_type, variable_type, union_type, TypeTerms, no_types, type_then}
@@ -7,7 +7,7 @@ use Rattle.mc_model.specs.Lists.{is_in}
 use Rattle.mc_accepted.specs.ProperTypes.{ProperType, count_types}
 use Rattle.mc_accepted.specs.Typing.{constructor_types}
 use Rattle.mc_accepted.specs.MostGeneral.{MostGeneral, generalised, type_at}
-use Rattle.mc_typing_laws.specs.code.ExamplesOfTypes.{lists, one_parameter, list_of, clause, typed_as, ListsOfAny}
+use Rattle.mc_typing_laws.specs.code.ExamplesOfTypes.{lists, one_parameter, list_of, typed_as, ListsOfAny}
 
 none_some : {A : Type 0} (x : A) → None ≡ Some x → ⊥
 none_some x e = cc

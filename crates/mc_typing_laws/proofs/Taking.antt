@@ -1,16 +1,15 @@
 -- What a constructor takes, and how it is typed in a flat goal.
-use Rattle.std.proofs.Common.{◌≡◌, ℕ, zero, suc, ◌+◌, ◌<◌, ◌≤◌, cond, Bool, true, false, List, [], ◌∷◌, ◌++◌, map, Option, Some, None, refl, sym, ap, ap₂, ◌∙◌, subst, arith}
+use Rattle.std.proofs.Common.{◌≡◌, ℕ, zero, suc, ◌+◌, ◌<◌, cond, Bool, true, false, List, [], ◌∷◌, ◌++◌, map, Option, Some, None, refl, sym, ap, ap₂, ◌∙◌, arith}
 use Rattle.std.specs.Prelude.{nat_eq, ◌&&◌}
 use Rattle.std.proofs.lemmas.Bool.{eq-eqb, eqb-true}
 use Rattle.std.proofs.lemmas.List.{map-append}
-use Rattle.mc_program.specs.Programs.{TypeTerm, int_type, char_type, string_type, state_type, variable_type, union_type, TypeTerms, no_types, type_then, Source}
-use Rattle.mc_model.specs.Types.{instance_of, instances_of, type_at, argument_types}
+use Rattle.mc_program.specs.Programs.{TypeTerm, int_type, char_type, string_type, state_type, variable_type, union_type, TypeTerms, no_types, type_then}
+use Rattle.mc_model.specs.Types.{instance_of, instances_of, type_at}
 use Rattle.mc_model.specs.Lists.{is_in}
-use Rattle.mc_accepted.specs.ProperTypes.{Parameters, ProperType, Below, AllBelow, EachBelow, count_types}
+use Rattle.mc_accepted.specs.ProperTypes.{Below, AllBelow, EachBelow, count_types}
 use Rattle.mc_accepted.specs.Typing.{constructor_types}
-use Rattle.mc_accepted.specs.Resolving.{Takes, parameters_from, declared_type, signature}
-use Rattle.mc_typing_laws.specs.TypingLaws.{IsDeclared, ConstructorsTake, ConstructorsAreTaken}
-use Rattle.mc_source.specs.declared.name.Candidate.TheVariants as C
+use Rattle.mc_accepted.specs.Resolving.{parameters_from, declared_type}
+use Rattle.mc_typing_laws.specs.TypingLaws.{ConstructorsTake, ConstructorsAreTaken}
 
 -- types for variables that agree below a number
 mutual

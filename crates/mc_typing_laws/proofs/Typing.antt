@@ -1,12 +1,12 @@
 -- Which of the examples are well typed.
-use Rattle.std.proofs.Common.{◌≡◌, ℕ, zero, suc, ◌+◌, ◌<◌, List, [], ◌∷◌, ◌++◌, length, take, get_or, refl, sym, ap, ◌∙◌, subst, arith, inl, inr}
+use Rattle.std.proofs.Common.{◌≡◌, ℕ, zero, suc, ◌<◌, List, [], ◌∷◌, length, take, get_or, refl, sym, ap, ◌∙◌, subst, arith, inl, inr}
 use Rattle.std.specs.List.{Contains}
 use Rattle.std.specs.Prelude.{◌⊎◌}
-use Rattle.mc_program.specs.Programs.{TypeTerm, variable_type, union_type, no_types, Expression, variable, constant, made, applied, no_expressions}
-use Rattle.mc_accepted.specs.Resolving.{Walks, Live, Takes, Resolves, WellTyped, FirstTwo, TooMany, Before, Earlier, steps_of, names_of}
+use Rattle.mc_program.specs.Programs.{TypeTerm, variable_type, union_type, no_types, Expression, made}
+use Rattle.mc_accepted.specs.Resolving.{Walks, Live, Takes, Resolves, WellTyped, FirstTwo, steps_of}
 use Rattle.mc_typing_laws.specs.code.Examples.{two_types, plain, candidates, over, amb, Typings, LiveAtOnce, ResolvedClauses}
 use Rattle.mc_source.specs.declared.name.Candidate.{Candidate}
-use Rattle.mc_source.specs.declared.name.Candidate.TheVariants.{Con, Func, Pred, Char}
+use Rattle.mc_source.specs.declared.name.Candidate.TheVariants.{Con}
 
 abbrev at : ℕ → TypeTerm
 at u = union_type u no_types

@@ -1,5 +1,5 @@
 -- The first choices that type all steps, as the search notes them.
-use Rattle.std.specs.Prelude.{◌≡◌, ℕ, zero, suc, Bool, true, false, cond, nat_lt, List, [], ◌∷◌, ◌++◌, length}
+use Rattle.std.specs.Prelude.{◌≡◌, ℕ, zero, suc, Bool, true, false, if◌then◌else◌, nat_lt, List, [], ◌∷◌, ◌++◌, length}
 use Rattle.mc_type_search.specs.Writing.{AllStand}
 use Rattle.mc_type_graph.specs.declared.cells.Cell.{Cell}
 use Rattle.mc_type_search.specs.declared.written_types.Written.{Written}
@@ -8,7 +8,7 @@ use Rattle.mc_type_search.specs.declared.outcome.Outcome.TheVariants.{None, One,
 
 -- the first two are kept
 abbrev pub noted : Bool → List (List ℕ) → List ℕ → List (List ℕ)
-noted true found cs = cond (nat_lt (length found) 2) (found ++ cs ∷ []) found
+noted true found cs = if nat_lt (length found) 2 then found ++ cs ∷ [] else found
 noted false found cs = found
 
 abbrev pub OutcomeIs : List (List ℕ) → List Written → Outcome → Type 0

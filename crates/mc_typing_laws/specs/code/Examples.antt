@@ -1,6 +1,6 @@
 -- Examples of clauses with one typing, with two and with none, and of assignments that are live at
 -- one moment.
-use Rattle.std.specs.Prelude.{◌≡◌, ℕ, zero, suc, List, [], ◌∷◌, codes, Option, None, Some}
+use Rattle.std.specs.Prelude.{◌≡◌, ℕ, zero, suc, List, [], ◌∷◌, codes, None, Some}
 use Rattle.mc_program.specs.Programs.{TypeTerm, variable_type, union_type, no_types, Constructor, Predicate, Source, variable, made, no_expressions, Equal, And, no_formulas, formula_then}
 use Rattle.mc_program.specs.PlainPrograms.{no_name}
 use Rattle.mc_accepted.specs.ProperTypes.{Parameters}

@@ -1,5 +1,5 @@
 -- Examples of the most general types of a clause.
-use Rattle.std.specs.Prelude.{ℕ, List, [], ◌∷◌, codes, Option, None, Some}
+use Rattle.std.specs.Prelude.{[], ◌∷◌, codes, Some}
 use Rattle.mc_program.specs.Programs.{TypeTerm, int_type, variable_type, union_type, no_types, type_then, Constructor, Source, ClauseForm, variable, made, no_expressions, Equal, And, no_formulas, formula_then}
 use Rattle.mc_accepted.specs.ProperTypes.{Parameters}
 use Rattle.mc_accepted.specs.NormalTypes.{TypedClause}
