@@ -1,6 +1,6 @@
 -- The determinisms of procedures: declared ones are as they are declared, the others the least that
 -- their bodies allow. (Mercury Language Reference Manual: Determinism, inference.)
-use Rattle.std.specs.Prelude.{◌≡◌, ℕ, ◌<◌, Bool, false, nat_eq, ◌||◌, Option, Some, None}
+use Rattle.std.specs.Prelude.{◌≡◌, ℕ, ◌<◌, ◌≤◌, Bool, false, nat_eq, ◌||◌, Option, Some, None}
 use Rattle.mc_source.specs.Determinism.{Determinism, det, row_of, greater, Allows}
 use Rattle.mc_source.specs.declared.det.Det.{Det}
 use Rattle.mc_source.specs.declared.place.Place.{Place}
@@ -52,7 +52,7 @@ body_determinism S p =
     determined S (type_of S p) (entered p.head p.first) nothing_known p.body
 
 -- Determinisms are closed: a declared one is as it is declared, and any other is at or above `det`,
--- isn't committed, and allows its body's.
+-- isn't committed, and allows its body's. Numbers from the count on are no procedures.
 pub record Closed (D : DeclaredSystem) (ds : ℕ → Det) : Type 0 where
   pub declared : (k : ℕ) (d : Det) → k < D.count → (D.procs k).declared ≡ Some d → ds k ≡ d
   pub at_least_det :
@@ -63,6 +63,7 @@ pub record Closed (D : DeclaredSystem) (ds : ℕ → Det) : Type 0 where
       (k : ℕ)
       → k < D.count → (D.procs k).declared ≡ None →
       Allows (row_of (ds k)) (body_determinism (system_of D ds) (D.procs k).procedure)
+  pub others : (k : ℕ) → D.count ≤ k → ds k ≡ (D.procs k).procedure.det
 
 -- The least closed ones: those of any others allow them.
 pub record LeastClosed (D : DeclaredSystem) (ds : ℕ → Det) : Type 0 where

@@ -10,6 +10,7 @@ pub mod Forms
 pub mod InOrder
 pub mod Inclusion
 pub mod Inferred
+pub mod InstRules
 pub mod Least
 pub mod MergedArms
 pub mod Normal

@@ -73,7 +73,7 @@ module _ (S : System) (T : ℕ → TypeTerm) where
           ap (λ t. if t then openings (formed S T keep b n) ++ openings_all (formed_all S T keep (insts_after n b) ns) else []) (equation_kept b n)
           ∙ ap₂ (λ os us. if is_equation n then os ++ us else []) (openings_kept b n) (openings_kept_all (insts_after n b) ns)
 
-    told : (b : Insts) (ns : Nodes) → Told (disjuncts S T keep b ns)
+    pub told : (b : Insts) (ns : Nodes) → Told (disjuncts S T keep b ns)
     told b no_nodes = tt
     told b (node_then n ns) = (sym (openings_kept b n), told b ns)
 

@@ -1,10 +1,14 @@
 -- Allowing as a test, `join`, and the one least assignment.
-use Rattle.std.proofs.Common.{◌≡◌, ◌≤◌, Bool, true, false, ◌||◌, IsTrue, Option, Some, None, refl, sym, ap, ap₂, ◌∙◌, arith}
+use Rattle.std.proofs.Math.Path.{fun_ext}
+use Rattle.std.proofs.lemmas.Bool.{cases_lt}
+use Rattle.std.proofs.Common.{⊎_elim, ℕ, ◌≡◌, ◌<◌, ◌≤◌, Bool, true, false, ◌||◌, IsTrue, Option, Some, None, refl, sym, ap, ap₂, ◌∙◌, arith}
 use Rattle.mc_source.specs.Determinism.{Determinism, row_of, rank, greater}
 use Rattle.mc_source.specs.declared.det.Det.{Det}
 use Rattle.mc_source.specs.declared.det.Most.{Most}
 use Rattle.mc_source.specs.declared.det.Most.TheVariants.{Zero, One, Many}
-use Rattle.mc_determinism_laws.specs.FaultLaws.{AllowsTells, JoinIsLeast, LeastIsOne}
+use Rattle.mc_accepted.specs.Inferred.{DeclaredSystem, LeastClosed}
+use Rattle.mc_accepted.specs.DeterminismFaults.{determinism_faults}
+use Rattle.mc_determinism_laws.specs.FaultLaws.{AllowsTells, FaultsAreOne, JoinIsLeast, LeastIsOne}
 use Rattle.mc_determinism_laws.proofs.Monotone.{to_allows, from_allows, allows_one_way}
 
 pub allows_tells : AllowsTells
@@ -66,11 +70,18 @@ same_row a b p q e = rows a.can_fail b.can_fail a.most b.most a.committed b.comm
         ap₂ (λ (t : Bool) (u : Most). let x : Det = record { can_fail = t; most = u; committed = false } in x)
         (ap (λ (r : Determinism). r.can_fail) e) (ap (λ (r : Determinism). r.most) e)
 
-pub least_is_one : LeastIsOne
-least_is_one D ds es h g k l = by_declared (D.procs k).declared refl
+same_below : (D : DeclaredSystem) (ds es : ℕ → Det) → LeastClosed D ds → LeastClosed D es → (k : ℕ) → k < D.count → ds k ≡ es k
+same_below D ds es h g k l = by_declared (D.procs k).declared refl
   where
     by_declared : (o : Option Det) → (D.procs k).declared ≡ o → ds k ≡ es k
     by_declared (Some d) q = h.closed.declared k d l q ∙ sym (g.closed.declared k d l q)
     by_declared None q =
         same_row (ds k) (es k) (h.closed.uncommitted k l q) (g.closed.uncommitted k l q)
         (allows_one_way (row_of (ds k)) (row_of (es k)) (h.least es g.closed k l) (g.least ds h.closed k l))
+
+pub least_is_one : LeastIsOne
+least_is_one D ds es h g =
+    fun_ext (λ k. ⊎_elim (λ l. same_below D ds es h g k l) (λ l. h.closed.others k l ∙ sym (g.closed.others k l)) (cases_lt k D.count))
+
+pub faults_are_one : FaultsAreOne
+faults_are_one runs D ds es h g = ap (determinism_faults runs D) (least_is_one D ds es h g)

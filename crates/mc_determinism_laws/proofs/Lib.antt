@@ -1,10 +1,13 @@
 mod Enough
 mod Equality
+mod Faultless
 mod Forms
 mod Grouping
 mod Inferring
 mod Labels
 mod Monotone
+mod Opened
 mod Placing
 mod Quiet
 mod Tables
+mod WholeGoals

@@ -3,14 +3,16 @@
 -- Reference Manual: Determinism; this project's profile of io.)
 use Rattle.std.specs.Prelude.{◌≡◌, ◌↔◌, ℕ, ◌<◌, Bool, true, false, None}
 use Rattle.mc_program.specs.Programs.{TypeTerm}
-use Rattle.mc_source.specs.Determinism.{Determinism, Allows}
+use Rattle.mc_source.specs.Determinism.{Determinism, Allows, row_of}
 use Rattle.mc_source.specs.declared.det.Det.{Det}
 use Rattle.mc_model.specs.Good.{System}
-use Rattle.mc_model.specs.Scheduled.{Node}
+use Rattle.mc_model.specs.Scheduled.{Node, Procedure}
 use Rattle.mc_accepted.specs.Ordered.{Insts}
-use Rattle.mc_accepted.specs.Determined.{Known, Placed, IoPlaced}
-use Rattle.mc_accepted.specs.Inferred.{join, DeclaredSystem, LeastClosed}
-use Rattle.mc_accepted.specs.DeterminismFaults.{allows, first_misplaced, misplaces_io}
+use Rattle.mc_accepted.specs.Determined.{Known, nothing_known, Placed, IoPlaced}
+use Rattle.mc_accepted.specs.Fits.{type_of}
+use Rattle.mc_accepted.specs.Accepted.{entered}
+use Rattle.mc_accepted.specs.Inferred.{join, DeclaredSystem, system_of, body_determinism, Closed, LeastClosed}
+use Rattle.mc_accepted.specs.DeterminismFaults.{allows, first_misplaced, misplaces_io, procedure_fault, determinism_faults}
 
 -- the test of allowing tells it
 abbrev pub AllowsTells : Type 0
@@ -36,8 +38,30 @@ JoinIsLeast =
     × Allows (join a b) b
     × ((c : Determinism) → Allows c a → Allows c b → Allows c (join a b))
 
--- there is one least assignment
+-- there is one least assignment, and so one list of faults
 abbrev pub LeastIsOne : Type 0
 LeastIsOne =
-    (D : DeclaredSystem) (ds es : ℕ → Det)
-    → LeastClosed D ds → LeastClosed D es → (k : ℕ) → k < D.count → ds k ≡ es k
+    (D : DeclaredSystem) (ds es : ℕ → Det) → LeastClosed D ds → LeastClosed D es → ds ≡ es
+
+abbrev pub FaultsAreOne : Type 0
+FaultsAreOne =
+    (runs : Bool) (D : DeclaredSystem) (ds es : ℕ → Det)
+    → LeastClosed D ds → LeastClosed D es →
+    determinism_faults runs D ds ≡ determinism_faults runs D es
+
+-- What is asked of a procedure's determinism where it is accepted: it allows the body's, and
+-- committed calls and io goals stand where they may.
+pub record MeetsDeterminism (S : System) (p : Procedure) : Type 0 where
+  pub allowed : Allows (row_of p.det) (body_determinism S p)
+  pub placed :
+      Placed S (type_of S p) (entered p.head p.first) nothing_known p.det.committed p.body
+  pub io :
+      IoPlaced S (type_of S p) (entered p.head p.first) nothing_known p.det.committed p.body
+
+-- a procedure without a fault, where determinisms are closed, meets that
+abbrev pub FaultlessMeets : Type 0
+FaultlessMeets =
+    (D : DeclaredSystem) (ds : ℕ → Det) (k : ℕ)
+    → Closed D ds → k < D.count →
+    procedure_fault (system_of D ds) (D.procs k) ((system_of D ds).procs k) ≡ None →
+    MeetsDeterminism (system_of D ds) ((system_of D ds).procs k)

@@ -1,4 +1,7 @@
 pub mod Examples
-pub mod ExamplesOfSwitches
+pub mod ExamplesOfClauses
 pub mod ExamplesOfDeterminisms
 pub mod ExamplesOfFaults
+pub mod ExamplesOfInference
+pub mod ExamplesOfInsts
+pub mod ExamplesOfSwitches

@@ -1,6 +1,9 @@
 //! Computed switch forms, determinisms, and rules of determinism that procedures break. Each is the contract of a
 //! function that does nothing, and each group has an equation that does not hold.
-ghost use Rattle.mc_determinism_laws.specs.code.ExamplesOfSwitches.{FactsSwitched, ListsSwitched, WhatIsLookedThrough, SeveralVariables, LabelsDontOverlap};
+ghost use Rattle.mc_determinism_laws.specs.code.ExamplesOfInference.{LeastOnes};
+ghost use Rattle.mc_determinism_laws.specs.code.ExamplesOfInsts.{Unfounded, FreeInside, OtherParameters, TidyModes, UnfoundedModes};
+ghost use Rattle.mc_determinism_laws.specs.code.ExamplesOfClauses.{ClausesSwitched};
+ghost use Rattle.mc_determinism_laws.specs.code.ExamplesOfSwitches.{ArmsMerged, FactsSwitched, ListsSwitched, WhatIsLookedThrough, SeveralVariables, LabelsDontOverlap};
 ghost use Rattle.mc_determinism_laws.specs.code.ExamplesOfDeterminisms.{ListsDetermined, FactsDetermined, HeadsDetermined, CallsDetermined, Marks};
 ghost use Rattle.mc_determinism_laws.specs.code.ExamplesOfFaults.{NotAllowed, Undeclared, MisplacedCalls, MisplacedIo, MainIsAsked, FaultsInOrder};
 
@@ -11,6 +14,8 @@ pub fn switches()
     ensures looked_through { WhatIsLookedThrough }
     ensures several { SeveralVariables }
     ensures labels { LabelsDontOverlap }
+    ensures kept { ArmsMerged }
+    ensures clauses { ClausesSwitched }
 {}
 
 /// The determinisms of goals in switch form, and which goals are pruned.
@@ -20,6 +25,11 @@ pub fn determinisms()
     ensures heads { HeadsDetermined }
     ensures calls { CallsDetermined }
     ensures marks { Marks }
+{}
+
+/// The least determinisms of procedures that declare none.
+pub fn inference()
+    ensures { LeastOnes }
 {}
 
 /// The rules that procedures break, one at a time.
@@ -34,4 +44,13 @@ pub fn faults()
 pub fn lists_of_faults()
     ensures main { MainIsAsked }
     ensures order { FaultsInOrder }
+{}
+
+/// Definitions of insts and modes that break rules, and such as don't.
+pub fn insts()
+    ensures unfounded { Unfounded }
+    ensures free_inside { FreeInside }
+    ensures other_parameters { OtherParameters }
+    ensures modes { UnfoundedModes }
+    ensures tidy { TidyModes }
 {}

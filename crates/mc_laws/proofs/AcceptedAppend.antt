@@ -17,9 +17,7 @@ use Rattle.mc_laws.specs.code.Examples.{det, nil, cell}
 use Rattle.mc_source.specs.declared.det.Det.{Det}
 use Rattle.mc_laws.specs.code.ExamplesOfGoals.{append, append_goal}
 use Rattle.mc_laws.specs.code.ExamplesOfProcedures.{append_pred, list_parameters, list_source, list_insts, nil_listed, cell_listed, empty_arm, cell_arm, append_body, append_system, append_procedure, AppendIsAccepted}
-use Rattle.mc_laws.proofs.Inclusions.{on_types, on_either}
-use Rattle.mc_laws.proofs.Merging.{either_is_least}
-use Rattle.mc_laws.proofs.ListInsts.{swapped, entered_off, apart, differ, bound_below_ground, included_ground, both_ground, ground_or_cell, ground_tidy, free_tidy, types_proper}
+use Rattle.mc_laws.proofs.ListInsts.{swapped, entered_off, apart, differ, bound_below_ground, included_ground, both_ground, ground_or_cell, nil_or_cell, ground_tidy, free_tidy, types_proper}
 use Rattle.std.proofs.lemmas.Option.{same_Some}
 use Rattle.mc_program.specs.PlainPrograms.{no_pred}
 use Rattle.mc_program.specs.declared.builtin.Builtin.{Builtin}
@@ -118,27 +116,6 @@ cell_is_ordered =
 by_head : (Q : ℕ → Type 0) → Q 0 → Q 1 → Q 2 → (x : ℕ) → In x head → Q x
 by_head Q a b c x h = ⊎_elim (λ e. subst Q (sym e) a) (λ h. ⊎_elim (λ e. subst Q (sym e) b) (λ h. ⊎_elim (λ e. subst Q (sym e) c) (λ h. absurd h) h) h) h
 
-nil_or_cell : (t : TypeTerm) → Merged P G (4 ∷ 5 ∷ []) 6 t
-nil_or_cell t = (((λ e. cc), ((λ e. cc), tt)), ((λ e. cc), ((λ e. cc), tt)), either_is_least P G 4 5 6 t (record { first = above_nil; second = above_cell; either = either }))
-  where
-    either : (path : Path) (e : Tip) → Allows P G path e 6 t → Allows P G path e 4 t ⊎ Allows P G path e 5 t
-    either [] (symbol_tip s) a = on_either (argument_types P s t) _ _ _ (λ ts h. ⊎_elim (λ l. inl (inl l)) (λ r. inr r) h) a
-    either [] (constant_tip b) a = absurd a.1
-    either [] (state_tip m) a = absurd a.1
-    either ((s, k) ∷ path) e a = on_either (argument_types P s t) _ _ _ (λ ts h. ⊎_elim (λ l. inl (inl l)) (λ r. inr r) h) a
-
-    above_nil : NoMore P G 4 6 t
-    above_nil [] (symbol_tip s) a = on_types (argument_types P s t) _ _ (λ ts h. ⊎_elim (λ l. inl l) (λ r. absurd r) h) a
-    above_nil [] (constant_tip b) a = absurd a.1
-    above_nil [] (state_tip m) a = absurd a.1
-    above_nil ((s, k) ∷ path) e a = on_types (argument_types P s t) _ _ (λ ts h. ⊎_elim (λ l. inl l) (λ r. absurd r) h) a
-
-    above_cell : NoMore P G 5 6 t
-    above_cell [] (symbol_tip s) a = on_types (argument_types P s t) _ _ (λ ts h. inr h) a
-    above_cell [] (constant_tip b) a = absurd a.1
-    above_cell [] (state_tip m) a = absurd a.1
-    above_cell ((s, k) ∷ path) e a = on_types (argument_types P s t) _ _ (λ ts h. inr h) a
-
 body_is_ordered : OrderedNode append_system T head head entry append_goal (append_body det) (Some after_both)
 body_is_ordered =
     kept
@@ -146,7 +123,7 @@ body_is_ordered =
     (arm {o = Some after_empty} (to_part (to_rest no_part)) tt (tt, inl (refl, refl)) ((λ e. cc), tt) empty_is_ordered
     (arm {o = Some after_cell} (to_part no_part) tt (tt, inl (refl, refl)) tt cell_is_ordered no_arm))
     (λ x. (
-      by_head (λ y. Merged P G (after_empty y ∷ after_cell y ∷ []) (after_both y) (T y)) (nil_or_cell (T 0)) (both_ground P (T 1)) (ground_or_cell P (T 2)) x,
+      by_head (λ y. Merged P G (after_empty y ∷ after_cell y ∷ []) (after_both y) (T y)) (nil_or_cell P (T 0)) (both_ground P (T 1)) (ground_or_cell P (T 2)) x,
       (λ out. inl (entered_off head (6 ∷ 1 ∷ 1 ∷ []) x out)),
     )))
     (changed_both, (omega arith, (omega arith, tt)), (apart 1 6 refl, (apart 0 1 refl, tt)))

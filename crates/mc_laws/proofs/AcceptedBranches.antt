@@ -33,7 +33,7 @@ abbrev all_in : List ℕ → List ℕ → Bool
 all_in [] ys = true
 all_in (x ∷ xs) ys = cond (is_in x ys) (all_in xs ys) false
 
-apart_lists : (xs ys : List ℕ) → none_in xs ys ≡ true → Apart xs ys
+pub apart_lists : (xs ys : List ℕ) → none_in xs ys ≡ true → Apart xs ys
 apart_lists [] ys e x i j = i
 apart_lists (y ∷ xs) ys e x i j = by_test (is_in y ys) (in_list y ys) e (λ q. apart_lists xs ys q)
   where

@@ -86,7 +86,7 @@ place_apart x z (y ∷ ys) h k e = by_tests (nat_eq x y) (nat_eq z y) (eqb-true 
     by_tests false false p q a b e rest = ⊎_elim (λ i. absurd (a refl i)) (λ i. ⊎_elim (λ j. absurd (b refl j)) (λ j. rest i j (omega (arith, e))) k) h
 
 -- a variable that is no head argument is one of the others
-in_without : (x : ℕ) (xs vs : List ℕ) → In x xs → (In x vs → ⊥) → In x (without xs vs)
+pub in_without : (x : ℕ) (xs vs : List ℕ) → In x xs → (In x vs → ⊥) → In x (without xs vs)
 in_without x [] vs h out = absurd h
 in_without x (y ∷ ys) vs h out = by_test (is_in y vs) (is_in_true y vs) (λ i. in_without x ys vs i out)
   where
@@ -94,7 +94,7 @@ in_without x (y ∷ ys) vs h out = by_test (is_in y vs) (is_in_true y vs) (λ i.
     by_test true q rest = ⊎_elim (λ e. absurd (out (subst (λ z. In z vs) (sym e) (q refl)))) (λ i. rest i) h
     by_test false q rest = ⊎_elim (λ e. inl e) (λ i. inr (rest i)) h
 
-in_once : (x : ℕ) (xs : List ℕ) → In x xs → In x (once xs)
+pub in_once : (x : ℕ) (xs : List ℕ) → In x xs → In x (once xs)
 in_once x [] h = absurd h
 in_once x (y ∷ ys) h = by_test (nat_eq x y) (eqb-true x y) (eqb-false x y) (λ i. in_once x ys i)
   where
@@ -142,7 +142,7 @@ clause_numbers n c l =
     }
 
 -- one of the others is a variable of the clause, and has a number above those of the head
-from_without : (x : ℕ) (xs vs : List ℕ) → In x (without xs vs) → In x xs
+pub from_without : (x : ℕ) (xs vs : List ℕ) → In x (without xs vs) → In x xs
 from_without x [] vs h = h
 from_without x (y ∷ ys) vs h = by_test (is_in y vs) h (λ i. from_without x ys vs i)
   where
@@ -150,7 +150,7 @@ from_without x (y ∷ ys) vs h = by_test (is_in y vs) h (λ i. from_without x ys
     by_test true h rest = inr (rest h)
     by_test false h rest = ⊎_elim (λ e. inl e) (λ i. inr (rest i)) h
 
-from_once : (x : ℕ) (xs : List ℕ) → In x (once xs) → In x xs
+pub from_once : (x : ℕ) (xs : List ℕ) → In x (once xs) → In x xs
 from_once x [] h = h
 from_once x (y ∷ ys) h = ⊎_elim (λ e. inl e) (λ i. inr (from_once x ys (from_without x (once ys) (y ∷ []) i))) h
 

@@ -8,6 +8,7 @@ pub mod FlatGoals
 pub mod FlatWhole
 pub mod HeadEquations
 pub mod Inclusions
+pub mod LegalGoals
 pub mod Levels
 pub mod ListInsts
 pub mod Merging
@@ -15,5 +16,8 @@ pub mod Monotone
 pub mod NoOrder
 pub mod PredicateGoals
 pub mod Prefixes
+pub mod Refusals
+pub mod Scopes
 pub mod Stages
+pub mod Switches
 pub mod TermViews

@@ -1,5 +1,5 @@
 -- The insts of lists, over any program that has the symbols of lists.
-use Rattle.std.proofs.Common.{◌≡◌, ◌≢◌, inl, inr, ℕ, zero, suc, ◌<◌, List, [], ◌∷◌, length, get_or, replicate, Bool, true, false, cond, nat_eq, refl, sym, ap, ◌∙◌, subst, arith, ⊎_elim}
+use Rattle.std.proofs.Common.{◌≡◌, ◌≢◌, ◌⊎◌, inl, inr, ℕ, zero, suc, ◌<◌, List, [], ◌∷◌, length, get_or, replicate, Bool, true, false, cond, nat_eq, refl, sym, ap, ◌∙◌, subst, arith, ⊎_elim}
 use Rattle.std.proofs.lemmas.Bool.{eqb-true, eqb-false}
 use Rattle.std.proofs.lemmas.List.{length-replicate, get_or-replicate}
 use Rattle.mc_program.specs.Programs.{TypeTerm, variable_type, Source}
@@ -11,7 +11,7 @@ use Rattle.mc_accepted.specs.ProperTypes.{Parameters, ProperType, EachProper}
 use Rattle.mc_accepted.specs.Tidy.{Leads, Tidy}
 use Rattle.mc_accepted.specs.Accepted.{entered}
 use Rattle.mc_laws.specs.code.ExamplesOfProcedures.{list_insts, cell_listed}
-use Rattle.mc_laws.proofs.Inclusions.{on_types, on_types_to}
+use Rattle.mc_laws.proofs.Inclusions.{on_types, on_either, on_types_to}
 use Rattle.mc_laws.proofs.Merging.{either_is_least, one_is_merged}
 
 -- two variables get their insts in either order
@@ -83,6 +83,27 @@ module _ (P : Source) where
     ((λ e. cc), ((λ e. cc), tt)),
     either_is_least P G 5 1 1 t (record { first = bound_below_ground 5 (cell_listed ∷ []) t refl (refl, tt); second = λ path e a. a; either = λ path e a. inr a }),
   )
+
+  pub nil_or_cell : (t : TypeTerm) → Merged P G (4 ∷ 5 ∷ []) 6 t
+  nil_or_cell t = (((λ e. cc), ((λ e. cc), tt)), ((λ e. cc), ((λ e. cc), tt)), either_is_least P G 4 5 6 t (record { first = above_nil; second = above_cell; either = either }))
+    where
+      either : (path : Path) (e : Tip) → Allows P G path e 6 t → Allows P G path e 4 t ⊎ Allows P G path e 5 t
+      either [] (symbol_tip s) a = on_either (argument_types P s t) _ _ _ (λ ts h. ⊎_elim (λ l. inl (inl l)) (λ r. inr r) h) a
+      either [] (constant_tip b) a = absurd a.1
+      either [] (state_tip m) a = absurd a.1
+      either ((s, k) ∷ path) e a = on_either (argument_types P s t) _ _ _ (λ ts h. ⊎_elim (λ l. inl (inl l)) (λ r. inr r) h) a
+
+      above_nil : NoMore P G 4 6 t
+      above_nil [] (symbol_tip s) a = on_types (argument_types P s t) _ _ (λ ts h. ⊎_elim (λ l. inl l) (λ r. absurd r) h) a
+      above_nil [] (constant_tip b) a = absurd a.1
+      above_nil [] (state_tip m) a = absurd a.1
+      above_nil ((s, k) ∷ path) e a = on_types (argument_types P s t) _ _ (λ ts h. ⊎_elim (λ l. inl l) (λ r. absurd r) h) a
+
+      above_cell : NoMore P G 5 6 t
+      above_cell [] (symbol_tip s) a = on_types (argument_types P s t) _ _ (λ ts h. inr h) a
+      above_cell [] (constant_tip b) a = absurd a.1
+      above_cell [] (state_tip m) a = absurd a.1
+      above_cell ((s, k) ∷ path) e a = on_types (argument_types P s t) _ _ (λ ts h. inr h) a
 
   -- `ground` leads to itself alone, and `free` to nothing, so neither has a `unique` or a `dead` inside
   ground_leads : (path : Path) (j : ℕ) (u t : TypeTerm) → Leads P G path j u 1 t → j ≡ 1

@@ -1,8 +1,10 @@
 pub mod BareLaws
+pub mod AcceptedLaws
 pub mod DeterminismLaws
 pub mod FlatLaws
 pub mod Laws
 pub mod MergeLaws
 pub mod PredicateLaws
 pub mod Proper
+pub mod ScopeLaws
 pub mod code

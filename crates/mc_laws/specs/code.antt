@@ -2,7 +2,9 @@ pub mod Examples
 pub mod ExamplesOfBranches
 pub mod ExamplesOfBuiltins
 pub mod ExamplesOfGoals
+pub mod ExamplesOfLegalGoals
 pub mod ExamplesOfLists
 pub mod ExamplesOfModes
 pub mod ExamplesOfProcedures
+pub mod ExamplesOfRefusals
 pub mod ExamplesOfRuns

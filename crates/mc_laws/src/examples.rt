@@ -2,10 +2,12 @@
 //! the contract of a function that does nothing, and each group has an equation that does not hold.
 ghost use Rattle.mc_laws.specs.code.ExamplesOfBranches.{BranchesAreAccepted};
 ghost use Rattle.mc_laws.specs.code.ExamplesOfBuiltins.{NumbersWrap, DivisionRounds, DivisionAtItsEnds, Comparisons, NumbersInTexts, CharactersInTexts, Writing, Reading, InPrograms};
-ghost use Rattle.mc_laws.specs.code.ExamplesOfGoals.{NegationsQuantify, ConditionsQuantify, ScopesAreWritten, NormalGoals};
+ghost use Rattle.mc_laws.specs.code.ExamplesOfGoals.{NegationsQuantify, ConditionsQuantify, ScopesAreWritten, ScopesInScopes, NormalGoals, QueriesAsk, NormalVariables};
+ghost use Rattle.mc_laws.specs.code.ExamplesOfLegalGoals.{ConditionAnswersOnce, BuiltinAlone, SwitchThroughSome, BranchesUnderSome};
 ghost use Rattle.mc_laws.specs.code.ExamplesOfLists.{Facts, Appends, Members, Queens};
 ghost use Rattle.mc_laws.specs.code.ExamplesOfModes.{Determinisms, CommittedCalls, IoGoals, GoalsWithoutOrder};
 ghost use Rattle.mc_laws.specs.code.ExamplesOfProcedures.{AppendIsAccepted};
+ghost use Rattle.mc_laws.specs.code.ExamplesOfRefusals.{CommittedWithoutAnswers, NumbersPastTheSymbols, FreshVariableTwice, SwitchBehindWriting, AllBindsNothing};
 ghost use Rattle.mc_laws.specs.code.ExamplesOfRuns.{Order, Budgets, Depths, Throws, Output};
 
 /// What builtins do at some inputs.
@@ -67,11 +69,18 @@ pub fn scopes()
     ensures negations { NegationsQuantify }
     ensures conditions { ConditionsQuantify }
     ensures written { ScopesAreWritten }
+    ensures nested { ScopesInScopes }
 {}
 
 /// Predicates as one goal whose atoms hold variables alone.
 pub fn normal_goals()
     ensures { NormalGoals }
+{}
+
+/// The clause that a query is, and the types and names of a normal goal's variables.
+pub fn queries_and_variables()
+    ensures queries { QueriesAsk }
+    ensures variables { NormalVariables }
 {}
 
 /// A procedure that is accepted, and two that are not.
@@ -94,4 +103,21 @@ pub fn determinisms()
 /// Goals that no order makes mode-correct.
 pub fn goals_without_order()
     ensures { GoalsWithoutOrder }
+{}
+
+/// Programs that are refused, since their runs would not be good.
+pub fn refusals()
+    ensures committed_without_answers { CommittedWithoutAnswers }
+    ensures numbers_past_the_symbols { NumbersPastTheSymbols }
+    ensures fresh_variable_twice { FreshVariableTwice }
+    ensures switch_behind_writing { SwitchBehindWriting }
+    ensures all_binds_nothing { AllBindsNothing }
+{}
+
+/// Procedures of less common forms that are accepted.
+pub fn legal_goals()
+    ensures condition_answers_once { ConditionAnswersOnce }
+    ensures builtin_alone { BuiltinAlone }
+    ensures switch_through_some { SwitchThroughSome }
+    ensures branches_under_some { BranchesUnderSome }
 {}

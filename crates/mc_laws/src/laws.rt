@@ -3,6 +3,8 @@ ghost use Rattle.mc_laws.specs.BareLaws.{GoalsRunBare, CallsRunBare, QueriesRunB
 ghost use Rattle.mc_laws.specs.Laws.{GoalsStay, CallsStay, NoGoalIsBoth, NoCallIsBoth, LevelsSuffice, LevelsSufficeForCalls, LevelsSufficeForQueries, OneLevelMore, BudgetsExtend, BudgetsExtendCalls, BudgetsExtendQueries, SameIsEqual, PlainIsExact, PlainTypesAreExact, PlainTermsAreExact};
 ghost use Rattle.mc_laws.specs.Proper.{IncludedSets};
 ghost use Rattle.mc_laws.specs.MergeLaws.{EitherIsLeast, OneIsMerged, MergedAllowTheSame, OlderNodesKeepPaths, OlderNodesKeepValues};
+ghost use Rattle.mc_laws.specs.ScopeLaws.{ScopedHasScopes, ClausesAreScoped, WrittenScopesStay, ScopedOnce};
+ghost use Rattle.mc_laws.specs.AcceptedLaws.{ValuesAreListed, CommittedMayAnswer, AcceptedSwitchesOpen};
 ghost use Rattle.mc_laws.specs.FlatLaws.{FlatGoalsCarry};
 ghost use Rattle.mc_laws.specs.PredicateLaws.{PredicatesCarry};
 ghost use Rattle.mc_laws.specs.DeterminismLaws.{ConjIsMonotone, DisjIsMonotone, IteIsMonotone, NegatedIsMonotone, PrunedIsMonotone, AllowsItself, AllowsInTurn, AllowsOneWay};
@@ -97,4 +99,28 @@ pub fn bare_runs_alike()
     ensures goals { GoalsRunBare }
     ensures calls { CallsRunBare }
     ensures queries { QueriesRunBare }
+{}
+
+/// Scopes that are written out are those of the language where the goal's own quantifiers are apart; a goal that has its
+/// scopes written out stays as it is, and writing them out twice is writing them out once.
+pub fn scopes_are_written_out()
+    ensures goals { ScopedHasScopes }
+    ensures clauses { ClausesAreScoped }
+    ensures stay { WrittenScopesStay }
+    ensures once { ScopedOnce }
+{}
+
+/// A value of a union type has a constructor that the type lists.
+pub fn values_are_listed()
+    ensures { ValuesAreListed }
+{}
+
+/// A committed procedure that is accepted may have an answer.
+pub fn committed_procedures_may_answer()
+    ensures { CommittedMayAnswer }
+{}
+
+/// In accepted procedures each arm of each switch takes the variable apart before its first goal that is no equation.
+pub fn switches_look_past_equations()
+    ensures { AcceptedSwitchesOpen }
 {}

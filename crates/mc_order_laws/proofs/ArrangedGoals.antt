@@ -1,10 +1,8 @@
 -- What is arranged over nodes of a graph stands in the relation without marks.
-use Rattle.std.proofs.Common.{◌≡◌, ◌≢◌, ◌⊎◌, inl, inr, ℕ, zero, suc, ◌+◌, ◌<◌, ◌≤◌, Bool, true, false, cond, not, nat_lt, ◌&&◌, ◌||◌, List, [], ◌∷◌, ◌++◌, map, length, Option, Some, None, refl, ap, sym, ◌∙◌, subst, ⊎_elim}
+use Rattle.std.proofs.Common.{◌≡◌, ◌≢◌, ℕ, zero, suc, ◌+◌, ◌<◌, Bool, true, false, cond, not, nat_lt, ◌&&◌, ◌||◌, List, [], ◌∷◌, ◌++◌, map, length, Option, Some, None, refl, ap, sym, ◌∙◌, subst, ⊎_elim}
 use Rattle.std.specs.List.{list_any, list_all}
-use Rattle.std.proofs.Math.Nat.{le_trans}
 use Rattle.mc_program.specs.Values.{Val}
 use Rattle.mc_program.specs.Programs.{TypeTerm, Source}
-use Rattle.mc_model.specs.Insts.{InstNode, free, ground, unique, dead, bound}
 use Rattle.mc_model.specs.Outcomes.{inputs_of}
 use Rattle.mc_model.specs.Flat as F
 use Rattle.mc_model.specs.Flat.{Flat_goal, Flat_goals, no_flat, flat_then, variables_of, variables_of_all, free_in}
@@ -13,8 +11,8 @@ use Rattle.mc_model.specs.Scheduled.{Node, Scheduled, Conj, Disj, Ite, Not, Exis
 use Rattle.mc_model.specs.Stream.{is_bound}
 use Rattle.mc_model.specs.Good.{System}
 use Rattle.mc_source.specs.Determinism.{is_zero}
-use Rattle.mc_accepted.specs.Inclusion.{Merged, LeastAbove, MergedNodes, AllFree, NoneIs, NoneMore, NoMoreThere}
-use Rattle.mc_accepted.specs.Ordered.{Insts, Mode, is_state, also, modes_of, modes_of_procedure, at_inputs, at_outputs, reachable, implied_places, builtin_most, unless_never, NoneDead, Usable, After, Joined, Picks, here, there}
+use Rattle.mc_accepted.specs.Inclusion.{Merged}
+use Rattle.mc_accepted.specs.Ordered.{Insts, Mode, is_state, also, modes_of, modes_of_procedure, at_inputs, at_outputs, reachable, implied_places, builtin_most, unless_never, NoneDead, Usable, After, Picks, here, there}
 use Rattle.mc_accepted.specs.Unmarked.{unmarked}
 use Rattle.mc_accepted.specs.Least.{least}
 use Rattle.mc_accepted.specs.Arranged.{Declared, Arranged, runs, breaks, Fault, waits, negated_binds, branches_differ, lacks, Waiting, Picked, takes, none_runs, Branches, all_run, one_breaks, alone, nodes_before, two_goals, fresh_at, tests_at, test_nodes, with_fresh, is_there, count_flat, those_in, one, wait, stuck, or_first, variables_of_waiting, picked, pick, behind, goes_on, in_turn, with_end, with_branch, and_branches, each_branch, no_branch, unless, wrapped, atom, same, made, constant, binds, differs, built, took, take, usable, implied_in, better, best, called, applied_with, call_of, joined_at, or_free, merged, merges, branched, conditional, negation, trial, trials}
@@ -22,15 +20,13 @@ use Rattle.mc_accepted.specs.Arranged as G
 use Rattle.mc_accepted.specs.Chosen.{Chosen, of_nodes}
 use Rattle.mc_accepted.specs.code.Truthful.{AllAre, Truthful, IsNarrowed, IsDeclared, AllDeclared}
 use Rattle.mc_accepted.specs.code.Standing as S
-use Rattle.mc_accepted.specs.code.Standing.{implied_of, freshened, fresh_tests, TestsTyped, Freshly, fresh_nodes, Standing, StandingAll, StandingAny}
+use Rattle.mc_accepted.specs.code.Standing.{implied_of, freshened, fresh_tests, TestsTyped, Freshly, fresh_nodes, JoinedOwn, Standing, StandingAll, StandingAny}
 use Rattle.mc_program.specs.declared.builtin.Builtin.{Builtin}
 use Rattle.mc_source.specs.declared.det.Most.{Most}
 use Rattle.mc_source.specs.declared.det.Most.TheVariants.{Zero, One, Many}
-use Rattle.mc_order_laws.specs.OrderLaws.{Below}
-use Rattle.mc_order_laws.proofs.OthersStay as K
-use Rattle.mc_order_laws.proofs.OthersStay.{in-left, in-right, in-is, not-in, Kept, EndsStay, BranchesKeep}
+use Rattle.mc_order_laws.proofs.OthersStay.{in-is}
 use Rattle.mc_order_laws.proofs.Arranging as A
-use Rattle.mc_order_laws.proofs.Arranging.{not-both, or-first, or-second, and-first, and-second, not-false, not-true, is-set, is-unset, is-in, none-passes, with-fresh, length-fresh, has-tests, below-both, below-left, below-right, below-more, in-without, free-is-own, fresh-below, those-in}
+use Rattle.mc_order_laws.proofs.Arranging.{not-both, or-first, or-second, and-first, and-second, not-false, not-true, is-set, is-unset, is-in, none-passes, with-fresh, length-fresh, has-tests, those-in}
 
 never-is : (m : Most) (c : Insts) → cond (is_zero m) None (Some c) ≡ unless_never m c
 never-is Zero c = refl
@@ -164,14 +160,11 @@ module _ (Y : System) (T : ℕ → TypeTerm) (C : Chosen) (declared : ℕ → Li
       good-cond O n b (F.Call p xs) (usable (of_nodes C) P declared T xs (modes_of op) xs b) _ _ (λ u. good-applied-with O n b p op xs e alive u (implied_in (of_nodes C) P declared T (modes_of op) xs b) refl) (λ u. tt)
 
   abbrev Holds : Flat_goal → Type 0
-  Holds g = (O : List ℕ) (n : ℕ) (b : Insts) → Below n O → Below n (variables_of g) → Good O n b g (trial (of_nodes C) P declared T g O n b)
+  Holds g = (O : List ℕ) (n : ℕ) (b : Insts) → Good O n b g (trial (of_nodes C) P declared T g O n b)
 
   abbrev AllHold : Flat_goals → Type 0
   AllHold no_flat = Unit {0}
   AllHold (flat_then g gs) = Holds g × AllHold gs
-
-  keeps : (g : Flat_goal) (O : List ℕ) (n : ℕ) (b : Insts) → Kept (variables_of g) n b (trial (of_nodes C) P declared T g O n b)
-  keeps g O n b = K.keeps (of_nodes C) P declared T g O n b
 
   tests-stand : (a : Node) (ts : List (ℕ × ℕ)) → ts ≢ [] → alone (node_then a (test_nodes ts)) ≡ unmarked (Conj (node_then a (test_nodes ts)))
   tests-stand a [] ne = absurd (ne refl)
@@ -185,12 +178,6 @@ module _ (Y : System) (T : ℕ → TypeTerm) (C : Chosen) (declared : ℕ → Li
       (sym (tests-stand (unmarked (Apply op (at_inputs (inputs_of op) (freshened Y T n b op xs)) (at_outputs (inputs_of op) (freshened Y T n b op xs)))) (fresh_tests Y T n b op xs)
       (has-tests 0 (modes_of op) xs (λ x. is_bound (b x)) (implied_of Y T op xs b) n (λ j h. h) f.implies)))
       (S.apply_freshly f))
-
-  -- fresh variables are numbered below the next one
-  goes-below : (O : List ℕ) (n : ℕ) (b : Insts) (g : Flat_goal) {gs : Nodes} {o : Option Insts} {m : ℕ} {zs : List ℕ} → Below n (variables_of g) → n ≤ m → Goes O n b g gs o m zs → Below m zs
-  goes-below O n b g bg le (single s) x i = absurd i
-  goes-below O n b g bg le (several {c = c} {p = p} {op = op} {xs = xs} e f) x i =
-      ⊎_elim (λ j. below-more n (n + length (fresh_tests Y T n b op xs)) xs le (subst (λ h. Below n (variables_of h)) e bg) x j) (λ lt. lt) (fresh-below 0 (implied_of Y T op xs b) xs n x i)
 
   -- ---- conjunctions
   abbrev waiting : Flat_goals → List (Waiting ℕ)
@@ -216,14 +203,6 @@ module _ (Y : System) (T : ℕ → TypeTerm) (C : Chosen) (declared : ℕ → Li
   and-assoc no_flat g gs = refl
   and-assoc (flat_then h hs) g gs = ap (flat_then h) (and-assoc hs g gs)
 
-  picks-goal : {gs rest : Flat_goals} {g : Flat_goal} → Picks gs g rest → (x : ℕ) → In x (variables_of g) → In x (variables_of_all gs)
-  picks-goal (here {g = g} {gs = gs}) x i = in-left x (variables_of g) (variables_of_all gs) i
-  picks-goal (there {k = k} {gs = gs} p) x i = in-right x (variables_of k) (variables_of_all gs) (picks-goal p x i)
-
-  picks-rest : {gs rest : Flat_goals} {g : Flat_goal} → Picks gs g rest → (x : ℕ) → In x (variables_of_all rest) → In x (variables_of_all gs)
-  picks-rest (here {g = g} {gs = gs}) x i = in-right x (variables_of g) (variables_of_all gs) i
-  picks-rest (there {k = k} {gs = gs} {rest = rest} p) x i = ⊎_elim (λ j. in-left x (variables_of k) (variables_of_all gs) j) (λ j. in-right x (variables_of k) (variables_of_all gs) (picks-rest p x j)) (K.in-either x (variables_of k) (variables_of_all rest) i)
-
   others-variables : (hs gs : Flat_goals) → variables_of_waiting (waiting hs ++ waiting gs) ≡ variables_of_all (and_goals hs gs)
   others-variables hs gs = ap variables_of_waiting (sym (trials-and hs gs)) ∙ waiting-variables (and_goals hs gs)
 
@@ -235,7 +214,6 @@ module _ (Y : System) (T : ℕ → TypeTerm) (C : Chosen) (declared : ℕ → Li
     others : ws ≡ waiting rest
     variables : vs ≡ with_fresh (variables_of goal) zs
     goes : Goes (O ++ variables_of_all rest) n b goal ns o m zs
-    later : n ≤ m
 
   abbrev GoodPicked : List ℕ → ℕ → Insts → Flat_goals → Picked ℕ → Type 0
   GoodPicked O n b all (takes vs ws ns o m) = Took O n b all vs ws ns o m
@@ -249,10 +227,10 @@ module _ (Y : System) (T : ℕ → TypeTerm) (C : Chosen) (declared : ℕ → Li
   good-or-first O n b all f (none_runs (Some (branches_differ v))) h = tt
   good-or-first O n b all f (none_runs (Some lacks)) h = tt
 
-  good-picked : (O : List ℕ) (n : ℕ) (b : Insts) (hs : Flat_goals) (g : Flat_goal) (gs : Flat_goals) (r : Arranged ℕ) → Good (O ++ variables_of_waiting (waiting hs ++ waiting gs)) n b g r → Kept (variables_of g) n b r → (later : Picked ℕ) →
+  good-picked : (O : List ℕ) (n : ℕ) (b : Insts) (hs : Flat_goals) (g : Flat_goal) (gs : Flat_goals) (r : Arranged ℕ) → Good (O ++ variables_of_waiting (waiting hs ++ waiting gs)) n b g r → (later : Picked ℕ) →
       GoodPicked O n b (and_goals hs (flat_then g gs)) later →
       GoodPicked O n b (and_goals hs (flat_then g gs)) (picked (record { variables = variables_of g; trial = trial (of_nodes C) P declared T g }) (waiting hs ++ waiting gs) r later)
-  good-picked O n b hs g gs (runs ns o m zs) h stays later k =
+  good-picked O n b hs g gs (runs ns o m zs) h later k =
       record {
         goal = g;
         rest = and_goals hs gs;
@@ -261,25 +239,19 @@ module _ (Y : System) (T : ℕ → TypeTerm) (C : Chosen) (declared : ℕ → Li
         others = sym (trials-and hs gs);
         variables = refl;
         goes = subst (λ us. Goes (O ++ us) n b g ns o m zs) (others-variables hs gs) h;
-        later = stays.0;
       }
-  good-picked O n b hs g gs (breaks (waits j vs)) h stays later k = k
-  good-picked O n b hs g gs (breaks (negated_binds v)) h stays later k = good-or-first O n b (and_goals hs (flat_then g gs)) (negated_binds v) later k
-  good-picked O n b hs g gs (breaks (branches_differ v)) h stays later k = good-or-first O n b (and_goals hs (flat_then g gs)) (branches_differ v) later k
-  good-picked O n b hs g gs (breaks lacks) h stays later k = tt
+  good-picked O n b hs g gs (breaks (waits j vs)) h later k = k
+  good-picked O n b hs g gs (breaks (negated_binds v)) h later k = good-or-first O n b (and_goals hs (flat_then g gs)) (negated_binds v) later k
+  good-picked O n b hs g gs (breaks (branches_differ v)) h later k = good-or-first O n b (and_goals hs (flat_then g gs)) (branches_differ v) later k
+  good-picked O n b hs g gs (breaks lacks) h later k = tt
 
-  good-pick : (O : List ℕ) (n : ℕ) (b : Insts) (hs gs : Flat_goals) → AllHold gs → Below n O → Below n (variables_of_all (and_goals hs gs)) → GoodPicked O n b (and_goals hs gs) (pick (waiting hs) (waiting gs) O n b)
-  good-pick O n b hs no_flat hold bo bg = tt
-  good-pick O n b hs (flat_then g gs) hold bo bg =
-      good-picked O n b hs g gs (trial (of_nodes C) P declared T g (O ++ variables_of_waiting (waiting hs ++ waiting gs)) n b)
-      (hold.0 (O ++ variables_of_waiting (waiting hs ++ waiting gs)) n b
-      (subst (λ us. Below n (O ++ us)) (sym (others-variables hs gs)) (below-both n O (variables_of_all (and_goals hs gs)) bo (λ x i. bg x (picks-rest (picks-and hs g gs) x i))))
-      (λ x i. bg x (picks-goal (picks-and hs g gs) x i)))
-      (keeps g (O ++ variables_of_waiting (waiting hs ++ waiting gs)) n b)
+  good-pick : (O : List ℕ) (n : ℕ) (b : Insts) (hs gs : Flat_goals) → AllHold gs → GoodPicked O n b (and_goals hs gs) (pick (waiting hs) (waiting gs) O n b)
+  good-pick O n b hs no_flat hold = tt
+  good-pick O n b hs (flat_then g gs) hold =
+      good-picked O n b hs g gs (trial (of_nodes C) P declared T g (O ++ variables_of_waiting (waiting hs ++ waiting gs)) n b) (hold.0 (O ++ variables_of_waiting (waiting hs ++ waiting gs)) n b)
       (pick (waiting hs ++ record { variables = variables_of g; trial = trial (of_nodes C) P declared T g } ∷ []) (waiting gs) O n b)
       (subst (λ all. GoodPicked O n b all (pick (waiting hs ++ record { variables = variables_of g; trial = trial (of_nodes C) P declared T g } ∷ []) (waiting gs) O n b)) (and-assoc hs g gs)
-      (subst (λ vs. GoodPicked O n b (and_goals (and_goals hs (flat_then g no_flat)) gs) (pick vs (waiting gs) O n b)) (trials-and hs (flat_then g no_flat))
-      (good-pick O n b (and_goals hs (flat_then g no_flat)) gs hold.1 bo (subst (λ all. Below n (variables_of_all all)) (sym (and-assoc hs g gs)) bg))))
+      (subst (λ vs. GoodPicked O n b (and_goals (and_goals hs (flat_then g no_flat)) gs) (pick vs (waiting gs) O n b)) (trials-and hs (flat_then g no_flat)) (good-pick O n b (and_goals hs (flat_then g no_flat)) gs hold.1)))
 
   hold-rest : {gs rest : Flat_goals} {g : Flat_goal} → Picks gs g rest → AllHold gs → AllHold rest
   hold-rest here h = h.1
@@ -315,39 +287,30 @@ module _ (Y : System) (T : ℕ → TypeTerm) (C : Chosen) (declared : ℕ → Li
       (ap (λ h. with_fresh (variables_of h) (freshened Y T n b op xs)) e ∙ with-fresh xs (freshened Y T n b op xs)) r)
 
   abbrev Turns : ℕ → Type 0
-  Turns k = (gs : Flat_goals) (O : List ℕ) (n : ℕ) (b : Insts) → AllHold gs → Below n O → Below n (variables_of_all gs) → count_flat gs ≡ k → GoodAll O n b gs (in_turn (of_nodes C) P declared T k (waiting gs) O n b)
+  Turns k = (gs : Flat_goals) (O : List ℕ) (n : ℕ) (b : Insts) → AllHold gs → count_flat gs ≡ k → GoodAll O n b gs (in_turn (of_nodes C) P declared T k (waiting gs) O n b)
 
-  turn-on : (k : ℕ) → Turns k → (gs : Flat_goals) (O : List ℕ) (n : ℕ) (b : Insts) → AllHold gs → Below n O → Below n (variables_of_all gs) → count_flat gs ≡ suc k → (f : Fault) (r : Picked ℕ) → GoodPicked O n b gs r →
+  turn-on : (k : ℕ) → Turns k → (gs : Flat_goals) (O : List ℕ) (n : ℕ) (b : Insts) → AllHold gs → count_flat gs ≡ suc k → (f : Fault) (r : Picked ℕ) → GoodPicked O n b gs r →
       GoodAll O n b gs (goes_on f r (λ vs rest m c. in_turn (of_nodes C) P declared T k rest (O ++ vs) m c))
-  turn-on k again gs O n b hold bo bg e f (none_runs None) h = tt
-  turn-on k again gs O n b hold bo bg e f (none_runs (Some f')) h = tt
-  turn-on k again gs O n b hold bo bg e f (takes vs ws ns None m) h = drop-rest O n b h.picks h.goes
-  turn-on k again gs O n b hold bo bg e f (takes vs ws ns (Some c) m) h = at (in_turn (of_nodes C) P declared T k ws (O ++ vs) m c)
+  turn-on k again gs O n b hold e f (none_runs None) h = tt
+  turn-on k again gs O n b hold e f (none_runs (Some f')) h = tt
+  turn-on k again gs O n b hold e f (takes vs ws ns None m) h = drop-rest O n b h.picks h.goes
+  turn-on k again gs O n b hold e f (takes vs ws ns (Some c) m) h = at (in_turn (of_nodes C) P declared T k ws (O ++ vs) m c)
       (subst (λ us. GoodAll (O ++ with_fresh (variables_of h.goal) h.zs) m c h.rest (in_turn (of_nodes C) P declared T k ws (O ++ us) m c)) (sym h.variables)
       (subst (λ us. GoodAll (O ++ with_fresh (variables_of h.goal) h.zs) m c h.rest (in_turn (of_nodes C) P declared T k us (O ++ with_fresh (variables_of h.goal) h.zs) m c)) (sym h.others)
-      (again h.rest (O ++ with_fresh (variables_of h.goal) h.zs) m c (hold-rest h.picks hold) below_now (λ x i. below-more n m (variables_of_all gs) h.later bg x (picks-rest h.picks x i))
+      (again h.rest (O ++ with_fresh (variables_of h.goal) h.zs) m c (hold-rest h.picks hold)
       (let q : suc (count_flat h.rest) ≡ suc k = sym (count-rest h.picks) ∙ e in cc))))
     where
-      below_goal : Below n (variables_of h.goal)
-      below_goal x i = bg x (picks-goal h.picks x i)
-
-      below_now : Below m (O ++ with_fresh (variables_of h.goal) h.zs)
-      below_now =
-          below-both m O (with_fresh (variables_of h.goal) h.zs) (below-more n m O h.later bo)
-          (subst (λ us. Below m us) (sym (with-fresh (variables_of h.goal) h.zs))
-          (below-both m (variables_of h.goal) h.zs (below-more n m (variables_of h.goal) h.later below_goal) (goes-below (O ++ variables_of_all h.rest) n b h.goal below_goal h.later h.goes)))
-
       at : (r : Arranged ℕ) → GoodAll (O ++ with_fresh (variables_of h.goal) h.zs) m c h.rest r → GoodAll O n b gs (behind ns r)
       at (breaks f) k = tt
       at (runs hs o j zs) k = next-one O n b h.picks h.goes hs o j k
 
   turns : (k : ℕ) → Turns k
-  turns zero no_flat O n b hold bo bg e = S.done
-  turns zero (flat_then g gs) O n b hold bo bg e = cc
-  turns (suc k) gs O n b hold bo bg e = turn-on k (turns k) gs O n b hold bo bg e (stuck (of_nodes C) P declared T (waiting gs) b) (pick [] (waiting gs) O n b) (good-pick O n b no_flat gs hold bo bg)
+  turns zero no_flat O n b hold e = S.done
+  turns zero (flat_then g gs) O n b hold e = cc
+  turns (suc k) gs O n b hold e = turn-on k (turns k) gs O n b hold e (stuck (of_nodes C) P declared T (waiting gs) b) (pick [] (waiting gs) O n b) (good-pick O n b no_flat gs hold)
 
   conjunction-holds : (gs : Flat_goals) → AllHold gs → Holds (F.And gs)
-  conjunction-holds gs hold O n b bo bg = at (in_turn (of_nodes C) P declared T (count_flat gs) (waiting gs) O n b) (turns (count_flat gs) gs O n b hold bo bg refl)
+  conjunction-holds gs hold O n b = at (in_turn (of_nodes C) P declared T (count_flat gs) (waiting gs) O n b) (turns (count_flat gs) gs O n b hold refl)
     where
       at : (r : Arranged ℕ) → GoodAll O n b gs r → Good O n b (F.And gs) (wrapped Conj r)
       at (breaks f) h = tt
@@ -383,36 +346,6 @@ module _ (Y : System) (T : ℕ → TypeTerm) (C : Chosen) (declared : ℕ → Li
   each-passes f [] e x i = absurd i
   each-passes f (y ∷ O) e x i = ⊎_elim (λ q. ap f q ∙ and-first (f y) _ e) (λ j. each-passes f O (and-second (f y) _ e) x j) i
 
-  -- insts that are one merge to it
-  abbrev Each : ℕ → List ℕ → Type 0
-  Each i [] = Unit {0}
-  Each i (j ∷ js) = (j ≡ i) × Each i js
-
-  each-free : (i : ℕ) (js : List ℕ) → Each i js → Y.insts i ≡ free → AllFree Y.insts js
-  each-free i [] h e = tt
-  each-free i (j ∷ js) h e = (ap Y.insts h.0 ∙ e, each-free i js h.1 e)
-
-  none-is : (N : InstNode) (i : ℕ) (js : List ℕ) → Each i js → Y.insts i ≢ N → NoneIs N Y.insts js
-  none-is N i [] h e = tt
-  none-is N i (j ∷ js) h e = ((λ q. e (sym (ap Y.insts h.0) ∙ q)), none-is N i js h.1 e)
-
-  none-more : (i : ℕ) (js : List ℕ) (t : TypeTerm) → Each i js → NoneMore P Y.insts js Y.insts i t
-  none-more i [] t h = tt
-  none-more i (j ∷ js) t h = (subst (λ k. NoMoreThere P Y.insts k Y.insts i t) (sym h.0) (λ path e a. a), none-more i js t h.1)
-
-  merged-one : (i j : ℕ) (js : List ℕ) (t : TypeTerm) → Each i (j ∷ js) → Merged P Y.insts (j ∷ js) i t
-  merged-one i j js t h = at (Y.insts i) refl
-    where
-      least-above : LeastAbove P Y.insts (j ∷ js) i t
-      least-above = record { above = none-more i (j ∷ js) t h; least = λ H proper k m. subst (λ l. NoMoreThere P Y.insts l H k t) h.0 m.0 }
-
-      at : (N : InstNode) → Y.insts i ≡ N → MergedNodes Y.insts (j ∷ js) N (LeastAbove P Y.insts (j ∷ js) i t)
-      at free e = each-free i (j ∷ js) h e
-      at dead e = (none-is free i (j ∷ js) h (λ q. (let r : dead ≡ free = sym e ∙ q in cc)), inl (ap Y.insts h.0 ∙ e))
-      at ground e = (none-is free i (j ∷ js) h (λ q. (let r : ground ≡ free = sym e ∙ q in cc)), none-is dead i (j ∷ js) h (λ q. (let r : ground ≡ dead = sym e ∙ q in cc)), least-above)
-      at unique e = (none-is free i (j ∷ js) h (λ q. (let r : unique ≡ free = sym e ∙ q in cc)), none-is dead i (j ∷ js) h (λ q. (let r : unique ≡ dead = sym e ∙ q in cc)), least-above)
-      at (bound ls) e = (none-is free i (j ∷ js) h (λ q. (let r : bound ls ≡ free = sym e ∙ q in cc)), none-is dead i (j ∷ js) h (λ q. (let r : bound ls ≡ dead = sym e ∙ q in cc)), least-above)
-
   merged-there : (t : TypeTerm) (is : List ℕ) (all : Bool) → AllAre all is → is ≢ [] → (r : Option ℕ) → C.joined t is ≡ r → is_there r ≡ true → Merged P Y.insts is (or_free (of_nodes C) P declared T r) t
   merged-there t is all a ne None e h = cc
   merged-there t is all a ne (Some k) e h = truth.joined t is k all a ne e
@@ -423,30 +356,26 @@ module _ (Y : System) (T : ℕ → TypeTerm) (C : Chosen) (declared : ℕ → Li
   abbrev joined_here : List Insts → ℕ → Option ℕ
   joined_here ends x = joined_at (of_nodes C) P declared T ends x
 
-  each-end : (own : List ℕ) (n : ℕ) (b : Insts) (cs : List Insts) (x : ℕ) → EndsStay own n b cs → (In x own → ⊥) → x < n → Each (b x) (insts_at cs x)
-  each-end own n b [] x h off lt = tt
-  each-end own n b (c ∷ cs) x h off lt = (h.0 x off lt, each-end own n b cs x h.1 off lt)
-
   is-nothing : (x : ℕ) (xs : List ℕ) → is_in x xs ≡ false → In x xs → ⊥
   is-nothing x xs e i = not-both (is_in x xs) (is-in x xs i) e
 
   abbrev inst_after : List Insts → Insts → ℕ → Bool → Bool → ℕ
   inst_after ends b x t u = cond t (cond u (or_free (of_nodes C) P declared T (joined_here ends x)) 0) (b x)
 
-  joined-is : (own O : List ℕ) (n : ℕ) (b : Insts) (ends : List Insts) → Below n O → EndsStay own n b ends → ((x : ℕ) → In x (those_in own O) → ends_differ ends x ≡ false) →
-      merges (of_nodes C) P declared T (those_in own O) ends ≡ true → Joined Y T O b ends (merged_of own O b ends)
-  joined-is own O n b [] bo stay agree there_all = refl
-  joined-is own O n b (c ∷ cs) bo stay agree there_all = λ x. at x (is_in x own) refl (is_in x O) refl
+  joined-is : (own O : List ℕ) (b : Insts) (ends : List Insts) → ((x : ℕ) → In x (those_in own O) → ends_differ ends x ≡ false) → merges (of_nodes C) P declared T (those_in own O) ends ≡ true → JoinedOwn Y T own O b ends (merged_of own O b ends)
+  joined-is own O b [] agree there_all = refl
+  joined-is own O b (c ∷ cs) agree there_all = λ x. at x (is_in x own) refl (is_in x O) refl
     where
       at : (x : ℕ) (t : Bool) → is_in x own ≡ t → (u : Bool) → is_in x O ≡ u →
-          (In x O → Merged P Y.insts (insts_at (c ∷ cs) x) (inst_after (c ∷ cs) b x t u) (T x)) × ((In x O → ⊥) → (inst_after (c ∷ cs) b x t u ≡ 0) ⊎ (inst_after (c ∷ cs) b x t u ≡ b x))
+          (In x own → In x O → Merged P Y.insts (insts_at (c ∷ cs) x) (inst_after (c ∷ cs) b x t u) (T x)) × (In x own → (In x O → ⊥) → inst_after (c ∷ cs) b x t u ≡ 0) × ((In x own → ⊥) → inst_after (c ∷ cs) b x t u ≡ b x)
       at x true p true q = (
-        (λ i. merged-there (T x) (insts_at (c ∷ cs) x) (is_bound (c x)) (all-are c cs x (agree x (those-in own O x (in-is x own p) i))) (λ e. cc) (joined_here (c ∷ cs) x) refl
-            (each-passes (λ y. is_there (joined_here (c ∷ cs) y)) (those_in own O) there_all x (those-in own O x (in-is x own p) i))),
-        (λ off. absurd (off (in-is x O q))),
+        (λ i j. merged-there (T x) (insts_at (c ∷ cs) x) (is_bound (c x)) (all-are c cs x (agree x (those-in own O x i j))) (λ e. cc) (joined_here (c ∷ cs) x) refl
+            (each-passes (λ y. is_there (joined_here (c ∷ cs) y)) (those_in own O) there_all x (those-in own O x i j))),
+        (λ i off. absurd (off (in-is x O q))),
+        (λ off. absurd (off (in-is x own p))),
       )
-      at x true p false q = ((λ i. absurd (is-nothing x O q i)), (λ off. inl refl))
-      at x false p u q = ((λ i. merged-one (b x) (c x) (insts_at cs x) (T x) (each-end own n b (c ∷ cs) x stay (is-nothing x own p) (bo x i))), (λ off. inr refl))
+      at x true p false q = ((λ i j. absurd (is-nothing x O q j)), (λ i off. refl), (λ off. absurd (off (in-is x own p))))
+      at x false p u q = ((λ i. absurd (is-nothing x own p i)), (λ i. absurd (is-nothing x own p i)), (λ off. refl))
 
   -- the branches of a disjunction
   abbrev GoodBranches : List ℕ → ℕ → Insts → Flat_goals → Branches ℕ → Type 0
@@ -461,45 +390,41 @@ module _ (Y : System) (T : ℕ → TypeTerm) (C : Chosen) (declared : ℕ → Li
   branch-on O n m b g gs x o s (one_breaks f) h = tt
   branch-on O n m b g gs x o s (all_run ns ends j) h = (o ∷ h.0, S.either s h.1, ends-are o h.0 ends h.2)
 
-  branches-hold : (gs : Flat_goals) (O : List ℕ) (n : ℕ) (b : Insts) → AllHold gs → Below n O → Below n (variables_of_all gs) → GoodBranches O n b gs (each_branch (waiting gs) O n b)
-  branches-hold no_flat O n b hold bo bg = ([], S.no_other, refl)
-  branches-hold (flat_then g gs) O n b hold bo bg =
-      at (trial (of_nodes C) P declared T g O n b) (hold.0 O n b bo (below-left n (variables_of g) (variables_of_all gs) bg)) (keeps g O n b)
-      (λ m le. branches-hold gs O m b hold.1 (below-more n m O le bo) (below-more n m (variables_of_all gs) le (below-right n (variables_of g) (variables_of_all gs) bg)))
+  branches-hold : (gs : Flat_goals) (O : List ℕ) (n : ℕ) (b : Insts) → AllHold gs → GoodBranches O n b gs (each_branch (waiting gs) O n b)
+  branches-hold no_flat O n b hold = ([], S.no_other, refl)
+  branches-hold (flat_then g gs) O n b hold = at (trial (of_nodes C) P declared T g O n b) (hold.0 O n b) (λ m. branches-hold gs O m b hold.1)
     where
-      at : (r : Arranged ℕ) → Good O n b g r → Kept (variables_of g) n b r → ((m : ℕ) → n ≤ m → GoodBranches O m b gs (each_branch (waiting gs) O m b)) → GoodBranches O n b (flat_then g gs) (and_branches r (λ m. each_branch (waiting gs) O m b))
-      at (breaks f) h k rest = tt
-      at (runs hs o m zs) h k rest = branch-on O n m b g gs (alone hs) o (alone-is O n b g h) (each_branch (waiting gs) O m b) (rest m k.0)
+      at : (r : Arranged ℕ) → Good O n b g r → ((m : ℕ) → GoodBranches O m b gs (each_branch (waiting gs) O m b)) → GoodBranches O n b (flat_then g gs) (and_branches r (λ m. each_branch (waiting gs) O m b))
+      at (breaks f) h rest = tt
+      at (runs hs o m zs) h rest = branch-on O n m b g gs (alone hs) o (alone-is O n b g h) (each_branch (waiting gs) O m b) (rest m)
 
-  abbrev EndsGood : List ℕ → ℕ → Insts → Flat_goal → Option ℕ → (Nodes → Scheduled) → Branches ℕ → Type 0
-  EndsGood O n b g v f (one_breaks e) = Unit {0}
-  EndsGood O n b g v f (all_run ns ends m) = v ≡ None → (o : Option Insts) → Joined Y T O b ends o → Standing Y T O n b g (unmarked (f ns)) o m
+  abbrev EndsGood : (own O : List ℕ) → ℕ → Insts → Flat_goal → Option ℕ → (Nodes → Scheduled) → Branches ℕ → Type 0
+  EndsGood own O n b g v f (one_breaks e) = Unit {0}
+  EndsGood own O n b g v f (all_run ns ends m) = v ≡ None → (o : Option Insts) → JoinedOwn Y T own O b ends o → Standing Y T O n b g (unmarked (f ns)) o m
 
-  good-branched : (own O : List ℕ) (n : ℕ) (b : Insts) (g : Flat_goal) (v : Option ℕ) (f : Nodes → Scheduled) (B : Branches ℕ) → Below n O → BranchesKeep own n b B → EndsGood O n b g v f B → Good O n b g (branched (of_nodes C) P declared T v f own O b B)
-  good-branched own O n b g v f (one_breaks e) bo k h = tt
-  good-branched own O n b g (Some v) f (all_run ns ends m) bo k h = tt
-  good-branched own O n b g None f (all_run ns ends m) bo k h = at (least (ends_differ ends) (those_in own O)) refl
+  good-branched : (own O : List ℕ) (n : ℕ) (b : Insts) (g : Flat_goal) (v : Option ℕ) (f : Nodes → Scheduled) (B : Branches ℕ) → EndsGood own O n b g v f B → Good O n b g (branched (of_nodes C) P declared T v f own O b B)
+  good-branched own O n b g v f (one_breaks e) h = tt
+  good-branched own O n b g (Some v) f (all_run ns ends m) h = tt
+  good-branched own O n b g None f (all_run ns ends m) h = at (least (ends_differ ends) (those_in own O)) refl
     where
       at : (r : Option ℕ) → least (ends_differ ends) (those_in own O) ≡ r → Good O n b g (unless r branches_differ (cond (merges (of_nodes C) P declared T (those_in own O) ends) (one (f ns) (merged_of own O b ends) m) (breaks lacks)))
       at (Some x) e = tt
       at None e =
           good-cond O n b g (merges (of_nodes C) P declared T (those_in own O) ends) _ _
-          (λ q. single (h refl (merged_of own O b ends) (joined-is own O n b ends bo k.1 (λ x i. none-passes (ends_differ ends) (those_in own O) x e i) q))) (λ q. tt)
+          (λ q. single (h refl (merged_of own O b ends) (joined-is own O b ends (λ x i. none-passes (ends_differ ends) (those_in own O) x e i) q))) (λ q. tt)
 
   disjunction-holds : (gs : Flat_goals) → AllHold gs → Holds (F.Or gs)
-  disjunction-holds gs hold O n b bo bg =
-      good-branched (variables_of_all gs) O n b (F.Or gs) None Disj (each_branch (waiting gs) O n b) bo (K.each-branch-keeps (variables_of_all gs) n b (waiting gs) O (K.all-keep (of_nodes C) P declared T gs))
-      (at (each_branch (waiting gs) O n b) (branches-hold gs O n b hold bo bg))
+  disjunction-holds gs hold O n b = good-branched (variables_of_all gs) O n b (F.Or gs) None Disj (each_branch (waiting gs) O n b) (at (each_branch (waiting gs) O n b) (branches-hold gs O n b hold))
     where
-      at : (B : Branches ℕ) → GoodBranches O n b gs B → EndsGood O n b (F.Or gs) None Disj B
+      at : (B : Branches ℕ) → GoodBranches O n b gs B → EndsGood (variables_of_all gs) O n b (F.Or gs) None Disj B
       at (one_breaks f) h = tt
-      at (all_run ns ends m) h = λ v o j. S.disj h.1 (subst (λ es. Joined Y T O b es o) (sym h.2) j)
+      at (all_run ns ends m) h = λ v o j. S.disj h.1 (subst (λ es. JoinedOwn Y T (variables_of_all gs) O b es o) (sym h.2) j)
 
   abbrev bound_now : List ℕ → Insts → Insts → Option ℕ
   bound_now xs b c = least (λ x. not (is_bound (b x)) && is_bound (c x)) xs
 
   negation-holds : (g : Flat_goal) → Holds g → Holds (F.Not g)
-  negation-holds g hold O n b bo bg = at (trial (of_nodes C) P declared T g (O ++ free_in g) n b) (hold (O ++ free_in g) n b (below-both n O (free_in g) bo (λ x i. bg x (free-is-own g x i))) bg)
+  negation-holds g hold O n b = at (trial (of_nodes C) P declared T g (O ++ free_in g) n b) (hold (O ++ free_in g) n b)
     where
       at : (r : Arranged ℕ) → Good (O ++ free_in g) n b g r → Good O n b (F.Not g) (negation (of_nodes C) P declared T (free_in g) b r)
       at (breaks f) h = tt
@@ -511,7 +436,7 @@ module _ (Y : System) (T : ℕ → TypeTerm) (C : Chosen) (declared : ℕ → Li
           on None e = single (S.neg (alone-is (O ++ free_in g) n b g h) (A.none-bound Y T C declared truth (free_in g) b c e))
 
   some-holds : (vs : List ℕ) (g : Flat_goal) → Holds g → Holds (F.Exists vs g)
-  some-holds vs g hold O n b bo bg = at (trial (of_nodes C) P declared T g O n b) (hold O n b bo (below-right n vs (variables_of g) bg))
+  some-holds vs g hold O n b = at (trial (of_nodes C) P declared T g O n b) (hold O n b)
     where
       at : (r : Arranged ℕ) → Good O n b g r → Good O n b (F.Exists vs g) (wrapped (λ gs. Exists vs (alone gs)) r)
       at (breaks f) h = tt
@@ -521,7 +446,7 @@ module _ (Y : System) (T : ℕ → TypeTerm) (C : Chosen) (declared : ℕ → Li
   two-ends o p = ends-are o (p ∷ []) (with_end p []) (ends-are p [] [] refl)
 
   -- ---- conditions
-  module _ (vs : List ℕ) (g h k : Flat_goal) (O : List ℕ) (n : ℕ) (b : Insts) (bo : Below n O) (bg : Below n (variables_of (F.If vs g h k))) where
+  module _ (vs : List ℕ) (g h k : Flat_goal) (O : List ℕ) (n : ℕ) (b : Insts) where
     abbrev own : List ℕ
     own = variables_of (F.If vs g h k)
 
@@ -534,80 +459,53 @@ module _ (Y : System) (T : ℕ → TypeTerm) (C : Chosen) (declared : ℕ → Li
     abbrev whole : Flat_goal
     whole = F.If vs g h k
 
-    below_g : Below n (variables_of g)
-    below_g x i = bg x (K.in-condition vs g h k x i)
-
-    below_h : Below n (variables_of h)
-    below_h x i = bg x (K.in-then vs g h k x i)
-
-    below_k : Below n (variables_of k)
-    below_k x i = bg x (K.in-else vs g h k x i)
-
-    below_beside : Below n beside
-    below_beside = below-both n O (free_here ++ variables_of h) bo (below-both n free_here (variables_of h) (λ x i. below_g x (free-is-own g x (in-without x (free_in g) vs i))) below_h)
-
     never-ends : (gs : Nodes) (m : ℕ) → Standing Y T beside n b g (alone gs) None m → (r : Arranged ℕ) → Good O m b k r →
-        EndsGood O n b whole None (two_goals (Ite vs (alone gs))) (with_branch (unmarked (Conj no_nodes)) None (and_branches r no_branch))
+        EndsGood own O n b whole None (two_goals (Ite vs (alone gs))) (with_branch (unmarked (Conj no_nodes)) None (and_branches r no_branch))
     never-ends gs m s (breaks f) q = tt
-    never-ends gs m s (runs hs o j zs) q = λ v e w. S.ite_never s (alone-is O m b k q) (subst (λ es. Joined Y T O b es e) (sym (ends-are o [] [] refl)) w)
+    never-ends gs m s (runs hs o j zs) q = λ v e w. S.ite_never s (alone-is O m b k q) (subst (λ es. JoinedOwn Y T own O b es e) (sym (ends-are o [] [] refl)) w)
 
-    ends : (gs : Nodes) (c : Insts) (m : ℕ) → Standing Y T beside n b g (alone gs) (Some c) m → (r : Arranged ℕ) → Good (O ++ variables_of g) m c h r → Kept (variables_of h) m c r → ((j : ℕ) → m ≤ j → Good O j b k (trial (of_nodes C) P declared T k O j b)) →
-        EndsGood O n b whole (bound_now free_here b c) (two_goals (Ite vs (alone gs))) (and_branches r (λ j. and_branches (trial (of_nodes C) P declared T k O j b) no_branch))
-    ends gs c m s (breaks f) q stays e = tt
-    ends gs c m s (runs hs o j zs) q stays e = at (trial (of_nodes C) P declared T k O j b) (e j stays.0)
+    ends : (gs : Nodes) (c : Insts) (m : ℕ) → Standing Y T beside n b g (alone gs) (Some c) m → (r : Arranged ℕ) → Good (O ++ variables_of g) m c h r → ((j : ℕ) → Good O j b k (trial (of_nodes C) P declared T k O j b)) →
+        EndsGood own O n b whole (bound_now free_here b c) (two_goals (Ite vs (alone gs))) (and_branches r (λ j. and_branches (trial (of_nodes C) P declared T k O j b) no_branch))
+    ends gs c m s (breaks f) q e = tt
+    ends gs c m s (runs hs o j zs) q e = at (trial (of_nodes C) P declared T k O j b) (e j)
       where
-        at : (r : Arranged ℕ) → Good O j b k r → EndsGood O n b whole (bound_now free_here b c) (two_goals (Ite vs (alone gs))) (with_branch (alone hs) o (and_branches r no_branch))
+        at : (r : Arranged ℕ) → Good O j b k r → EndsGood own O n b whole (bound_now free_here b c) (two_goals (Ite vs (alone gs))) (with_branch (alone hs) o (and_branches r no_branch))
         at (breaks f) u = tt
         at (runs ks p i us) u = λ v d w.
-            S.ite s (A.none-bound Y T C declared truth free_here b c v) (alone-is (O ++ variables_of g) m c h q) (alone-is O j b k u) (subst (λ es. Joined Y T O b es d) (sym (two-ends o p)) w)
+            S.ite s (A.none-bound Y T C declared truth free_here b c v) (alone-is (O ++ variables_of g) m c h q) (alone-is O j b k u) (subst (λ es. JoinedOwn Y T own O b es d) (sym (two-ends o p)) w)
 
-    condition-holds : Holds h → Holds k → (r : Arranged ℕ) → Good beside n b g r → Kept (variables_of g) n b r →
+    condition-holds : Holds h → Holds k → (r : Arranged ℕ) → Good beside n b g r →
         Good O n b whole (conditional (of_nodes C) P declared T vs free_here own O b r (λ m c. trial (of_nodes C) P declared T h (O ++ variables_of g) m c) (λ m. trial (of_nodes C) P declared T k O m b))
-    condition-holds hh hk (breaks f) q stays = tt
-    condition-holds hh hk (runs gs None m zs) q stays =
-        good-branched own O n b whole None (two_goals (Ite vs (alone gs))) (with_branch (unmarked (Conj no_nodes)) None (and_branches (trial (of_nodes C) P declared T k O m b) no_branch)) bo
-        (K.never-keeps (of_nodes C) P declared T own n m b (unmarked (Conj no_nodes)) (trial (of_nodes C) P declared T k) O stays.0 keeps_k)
-        (never-ends gs m (alone-is beside n b g q) (trial (of_nodes C) P declared T k O m b) (hk O m b (below-more n m O stays.0 bo) (below-more n m (variables_of k) stays.0 below_k)))
-      where
-        keeps_k : K.Keeps own (trial (of_nodes C) P declared T k)
-        keeps_k = K.keeps-more own (variables_of k) (trial (of_nodes C) P declared T k) (K.in-else vs g h k) (λ O n b. keeps k O n b)
-    condition-holds hh hk (runs gs (Some c) m zs) q stays =
+    condition-holds hh hk (breaks f) q = tt
+    condition-holds hh hk (runs gs None m zs) q =
+        good-branched own O n b whole None (two_goals (Ite vs (alone gs))) (with_branch (unmarked (Conj no_nodes)) None (and_branches (trial (of_nodes C) P declared T k O m b) no_branch))
+        (never-ends gs m (alone-is beside n b g q) (trial (of_nodes C) P declared T k O m b) (hk O m b))
+    condition-holds hh hk (runs gs (Some c) m zs) q =
         good-branched own O n b whole (bound_now free_here b c) (two_goals (Ite vs (alone gs)))
-        (and_branches (trial (of_nodes C) P declared T h (O ++ variables_of g) m c) (λ j. and_branches (trial (of_nodes C) P declared T k O j b) no_branch)) bo
-        (K.then-else-keep (of_nodes C) P declared T own n m b c (trial (of_nodes C) P declared T h) (trial (of_nodes C) P declared T k) (O ++ variables_of g) O stays.0 (λ x off lt. stays.1 x (λ i. off (K.in-condition vs g h k x i)) lt) keeps_h keeps_k)
-        (ends gs c m (alone-is beside n b g q) (trial (of_nodes C) P declared T h (O ++ variables_of g) m c)
-        (hh (O ++ variables_of g) m c (below-both m O (variables_of g) (below-more n m O stays.0 bo) (below-more n m (variables_of g) stays.0 below_g)) (below-more n m (variables_of h) stays.0 below_h))
-        (keeps h (O ++ variables_of g) m c)
-        (λ j le. hk O j b (below-more n j O (le_trans stays.0 le) bo) (below-more n j (variables_of k) (le_trans stays.0 le) below_k)))
-      where
-        keeps_h : K.Keeps own (trial (of_nodes C) P declared T h)
-        keeps_h = K.keeps-more own (variables_of h) (trial (of_nodes C) P declared T h) (K.in-then vs g h k) (λ O n b. keeps h O n b)
-
-        keeps_k : K.Keeps own (trial (of_nodes C) P declared T k)
-        keeps_k = K.keeps-more own (variables_of k) (trial (of_nodes C) P declared T k) (K.in-else vs g h k) (λ O n b. keeps k O n b)
+        (and_branches (trial (of_nodes C) P declared T h (O ++ variables_of g) m c) (λ j. and_branches (trial (of_nodes C) P declared T k O j b) no_branch))
+        (ends gs c m (alone-is beside n b g q) (trial (of_nodes C) P declared T h (O ++ variables_of g) m c) (hh (O ++ variables_of g) m c) (λ j. hk O j b))
 
   good-atom : (O : List ℕ) (n : ℕ) (b : Insts) (g : Flat_goal) (xs : List ℕ) (r : Arranged ℕ) → (NoneDead Y T xs b → Good O n b g r) → Good O n b g (atom (of_nodes C) P declared T xs b r)
   good-atom O n b g xs r f = good-cond O n b g (list_any (λ x. C.is_dead (b x)) xs) (wait (of_nodes C) P declared T xs b) r (λ e. tt) (λ e. f (A.none-dead Y T C declared truth xs b e))
 
   mutual
     holds : (g : Flat_goal) → Holds g
-    holds (F.Same x y) O n b bo bg = good-atom O n b (F.Same x y) (x ∷ y ∷ []) _ (good-same O n b x y)
-    holds (F.Made x s ys) O n b bo bg = good-atom O n b (F.Made x s ys) (x ∷ ys) _ (good-made O n b x s ys)
-    holds (F.Is x v) O n b bo bg = good-atom O n b (F.Is x v) (x ∷ []) _ (good-constant O n b x v)
-    holds (F.Call p xs) O n b bo bg = good-atom O n b (F.Call p xs) xs _ (λ alive. good-call O n b p xs alive (P.preds p).builtin refl)
-    holds (F.And gs) O n b bo bg = conjunction-holds gs (all-hold gs) O n b bo bg
-    holds (F.Or gs) O n b bo bg = disjunction-holds gs (all-hold gs) O n b bo bg
-    holds (F.If vs g h k) O n b bo bg =
-        condition-holds vs g h k O n b bo bg (holds h) (holds k) (trial (of_nodes C) P declared T g (O ++ (without (free_in g) vs ++ variables_of h)) n b)
-        (holds g (O ++ (without (free_in g) vs ++ variables_of h)) n b (below_beside vs g h k O n b bo bg) (below_g vs g h k O n b bo bg))
-        (keeps g (O ++ (without (free_in g) vs ++ variables_of h)) n b)
-    holds (F.Not g) O n b bo bg = negation-holds g (holds g) O n b bo bg
-    holds (F.Exists vs g) O n b bo bg = some-holds vs g (holds g) O n b bo bg
+    holds (F.Same x y) O n b = good-atom O n b (F.Same x y) (x ∷ y ∷ []) _ (good-same O n b x y)
+    holds (F.Made x s ys) O n b = good-atom O n b (F.Made x s ys) (x ∷ ys) _ (good-made O n b x s ys)
+    holds (F.Is x v) O n b = good-atom O n b (F.Is x v) (x ∷ []) _ (good-constant O n b x v)
+    holds (F.Call p xs) O n b = good-atom O n b (F.Call p xs) xs _ (λ alive. good-call O n b p xs alive (P.preds p).builtin refl)
+    holds (F.And gs) O n b = conjunction-holds gs (all-hold gs) O n b
+    holds (F.Or gs) O n b = disjunction-holds gs (all-hold gs) O n b
+    holds (F.If vs g h k) O n b =
+        condition-holds vs g h k O n b (holds h) (holds k) (trial (of_nodes C) P declared T g (O ++ (without (free_in g) vs ++ variables_of h)) n b)
+        (holds g (O ++ (without (free_in g) vs ++ variables_of h)) n b)
+    holds (F.Not g) O n b = negation-holds g (holds g) O n b
+    holds (F.Exists vs g) O n b = some-holds vs g (holds g) O n b
 
     all-hold : (gs : Flat_goals) → AllHold gs
     all-hold no_flat = tt
     all-hold (flat_then g gs) = (holds g, all-hold gs)
 
-  pub stands : (g : Flat_goal) (O : List ℕ) (n : ℕ) (b : Insts) (gs : Nodes) (o : Option Insts) (m : ℕ) (zs : List ℕ) → Below n O → Below n (variables_of g) → trial (of_nodes C) P declared T g O n b ≡ runs gs o m zs →
+  pub stands : (g : Flat_goal) (O : List ℕ) (n : ℕ) (b : Insts) (gs : Nodes) (o : Option Insts) (m : ℕ) (zs : List ℕ) → trial (of_nodes C) P declared T g O n b ≡ runs gs o m zs →
       Standing Y T O n b g (alone gs) o m
-  stands g O n b gs o m zs bo bg e = alone-is O n b g (subst (Good O n b g) e (holds g O n b bo bg))
+  stands g O n b gs o m zs e = alone-is O n b g (subst (Good O n b g) e (holds g O n b))

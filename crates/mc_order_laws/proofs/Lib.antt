@@ -1,3 +1,11 @@
-pub mod Arranging
 pub mod ArrangedGoals
+pub mod Arranging
+pub mod EndsMet
+pub mod FreshOutputs
+pub mod MarkedGoals
+pub mod NamedByFaults
+pub mod NothingLacks
+pub mod OneOrder
 pub mod OthersStay
+pub mod StandingFacts
+pub mod TruthOfNodes

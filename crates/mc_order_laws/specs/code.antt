@@ -1,3 +1,4 @@
 pub mod Examples
 pub mod ExamplesOfFaults
+pub mod ExamplesOfNodes
 pub mod ExamplesOfOrder

@@ -1,6 +1,7 @@
 //! Computed orders of clauses' goals, and the rules that goals without an order break. Each is the contract of a
 //! function that does nothing, and each group has an equation that does not hold.
 ghost use Rattle.mc_order_laws.specs.code.ExamplesOfOrder.{NeededFirst, ModesChosen, ListsTakenApart, Conditions, Negations, ResultsCompared, StatesInTurn};
+ghost use Rattle.mc_order_laws.specs.code.ExamplesOfNodes.{PremisesAreMet};
 ghost use Rattle.mc_order_laws.specs.code.ExamplesOfFaults.{NoGoalRuns, NegatedGoalsBind, BranchesDiffer, FinalInstsUnmet};
 
 /// Which goal runs first, and in which of its modes a call runs.
@@ -24,4 +25,9 @@ pub fn faults()
     ensures negated_goals_bind { NegatedGoalsBind }
     ensures branches_differ { BranchesDiffer }
     ensures final_insts_unmet { FinalInstsUnmet }
+{}
+
+/// Functions that look for nodes and tell the truth of their graph, and a goal that is in order over them.
+pub fn premises()
+    ensures { PremisesAreMet }
 {}

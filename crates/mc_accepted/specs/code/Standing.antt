@@ -9,11 +9,12 @@ use Rattle.mc_model.specs.Insts.{AllowsSymbol, AllowsConstants}
 use Rattle.mc_model.specs.Outcomes.{inputs_of}
 use Rattle.mc_model.specs.Flat as F
 use Rattle.mc_model.specs.Flat.{Flat_goal, Flat_goals, no_flat, flat_then, variables_of, variables_of_all, free_in}
-use Rattle.mc_model.specs.Lists.{without}
+use Rattle.mc_model.specs.Lists.{In, without}
 use Rattle.mc_model.specs.Scheduled.{Node, Conj, Disj, Ite, Not, Exists, Assign, Test, Build, Take, Const, TestConst, Call, Apply, Nodes, no_nodes, node_then}
 use Rattle.mc_model.specs.Stream.{is_bound}
 use Rattle.mc_model.specs.Good.{System}
-use Rattle.mc_accepted.specs.Ordered.{Insts, also, is_state, modes_of, modes_of_procedure, Picks, implied_places, at_inputs, at_outputs, reachable, unless_never, builtin_most, take_all, AllBound, BindsNone, NoneDead, NoneState, IsSymbolOver, Usable, After, Joined}
+use Rattle.mc_accepted.specs.Inclusion.{Merged}
+use Rattle.mc_accepted.specs.Ordered.{Insts, also, is_state, modes_of, modes_of_procedure, Picks, implied_places, at_inputs, at_outputs, reachable, unless_never, builtin_most, take_all, AllBound, BindsNone, NoneDead, NoneState, IsSymbolOver, Usable, After}
 use Rattle.mc_accepted.specs.Unmarked.{unmarked}
 use Rattle.mc_accepted.specs.Arranged.{fresh_at, tests_at, test_nodes, nodes_before}
 use Rattle.mc_program.specs.declared.builtin.Builtin.{Builtin}
@@ -48,6 +49,19 @@ module _ (S : System) (T : ℕ → TypeTerm) where
       let zs = freshened n b op xs in
       node_then (unmarked (Apply op (at_inputs (inputs_of op) zs) (at_outputs (inputs_of op) zs)))
       (test_nodes (fresh_tests n b op xs))
+
+  -- After branches a variable of the goal that occurs outside has the merged inst, any other of the
+  -- goal is free, and no other variable is changed.
+  abbrev pub JoinedOwn : (own O : List ℕ) → Insts → List Insts → Option Insts → Type 0
+  JoinedOwn own O b [] o = o ≡ None
+  JoinedOwn own O b (c ∷ ends) None = ⊥
+  JoinedOwn own O b (c ∷ ends) (Some e) =
+      (x : ℕ)
+      → (In x own
+      → In x O
+      → Merged S.world.source S.insts (map (λ (d : Insts). d x) (c ∷ ends)) (e x) (T x))
+      × (In x own → (In x O → ⊥) → e x ≡ 0)
+      × ((In x own → ⊥) → e x ≡ b x)
 
   mutual
     pub data Standing :
@@ -121,20 +135,21 @@ module _ (S : System) (T : ℕ → TypeTerm) where
       disj :
           {O : List ℕ} {n m : ℕ} {b : Insts} {gs : Flat_goals} {ns : Nodes}
           {os : List (Option Insts)} {o : Option Insts} → StandingAny O n b gs ns os m
-          → Joined S T O b (reachable os) o → Standing O n b (F.Or gs) (unmarked (Disj ns)) o m
+          → JoinedOwn (variables_of_all gs) O b (reachable os) o → Standing O n b (F.Or gs) (unmarked (Disj ns)) o m
       ite :
           {O : List ℕ} {n n1 n2 m : ℕ} {b c : Insts} {vs : List ℕ} {g h k : Flat_goal}
           {x y z : Node} {o o' o'' : Option Insts}
           → Standing (O ++ (without (free_in g) vs ++ variables_of h)) n b g x (Some c) n1
           → BindsNone (without (free_in g) vs) b (Some c)
           → Standing (O ++ variables_of g) n1 c h y o n2 → Standing O n2 b k z o' m
-          → Joined S T O b (reachable (o ∷ o' ∷ [])) o''
+          → JoinedOwn (variables_of (F.If vs g h k)) O b (reachable (o ∷ o' ∷ [])) o''
           → Standing O n b (F.If vs g h k) (unmarked (Ite vs x y z)) o'' m
       ite_never :
           {O : List ℕ} {n n1 m : ℕ} {b : Insts} {vs : List ℕ} {g h k : Flat_goal} {x z : Node}
           {o o'' : Option Insts}
           → Standing (O ++ (without (free_in g) vs ++ variables_of h)) n b g x None n1
-          → Standing O n1 b k z o m → Joined S T O b (reachable (o ∷ [])) o''
+          → Standing O n1 b k z o m
+          → JoinedOwn (variables_of (F.If vs g h k)) O b (reachable (o ∷ [])) o''
           → Standing O n b (F.If vs g h k) (unmarked (Ite vs x (unmarked (Conj no_nodes)) z)) o'' m
       neg :
           {O : List ℕ} {n m : ℕ} {b : Insts} {g : Flat_goal} {x : Node} {o : Option Insts}

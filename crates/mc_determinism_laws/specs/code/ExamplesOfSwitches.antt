@@ -4,11 +4,12 @@ use Rattle.mc_program.specs.Values.{Val, int, con, no_vals}
 use Rattle.mc_program.specs.Programs.{TypeTerm}
 use Rattle.mc_model.specs.EventList.{Items, End, Stuck, Stopped, Answer, Called, Wrote, Read}
 use Rattle.mc_model.specs.Outcomes.{fails}
-use Rattle.mc_model.specs.Scheduled.{Label, for_symbol, for_constant, Node, Exists, Not, Assign, Test, TestConst}
+use Rattle.mc_model.specs.Scheduled.{Label, for_symbol, for_constant, Node, Conj, Disj, Exists, Not, Assign, Test, Const, TestConst, nodes}
 use Rattle.mc_model.specs.Stream.{Bindings, stream}
 use Rattle.mc_accepted.specs.Unmarked.{unmarked}
-use Rattle.mc_accepted.specs.Switched.{Disjunct, openings, grouped}
-use Rattle.mc_determinism_laws.specs.code.Examples.{nil, cell, red, blue, in_a_row, one_of, switch_on, const, test, number, take, build, call, apply, ground_are, typed, program, form_of}
+use Rattle.mc_accepted.specs.Switched.{Disjunct, openings, grouped, formed}
+use Rattle.mc_accepted.specs.MergedArms.{ArmsMerge}
+use Rattle.mc_determinism_laws.specs.code.Examples.{nil, cell, red, blue, in_a_row, one_of, switch_on, const, test, number, take, build, call, apply, changing, ground_are, typed, program, form_of}
 use Rattle.mc_program.specs.declared.builtin.Builtin.TheVariants as B
 
 -- `q(1, 3). q(1, 2).` and `r(2, 20). r(3, 30).`, whose first argument is given
@@ -18,8 +19,8 @@ fact x y = in_a_row (test 0 x ∷ const 1 y ∷ [])
 abbrev pub integers : ℕ → TypeTerm
 integers = typed [] []
 
--- The facts of one integer share an arm, which stays a disjunction, since no other variable is taken
--- apart. Where the first argument isn't given, nothing is.
+-- The facts of one integer share an arm, which stays a disjunction, since no other variable is
+-- taken apart. Where the first argument isn't given, nothing is.
 abbrev pub FactsSwitched : Type 0
 FactsSwitched =
     (form_of integers (ground_are (0 ∷ [])) (one_of (fact 1 3 ∷ fact 1 2 ∷ []))
@@ -49,8 +50,8 @@ abbrev pub select_later : Node
 select_later =
     in_a_row (take 1 cell (5 ∷ 6 ∷ []) ∷ call 0 (0 ∷ 6 ∷ 7 ∷ []) ∷ build 2 cell (5 ∷ 7 ∷ []) ∷ [])
 
--- `safe(_, _, []).` and `safe(Q, D, [P | Ps]) :- Q \= P + D, safe(Q, D, Ps).`, where a fresh variable
--- stands for the result of the sum
+-- `safe(_, _, []).` and `safe(Q, D, [P | Ps]) :- Q \= P + D, safe(Q, D, Ps).`, where a fresh
+-- variable stands for the result of the sum
 abbrev pub safe_empty : Node
 safe_empty = take 2 nil []
 
@@ -153,6 +154,24 @@ SeveralVariables =
     ∷ (for_symbol blue, one_of (both 1 blue ∷ both 2 blue ∷ []))
     ∷ []))
 
+-- `q(1, 3). q(1, 2).` with the insts that are kept, where the arm of both keeps these
+abbrev pub kept_fact : (y : ℕ) → Node
+kept_fact y =
+    changing
+    (Conj (nodes (test 0 1 ∷ changing (Const 1 (int (pos y))) ((1, 1) ∷ []) ∷ [])))
+    ((1, 1) ∷ [])
+
+abbrev pub kept_facts : List (ℕ × ℕ) → Node
+kept_facts changes =
+    formed (program []) integers (λ before after ds. changes) (ground_are (0 ∷ []))
+    (changing (Disj (nodes (kept_fact 3 ∷ kept_fact 2 ∷ []))) ((1, 1) ∷ []))
+
+-- the arm changes what both change, and not nothing
+abbrev pub ArmsMerged : Type 0
+ArmsMerged =
+    ArmsMerge (program []) integers (ground_are (0 ∷ [])) (kept_facts ((1, 1) ∷ []))
+    × (ArmsMerge (program []) integers (ground_are (0 ∷ [])) (kept_facts []) → ⊥)
+
 -- what variable 2 is in each answer
 abbrev pub seconds : Items Bindings → List (Option Val)
 seconds End = []
@@ -189,8 +208,8 @@ overlapping =
     ∷ told (for_symbol red) (then_two (take 1 red []) 3)
     ∷ []
 
--- Such a constant is no label: if it were one, a switch could have its answers in another order than
--- its disjunction has.
+-- Such a constant is no label: if it were one, a switch could have its answers in another order
+-- than its disjunction has.
 abbrev pub LabelsDontOverlap : Type 0
 LabelsDontOverlap =
     (openings (unmarked (TestConst 1 (con red no_vals))) ≡ [])

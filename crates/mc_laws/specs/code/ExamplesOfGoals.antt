@@ -1,11 +1,12 @@
 -- Computed examples of scopes and of normal goals.
-use Rattle.std.specs.Prelude.{◌≡◌, ◌≢◌, ℕ, List, [], ◌∷◌, map, pos}
+use Rattle.std.specs.Prelude.{◌≡◌, ◌≢◌, ℕ, List, [], ◌∷◌, map, get_or, codes, pos}
 use Rattle.mc_program.specs.Values.{int}
-use Rattle.mc_program.specs.Programs.{Expression, variable, constant, made, applied, no_expressions, expressions, Formula, Equal, Call, And, Or, If, Not, Exists, ClauseForm}
+use Rattle.mc_program.specs.Programs.{char_type, int_type, string_type, Expression, variable, constant, made, applied, no_expressions, expressions, Formula, Equal, Call, And, Or, If, Not, Exists, ClauseForm}
 use Rattle.mc_program.specs.PlainPrograms.{formulas}
 use Rattle.mc_model.specs.Flat as F
 use Rattle.mc_model.specs.Flat.{flats}
 use Rattle.mc_accepted.specs.Normal.{normal_goal}
+use Rattle.mc_accepted.specs.NormalTypes.{TypedClause, normal_types, normal_names, query_clause}
 use Rattle.mc_accepted.specs.Scope.{scoped, HasScopes}
 use Rattle.mc_laws.specs.code.Examples.{nil, cell}
 
@@ -74,6 +75,22 @@ ScopesAreWritten =
     × (HasScopes [] [] (both (Exists (0 ∷ []) (p (0 ∷ []))) (q (0 ∷ []))) → ⊥)
     × HasScopes [] [] (If (0 ∷ []) (p (0 ∷ [])) (q (0 ∷ [])) (q (0 ∷ [])))
     × (HasScopes [] [] (If [] (p (0 ∷ [])) (q (0 ∷ [])) (q (1 ∷ []))) → ⊥)
+
+-- Legal goals with quantifiers inside quantifiers: X in the inner negation is its own, since the other
+-- disjunct is parallel, and so it is where the disjunction is a condition.
+abbrev pub ScopesInScopes : Type 0
+ScopesInScopes =
+    (scoped [] (Not (either (Not (p (0 ∷ []))) (q (0 ∷ []))))
+    ≡ Not (Exists (0 ∷ []) (either (Not (Exists (0 ∷ []) (p (0 ∷ [])))) (q (0 ∷ [])))))
+    × HasScopes [] []
+    (Not (Exists (0 ∷ []) (either (Not (Exists (0 ∷ []) (p (0 ∷ [])))) (q (0 ∷ [])))))
+    × (scoped [] (If [] (either (Not (p (0 ∷ []))) (q (0 ∷ []))) (q (1 ∷ [])) (q (1 ∷ [])))
+    ≡ If (0 ∷ []) (either (Not (Exists (0 ∷ []) (p (0 ∷ [])))) (q (0 ∷ []))) (q (1 ∷ []))
+    (q (1 ∷ [])))
+    × HasScopes [] []
+    (If (0 ∷ []) (either (Not (Exists (0 ∷ []) (p (0 ∷ [])))) (q (0 ∷ []))) (q (1 ∷ [])) (q (1 ∷ [])))
+    × HasScopes [] [] (Exists (0 ∷ []) (Not (p (0 ∷ []))))
+    × (HasScopes [] [] (Exists (1 ∷ []) (Not (p (0 ∷ [])))) → ⊥)
 
 abbrev pub list_cell : Expression → Expression → Expression
 list_cell head tail = made cell (expressions (head ∷ tail ∷ []))
@@ -169,4 +186,52 @@ NormalGoals =
       body = F.And (flats (F.Is 0 (int (pos 3)) ∷ F.Is 1 (int (pos 1)) ∷ F.Is 2 (int (pos 2))
           ∷ F.Call plus (1 ∷ 2 ∷ 0 ∷ []) ∷ []));
     })
+    -- `r([X | Xs], X, Xs) :- true.`: X and Xs are met inside the first argument, so both others are
+    -- equations
+    × (normal_goal 3 (only
+    (list_cell (variable 0) (variable 1) ∷ variable 0 ∷ variable 1 ∷ []) (And (formulas [])))
+    ≡ record {
+      arity = 3;
+      variables = 5;
+      body = F.And (flats (F.Made 0 cell (3 ∷ 4 ∷ []) ∷ F.Same 1 3 ∷ F.Same 2 4 ∷ []));
+    })
     × ((normal_goal 2 (only (variable 0 ∷ variable 0 ∷ []) (p (0 ∷ [])))).body ≢ F.Call 0 (0 ∷ []))
+
+-- the names of a query's variables
+abbrev pub query_names : ℕ → List ℕ
+query_names x = get_or (codes "X" ∷ codes "_Y" ∷ codes "Z" ∷ []) x []
+
+-- A query's arguments: the free variables of its goal, once each, but for those whose names begin
+-- with an underscore, which are quantified. In `p(X, _Y), q(X)` X is one; in `not p(X), q(Z)` Z
+-- alone; in `( not p(X) ; q(X) )` X is one, since it is free in the second disjunct.
+abbrev pub QueriesAsk : Type 0
+QueriesAsk =
+    (query_clause query_names (both (p (0 ∷ 1 ∷ [])) (q (0 ∷ [])))
+    ≡ record {
+      head = variable 0 ∷ [];
+      body = Exists (1 ∷ []) (both (p (0 ∷ 1 ∷ [])) (q (0 ∷ [])));
+    })
+    × (query_clause query_names (both (Not (p (0 ∷ []))) (q (2 ∷ [])))
+    ≡ record { head = variable 2 ∷ []; body = both (Not (p (0 ∷ []))) (q (2 ∷ [])) })
+    × (query_clause query_names (either (Not (p (0 ∷ []))) (q (0 ∷ [])))
+    ≡ record { head = variable 0 ∷ []; body = either (Not (p (0 ∷ []))) (q (0 ∷ [])) })
+    × ((query_clause query_names (p (1 ∷ []))).head ≢ variable 1 ∷ [])
+
+-- `r(A, 1) :- q(B).` with the types of A, B and of the variable that its goal makes for nothing:
+-- head variables have the predicate's types and no names, B its own
+abbrev pub typed_rule : TypedClause
+typed_rule =
+    record {
+      clause = record { head = variable 0 ∷ constant (int (pos 1)) ∷ []; body = q (1 ∷ []) };
+      variables = 2;
+      types = char_type ∷ string_type ∷ [];
+      names = codes "A" ∷ codes "B" ∷ [];
+    }
+
+abbrev pub NormalVariables : Type 0
+NormalVariables =
+    (normal_types (char_type ∷ int_type ∷ []) (typed_rule ∷ [])
+    ≡ char_type ∷ int_type ∷ string_type ∷ [])
+    × (normal_names (char_type ∷ int_type ∷ []) (typed_rule ∷ []) ≡ [] ∷ [] ∷ codes "B" ∷ [])
+    × (normal_names (char_type ∷ int_type ∷ []) (typed_rule ∷ [])
+    ≢ codes "A" ∷ [] ∷ codes "B" ∷ [])

@@ -211,7 +211,7 @@ member_clauses k =
     (goal (all_of (take second cell (y ∷ xs ∷ []) ∷ call k (first ∷ xs ∷ []) ∷ []))))
     ∷ []
 
-abbrev member_of : Procedure
+abbrev pub member_of : Procedure
 member_of =
     procedure (first ∷ second ∷ []) (free_inst ∷ ground_inst ∷ []) (ground_inst ∷ ground_inst ∷ [])
     nondet

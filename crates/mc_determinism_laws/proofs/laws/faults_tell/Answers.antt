@@ -1,3 +1,4 @@
+use Rattle.mc_determinism_laws.proofs.Faultless.{faultless_meets}
 use Rattle.mc_determinism_laws.proofs.Placing.{misplaced_tells, misplaces_io_tells}
 use Rattle.mc_determinism_laws.proofs.laws.faults_tell.Goals as goal
 
@@ -6,3 +7,6 @@ returns-clause-calls c = misplaced_tells
 
 pub returns-clause-io : goal.returns-clause-io
 returns-clause-io c = misplaces_io_tells
+
+pub returns-clause-none : goal.returns-clause-none
+returns-clause-none c = faultless_meets

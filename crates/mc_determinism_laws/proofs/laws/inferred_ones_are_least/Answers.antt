@@ -1,4 +1,4 @@
-use Rattle.mc_determinism_laws.proofs.Inferring.{allows_tells, join_is_least, least_is_one}
+use Rattle.mc_determinism_laws.proofs.Inferring.{allows_tells, faults_are_one, join_is_least, least_is_one}
 use Rattle.mc_determinism_laws.proofs.laws.inferred_ones_are_least.Goals as goal
 
 pub returns-clause-allows : goal.returns-clause-allows
@@ -9,3 +9,6 @@ returns-clause-join c = join_is_least
 
 pub returns-clause-one : goal.returns-clause-one
 returns-clause-one c = least_is_one
+
+pub returns-clause-faults : goal.returns-clause-faults
+returns-clause-faults c = faults_are_one

@@ -1,5 +1,6 @@
 use Rattle.mc_determinism_laws.proofs.Grouping.{switches_keep_lists}
 use Rattle.mc_determinism_laws.proofs.Forms.{forms_keep_lists}
+use Rattle.mc_determinism_laws.proofs.WholeGoals.{goals_keep_lists}
 use Rattle.mc_determinism_laws.proofs.laws.switches_keep_lists.Goals as goal
 
 pub returns-clause-disjuncts : goal.returns-clause-disjuncts
@@ -7,3 +8,6 @@ returns-clause-disjuncts c = switches_keep_lists
 
 pub returns-clause-goals : goal.returns-clause-goals
 returns-clause-goals c = forms_keep_lists
+
+pub returns-clause-whole : goal.returns-clause-whole
+returns-clause-whole c = goals_keep_lists

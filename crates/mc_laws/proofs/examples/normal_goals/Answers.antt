@@ -2,4 +2,4 @@ use Rattle.std.proofs.Common.{refl}
 use Rattle.mc_laws.proofs.examples.normal_goals.Goals as goal
 
 pub returns : goal.returns
-returns c = (refl, refl, refl, refl, refl, (λ e. cc))
+returns c = (refl, refl, refl, refl, refl, refl, (λ e. cc))

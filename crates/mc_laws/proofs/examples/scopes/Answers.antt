@@ -1,4 +1,6 @@
-use Rattle.std.proofs.Common.{refl, inl}
+use Rattle.std.proofs.Common.{[], ◌∷◌, refl, inl, ⊎_elim}
+use Rattle.mc_laws.proofs.AcceptedBranches.{apart_lists}
+use Rattle.mc_laws.proofs.ListInsts.{apart}
 use Rattle.mc_laws.proofs.examples.scopes.Goals as goal
 
 pub returns-clause-negations : goal.returns-clause-negations
@@ -17,4 +19,14 @@ returns-clause-written c = (
   (λ h. h.0.0 0 (inl refl) (inl refl)),
   ((λ x h k. k), (λ x h. h), tt, tt, tt),
   (λ h. h.1 0 (inl refl)),
+)
+
+pub returns-clause-nested : goal.returns-clause-nested
+returns-clause-nested c = (
+  refl,
+  ((λ x h. h), ((λ x h k. k), (((λ x h. absurd h), ((λ x h k. k), tt)), (tt, tt)))),
+  refl,
+  ((λ x h k. k), (λ x h. h), (((λ x h. absurd h), (apart_lists (0 ∷ []) (1 ∷ []) refl, tt)), (tt, tt)), tt, tt),
+  ((λ x h k. k), ((λ x h. h), tt)),
+  (λ h. ⊎_elim (λ e. apart 0 1 refl e) (λ i. i) (h.1.0 0 (inl refl))),
 )

@@ -1,0 +1,4 @@
+pub mod Division
+pub mod Failing
+pub mod Numbers
+pub mod Telling

@@ -1,0 +1,14 @@
+use mc_base::{Row, Text};
+use mc_model::run::Exception;
+use mc_values::Ref;
+
+/// What a builtin does at its inputs: it gives its outputs, fails, throws, writes a text and gives a new state of io,
+/// or wants a line of the input from a byte on.
+#[derive(Drop)]
+pub enum Applied {
+    Gives(Row<Ref>),
+    Fails,
+    Throws(Exception),
+    Wrote(Text, Ref),
+    Reads(u64),
+}

@@ -1,0 +1,14 @@
+//! What each builtin does at its inputs, over values in a heap.
+#![tactic(auto)]
+
+mod applied;
+mod applying;
+mod integers;
+mod kind;
+mod library;
+mod made;
+mod texts;
+
+pub use applied::Applied;
+pub use applying::apply;
+pub use library::Library;

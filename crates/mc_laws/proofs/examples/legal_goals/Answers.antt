@@ -1,0 +1,15 @@
+use Rattle.std.proofs.Common.{refl}
+use Rattle.mc_laws.proofs.LegalGoals.{has_is_accepted, builtin_alone, switch_through_some, branches_under_some}
+use Rattle.mc_laws.proofs.examples.legal_goals.Goals as goal
+
+pub returns-clause-condition_answers_once : goal.returns-clause-condition_answers_once
+returns-clause-condition_answers_once c = (has_is_accepted, (refl, refl))
+
+pub returns-clause-builtin_alone : goal.returns-clause-builtin_alone
+returns-clause-builtin_alone c = builtin_alone
+
+pub returns-clause-switch_through_some : goal.returns-clause-switch_through_some
+returns-clause-switch_through_some c = switch_through_some
+
+pub returns-clause-branches_under_some : goal.returns-clause-branches_under_some
+returns-clause-branches_under_some c = branches_under_some

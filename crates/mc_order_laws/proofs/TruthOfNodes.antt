@@ -1,0 +1,101 @@
+-- Functions that look for nodes of a small graph tell its truth.
+use Rattle.std.proofs.Common.{◌≡◌, ◌≢◌, ℕ, zero, suc, Bool, true, false, cond, nat_eq, ◌&&◌, List, [], ◌∷◌, Option, Some, None, refl, subst, ⊎_elim, arith}
+use Rattle.std.proofs.lemmas.Bool.{eqb-true}
+use Rattle.mc_program.specs.Programs.{TypeTerm}
+use Rattle.mc_model.specs.Insts.{dead, AllowsConstants}
+use Rattle.mc_accepted.specs.Inclusion.{Included, Merged}
+use Rattle.mc_accepted.specs.Fits.{type_of}
+use Rattle.mc_accepted.specs.code.Truthful.{Truthful, IsNarrowed}
+use Rattle.mc_order_laws.specs.OrderLaws.{Below}
+use Rattle.mc_order_laws.specs.code.Examples as example
+use Rattle.mc_order_laws.specs.code.ExamplesOfNodes.{few, joined, fits, chosen, copies, system, PremisesAreMet}
+use Rattle.mc_order_laws.specs.code.ExamplesOfNodes as N
+use Rattle.mc_order_laws.proofs.MarkedGoals.{Each, merged-one}
+
+is-dead : (i : ℕ) → N.is_dead i ≡ true → few i ≡ dead
+is-dead zero e = cc
+is-dead (suc zero) e = cc
+is-dead (suc (suc i)) e = refl
+
+is-alive : (i : ℕ) → N.is_dead i ≡ false → few i ≢ dead
+is-alive zero e = λ q. cc
+is-alive (suc zero) e = λ q. cc
+is-alive (suc (suc i)) e = cc
+
+included : (i j : ℕ) (t : TypeTerm) → fits i j ≡ true → Included example.source few i j t
+included zero zero t e = tt
+included zero (suc zero) t e = cc
+included zero (suc (suc j)) t e = cc
+included (suc zero) zero t e = cc
+included (suc zero) (suc zero) t e = λ path tip a. a
+included (suc zero) (suc (suc j)) t e = tt
+included (suc (suc i)) zero t e = cc
+included (suc (suc i)) (suc zero) t e = cc
+included (suc (suc i)) (suc (suc j)) t e = tt
+
+excluded : (i j : ℕ) (t : TypeTerm) → fits i j ≡ false → Included example.source few i j t → ⊥
+excluded zero zero t e h = cc
+excluded zero (suc zero) t e h = h
+excluded zero (suc (suc j)) t e h = h
+excluded (suc zero) zero t e h = h
+excluded (suc zero) (suc zero) t e h = cc
+excluded (suc zero) (suc (suc j)) t e h = cc
+excluded (suc (suc i)) zero t e h = h
+excluded (suc (suc i)) (suc zero) t e h = h
+excluded (suc (suc i)) (suc (suc j)) t e h = cc
+
+is-narrowed : (i s : ℕ) → IsNarrowed system (type_of system copies) i s (N.narrowed i s)
+is-narrowed zero s = λ h. h
+is-narrowed (suc zero) s = refl
+is-narrowed (suc (suc i)) s = refl
+
+takes : (i : ℕ) → N.takes_constants i ≡ true → AllowsConstants (few i)
+takes zero e = cc
+takes (suc zero) e = tt
+takes (suc (suc i)) e = tt
+
+takes-not : (i : ℕ) → N.takes_constants i ≡ false → AllowsConstants (few i) → ⊥
+takes-not zero e h = h
+takes-not (suc zero) e h = cc
+takes-not (suc (suc i)) e h = cc
+
+and-first : (t u : Bool) → (t && u) ≡ true → t ≡ true
+and-first true u e = refl
+and-first false u e = cc
+
+and-second : (t u : Bool) → (t && u) ≡ true → u ≡ true
+and-second true u e = e
+and-second false u e = cc
+
+each-one : (i : ℕ) (js : List ℕ) → N.each_is i js ≡ true → Each system (type_of system copies) i js
+each-one i [] e = tt
+each-one i (j ∷ js) e = (eqb-true j i (and-first (nat_eq j i) _ e), each-one i js (and-second (nat_eq j i) _ e))
+
+is-joined : (t : TypeTerm) (is : List ℕ) (k : ℕ) → joined is ≡ Some k → Merged example.source few is k t
+is-joined t [] k e = cc
+is-joined t (i ∷ is) k e = at (N.each_is i is) refl e
+  where
+    at : (u : Bool) → N.each_is i is ≡ u → cond u (Some i) None ≡ Some k → Merged example.source few (i ∷ is) k t
+    at true q h = subst (λ l. Merged example.source few (i ∷ is) l t) (let r : i ≡ k = cc in r) (merged-one system (type_of system copies) i i is t (refl, each-one i is q))
+    at false q h = cc
+
+truthful : Truthful system (type_of system copies) chosen
+truthful =
+    record {
+      dies = is-dead;
+      lives = is-alive;
+      over = λ s i is e. (let q : ◌≡◌ {A = Option ℕ} None (Some i) = e in cc);
+      joined = λ t is k all a ne e. is-joined t is k e;
+      narrowed = is-narrowed;
+      constants = takes;
+      no_constants = takes-not;
+      fits = included;
+      fits_not = excluded;
+      typed_as = λ z x e. (let q : false ≡ true = e in cc);
+    }
+
+two-below : Below 2 copies.head
+two-below x i = ⊎_elim (λ e. omega (arith, e)) (λ j. ⊎_elim (λ e. omega (arith, e)) (λ k. absurd k) j) i
+
+pub premises-are-met : PremisesAreMet
+premises-are-met = (truthful, (λ p. tt), two-below, tt, refl)
