@@ -14,10 +14,12 @@ pub mod InstRules
 pub mod Least
 pub mod MergedArms
 pub mod Normal
+pub mod MostGeneral
 pub mod NormalTypes
 pub mod Ordered
 pub mod Proper
 pub mod ProperTypes
+pub mod Resolving
 pub mod Scope
 pub mod Switched
 pub mod Tidy

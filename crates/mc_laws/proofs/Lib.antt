@@ -21,4 +21,3 @@ pub mod Scopes
 pub mod Stages
 pub mod Switches
 pub mod TermViews
-pub mod Typings

@@ -8,4 +8,3 @@ pub mod ExamplesOfModes
 pub mod ExamplesOfProcedures
 pub mod ExamplesOfRefusals
 pub mod ExamplesOfRuns
-pub mod ExamplesOfTypes

@@ -8,7 +8,6 @@ ghost use Rattle.mc_laws.specs.code.ExamplesOfLists.{Facts, Appends, Members, Qu
 ghost use Rattle.mc_laws.specs.code.ExamplesOfModes.{Determinisms, CommittedCalls, IoGoals, GoalsWithoutOrder};
 ghost use Rattle.mc_laws.specs.code.ExamplesOfProcedures.{AppendIsAccepted};
 ghost use Rattle.mc_laws.specs.code.ExamplesOfRefusals.{CommittedWithoutAnswers, NumbersPastTheSymbols, FreshVariableTwice, SwitchBehindWriting, AllBindsNothing};
-ghost use Rattle.mc_laws.specs.code.ExamplesOfTypes.{Typings};
 ghost use Rattle.mc_laws.specs.code.ExamplesOfRuns.{Order, Budgets, Depths, Throws, Output};
 
 /// What builtins do at some inputs.
@@ -92,11 +91,6 @@ pub fn accepted_procedures()
 /// Procedures with an if-then-else and with a negation that are accepted, and two that are not.
 pub fn accepted_branches()
     ensures { BranchesAreAccepted }
-{}
-
-/// Clauses that are well typed, and some that are not.
-pub fn typings()
-    ensures { Typings }
 {}
 
 /// The determinism of goals by the tables, and the contexts in which committed calls and goals that write may stand.

@@ -27,7 +27,8 @@ pub fn root(g: &Graph, start: usize) -> usize
 pub fn put(g: &mut Graph, at: usize, cell: Cell) -> Result<(), Memory>
     requires { at < length g.old.cells.items }
     ensures cells { OnOk result (g.new.cells.items ≡ slice_set g.old.cells.items at cell) }
-    ensures changes { OnOk result (g.new.changes.items ≡ g.old.changes.items ++ record { at = at; was = cell_at g.old.cells.items at } ∷ []) }
+    ensures changes { OnOk result (g.new.changes.items
+        ≡ g.old.changes.items ++ record { at = at; was = cell_at g.old.cells.items at } ∷ []) }
     ensures cells_stay { OnErr result (g.new.cells.items ≡ g.old.cells.items) }
     ensures changes_stay { OnErr result (g.new.changes.items ≡ g.old.changes.items) }
 {
@@ -40,7 +41,8 @@ pub fn put(g: &mut Graph, at: usize, cell: Cell) -> Result<(), Memory>
 /// Takes back the changes from a number on, and the cells from a place on.
 pub fn restore(g: &mut Graph, cells: usize, changes: usize)
     requires { changes ≤ length g.old.changes.items }
-    ensures cells { g.new.cells.items ≡ undone (drop changes g.old.changes.items) (take cells g.old.cells.items) }
+    ensures cells { g.new.cells.items
+        ≡ undone (drop changes g.old.changes.items) (take cells g.old.cells.items) }
     ensures changes { g.new.changes.items ≡ take changes g.old.changes.items }
 {
     g.cells.truncate(cells);
@@ -75,11 +77,13 @@ fn join(g: &mut Graph, low: usize, high: usize) -> Result<Joined, Memory>
     requires low_root { IsRoot (cell_at g.old.cells.items low) }
     requires high_root { IsRoot (cell_at g.old.cells.items high) }
     requires in_order { InOrder g.old.cells.items }
-    ensures grown { Grown g.old.cells.items g.old.changes.items g.new.cells.items g.new.changes.items }
+    ensures grown
+        { Grown g.old.cells.items g.old.changes.items g.new.cells.items g.new.changes.items }
     ensures in_order { InOrder g.new.cells.items }
     ensures len { length g.new.cells.items ≡ length g.old.cells.items }
     ensures nothing_new { NothingNew g.old.cells.items g.new.cells.items }
-    ensures says { IfOk result (λ joined. JoinSays joined g.old.cells.items g.new.cells.items low high) }
+    ensures says
+        { IfOk result (λ joined. JoinSays joined g.old.cells.items g.new.cells.items low high) }
 {
     let low_cell = g.cells[low];
     let high_cell = g.cells[high];
@@ -115,11 +119,13 @@ pub fn unify(alloc: Global, g: &mut Graph, left: usize, right: usize) -> Result<
     requires left { left < length g.old.cells.items }
     requires right { right < length g.old.cells.items }
     requires in_order { InOrder g.old.cells.items }
-    ensures grown { Grown g.old.cells.items g.old.changes.items g.new.cells.items g.new.changes.items }
+    ensures grown
+        { Grown g.old.cells.items g.old.changes.items g.new.cells.items g.new.changes.items }
     ensures in_order { InOrder g.new.cells.items }
     ensures len { length g.new.cells.items ≡ length g.old.cells.items }
     ensures nothing_new { NothingNew g.old.cells.items g.new.cells.items }
-    ensures answer { IfOk result (λ yes. Unified yes g.old.cells.items g.new.cells.items left right) }
+    ensures answer
+        { IfOk result (λ yes. Unified yes g.old.cells.items g.new.cells.items left right) }
 {
     let mut work = Vec::new(alloc);
     work.push(Pair { left, right })?;

@@ -14,7 +14,11 @@ fn next_part(g: &Graph, marks: &[usize], round: usize, at: usize) -> Option<usiz
     requires in_order { InOrder g.now.cells.items }
     requires long { length g.now.cells.items ≤ length marks.now }
     requires small { round < 2 ^ 62 }
-    ensures found { MatchOption result ((p : ℕ) → IsPart (cell_at g.now.cells.items at) p → IsDone round marks.now p) (λ p. IsPart (cell_at g.now.cells.items at) p × (IsDone round marks.now p → ⊥) × (p < length g.now.cells.items)) }
+    ensures found { MatchOption result
+        ((p : ℕ) → IsPart (cell_at g.now.cells.items at) p → IsDone round marks.now p)
+        (λ p. IsPart (cell_at g.now.cells.items at) p
+            × (IsDone round marks.now p → ⊥)
+            × (p < length g.now.cells.items)) }
 {
     let done = 2 * round + 1;
     match g.cells[at] {
@@ -38,7 +42,8 @@ fn visit(
     requires calm { Calm round g.now.cells.items marks.old }
     requires small { round < 2 ^ 62 }
     ensures past { AllPast (round + 1) marks.new }
-    ensures answer { IfOk result (λ yes. Visited yes round g.now.cells.items marks.old marks.new start) }
+    ensures answer
+        { IfOk result (λ yes. Visited yes round g.now.cells.items marks.old marks.new start) }
 {
     if marks[start] == 2 * round + 1 {
         return Ok(true);
@@ -83,7 +88,8 @@ pub fn founded(
     requires cells { cells ≤ length g.now.cells.items }
     requires changes { changes ≤ length g.now.changes.items }
     ensures past { AllPast (round + 1) marks.new }
-    ensures answer { IfOk result (λ yes. FoundedSays yes g.now.cells.items g.now.changes.items cells changes) }
+    ensures answer { IfOk result
+        (λ yes. FoundedSays yes g.now.cells.items g.now.changes.items cells changes) }
 {
     for k in changes..g.changes.len() {
         let at = g.changes[k].at;

@@ -61,7 +61,12 @@ fn a_hundred_doubled_types(rt: HostRuntime) -> Result<(), Fail> {
     assert!(rt; doubled(alloc, &mut subst, 0)?);
     assert!(rt; doubled(alloc, &mut subst, 101)?);
     assert!(rt; subst.unify(&Ty::Var(100), &Ty::Var(201))?);
-    assert!(rt; same_type(&subst.resolved(&Ty::Var(103))?, &subst.resolved(&Ty::Var(2))?));
+    assert!(rt;
+        same_type(
+            &subst.resolved(&Ty::Var(103))?,
+            &subst.resolved(&Ty::Var(2))?
+        )
+    );
     assert!(rt; subst.resolved(&Ty::Var(100)).is_err());
     Ok(())
 }

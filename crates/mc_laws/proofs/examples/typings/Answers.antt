@@ -1,5 +1,0 @@
-use Rattle.mc_laws.proofs.Typings.{typings}
-use Rattle.mc_laws.proofs.examples.typings.Goals as goal
-
-pub returns : goal.returns
-returns c = typings

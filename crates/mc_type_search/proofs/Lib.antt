@@ -1,0 +1,9 @@
+pub mod Fitting
+pub mod Orders
+pub mod Choosing
+pub mod Standings
+pub mod Tally
+pub mod Pigeons
+pub mod Roots
+pub mod Progress
+pub mod Generals

@@ -1,0 +1,5 @@
+pub mod Fits
+pub mod Writing
+pub mod Typed
+pub mod Resolved
+pub mod code

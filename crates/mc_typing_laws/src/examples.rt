@@ -1,0 +1,23 @@
+//! Computed examples of resolving. Each is the contract of a function that does nothing.
+ghost use Rattle.mc_typing_laws.specs.code.Examples.{Typings, LiveAtOnce, ResolvedClauses};
+ghost use Rattle.mc_typing_laws.specs.code.ExamplesOfTypes.{ListsOfAny};
+
+/// A clause with one typing, one with two, and one without any.
+pub fn typings()
+    ensures { Typings }
+{}
+
+/// A clause that has two live assignments at one moment, and no more at any.
+pub fn live_at_once()
+    ensures { LiveAtOnce }
+{}
+
+/// The clauses that picks make.
+pub fn resolved_clauses()
+    ensures { ResolvedClauses }
+{}
+
+/// The most general types of a clause, and types that are not.
+pub fn most_general()
+    ensures { ListsOfAny }
+{}
