@@ -1,3 +1,4 @@
 pub mod Examples
+pub mod Moves
 pub mod Passes
 pub mod Premises
