@@ -11,6 +11,7 @@ pub mod Counts
 pub mod Entry
 pub mod Levels
 pub mod Lists
+pub mod MainExample
 pub mod MoveArms
 pub mod MoveAtoms
 pub mod MoveBuiltins
