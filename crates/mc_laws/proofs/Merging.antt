@@ -1,13 +1,12 @@
 -- The least inst above others, and graphs of insts that only grow.
-use Rattle.std.proofs.Common.{◌≡◌, ◌⊎◌, inl, inr, ℕ, zero, suc, ◌<◌, List, [], ◌∷◌, length, get_or, replicate, refl, sym, ap, ◌∙◌, subst, arith, ⊎_elim}
+use Rattle.std.proofs.Common.{◌≡◌, ◌⊎◌, inl, inr, ℕ, zero, suc, ◌<◌, List, [], ◌∷◌, length, get_or, replicate, refl, sym, ◌∙◌, subst, arith, ⊎_elim}
 use Rattle.std.proofs.lemmas.List.{length-replicate, get_or-replicate}
 use Rattle.mc_program.specs.Values.{Val, int, char, str, con, state, Vals, no_vals, val_then}
 use Rattle.mc_program.specs.Programs.{TypeTerm, variable_type, Source}
 use Rattle.mc_model.specs.Types.{argument_types}
 use Rattle.mc_model.specs.Insts.{Listed, InstNode, free, ground, unique, dead, bound, Graph, Lists, AllowsSymbol, AllowsConstants, Within, AllWithin}
-use Rattle.mc_accepted.specs.Inclusion.{Path, Tip, symbol_tip, constant_tip, state_tip, AllowsMark, AllowsTip, Allows, AllFree, NoneIs, OneIsDead, NoneMore, LeastAbove, MergedNodes, Merged}
-use Rattle.mc_accepted.specs.Proper.{ProperGraph}
-use Rattle.mc_laws.specs.MergeLaws.{AllowsEither, EitherIsLeast, OneIsMerged, MergedAllowTheSame, AllBelow, EachBelow, ArgumentsBelow, Grows, OlderNodesKeepPaths, OlderNodesKeepValues}
+use Rattle.mc_accepted.specs.Inclusion.{Path, Tip, symbol_tip, constant_tip, state_tip, AllowsMark, AllowsTip, Allows, AllFree, NoneIs, OneIsDead, NoneMore, LeastAbove, MergedNodes}
+use Rattle.mc_laws.specs.MergeLaws.{EitherIsLeast, OneIsMerged, MergedAllowTheSame, NodesBelow, ListedBelow, ArgumentsBelow, Grows, OlderNodesKeepPaths, OlderNodesKeepValues}
 use Rattle.mc_laws.proofs.Inclusions.{Over, allows_over, over_allows, on_types, on_types_to}
 
 pub either_is_least : EitherIsLeast
@@ -102,24 +101,24 @@ merged_allow_the_same P G proper i is k h t merged other =
     others = kinds G (i ∷ is) (G h) (LeastAbove P G (i ∷ is) h t) other
 
 -- what is below a number
-below_replicate : (n m i : ℕ) → i < n → AllBelow n (replicate m i)
+below_replicate : (n m i : ℕ) → i < n → NodesBelow n (replicate m i)
 below_replicate n zero i lt = tt
 below_replicate n (suc m) i lt = (lt, below_replicate n m i lt)
 
-below_at : (n : ℕ) (is : List ℕ) (k : ℕ) → AllBelow n is → k < length is → get_or is k 0 < n
+below_at : (n : ℕ) (is : List ℕ) (k : ℕ) → NodesBelow n is → k < length is → get_or is k 0 < n
 below_at n [] k h lt = absurd (omega (arith, lt))
 below_at n (i ∷ is) zero h lt = h.0
 below_at n (i ∷ is) (suc k) h lt = below_at n is k h.1 (omega (arith, lt))
 
-below_listed : (P : Source) (n : ℕ) (ls : List Listed) (s : ℕ) (is : List ℕ) → EachBelow n ls → Lists P ls s (λ js. js ≡ is) → AllBelow n is
+below_listed : (P : Source) (n : ℕ) (ls : List Listed) (s : ℕ) (is : List ℕ) → ListedBelow n ls → Lists P ls s (λ js. js ≡ is) → NodesBelow n is
 below_listed P n [] s is h over = absurd over
-below_listed P n (l ∷ ls) s is h over = ⊎_elim (λ a. subst (AllBelow n) a.2 h.0) (λ b. below_listed P n ls s is h.1 b) over
+below_listed P n (l ∷ ls) s is h over = ⊎_elim (λ a. subst (NodesBelow n) a.2 h.0) (λ b. below_listed P n ls s is h.1 b) over
 
-below_over : (P : Source) (n : ℕ) (N : InstNode) (i s : ℕ) (is : List ℕ) → ArgumentsBelow n N → i < n → Over P N i s is → AllBelow n is
+below_over : (P : Source) (n : ℕ) (N : InstNode) (i s : ℕ) (is : List ℕ) → ArgumentsBelow n N → i < n → Over P N i s is → NodesBelow n is
 below_over P n free i s is h lt over = absurd over
-below_over P n ground i s is h lt over = subst (AllBelow n) over (below_replicate n (P.symbols s).name.arity i lt)
-below_over P n unique i s is h lt over = subst (AllBelow n) over (below_replicate n (P.symbols s).name.arity i lt)
-below_over P n dead i s is h lt over = subst (AllBelow n) over (below_replicate n (P.symbols s).name.arity i lt)
+below_over P n ground i s is h lt over = subst (NodesBelow n) over (below_replicate n (P.symbols s).name.arity i lt)
+below_over P n unique i s is h lt over = subst (NodesBelow n) over (below_replicate n (P.symbols s).name.arity i lt)
+below_over P n dead i s is h lt over = subst (NodesBelow n) over (below_replicate n (P.symbols s).name.arity i lt)
 below_over P n (bound ls) i s is h lt over = below_listed P n ls s is h over
 
 module _ (P : Source) (G H : Graph) (n : ℕ) (grows : Grows n G H) where
@@ -144,7 +143,7 @@ module _ (P : Source) (G H : Graph) (n : ℕ) (grows : Grows n G H) where
         over_allows P (H i) i s (AllWithin P H vs) r.0 (subst (λ N. Over P N i s r.0) (sym (grows.same i lt)) r.1)
         (keeps_values vs r.0 (below_over P n (G i) i s r.0 (grows.closed i lt) lt r.1) r.2)
 
-    keeps_values : (vs : Vals) (is : List ℕ) → AllBelow n is → AllWithin P G vs is → AllWithin P H vs is
+    keeps_values : (vs : Vals) (is : List ℕ) → NodesBelow n is → AllWithin P G vs is → AllWithin P H vs is
     keeps_values no_vals [] b w = w
     keeps_values no_vals (i ∷ is) b w = w
     keeps_values (val_then v vs) [] b w = w
