@@ -4,7 +4,7 @@ use Rattle.std.specs.Prelude.{◌≡◌, ◌⊎◌, ◌↔◌, ℕ, suc, ◌<◌
 use Rattle.mc_program.specs.Values.{Val}
 use Rattle.mc_program.specs.Programs.{TypeTerm, Source}
 use Rattle.mc_model.specs.Insts.{Listed, InstNode, free, ground, unique, dead, bound, Graph, Within}
-use Rattle.mc_accepted.specs.Inclusion.{Path, Tip, Allows, NoMore, LeastAbove, Merged}
+use Rattle.mc_accepted.specs.Inclusion.{Path, Tip, Allows, NoMore, Included, LeastAbove, Merged}
 use Rattle.mc_accepted.specs.Proper.{ProperGraph}
 
 -- the third inst allows exactly what one of the first two allows
@@ -64,3 +64,15 @@ abbrev pub OlderNodesKeepValues : Type 0
 OlderNodesKeepValues =
     (P : Source) (G H : Graph) (n : ℕ) → Grows n G H →
     (i : ℕ) → i < n → (v : Val) → Within P G v i ↔ Within P H v i
+
+-- so what is included in what, and what insts are merged to, stays
+abbrev pub OlderNodesKeepInclusion : Type 0
+OlderNodesKeepInclusion =
+    (P : Source) (G H : Graph) (n : ℕ) → Grows n G H →
+    (i j : ℕ) → i < n → j < n → (t : TypeTerm) → Included P G i j t ↔ Included P H i j t
+
+abbrev pub OlderNodesKeepMerges : Type 0
+OlderNodesKeepMerges =
+    (P : Source) (G H : Graph) (n : ℕ) → Grows n G H →
+    (is : List ℕ) (k : ℕ) → NodesBelow n is → k < n → (t : TypeTerm)
+    → Merged P G is k t ↔ Merged P H is k t
