@@ -1,6 +1,6 @@
--- What main writes: where io's builtins append to the state what they write, and no procedure lends
--- its state, a run of main's form writes what its last state has gained. (Mercury Language Reference
--- Manual: the library's io; Modes, unique modes; this project's profile of io.)
+-- What main writes: where io's builtins append to the state what they write, and no procedure
+-- lends its state, a run of main's form writes what its last state has gained. (Mercury Language
+-- Reference Manual: the library's io; Modes, unique modes; this project's profile of io.)
 use Rattle.std.specs.Prelude.{◌≡◌, ℕ, ◌<◌, List, [], ◌∷◌, ◌++◌, Option, true, false}
 use Rattle.mc_program.specs.Values.{Val, state}
 use Rattle.mc_model.specs.Insts.{dead, Graph}
