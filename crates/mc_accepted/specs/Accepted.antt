@@ -70,7 +70,7 @@ module _ (S : System) (p : Procedure) where
 
 pub record AcceptedProcedure (S : System) (p : Procedure) : Type 0 where
   -- the head is that of the predicate's one goal, and the body is that goal in a mode-correct order,
-  -- in its switch form
+  -- where a disjunction may be a switch
   pub head : p.head ≡ from 0 (goal_of S p).arity
   pub lengths : (length p.first ≡ (goal_of S p).arity) × (length p.last ≡ (goal_of S p).arity)
   pub after : Option Insts

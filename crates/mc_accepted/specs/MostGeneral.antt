@@ -1,13 +1,13 @@
 -- The most general types of a clause's variables, which it has once its names are resolved. (Mercury
 -- Language Reference Manual: Types; most general as in Milner, A Theory of Type Polymorphism in
 -- Programming; the numbers of type variables are this project's profile.)
-use Rattle.std.specs.Prelude.{◌≡◌, ℕ, suc, ◌<◌, ◌≤◌, Some, nat_lt, List, [], ◌∷◌, ◌++◌, length, get_or, if◌then◌else◌}
-use Rattle.mc_program.specs.Programs.{TypeTerm, int_type, char_type, string_type, state_type, variable_type, union_type, TypeTerms, no_types, type_then, Source}
+use Rattle.std.specs.Prelude.{◌≡◌, ℕ, suc, ◌<◌, ◌≤◌, Some, nat_lt, List, [], ◌∷◌, ◌++◌, map, length, get_or, if◌then◌else◌}
+use Rattle.mc_program.specs.Programs.{TypeTerm, int_type, char_type, string_type, state_type, variable_type, union_type, TypeTerms, no_types, type_then, Formula, Source}
 use Rattle.mc_model.specs.Lists.{from, once}
 use Rattle.mc_model.specs.Types.{instance_of}
 use Rattle.mc_accepted.specs.ProperTypes.{Parameters, ProperType}
 use Rattle.mc_accepted.specs.Normal.{head_place, normal_goal}
-use Rattle.mc_accepted.specs.NormalTypes.{TypedClause, normal_types}
+use Rattle.mc_accepted.specs.NormalTypes.{TypedClause, normal_types, asked_of, free_variables}
 use Rattle.mc_accepted.specs.Typing.{TypedGoal}
 
 -- the type variables of a type, in the order in which they occur
@@ -84,3 +84,13 @@ pub record MostGeneral
       → v < length (normal_types declared (c ∷ []))
       → T v ≡ generalised (rigid_count declared) σ (type_at (normal_types declared (c ∷ [])) v))
   pub numbered : AreNumbered (rigid_count declared) c.types
+
+-- A query's arguments have the types that its goal gives to them where it is typed as a clause
+-- without arguments.
+pub record QueryTypes
+    (P : Source) (D : Parameters) (names : ℕ → List ℕ) (g : Formula) (types : List TypeTerm)
+    : Type 0 where
+  pub goal : TypedClause
+  pub is : goal.clause ≡ record { head = []; body = g }
+  pub general : MostGeneral P D [] goal
+  pub taken : types ≡ map (type_at goal.types) (asked_of names (free_variables g))

@@ -62,10 +62,12 @@ abbrev pub free_variables : Formula → List ℕ
 free_variables g = once (free_of (scoped [] g))
 
 -- A query's clause: its arguments are the free variables whose names don't begin with an underscore;
--- the other free ones are quantified around the goal.
+-- its scopes are taken with these outside, and the other free ones are then quantified around it.
 abbrev pub query_clause : (names : ℕ → List ℕ) → Formula → ClauseForm
 query_clause names g =
     record {
       head = map variable (asked_of names (free_variables g));
-      body = quantified (unasked_of names (free_variables g)) g;
+      body =
+          quantified (unasked_of names (free_variables g))
+          (scoped (asked_of names (free_variables g)) g);
     }

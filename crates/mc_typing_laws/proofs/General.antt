@@ -7,7 +7,7 @@ use Rattle.mc_model.specs.Lists.{is_in}
 use Rattle.mc_accepted.specs.ProperTypes.{ProperType, count_types}
 use Rattle.mc_accepted.specs.Typing.{constructor_types}
 use Rattle.mc_accepted.specs.MostGeneral.{MostGeneral, generalised, type_at}
-use Rattle.mc_typing_laws.specs.code.ExamplesOfTypes.{lists, one_parameter, list_of, typed_as, ListsOfAny}
+use Rattle.mc_typing_laws.specs.code.ExamplesOfTypes.{lists, one_parameter, list_of, typed_as, ListsOfAny, AskedList}
 
 none_some : {A : Type 0} (x : A) → None ≡ Some x → ⊥
 none_some x e = cc
@@ -81,3 +81,6 @@ lists_of_any = (
       subst P (sym (ap element e)) tt),
   (λ m. let e : ◌≡◌ {A = ℕ} 1 0 = ap first_number m.numbered in omega (arith, e)),
 )
+
+pub asked_list : AskedList
+asked_list = record { goal = typed_as (list_of (variable_type 0)); is = refl; general = any_list; taken = refl }

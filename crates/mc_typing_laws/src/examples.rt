@@ -1,6 +1,6 @@
 //! Computed examples of resolving. Each is the contract of a function that does nothing.
 ghost use Rattle.mc_typing_laws.specs.code.Examples.{Typings, LiveAtOnce, ResolvedClauses};
-ghost use Rattle.mc_typing_laws.specs.code.ExamplesOfTypes.{ListsOfAny};
+ghost use Rattle.mc_typing_laws.specs.code.ExamplesOfTypes.{ListsOfAny, AskedList};
 
 /// A clause with one typing, one with two, and one without any.
 pub fn typings()
@@ -19,5 +19,6 @@ pub fn resolved_clauses()
 
 /// The most general types of a clause, and types that are not.
 pub fn most_general()
-    ensures { ListsOfAny }
+    ensures types { ListsOfAny }
+    ensures query { AskedList }
 {}

@@ -203,7 +203,8 @@ query_names x = get_or (codes "X" ∷ codes "_Y" ∷ codes "Z" ∷ []) x []
 
 -- A query's arguments: the free variables of its goal, once each, but for those whose names begin
 -- with an underscore, which are quantified. In `p(X, _Y), q(X)` X is one; in `not p(X), q(Z)` Z
--- alone; in `( not p(X) ; q(X) )` X is one, since it is free in the second disjunct.
+-- alone; in `( not p(X) ; q(X) )` X is one, since it is free in the second disjunct, and so the
+-- negation doesn't quantify it; in `( not p(_Y) ; q(_Y) )` both are quantified.
 abbrev pub QueriesAsk : Type 0
 QueriesAsk =
     (query_clause query_names (both (p (0 ∷ 1 ∷ [])) (q (0 ∷ [])))
@@ -212,9 +213,17 @@ QueriesAsk =
       body = Exists (1 ∷ []) (both (p (0 ∷ 1 ∷ [])) (q (0 ∷ [])));
     })
     × (query_clause query_names (both (Not (p (0 ∷ []))) (q (2 ∷ [])))
-    ≡ record { head = variable 2 ∷ []; body = both (Not (p (0 ∷ []))) (q (2 ∷ [])) })
+    ≡ record {
+      head = variable 2 ∷ [];
+      body = both (Not (Exists (0 ∷ []) (p (0 ∷ [])))) (q (2 ∷ []));
+    })
     × (query_clause query_names (either (Not (p (0 ∷ []))) (q (0 ∷ [])))
     ≡ record { head = variable 0 ∷ []; body = either (Not (p (0 ∷ []))) (q (0 ∷ [])) })
+    × (query_clause query_names (either (Not (p (1 ∷ []))) (q (1 ∷ [])))
+    ≡ record {
+      head = [];
+      body = Exists (1 ∷ []) (either (Not (Exists (1 ∷ []) (p (1 ∷ [])))) (q (1 ∷ [])));
+    })
     × ((query_clause query_names (p (1 ∷ []))).head ≢ variable 1 ∷ [])
 
 -- `r(A, 1) :- q(B).` with the types of A, B and of the variable that its goal makes for nothing:

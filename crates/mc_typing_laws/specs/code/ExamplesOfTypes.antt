@@ -3,7 +3,7 @@ use Rattle.std.specs.Prelude.{[], ◌∷◌, codes, Some}
 use Rattle.mc_program.specs.Programs.{TypeTerm, int_type, variable_type, union_type, no_types, type_then, Constructor, Source, ClauseForm, variable, made, no_expressions, Equal, And, no_formulas, formula_then}
 use Rattle.mc_accepted.specs.ProperTypes.{Parameters}
 use Rattle.mc_accepted.specs.NormalTypes.{TypedClause}
-use Rattle.mc_accepted.specs.MostGeneral.{MostGeneral}
+use Rattle.mc_accepted.specs.MostGeneral.{MostGeneral, QueryTypes}
 use Rattle.mc_typing_laws.specs.code.Examples.{of_types}
 
 -- `:- type list(T) ---> [].`
@@ -47,3 +47,7 @@ ListsOfAny =
     MostGeneral lists one_parameter [] (typed_as (list_of (variable_type 0)))
     × (MostGeneral lists one_parameter [] (typed_as (list_of int_type)) → ⊥)
     × (MostGeneral lists one_parameter [] (typed_as (list_of (variable_type 1))) → ⊥)
+
+-- The query `X = []` has an argument of that type.
+abbrev pub AskedList : Type 0
+AskedList = QueryTypes lists one_parameter (λ v. codes "X") clause.body (list_of (variable_type 0) ∷ [])
