@@ -7,6 +7,7 @@ mod Inferring
 mod Labels
 mod Monotone
 mod Opened
+mod Places
 mod Placing
 mod Quiet
 mod Tables

@@ -1,7 +1,8 @@
 -- The laws of the rules of determinism: what the computed faults tell of the relations that
 -- accepted procedures meet, and that the least determinisms are one assignment. (Mercury Language
 -- Reference Manual: Determinism; this project's profile of io.)
-use Rattle.std.specs.Prelude.{◌≡◌, ◌↔◌, ℕ, ◌<◌, Bool, true, false, None}
+use Rattle.std.specs.Prelude.{◌≡◌, ◌↔◌, ℕ, ◌<◌, List, [], ◌∷◌, length, Bool, true, false, None}
+use Rattle.mc_source.specs.declared.rule.Broken.{Broken}
 use Rattle.mc_program.specs.Programs.{TypeTerm}
 use Rattle.mc_source.specs.Determinism.{Determinism, Allows, row_of}
 use Rattle.mc_source.specs.declared.det.Det.{Det}
@@ -12,7 +13,7 @@ use Rattle.mc_accepted.specs.Determined.{Known, nothing_known, Placed, IoPlaced}
 use Rattle.mc_accepted.specs.Fits.{type_of}
 use Rattle.mc_accepted.specs.Accepted.{entered}
 use Rattle.mc_accepted.specs.Inferred.{join, DeclaredSystem, system_of, body_determinism, Closed, LeastClosed}
-use Rattle.mc_accepted.specs.DeterminismFaults.{allows, first_misplaced, misplaces_io, procedure_fault, determinism_faults}
+use Rattle.mc_accepted.specs.DeterminismFaults.{allows, first_misplaced, misplaces_io, procedure_fault, determinism_faults, stands_before, by_place}
 
 -- the test of allowing tells it
 abbrev pub AllowsTells : Type 0
@@ -48,6 +49,20 @@ FaultsAreOne =
     (runs : Bool) (D : DeclaredSystem) (ds es : ℕ → Det)
     → LeastClosed D ds → LeastClosed D es →
     determinism_faults runs D ds ≡ determinism_faults runs D es
+
+-- no rule stands before the one that is listed before it
+abbrev pub FirstNotBefore : Broken → List Broken → Type 0
+FirstNotBefore b [] = Unit {0}
+FirstNotBefore b (c ∷ cs) = stands_before c.at b.at ≡ false
+
+abbrev pub InPlaces : List Broken → Type 0
+InPlaces [] = Unit {0}
+InPlaces (b ∷ bs) = FirstNotBefore b bs × InPlaces bs
+
+-- broken rules by their places are in the order of their places, and are as many
+abbrev pub ByPlaceIsInPlaces : Type 0
+ByPlaceIsInPlaces =
+    (bs : List Broken) → InPlaces (by_place bs) × (length (by_place bs) ≡ length bs)
 
 -- What is asked of a procedure's determinism where it is accepted: it allows the body's, and
 -- committed calls and io goals stand where they may.

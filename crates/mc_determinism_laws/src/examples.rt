@@ -5,7 +5,7 @@ ghost use Rattle.mc_determinism_laws.specs.code.ExamplesOfInsts.{Unfounded, Free
 ghost use Rattle.mc_determinism_laws.specs.code.ExamplesOfClauses.{ClausesSwitched};
 ghost use Rattle.mc_determinism_laws.specs.code.ExamplesOfSwitches.{ArmsMerged, FactsSwitched, ListsSwitched, WhatIsLookedThrough, SeveralVariables, LabelsDontOverlap};
 ghost use Rattle.mc_determinism_laws.specs.code.ExamplesOfDeterminisms.{ListsDetermined, FactsDetermined, HeadsDetermined, CallsDetermined, Marks};
-ghost use Rattle.mc_determinism_laws.specs.code.ExamplesOfFaults.{NotAllowed, Undeclared, MisplacedCalls, MisplacedIo, MainIsAsked, FaultsInOrder};
+ghost use Rattle.mc_determinism_laws.specs.code.ExamplesOfFaults.{Contexts, NotAllowed, Undeclared, MisplacedCalls, MisplacedIo, MainIsAsked, FaultsInOrder};
 
 /// Which disjunctions are switches, and their arms.
 pub fn switches()
@@ -37,6 +37,7 @@ pub fn faults()
     ensures not_allowed { NotAllowed }
     ensures undeclared { Undeclared }
     ensures calls { MisplacedCalls }
+    ensures contexts { Contexts }
     ensures io { MisplacedIo }
 {}
 

@@ -1,10 +1,9 @@
 -- append in the mode (in, in, out) is accepted.
-use Rattle.std.proofs.Common.{◌≡◌, ◌⊎◌, inl, inr, ℕ, zero, suc, List, [], ◌∷◌, length, Some, Bool, true, false, cond, not, nat_eq, refl, sym, ap, ◌∙◌, subst, arith, ⊎_elim}
+use Rattle.std.proofs.Common.{◌≡◌, ◌⊎◌, inl, ℕ, zero, suc, List, [], ◌∷◌, length, Some, Bool, true, false, cond, not, nat_eq, refl, sym, ap, ◌∙◌, subst, arith, ⊎_elim}
 use Rattle.mc_program.specs.Programs.{TypeTerm, variable_type, Source}
-use Rattle.mc_model.specs.Types.{argument_types}
 use Rattle.mc_model.specs.Lists.{In}
 use Rattle.mc_model.specs.Insts.{Listed, bound, Graph}
-use Rattle.mc_accepted.specs.Inclusion.{Tip, symbol_tip, constant_tip, state_tip, Path, Allows, NoMore, Merged}
+use Rattle.mc_accepted.specs.Inclusion.{Merged}
 use Rattle.mc_accepted.specs.Proper.{ProperGraph}
 use Rattle.mc_accepted.specs.ProperTypes.{EachProper, EachBelow}
 use Rattle.mc_accepted.specs.Fits.{type_of, NoArgumentFree, FitsInsts, FitsTypes, FitsProcedure, Fits}

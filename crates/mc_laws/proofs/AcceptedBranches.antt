@@ -3,7 +3,7 @@
 use Rattle.std.proofs.Common.{◌≡◌, inl, inr, ℕ, zero, suc, List, [], ◌∷◌, replicate, Option, Some, None, Bool, true, false, cond, nat_eq, refl, sym, ap, ◌∙◌, subst, arith, ⊎_elim}
 use Rattle.std.proofs.lemmas.Bool.{eqb-true}
 use Rattle.mc_program.specs.Programs.{TypeTerm, variable_type, Source}
-use Rattle.mc_model.specs.Lists.{In, is_in, without, Apart, Among}
+use Rattle.mc_model.specs.Lists.{In, is_in, Apart, Among}
 use Rattle.mc_model.specs.Insts as I
 use Rattle.mc_model.specs.Insts.{InstNode, Graph}
 use Rattle.mc_accepted.specs.Inclusion.{LeastAbove, MergedNodes, Merged}

@@ -1,23 +1,22 @@
 -- Procedures of less common forms are accepted.
-use Rattle.std.proofs.Common.{◌≡◌, ◌≢◌, ◌⊎◌, inl, inr, ℕ, List, [], ◌∷◌, Some, Bool, true, false, cond, nat_eq, refl, sym, ap, ◌∙◌, subst, arith, ⊎_elim}
+use Rattle.std.proofs.Common.{◌≡◌, ◌≢◌, ◌⊎◌, inl, ℕ, List, [], ◌∷◌, Some, Bool, true, false, cond, nat_eq, refl, sym, ap, ◌∙◌, subst, arith, ⊎_elim}
 use Rattle.mc_program.specs.Programs.{TypeTerm, Source}
 use Rattle.mc_model.specs.Lists.{In}
 use Rattle.mc_model.specs.Insts.{Graph}
 use Rattle.mc_model.specs.Good.{System}
-use Rattle.mc_model.specs.Scheduled.{Node}
 use Rattle.mc_model.specs.Flat as F
 use Rattle.mc_model.specs.Flat.{Flat_goal, flats}
 use Rattle.mc_program.specs.Values.{int}
 use Rattle.std.specs.Prelude.{pos}
 use Rattle.mc_accepted.specs.Inclusion.{Merged}
-use Rattle.mc_accepted.specs.Ordered.{Insts, also, change_at, here, no_part, to_part, to_rest, keeps, output, no_more, take, test, put, call, apply, implied_alone, conj, disj, switch, ite, neg, some, OrderedNode, kept, next, done, implied_outputs, either, no_other, arm, no_arm}
+use Rattle.mc_accepted.specs.Ordered.{Insts, also, change_at, here, no_part, to_part, to_rest, keeps, output, no_more, take, put, call, apply, implied_alone, conj, disj, switch, ite, neg, some, OrderedNode, kept, next, done, implied_outputs, either, no_other, arm, no_arm}
 use Rattle.mc_accepted.specs.Fits.{type_of}
 use Rattle.mc_accepted.specs.Accepted.{entered, AcceptedProcedure}
 use Rattle.mc_laws.specs.code.Examples.{nil, cell}
 use Rattle.mc_laws.specs.code.ExamplesOfGoals.{plus}
 use Rattle.mc_laws.specs.code.ExamplesOfLists.{member_of}
 use Rattle.mc_laws.specs.code.ExamplesOfProcedures.{list_insts, nil_listed, cell_listed}
-use Rattle.mc_laws.specs.code.ExamplesOfLegalGoals.{lists_with, has_preds, has_condition, has_procedure, differs_preds, differs_inside, differs_procedure, BuiltinAlone, len_preds, len_empty, len_changes, len_goals, len_cell, len_procedure, SwitchThroughSome, some_preds, some_branches, some_procedure, BranchesUnderSome}
+use Rattle.mc_laws.specs.code.ExamplesOfLegalGoals.{lists_with, has_preds, has_procedure, differs_preds, differs_procedure, BuiltinAlone, len_preds, len_empty, len_changes, len_goals, len_cell, len_procedure, SwitchThroughSome, some_preds, some_procedure, BranchesUnderSome}
 use Rattle.mc_program.specs.declared.builtin.Builtin.TheVariants as B
 use Rattle.mc_laws.proofs.AcceptedBranches.{apart_lists}
 use Rattle.mc_laws.proofs.ListInsts.{swapped, entered_off, apart, differ, bound_below_ground, included_ground, both_ground, nil_or_cell}

@@ -1,5 +1,5 @@
 -- Programs that are refused.
-use Rattle.std.proofs.Common.{◌≡◌, ◌≢◌, ◌⊎◌, inl, inr, ℕ, List, [], ◌∷◌, ◌++◌, Option, Some, None, Bool, true, false, cond, not, nat_eq, ◌&&◌, refl, sym, ap, ap₂, ◌∙◌, subst, arith, ⊎_elim}
+use Rattle.std.proofs.Common.{◌≡◌, ◌⊎◌, inl, ℕ, List, [], ◌∷◌, ◌++◌, Option, Some, Bool, true, false, cond, not, ◌&&◌, refl, sym, ap, ap₂, ◌∙◌, subst, arith, ⊎_elim}
 use Rattle.std.proofs.lemmas.Option.{none-some, same_Some}
 use Rattle.mc_program.specs.Values.{Val, int, char, str, con, state, Vals, no_vals, val_then}
 use Rattle.mc_program.specs.Programs.{TypeTerm, no_types, Source}
@@ -8,7 +8,7 @@ use Rattle.mc_model.specs.Types.{OfType, AllOfTypes}
 use Rattle.mc_model.specs.Flat as F
 use Rattle.mc_model.specs.Flat.{Flat_goals, no_flat, flat_then, flats, variables_of}
 use Rattle.mc_model.specs.Stream.{is_bound}
-use Rattle.mc_model.specs.Scheduled.{Node, node, Scheduled, Conj, Disj, Apply, Nodes, no_nodes, node_then}
+use Rattle.mc_model.specs.Scheduled.{Node, node, Conj, Disj, Apply, Nodes, no_nodes, node_then}
 use Rattle.mc_model.specs.Good.{System}
 use Rattle.mc_accepted.specs.Ordered.{Insts, also, Mode, modes_of, at_outputs, variables_of_node, implied_places, Freshened, firsts, BindsNone, AfterArguments, OrderedNode, OrderedAll, no_more, not_passed, output, implied, dies, keeps, becomes, put, call, apply, implied_alone, conj, neg, some, kept, here, there, done, dropped, next, implied_outputs}
 use Rattle.mc_accepted.specs.Fits.{type_of}
@@ -17,7 +17,7 @@ use Rattle.mc_model.specs.Outcomes.{inputs_of}
 use Rattle.mc_program.specs.declared.builtin.Builtin.{Builtin}
 use Rattle.mc_program.specs.declared.builtin.Builtin.TheVariants as B
 use Rattle.mc_laws.specs.code.Examples.{cc_nondet}
-use Rattle.mc_laws.specs.code.ExamplesOfRefusals.{source_of, system_of, two_type, one_procedure, one_system, CommittedWithoutAnswers, pred_of, NumbersPastTheSymbols, sum_preds, bracket, sum_procedure, FreshVariableTwice, main_preds, main_procedure, SwitchBehindWriting, all_preds, any_procedure, all_procedure, AllBindsNothing}
+use Rattle.mc_laws.specs.code.ExamplesOfRefusals.{source_of, system_of, two_type, one_procedure, one_system, CommittedWithoutAnswers, pred_of, NumbersPastTheSymbols, sum_preds, bracket, sum_procedure, FreshVariableTwice, main_procedure, SwitchBehindWriting, all_preds, any_procedure, AllBindsNothing}
 use Rattle.mc_laws.proofs.FlatGoals.{in_left, in_right}
 use Rattle.mc_laws.proofs.FlatWhole.{is_in_true}
 use Rattle.mc_laws.proofs.ListInsts.{apart, differ}

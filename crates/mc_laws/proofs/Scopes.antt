@@ -1,6 +1,6 @@
 -- Scopes that are written out.
 use Rattle.std.proofs.Common.{◌≡◌, ◌⊎◌, inl, inr, ℕ, List, [], ◌∷◌, ◌++◌, Bool, true, false, cond, refl, sym, ap, ap₂, ◌∙◌, subst, ⊎_elim, append-nil}
-use Rattle.mc_program.specs.Programs.{expressions, Formula, Equal, Call, And, Or, If, Not, Exists, Formulas, no_formulas, formula_then, ClauseForm}
+use Rattle.mc_program.specs.Programs.{expressions, Formula, Equal, Call, And, Or, If, Not, Exists, Formulas, no_formulas, formula_then}
 use Rattle.mc_model.specs.Lists.{In, is_in, without, Apart, Among, once}
 use Rattle.mc_accepted.specs.Scope.{variables_in_all, occurring, occurring_all, free_of, quantified, scoped_condition, scoped_negation, scoped, scoped_parts, scoped_disjuncts, HasScopes, PartsHaveScopes, DisjunctsHaveScopes}
 use Rattle.mc_laws.specs.ScopeLaws.{QuantifiersApart, PartsApart, DisjunctsApart, ScopedHasScopes, ClausesAreScoped, WrittenScopesStay, ScopedOnce}

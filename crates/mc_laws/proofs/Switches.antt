@@ -1,7 +1,6 @@
 -- Laws of accepted procedures: constructors that types list, committed procedures, switches.
-use Rattle.std.proofs.Common.{◌≡◌, inl, inr, ℕ, List, [], ◌∷◌, map, Option, Some, None, Bool, true, false, cond, nat_eq, ◌&&◌, refl, sym, ap, subst, ⊎_elim}
-use Rattle.mc_program.specs.Values.{con, Vals, no_vals, val_then}
-use Rattle.mc_program.specs.Programs.{TypeTerm, union_type, TypeTerms, Source}
+use Rattle.std.proofs.Common.{◌≡◌, ℕ, List, [], ◌∷◌, map, Option, Some, None, Bool, true, false, cond, nat_eq, ◌&&◌, refl}
+use Rattle.mc_program.specs.Programs.{TypeTerm}
 use Rattle.mc_model.specs.Lists.{In, is_in}
 use Rattle.mc_model.specs.Types.{type_at, instance_of, AllOfTypes}
 use Rattle.mc_model.specs.Flat.{Flat_goal, Flat_goals}

@@ -1,6 +1,6 @@
 -- Laws of accepted procedures, each of which excludes a program whose runs would not be good.
 -- (Mercury Language Reference Manual: Types; Determinism; this project's switch form.)
-use Rattle.std.specs.Prelude.{◌≡◌, ℕ, List, true}
+use Rattle.std.specs.Prelude.{◌≡◌, ℕ, true}
 use Rattle.mc_program.specs.Values.{con, Vals}
 use Rattle.mc_program.specs.Programs.{union_type, TypeTerms, Source}
 use Rattle.mc_model.specs.Lists.{In}

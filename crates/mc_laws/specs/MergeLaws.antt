@@ -4,7 +4,7 @@ use Rattle.std.specs.Prelude.{◌≡◌, ◌⊎◌, ◌↔◌, ℕ, suc, ◌<◌
 use Rattle.mc_program.specs.Values.{Val}
 use Rattle.mc_program.specs.Programs.{TypeTerm, Source}
 use Rattle.mc_model.specs.Insts.{Listed, InstNode, free, ground, unique, dead, bound, Graph, Within}
-use Rattle.mc_accepted.specs.Inclusion.{Path, Tip, Allows, NoMore, LeastAbove, Merged}
+use Rattle.mc_accepted.specs.Inclusion.{Path, Tip, Allows, NoMore, Included, LeastAbove, Merged}
 use Rattle.mc_accepted.specs.Proper.{ProperGraph}
 
 -- the third inst allows exactly what one of the first two allows
@@ -32,21 +32,21 @@ MergedAllowTheSame =
     (P : Source) (G : Graph) → ProperGraph G → (i : ℕ) (is : List ℕ) (k h : ℕ) (t : TypeTerm)
     → Merged P G (i ∷ is) k t → Merged P G (i ∷ is) h t → NoMore P G k h t
 
--- the arguments of a node are below a number
-abbrev pub AllBelow : ℕ → List ℕ → Type 0
-AllBelow n [] = Unit {0}
-AllBelow n (i ∷ is) = (i < n) × AllBelow n is
+-- nodes, and the arguments of a node, are below a number
+abbrev pub NodesBelow : ℕ → List ℕ → Type 0
+NodesBelow n [] = Unit {0}
+NodesBelow n (i ∷ is) = (i < n) × NodesBelow n is
 
-abbrev pub EachBelow : ℕ → List Listed → Type 0
-EachBelow n [] = Unit {0}
-EachBelow n (l ∷ ls) = AllBelow n l.args × EachBelow n ls
+abbrev pub ListedBelow : ℕ → List Listed → Type 0
+ListedBelow n [] = Unit {0}
+ListedBelow n (l ∷ ls) = NodesBelow n l.args × ListedBelow n ls
 
 abbrev pub ArgumentsBelow : ℕ → InstNode → Type 0
 ArgumentsBelow n free = Unit {0}
 ArgumentsBelow n ground = Unit {0}
 ArgumentsBelow n unique = Unit {0}
 ArgumentsBelow n dead = Unit {0}
-ArgumentsBelow n (bound ls) = EachBelow n ls
+ArgumentsBelow n (bound ls) = ListedBelow n ls
 
 -- a graph of n nodes, whose arguments are among them, is grown to another
 pub record Grows (n : ℕ) (G H : Graph) : Type 0 where
@@ -64,3 +64,15 @@ abbrev pub OlderNodesKeepValues : Type 0
 OlderNodesKeepValues =
     (P : Source) (G H : Graph) (n : ℕ) → Grows n G H →
     (i : ℕ) → i < n → (v : Val) → Within P G v i ↔ Within P H v i
+
+-- so what is included in what, and what insts are merged to, stays
+abbrev pub OlderNodesKeepInclusion : Type 0
+OlderNodesKeepInclusion =
+    (P : Source) (G H : Graph) (n : ℕ) → Grows n G H →
+    (i j : ℕ) → i < n → j < n → (t : TypeTerm) → Included P G i j t ↔ Included P H i j t
+
+abbrev pub OlderNodesKeepMerges : Type 0
+OlderNodesKeepMerges =
+    (P : Source) (G H : Graph) (n : ℕ) → Grows n G H →
+    (is : List ℕ) (k : ℕ) → NodesBelow n is → k < n → (t : TypeTerm)
+    → Merged P G is k t ↔ Merged P H is k t

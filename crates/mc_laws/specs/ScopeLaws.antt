@@ -1,6 +1,6 @@
 -- The laws of scopes: written out they are those of the language, and they are written out once.
 -- (Mercury Language Reference Manual: Syntax, implicit quantification.)
-use Rattle.std.specs.Prelude.{◌≡◌, ℕ, List, [], ◌∷◌, ◌++◌}
+use Rattle.std.specs.Prelude.{◌≡◌, ℕ, List, ◌++◌}
 use Rattle.mc_program.specs.Programs.{expressions, Formula, Equal, Call, And, Or, If, Not, Exists, Formulas, no_formulas, formula_then, ClauseForm}
 use Rattle.mc_model.specs.Lists.{Apart}
 use Rattle.mc_accepted.specs.Scope.{variables_in_all, occurring, occurring_all, scoped, HasScopes, clause_scoped, ClauseHasScopes}

@@ -2,7 +2,7 @@
 ghost use Rattle.mc_laws.specs.BareLaws.{GoalsRunBare, CallsRunBare, QueriesRunBare};
 ghost use Rattle.mc_laws.specs.Laws.{GoalsStay, CallsStay, NoGoalIsBoth, NoCallIsBoth, LevelsSuffice, LevelsSufficeForCalls, LevelsSufficeForQueries, OneLevelMore, BudgetsExtend, BudgetsExtendCalls, BudgetsExtendQueries, SameIsEqual, PlainIsExact, PlainTypesAreExact, PlainTermsAreExact};
 ghost use Rattle.mc_laws.specs.Proper.{IncludedSets};
-ghost use Rattle.mc_laws.specs.MergeLaws.{EitherIsLeast, OneIsMerged, MergedAllowTheSame, OlderNodesKeepPaths, OlderNodesKeepValues};
+ghost use Rattle.mc_laws.specs.MergeLaws.{EitherIsLeast, OneIsMerged, MergedAllowTheSame, OlderNodesKeepPaths, OlderNodesKeepValues, OlderNodesKeepInclusion, OlderNodesKeepMerges};
 ghost use Rattle.mc_laws.specs.ScopeLaws.{ScopedHasScopes, ClausesAreScoped, WrittenScopesStay, ScopedOnce};
 ghost use Rattle.mc_laws.specs.AcceptedLaws.{ValuesAreListed, CommittedMayAnswer, AcceptedSwitchesOpen};
 ghost use Rattle.mc_laws.specs.FlatLaws.{FlatGoalsCarry};
@@ -88,10 +88,13 @@ pub fn merged_is_least()
     ensures once { MergedAllowTheSame }
 {}
 
-/// Where a graph of insts only grows, its older nodes keep their meaning.
+/// Where a graph of insts only grows, its older nodes keep their meaning: what they allow, which are included in which,
+/// and what they are merged to.
 pub fn older_nodes_keep_their_meaning()
     ensures paths { OlderNodesKeepPaths }
     ensures values { OlderNodesKeepValues }
+    ensures inclusion { OlderNodesKeepInclusion }
+    ensures merges { OlderNodesKeepMerges }
 {}
 
 /// Goals, procedures and queries run as their bare forms do.

@@ -71,7 +71,20 @@ times_one Many = refl
 stop_at_most : (A : Type 0) (m : Most) → AtMost {A = A} m (Stopped too_deep)
 stop_at_most A m = none_at_most {A = A} m (Stopped too_deep) refl
 
-builtin_view : (op : Builtin) → (op ≡ B.Error) ⊎ ((builtin_most op ≡ One) × ((builtin_determinism op).most ≡ One))
+-- the outputs of a builtin at their places
+abbrev pub woven : List Bool → List Val → List (Option Val)
+woven [] vs = []
+woven (true ∷ bs) vs = None ∷ woven bs vs
+woven (false ∷ bs) [] = []
+woven (false ∷ bs) (v ∷ vs) = Some v ∷ woven bs vs
+
+abbrev pub Lined : List Bool → List ℕ → List Val → Type 0
+Lined [] [] [] = Unit {0}
+Lined (true ∷ bs) (x ∷ xs) vs = Lined bs xs vs
+Lined (false ∷ bs) (x ∷ xs) (v ∷ vs) = Lined bs xs vs
+Lined _ _ _ = ⊥
+
+pub builtin_view : (op : Builtin) → (op ≡ B.Error) ⊎ ((builtin_most op ≡ One) × ((builtin_determinism op).most ≡ One))
 builtin_view B.IntPlus = inr (refl, refl)
 builtin_view B.IntMinus = inr (refl, refl)
 builtin_view B.IntTimes = inr (refl, refl)
@@ -121,7 +134,7 @@ module _ (S : System) (D : Parameters) (F : Fits S D) (θ : TypeChoice) (T : ℕ
     pub answers_of : (os : List (Option Val)) → Answered os → Arguments.Answers S D F θ T proper (modes_of_procedure p) xs e os
     answers_of os h = Arguments.shape_answers S D F θ T proper σ p.first p.last xs (types_of S p) e os types h.0 h.1 given
 
-    call_option : (os : List (Option Val)) → Answered os → Each (λ a. Grows e a × (BindsOnly xs e a × TypedAt S θ T L c a)) (of_option (unify xs os e))
+    pub call_option : (os : List (Option Val)) → Answered os → Each (λ a. Grows e a × (BindsOnly xs e a × TypedAt S θ T L c a)) (of_option (unify xs os e))
     call_option os h =
         Lists.each_both (λ a. Grows e a) (λ a. BindsOnly xs e a × TypedAt S θ T L c a) (of_option (unify xs os e)) (Binds.unify_extends xs os e)
         (Lists.each_both (λ a. BindsOnly xs e a) (TypedAt S θ T L c) (of_option (unify xs os e)) (unify_binds xs os e)
@@ -214,20 +227,7 @@ module _ (S : System) (D : Parameters) (F : Fits S D) (θ : TypeChoice) (T : ℕ
   modes_fit B.ReadLine = (refl, plain_one, (is_two, plain_three, (refl, plain_two, tt)))
   modes_fit B.Error = plain_fit (inputs_of B.Error)
 
-  -- the outputs of a builtin at their places
-  abbrev woven : List Bool → List Val → List (Option Val)
-  woven [] vs = []
-  woven (true ∷ bs) vs = None ∷ woven bs vs
-  woven (false ∷ bs) [] = []
-  woven (false ∷ bs) (v ∷ vs) = Some v ∷ woven bs vs
-
-  abbrev Lined : List Bool → List ℕ → List Val → Type 0
-  Lined [] [] [] = Unit {0}
-  Lined (true ∷ bs) (x ∷ xs) vs = Lined bs xs vs
-  Lined (false ∷ bs) (x ∷ xs) (v ∷ vs) = Lined bs xs vs
-  Lined _ _ _ = ⊥
-
-  unify_woven : (bs : List Bool) (xs : List ℕ) (vs : List Val) (a : Bindings) → Lined bs xs vs → unify xs (woven bs vs) a ≡ unify (at_outputs bs xs) (map Some vs) a
+  pub unify_woven : (bs : List Bool) (xs : List ℕ) (vs : List Val) (a : Bindings) → Lined bs xs vs → unify xs (woven bs vs) a ≡ unify (at_outputs bs xs) (map Some vs) a
   unify_woven [] [] [] a l = refl
   unify_woven [] [] (v ∷ vs) a l = absurd l
   unify_woven [] (x ∷ xs) vs a l = absurd l
@@ -256,7 +256,7 @@ module _ (S : System) (D : Parameters) (F : Fits S D) (θ : TypeChoice) (T : ℕ
       (v.0 ∷ r.0, ap₂ both v.1 r.1, (subst (λ z. OfType S.world.source v.0 z) (ap (instance_of θ) y.0 ∙ instance_twice θ σ k) v.2.1, r.2))
   inputs_there (false ∷ bs) (m ∷ ms) all (x ∷ xs) (k ∷ ts) σ b e f u y t = inputs_there bs ms all xs ts σ b e f.2 u.1 y.1 (λ z j. t z (inr j))
 
-  outputs_answer : (bs : List Bool) (ms : List Mode) (all xs : List ℕ) (ts : List TypeTerm) (σ : ℕ → TypeTerm) (b : Insts) (e : Bindings) (vs : List Val) → FitsModes bs ms → UsableAt S T all ms xs b → Arguments.TypesAt S D F θ T proper σ xs ts → TypedAt S θ T xs b e →
+  pub outputs_answer : (bs : List Bool) (ms : List Mode) (all xs : List ℕ) (ts : List TypeTerm) (σ : ℕ → TypeTerm) (b : Insts) (e : Bindings) (vs : List Val) → FitsModes bs ms → UsableAt S T all ms xs b → Arguments.TypesAt S D F θ T proper σ xs ts → TypedAt S θ T xs b e →
       EachOf S.world.source (also_instance θ σ) (at_places false bs ts) vs → Arguments.Answers S D F θ T proper ms xs e (woven bs vs) × Lined bs xs vs
   outputs_answer [] [] all [] [] σ b e [] f u y t o = (tt, tt)
   outputs_answer [] [] all [] [] σ b e (v ∷ vs) f u y t o = absurd o
@@ -301,7 +301,7 @@ module _ (S : System) (D : Parameters) (F : Fits S D) (θ : TypeChoice) (T : ℕ
         in_right x [] ys h = h
         in_right x (z ∷ xs) ys h = inr (in_right x xs ys h)
 
-    gives_sound : (vs : List Val) → builtin_most op ≡ One → (builtin_determinism op).most ≡ One → EachOf S.world.source (also_instance θ σ) (at_places false (inputs_of op) (S.world.source.preds p).types) vs → Ended (of_option (unify (at_outputs (inputs_of op) xs) (map Some vs) e))
+    pub gives_sound : (vs : List Val) → builtin_most op ≡ One → (builtin_determinism op).most ≡ One → EachOf S.world.source (also_instance θ σ) (at_places false (inputs_of op) (S.world.source.preds p).types) vs → Ended (of_option (unify (at_outputs (inputs_of op) xs) (map Some vs) e))
     gives_sound vs m d o =
         let r = outputs_answer (inputs_of op) (modes_of op) xs xs (S.world.source.preds p).types σ b e vs (modes_fit op) usable types typed o in
         let q = unify_woven (inputs_of op) xs vs e r.1 in

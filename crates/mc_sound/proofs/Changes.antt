@@ -141,7 +141,7 @@ module _ (S : System) (D : Parameters) (F : Fits S D) (T : ℕ → TypeTerm) whe
   merged_first : (i k : ℕ) (Q : Type 0) → View (S.insts i) (S.insts k) Q → i ≡ 0 → k ≡ 0
   merged_first i k Q (all_free a c) h = Typed.only_free S D F k c
   merged_first i k Q (one_dead a c) h = absurd (a (Typed.zero_free S D F i h))
-  merged_first i k Q (more a c q) h = absurd (a (Typed.zero_free S D F i h))
+  merged_first i k Q (more a c d q) h = absurd (a (Typed.zero_free S D F i h))
 
   -- at each end of branches
   abbrev pub FromEach : List ℕ → Insts → List (Option Insts) → Type 0

@@ -145,7 +145,7 @@ more_answers Many One xs l h = absurd (omega arith)
 more_answers Many Many xs l h = tt
 
 module _ (S : System) (D : Parameters) (F : Fits S D) (θ : TypeChoice) where
-  included_left : (i j : ℕ) (t : TypeTerm) → Included S.world.source S.insts i j t → i ≡ 0 → j ≡ 0
+  pub included_left : (i j : ℕ) (t : TypeTerm) → Included S.world.source S.insts i j t → i ≡ 0 → j ≡ 0
   included_left i j t c e = Typed.only_free S D F j (free_included (S.insts j) (NoMore S.world.source S.insts i j t) (subst (λ N. IncludedNodes N (S.insts j) (NoMore S.world.source S.insts i j t)) (Typed.zero_free S D F i e) c))
 
   pub included_right : (i j : ℕ) (t : TypeTerm) → Included S.world.source S.insts i j t → j ≡ 0 → i ≡ 0

@@ -297,7 +297,7 @@ module _ (S : System) (T : ℕ → TypeTerm) where
         subst (λ k. Armed k arms) (sym r.2) (has_armed r.0 r.1 arms (Takes.all_pass (λ s. has_arm S T s arms) (allowed_of S T i (S.world.source.symbols_of u)) r.0 (not-false (list_all (λ s. has_arm S T s arms) (allowed_of S T i (S.world.source.symbols_of u))) m) r.3))
 
 -- bindings that are the same where nothing was bound
-closed_same : (O Q : List ℕ) (c : Insts) (a a' : Bindings) → BindsOnly [] a a' → Closed O Q c a → Closed O Q c a'
+pub closed_same : (O Q : List ℕ) (c : Insts) (a a' : Bindings) → BindsOnly [] a a' → Closed O Q c a → Closed O Q c a'
 closed_same O Q c a a' f h x = ⊎_elim (λ i. inl i) (λ n. inr (n.0, Changes.none_on (a' x) (Unit {0}) (λ v q. ⊎_elim (λ z. Changes.no_both (a x) v n.1 z) (λ z. absurd z) (f x v q)))) (h x)
 
 pub closed_within : (O Q R : List ℕ) (c : Insts) (a : Bindings) → ((x : ℕ) → In x Q → In x R) → Closed O Q c a → Closed O R c a

@@ -62,7 +62,7 @@ arguments (suc (suc zero)) = (tt, tt)
 arguments (suc (suc (suc zero))) = tt
 arguments (suc (suc (suc (suc s)))) = tt
 
-types_fit : FitsTypes source parameters
+pub types_fit : FitsTypes source parameters
 types_fit = record { arities = arities; parameters = λ s k e i. below s k e; arguments = λ s k e i. arguments s }
   where
     arities : (s : ℕ) → (symbols s).name.arity ≡ Rattle.std.proofs.Common.length (symbols s).args

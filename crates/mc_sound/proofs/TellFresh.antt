@@ -30,7 +30,7 @@ use Rattle.mc_sound.proofs.Typed
 use Rattle.mc_sound.proofs.Typed.{true_not_false}
 
 -- lists one after another
-append_end : {A : Type 0} (xs : Items A) → append xs End ≡ xs
+pub append_end : {A : Type 0} (xs : Items A) → append xs End ≡ xs
 append_end End = refl
 append_end Stuck = refl
 append_end (Stopped w) = refl

@@ -146,20 +146,20 @@ is_below P G (l ∷ is) i k t h m = ⊎_elim (λ e. subst (λ z. NoMore P G z k 
 pub data View (N K : InstNode) (Q : Type 0) : Type 0 where
   all_free : N ≡ free → K ≡ free → View N K Q
   one_dead : N ≢ free → K ≡ dead → View N K Q
-  more : N ≢ free → K ≢ free → Q → View N K Q
+  more : N ≢ free → K ≢ free → N ≢ dead → Q → View N K Q
 
 view_on : (P : Source) (G : Graph) (is : List ℕ) (i k : ℕ) (t : TypeTerm) (K : InstNode) → Is i is → MergedNodes G is K (LeastAbove P G is k t) → View (G i) K (NoMore P G i k t)
 view_on P G is i k t free m h = all_free (is_free_all G is i h m) refl
 view_on P G is i k t dead m h = one_dead (is_none free G is i h.0 m) refl
-view_on P G is i k t ground m h = more (is_none free G is i h.0 m) no_ground (is_below P G is i k t h.2.above m)
-view_on P G is i k t unique m h = more (is_none free G is i h.0 m) no_unique (is_below P G is i k t h.2.above m)
-view_on P G is i k t (bound ls) m h = more (is_none free G is i h.0 m) (no_bound ls) (is_below P G is i k t h.2.above m)
+view_on P G is i k t ground m h = more (is_none free G is i h.0 m) no_ground (is_none dead G is i h.1 m) (is_below P G is i k t h.2.above m)
+view_on P G is i k t unique m h = more (is_none free G is i h.0 m) no_unique (is_none dead G is i h.1 m) (is_below P G is i k t h.2.above m)
+view_on P G is i k t (bound ls) m h = more (is_none free G is i h.0 m) (no_bound ls) (is_none dead G is i h.1 m) (is_below P G is i k t h.2.above m)
 
 pub merged_view : (P : Source) (G : Graph) (is : List ℕ) (i k : ℕ) (t : TypeTerm) → Is i is → Merged P G is k t → View (G i) (G k) (NoMore P G i k t)
 merged_view P G is i k t m h = view_on P G is i k t (G k) m h
 
 -- a reachable end is one of the reachable ones
-is_reachable : (c : Insts) (os : List (Option Insts)) → Is (Some c) os → Is c (reachable os)
+pub is_reachable : (c : Insts) (os : List (Option Insts)) → Is (Some c) os → Is c (reachable os)
 is_reachable c [] i = absurd i
 is_reachable c (None ∷ os) i = ⊎_elim (λ e. absurd (no e)) (λ j. is_reachable c os j) i
   where
@@ -170,7 +170,7 @@ is_reachable c (Some d ∷ os) i = ⊎_elim (λ e. inl (same e)) (λ j. inr (is_
     same : Some c ≡ Some d → c ≡ d
     same e = cc
 
-is_at : (x : ℕ) (c : Insts) (ends : List Insts) → Is c ends → Is (c x) (map (λ (d : Insts). d x) ends)
+pub is_at : (x : ℕ) (c : Insts) (ends : List Insts) → Is c ends → Is (c x) (map (λ (d : Insts). d x) ends)
 is_at x c [] i = absurd i
 is_at x c (d ∷ ends) i = ⊎_elim (λ e. inl (ap (λ (f : Insts). f x) e)) (λ j. inr (is_at x c ends j)) i
 
@@ -178,7 +178,7 @@ module _ (S : System) (D : Parameters) (F : Fits S D) (θ : TypeChoice) where
   merged_on : (i k : ℕ) (t : TypeTerm) (o : Option Val) → ProperType D t → View (S.insts i) (S.insts k) (NoMore S.world.source S.insts i k t) → BoundAs S θ i t o → BoundAs S θ k t o
   merged_on i k t o p (all_free a c) h = merged_free S D F θ i k t o a c h
   merged_on i k t o p (one_dead a c) h = merged_dead S D F θ i k t o c a h
-  merged_on i k t o p (more a c q) h = merged_more S D F θ i k t o p a c q h
+  merged_on i k t o p (more a c d q) h = merged_more S D F θ i k t o p a c q h
 
   module _ (T : ℕ → TypeTerm) (proper : (x : ℕ) → ProperType D (T x)) where
     -- where the insts of branches are joined

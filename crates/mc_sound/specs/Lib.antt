@@ -1,3 +1,4 @@
 pub mod BuiltinLaws
+pub mod IoLaws
 pub mod Soundness
 pub mod code

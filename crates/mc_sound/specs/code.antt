@@ -1,3 +1,5 @@
 pub mod Examples
+pub mod MainExamples
+pub mod Moves
 pub mod Passes
 pub mod Premises

@@ -1,5 +1,6 @@
 //! The theorem and its parts. Each is the contract of a function that does nothing but call others of the kind.
 ghost use Rattle.mc_sound.specs.BuiltinLaws.{BuiltinsFit};
+ghost use Rattle.mc_sound.specs.IoLaws.{BuiltinsDoIo, MainWritesAll};
 ghost use Rattle.mc_sound.specs.Soundness.{AcceptedAreGood, AcceptedQueriesAreGood};
 
 use mc_laws::laws::predicates_carry_over;
@@ -15,4 +16,14 @@ pub fn accepted_are_good()
 /// What builtins do fits the types of their predicates and their determinisms.
 pub fn builtins_fit()
     ensures { BuiltinsFit }
+{}
+
+/// Io's builtins append to the state what they write, and no other builtin does io.
+pub fn builtins_do_io()
+    ensures { BuiltinsDoIo }
+{}
+
+/// A run of main's form writes what its last state has gained, where no procedure lends its state.
+pub fn main_writes_all()
+    ensures { MainWritesAll }
 {}

@@ -6,11 +6,12 @@ use Rattle.mc_source.specs.declared.place.Place.{Place}
 use Rattle.mc_source.specs.declared.rule.Broken.{Broken}
 use Rattle.mc_source.specs.declared.rule.Rule.{Rule}
 use Rattle.mc_source.specs.declared.rule.Rule.TheVariants as R
-use Rattle.mc_model.specs.Scheduled.{Node, Ite, Not, Apply, Procedure}
+use Rattle.mc_source.specs.Determinism.{inferred, det}
+use Rattle.mc_model.specs.Scheduled.{Node, node, Ite, Not, Assign, Test, Call, Apply, Procedure}
 use Rattle.mc_accepted.specs.Unmarked.{unmarked}
 use Rattle.mc_accepted.specs.Inferred.{DeclaredProcedure, DeclaredSystem, system_of}
 use Rattle.mc_accepted.specs.DeterminismFaults.{procedure_fault, determinism_faults}
-use Rattle.mc_determinism_laws.specs.code.Examples.{filled, head, pick, choose, main, list_type, program, uncommitted, cc_nondet, cc_multi, in_a_row, one_of, nothing, const, test, call, procedure}
+use Rattle.mc_determinism_laws.specs.code.Examples.{filled, head, pick, choose, main, list_type, program, uncommitted, cc_nondet, cc_multi, in_a_row, one_of, nothing, const, test, call, changing, procedure}
 use Rattle.mc_determinism_laws.specs.code.ExamplesOfDeterminisms.{first_element, many_or_none}
 use Rattle.mc_program.specs.declared.builtin.Builtin.TheVariants as B
 
@@ -107,6 +108,25 @@ MisplacedCalls =
     × (chooses many_or_none (in_a_row (call 2 (0 ∷ []) ∷ call 1 (1 ∷ []) ∷ []))
     ≡ Some (R.E3, codes "choose/1 is called where all solutions are needed"))
     × (chooses cc_nondet (call 1 (0 ∷ [])) ≢ needs_all)
+
+-- `( if pick(Y) then THEN else X = 2 )`
+abbrev pub picks_if : Node → Node
+picks_if t =
+    unmarked (Ite (1 ∷ []) (changing (Call 1 (1 ∷ []) [] false) ((1, 1) ∷ [])) t (const 0 2))
+
+-- A condition's first answer is enough where the then part sees nothing that it binds, or where the
+-- whole has one answer asked for and the then part cannot fail. A pruned goal is asked for one; not
+-- so a call whose argument is tested after it.
+abbrev pub Contexts : Type 0
+Contexts =
+    (chooses many_or_none (picks_if (const 0 1)) ≡ None)
+    × (chooses many_or_none (picks_if (unmarked (Assign 0 1))) ≡ needs_all)
+    × (chooses cc_nondet (picks_if (unmarked (Assign 0 1))) ≡ None)
+    × (chooses cc_nondet (picks_if (unmarked (Test 0 1))) ≡ needs_all)
+    × (chooses many_or_none (node (Call 1 (1 ∷ []) [] false) [] (inferred det) true) ≡ None)
+    × (chooses cc_nondet (unmarked (Call 1 (0 ∷ []) (0 ∷ []) false)) ≡ needs_all)
+    × (chooses cc_nondet (one_of (call 1 (0 ∷ []) ∷ const 0 5 ∷ [])) ≡ None)
+    × (chooses many_or_none (picks_if (const 0 1)) ≢ needs_all)
 
 -- `main(!IO)` with this body
 abbrev pub main_of : Det → Node → Procedure

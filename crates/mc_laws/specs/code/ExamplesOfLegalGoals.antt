@@ -1,8 +1,7 @@
 -- Procedures with scopes, builtins and switches of less common forms, all of which are accepted.
 use Rattle.std.specs.Prelude.{ℕ, zero, suc, List, [], ◌∷◌, nat_eq, true, false, pos, Some, None, codes, if◌then◌else◌}
 use Rattle.mc_program.specs.Values.{int}
-use Rattle.mc_program.specs.Programs.{TypeTerm, int_type, made, applied, no_expressions, expressions, variable, Formula, Equal, And, If, Not, Exists, ClauseForm, Predicate, Source}
-use Rattle.mc_program.specs.PlainPrograms.{formulas}
+use Rattle.mc_program.specs.Programs.{int_type, made, no_expressions, variable, Equal, If, Not, Exists, ClauseForm, Predicate}
 use Rattle.mc_model.specs.Scheduled as S
 use Rattle.mc_model.specs.Scheduled.{Node, node, for_symbol, nodes, no_arms, arm_then, Procedure}
 use Rattle.mc_model.specs.Good.{System}

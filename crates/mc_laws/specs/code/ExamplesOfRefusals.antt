@@ -2,7 +2,7 @@
 -- procedures.
 use Rattle.std.specs.Prelude.{◌≡◌, ℕ, zero, suc, List, [], ◌∷◌, nat_eq, true, false, pos, Some, None, codes, if◌then◌else◌}
 use Rattle.mc_program.specs.Values.{Val, int, con, no_vals}
-use Rattle.mc_program.specs.Programs.{TypeTerm, int_type, state_type, union_type, no_types, made, no_expressions, variable, constant, Formula, Equal, Call, And, Or, Exists, Not, Constructor, ClauseForm, Predicate, Source}
+use Rattle.mc_program.specs.Programs.{TypeTerm, int_type, state_type, union_type, no_types, made, no_expressions, variable, Formula, Equal, Or, Exists, Not, Constructor, ClauseForm, Predicate, Source}
 use Rattle.mc_program.specs.PlainPrograms.{formulas, no_symbol}
 use Rattle.mc_model.specs.Types.{OfType}
 use Rattle.mc_model.specs.Insts.{free, ground, unique, dead, bound, Graph}

@@ -1,5 +1,5 @@
--- What the theorem's premises turn away: each example holds of the system of sums, and not where one
--- thing is turned. Beside some stands what goes wrong in a run.
+-- What the theorem's premises turn away: each example holds of the system of sums, and not where
+-- one thing is turned. Beside some stands what goes wrong in a run.
 use Rattle.std.specs.Prelude.{◌≡◌, ℕ, List, [], ◌∷◌, if◌then◌else◌, nat_eq, Option, Some, Bool, true, false, pos}
 use Rattle.mc_program.specs.Values.{Val, int}
 use Rattle.mc_program.specs.Programs.{Predicate, Source}

@@ -70,4 +70,4 @@ pub returns-clause-labels : goal.returns-clause-labels
 returns-clause-labels c = (refl, refl, (λ e. cc))
 
 pub returns-clause-clauses : goal.returns-clause-clauses
-returns-clause-clauses c = (refl, refl, refl, refl, (λ e. cc))
+returns-clause-clauses c = (refl, refl, refl, refl, refl, (λ e. cc))
