@@ -70,7 +70,7 @@ pub fn unify_types(
     match link_types(alloc, g, marks, round, vars, a, b) {
         Ok(true) => Ok(true),
         Ok(false) => {
-            restore(g, cells, changes);
+            restore(g, cells, changes); // no binding of a failed attempt stays
             Ok(false)
         }
         Err(Memory) => {
