@@ -9,7 +9,7 @@ use Rattle.std.proofs.lemmas.Int.{to_z-of_z}
 use Rattle.std.proofs.lemmas.Bool.Decides.{nat_tests}
 use Rattle.mc_program.specs.Values.{int}
 use Rattle.mc_model.specs.Outcomes.{Outcome, fails, gives}
-use Rattle.mc_model.specs.Builtins.{number_of, fits_64}
+use Rattle.mc_model.specs.Builtins.{parsed_int, fits_64}
 
 digits : IsNumeralModel (λ ds. all_ascii_digits ds ≡ true) (digits_value 10)
 digits = numerals_by_value _ tells_all_ascii_digits
@@ -50,20 +50,20 @@ module _ (t : List ℕ) where
   abbrev chosen : Bool → Outcome
   chosen b = if b then gives (int number ∷ []) else fails
 
-  pub writes_number : (n : ℤ) → IsNumber → number ≡ n → number_of t ≡ gives (int n ∷ [])
+  pub writes_number : (n : ℤ) → IsNumber → number ≡ n → parsed_int t ≡ gives (int n ∷ [])
   writes_number n h e =
       ap chosen (all_hold (nat_lt 0 (length (without_leading_sign t))) (all_ascii_digits (without_leading_sign t)) (fits_64 number) (is_long _ h.0.0) (digits.from _ h.0.1) (fits _ h.1))
       ∙ ap (λ m. gives (int m ∷ [])) e
 
-  pub writes_none : ¬ IsNumber → number_of t ≡ fails
+  pub writes_none : ¬ IsNumber → parsed_int t ≡ fails
   writes_none h =
       ap chosen (not_all (nat_lt 0 (length (without_leading_sign t))) (all_ascii_digits (without_leading_sign t)) (fits_64 number) (λ p q r. h ((is_longer _ p, digits.to _ q), has_fitted _ r)))
 
 -- what `parse` of a text of 64 bits tells of the same text
-pub number_parsed : (s t : List ℕ) → s ≡ t → (n : ℤ) → IsNumber s × (n ≡ signed_digits_value 10 s) → number_of t ≡ gives (int (to_z w64 (of_z w64 n)) ∷ [])
+pub number_parsed : (s t : List ℕ) → s ≡ t → (n : ℤ) → IsNumber s × (n ≡ signed_digits_value 10 s) → parsed_int t ≡ gives (int (to_z w64 (of_z w64 n)) ∷ [])
 number_parsed s t same n (h, e) =
     let fitted : FitsSigned w64 n = subst (FitsSigned w64) (sym e) h.1 in
-    ap number_of (sym same) ∙ writes_number s (to_z w64 (of_z w64 n)) h (sym (to_z-of_z w64 n fitted ∙ e))
+    ap parsed_int (sym same) ∙ writes_number s (to_z w64 (of_z w64 n)) h (sym (to_z-of_z w64 n fitted ∙ e))
 
-pub none_parsed : (s t : List ℕ) → s ≡ t → ¬ (IsNumber s) → number_of t ≡ fails
-none_parsed s t same h = ap number_of (sym same) ∙ writes_none s h
+pub none_parsed : (s t : List ℕ) → s ≡ t → ¬ (IsNumber s) → parsed_int t ≡ fails
+none_parsed s t same h = ap parsed_int (sym same) ∙ writes_none s h

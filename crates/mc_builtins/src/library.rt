@@ -1,5 +1,5 @@
 ghost use Rattle.std.specs.Prelude.{◌≡◌};
-ghost use Rattle.mc_model.specs.Worlds.{library_name, number_of, full_names, same_name};
+ghost use Rattle.mc_model.specs.Worlds.{library_name, symbol_number, full_names, same_name};
 ghost use Rattle.mc_program.specs.PlainPrograms.{plain_name};
 
 use mc_base::Text;
@@ -27,17 +27,18 @@ impl Library<'_> {
     {
         Library {
             program,
-            nil: number_of(program, b"list", b"[]", 0),
-            cons: number_of(program, b"list", b"[|]", 2),
-            ok: number_of(program, b"io", b"ok", 1),
-            eof: number_of(program, b"io", b"eof", 0),
+            nil: symbol_number(program, b"list", b"[]", 0),
+            cons: symbol_number(program, b"list", b"[|]", 2),
+            ok: symbol_number(program, b"io", b"ok", 1),
+            eof: symbol_number(program, b"io", b"eof", 0),
         }
     }
 }
 
 /// The number of the first symbol of that name, and where there is none that of symbols.
-fn number_of(program: &Program, of_module: &[u8], name: &[u8], arity: u32) -> u32
-    ensures { result ≡ number_of (library_name of_module.now name.now arity) (full_names program.now) }
+fn symbol_number(program: &Program, of_module: &[u8], name: &[u8], arity: u32) -> u32
+    ensures { result
+        ≡ symbol_number (library_name of_module.now name.now arity) (full_names program.now) }
 {
     let mut number = 0;
     for symbol in program.symbols.as_slice() {

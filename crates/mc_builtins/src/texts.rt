@@ -2,7 +2,7 @@ ghost use Rattle.std.specs.Prelude.{◌≡◌, ℕ, List, [], ◌∷◌, IfOk, l
 ghost use Rattle.std.specs.Str.{IsUtf8, chars};
 ghost use Rattle.std.specs.Fmt.{signed_decimal};
 ghost use Rattle.mc_program.specs.Values.{int, char, str};
-ghost use Rattle.mc_model.specs.Builtins.{outcome, char_of_code, number_of};
+ghost use Rattle.mc_model.specs.Builtins.{outcome, char_of_code, parsed_int};
 ghost use Rattle.mc_model.specs.Builtins.{Library as Known};
 ghost use Rattle.mc_builtins.specs.code.Made.{made_outcome};
 
@@ -123,7 +123,7 @@ fn code_points(text: &Text) -> i64
 /// The number that a text writes; a text that writes none, or one beyond 64 bits, fails.
 fn parsed(text: &Text) -> Made
     requires { IsUtf8 text.now }
-    ensures { (library : Known) → number_of text.now ≡ made_outcome library result }
+    ensures { (library : Known) → parsed_int text.now ≡ made_outcome library result }
 {
     match str::from_utf8(text.bytes()) {
         Ok(text) => match text.parse::<i64>() {
