@@ -14,8 +14,7 @@ pub fn add_cell(g: &mut Graph, cell: Cell) -> Result<usize, Memory>
     ensures cells_stay { OnErr result (g.new.cells.items ≡ g.old.cells.items) }
     ensures changes { g.new.changes.items ≡ g.old.changes.items }
     ensures in_order { InOrder g.new.cells.items }
-    ensures grown
-        { Grown g.old.cells.items g.old.changes.items g.new.cells.items g.new.changes.items }
+    ensures grown { Grown g.old.cells.items g.old.changes.items g.new.cells.items g.new.changes.items }
 {
     let node = g.cells.len();
     g.cells.push(cell)?;
@@ -25,11 +24,9 @@ pub fn add_cell(g: &mut Graph, cell: Cell) -> Result<usize, Memory>
 /// Adds free cells.
 pub fn add_free(g: &mut Graph, count: usize) -> Result<(), Memory>
     requires { InOrder g.old.cells.items }
-    ensures cells
-        { OnOk result (g.new.cells.items ≡ g.old.cells.items ++ replicate count Cell.Free) }
+    ensures cells { OnOk result (g.new.cells.items ≡ g.old.cells.items ++ replicate count Cell.Free) }
     ensures in_order { InOrder g.new.cells.items }
-    ensures grown
-        { Grown g.old.cells.items g.old.changes.items g.new.cells.items g.new.changes.items }
+    ensures grown { Grown g.old.cells.items g.old.changes.items g.new.cells.items g.new.changes.items }
 {
     for _k in 0..count {
         add_cell(g, Cell::Free)?;

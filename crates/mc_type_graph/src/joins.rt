@@ -77,13 +77,11 @@ fn join(g: &mut Graph, low: usize, high: usize) -> Result<Joined, Memory>
     requires low_root { IsRoot (cell_at g.old.cells.items low) }
     requires high_root { IsRoot (cell_at g.old.cells.items high) }
     requires in_order { InOrder g.old.cells.items }
-    ensures grown
-        { Grown g.old.cells.items g.old.changes.items g.new.cells.items g.new.changes.items }
+    ensures grown { Grown g.old.cells.items g.old.changes.items g.new.cells.items g.new.changes.items }
     ensures in_order { InOrder g.new.cells.items }
     ensures len { length g.new.cells.items ≡ length g.old.cells.items }
     ensures nothing_new { NothingNew g.old.cells.items g.new.cells.items }
-    ensures says
-        { IfOk result (λ joined. JoinSays joined g.old.cells.items g.new.cells.items low high) }
+    ensures says { IfOk result (λ joined. JoinSays joined g.old.cells.items g.new.cells.items low high) }
 {
     let low_cell = g.cells[low];
     let high_cell = g.cells[high];
@@ -119,13 +117,11 @@ pub fn unify(alloc: Global, g: &mut Graph, left: usize, right: usize) -> Result<
     requires left { left < length g.old.cells.items }
     requires right { right < length g.old.cells.items }
     requires in_order { InOrder g.old.cells.items }
-    ensures grown
-        { Grown g.old.cells.items g.old.changes.items g.new.cells.items g.new.changes.items }
+    ensures grown { Grown g.old.cells.items g.old.changes.items g.new.cells.items g.new.changes.items }
     ensures in_order { InOrder g.new.cells.items }
     ensures len { length g.new.cells.items ≡ length g.old.cells.items }
     ensures nothing_new { NothingNew g.old.cells.items g.new.cells.items }
-    ensures answer
-        { IfOk result (λ yes. Unified yes g.old.cells.items g.new.cells.items left right) }
+    ensures answer { IfOk result (λ yes. Unified yes g.old.cells.items g.new.cells.items left right) }
 {
     let mut work = Vec::new(alloc);
     work.push(Pair { left, right })?;

@@ -17,8 +17,8 @@ fn next_part(g: &Graph, marks: &[usize], round: usize, at: usize) -> Option<usiz
     ensures found { MatchOption result
         ((p : ℕ) → IsPart (cell_at g.now.cells.items at) p → IsDone round marks.now p)
         (λ p. IsPart (cell_at g.now.cells.items at) p
-            × (IsDone round marks.now p → ⊥)
-            × (p < length g.now.cells.items)) }
+        × (IsDone round marks.now p → ⊥)
+        × (p < length g.now.cells.items)) }
 {
     let done = 2 * round + 1;
     match g.cells[at] {
@@ -42,8 +42,7 @@ fn visit(
     requires calm { Calm round g.now.cells.items marks.old }
     requires small { round < 2 ^ 62 }
     ensures past { AllPast (round + 1) marks.new }
-    ensures answer
-        { IfOk result (λ yes. Visited yes round g.now.cells.items marks.old marks.new start) }
+    ensures answer { IfOk result (λ yes. Visited yes round g.now.cells.items marks.old marks.new start) }
 {
     if marks[start] == 2 * round + 1 {
         return Ok(true);
