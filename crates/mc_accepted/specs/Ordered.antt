@@ -330,13 +330,12 @@ module _ (S : System) (T : ℕ → TypeTerm) where
   NoneState [] = Unit {0}
   NoneState (x ∷ xs) = (is_state (T x) ≡ false) × NoneState xs
 
-  -- each pair is tested as an equation is: both variables have one type, not the state's, and are
-  -- bound
+  -- The variables of each pair have one type and are bound. A builtin whose state is tested so is an
+  -- io goal that can fail, which the rules of determinism refuse.
   abbrev pub TestsInOrder : List (ℕ × ℕ) → Insts → Type 0
   TestsInOrder [] c = Unit {0}
   TestsInOrder (test ∷ tests) c =
       (T test.0 ≡ T test.1)
-      × (is_state (T test.0) ≡ false)
       × (c test.0 ≢ 0)
       × (c test.1 ≢ 0)
       × TestsInOrder tests c

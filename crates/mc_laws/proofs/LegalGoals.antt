@@ -129,7 +129,7 @@ differs_is_ordered =
     (kept
     (implied_alone
     (implied_outputs {c = summed} {op = B.IntPlus} {zs = 1 ∷ 2 ∷ 3 ∷ []} ((3, 0) ∷ []) here refl refl (refl, (refl, (refl, refl))) ((λ e. cc), ((λ e. cc), ((λ e. cc), tt))) ((λ i. i), tt)
-    (apart_lists (3 ∷ []) (0 ∷ 1 ∷ 2 ∷ 1 ∷ 2 ∷ 0 ∷ 0 ∷ 1 ∷ 2 ∷ 1 ∷ 2 ∷ 0 ∷ []) refl) (refl, refl, apart 1 0 refl, apart 1 0 refl, tt)
+    (apart_lists (3 ∷ []) (0 ∷ 1 ∷ 2 ∷ 1 ∷ 2 ∷ 0 ∷ 0 ∷ 1 ∷ 2 ∷ 1 ∷ 2 ∷ 0 ∷ []) refl) (refl, apart 1 0 refl, apart 1 0 refl, tt)
     ((λ h. (refl, included_ground (differs_system.world.source) (ints_of 1), (λ e. cc))), ((λ h. (refl, included_ground (differs_system.world.source) (ints_of 2), (λ e. cc))), ((λ h. absurd (h refl)), tt)))
     refl
     (keeps (apart 1 0 refl) (λ e. cc) (included_ground (differs_system.world.source) (ints_of 1))

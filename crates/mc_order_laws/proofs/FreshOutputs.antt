@@ -353,4 +353,4 @@ module _ (Y : System) (T : ℕ → TypeTerm) where
 
   pub tests-in-order : (ts : List (ℕ × ℕ)) (c : Insts) → TestsTyped Y T ts → AllSet c ts → TestsInOrder Y T ts c
   tests-in-order [] c p q = tt
-  tests-in-order (t ∷ ts) c p q = (p.0.0, p.0.1, q.0.0, q.0.1, tests-in-order ts c p.1 q.1)
+  tests-in-order (t ∷ ts) c p q = (p.0, q.0.0, q.0.1, tests-in-order ts c p.1 q.1)

@@ -1,6 +1,6 @@
 //! Computed orders of clauses' goals, and the rules that goals without an order break. Each is the contract of a
 //! function that does nothing, and each group has an equation that does not hold.
-ghost use Rattle.mc_order_laws.specs.code.ExamplesOfOrder.{NeededFirst, ModesChosen, ListsTakenApart, Conditions, Negations, ResultsCompared, StatesInTurn};
+ghost use Rattle.mc_order_laws.specs.code.ExamplesOfOrder.{NeededFirst, ModesChosen, ListsTakenApart, Conditions, Negations, ResultsCompared, StatesInTurn, StatesCompared};
 ghost use Rattle.mc_order_laws.specs.code.ExamplesOfNodes.{PremisesAreMet};
 ghost use Rattle.mc_order_laws.specs.code.ExamplesOfFaults.{NoGoalRuns, NegatedGoalsBind, BranchesDiffer, FinalInstsUnmet};
 
@@ -11,6 +11,7 @@ pub fn orders()
     ensures lists_taken_apart { ListsTakenApart }
     ensures results_compared { ResultsCompared }
     ensures states_in_turn { StatesInTurn }
+    ensures states_compared { StatesCompared }
 {}
 
 /// Conditions and negations in their order.

@@ -204,10 +204,10 @@ module _ (S : System) (D : Parameters) (F : Fits S D) (C : Calls) (called : Call
       (IoFits (one_is_io S T ns) one (determined_all S T c known ns) → IoAllPlaced S T c known one ns → Moves R (one_is_io S T ns) one V (stream_all S.world.outcome C h ns a)) → Moves R (one_is_io S T (tested_by tests ns)) one V (stream_all S.world.outcome C h (tested_by tests ns) a)
   tests_move R known h one V K c ns [] u p a m fit pl k = k fit pl
   tests_move R known h one V K c ns (s ∷ ts) u p a m fit pl k =
-      let v = Typed.bound_at S D F θ (c s.0) (T s.0) (a s.0) u.2 (m s.0 p.0) in
-      let w = Typed.bound_at S D F θ (c s.1) (T s.1) (a s.1) u.3 (m s.1 p.1) in
+      let v = Typed.bound_at S D F θ (c s.0) (T s.0) (a s.0) u.1 (m s.0 p.0) in
+      let w = Typed.bound_at S D F θ (c s.1) (T s.1) (a s.1) u.2 (m s.1 p.1) in
       same_bound R (one_is_io S T (tested_by ts ns)) one V a s.0 s.1 v.0 w.0 (λ d. stream_all S.world.outcome C h (tested_by ts ns) d)
-      (tests_move R known h one V K c ns ts u.4 p.2 a m (fits_any (one_is_io S T (tested_by ts ns)) one (determined_all S T c known (tested_by (s ∷ ts) ns)) (determined_all S T c known (tested_by ts ns)) refl fit) pl.1 k)
+      (tests_move R known h one V K c ns ts u.3 p.2 a m (fits_any (one_is_io S T (tested_by ts ns)) one (determined_all S T c known (tested_by (s ∷ ts) ns)) (determined_all S T c known (tested_by ts ns)) refl fit) pl.1 k)
       (a s.0) (a s.1) v.1 w.1
 
   module _ (moved : CallsMove S C) (tidy : TidyProcedures S) (lib : Library_types) (io : FitsIo S.world lib) where

@@ -252,7 +252,7 @@ module _ (S : System) (T : ℕ → TypeTerm) where
   type_here : (c : Insts) (b : Bool) (x z : ℕ) (tests : List (ℕ × ℕ)) (Q : List (ℕ × ℕ) → Type 0) (X : Type 0) → TestsInOrder S T tests c → ((ts : List (ℕ × ℕ)) → TestsInOrder S T ts c → T z ≡ T x → Q ts → X) → FreshenedHere b x z tests Q → X
   type_here c false x z tests Q X o f h = f tests o (ap T h.0) h.1
   type_here c true x z [] Q X o f h = absurd h
-  type_here c true x z (t ∷ ts) Q X o f h = f ts o.4 (subst (λ k. T k.0 ≡ T k.1) h.0 o.0) h.1
+  type_here c true x z (t ∷ ts) Q X o f h = f ts o.3 (subst (λ k. T k.0 ≡ T k.1) h.0 o.0) h.1
 
   module _ (D : Parameters) (F : Fits S D) (θ : TypeChoice) (proper : (x : ℕ) → ProperType D (T x)) where
     pub fresh_types : (c : Insts) (σ : ℕ → TypeTerm) (k : ℕ) (is xs zs : List ℕ) (tests : List (ℕ × ℕ)) (ts : List TypeTerm) → Arguments.TypesAt S D F θ T proper σ xs ts → TestsInOrder S T tests c → Freshened k is xs zs tests → Arguments.TypesAt S D F θ T proper σ zs ts
@@ -329,8 +329,8 @@ module _ (S : System) (D : Parameters) (F : Fits S D) (C : Calls) (called : Call
       Combine.bind_sound S θ T known M L [] W (λ x i. absurd i) a (Some c) o (determined S T c known (node (Test t.0 t.1) [] (inferred semidet) true)) (determined_all S T c known (tested_by ts ns))
       (stream S.world.outcome C h (node (Test t.0 t.1) [] (inferred semidet) true) a) (λ a'. stream_all S.world.outcome C h (tested_by ts ns) a')
       (Combine.pruned_sound S θ T known M [] a (Some c) semidet true (stream_of S.world.outcome C h (Test t.0 t.1) a)
-      (Atoms.test_sound S D F θ T proper known M [] c a t.0 t.1 q.2 q.3 (λ x i. ⊎_elim (λ e. subst (λ z. BoundAs S θ (c z) (T z) (a z)) (sym e) (m t.0 p.0)) (λ j. ⊎_elim (λ e. subst (λ z. BoundAs S θ (c z) (T z) (a z)) (sym e) (m t.1 p.1)) (λ z. absurd z) j) i) m))
-      (λ a' g b r. tests_sound known h M L W c o ns ts u q.4 p.2 a' r (λ a'' b' m'. k a'' (Atoms.binds_then [] a a' a'' b b') m'))
+      (Atoms.test_sound S D F θ T proper known M [] c a t.0 t.1 q.1 q.2 (λ x i. ⊎_elim (λ e. subst (λ z. BoundAs S θ (c z) (T z) (a z)) (sym e) (m t.0 p.0)) (λ j. ⊎_elim (λ e. subst (λ z. BoundAs S θ (c z) (T z) (a z)) (sym e) (m t.1 p.1)) (λ z. absurd z) j) i) m))
+      (λ a' g b r. tests_sound known h M L W c o ns ts u q.3 p.2 a' r (λ a'' b' m'. k a'' (Atoms.binds_then [] a a' a'' b b') m'))
 
   mutual
     pub sound : {O Q : List ℕ} {b : Insts} {g : Flat_goal} {s : Scheduled} {o : Option Insts} → Ordered S T O Q b g s o → TypedGoal S.world.source T g → (known : Known) (h : ℕ) (L : List ℕ) → Among L O → (e : Bindings) → Closed O Q b e → TypedAt S θ T (variables_of g) b e → TypedAt S θ T L b e →

@@ -138,7 +138,7 @@ accepted =
           kept
           (implied_alone
           (implied_outputs {c = after_sum} {op = B.IntPlus} {zs = 0 ∷ 1 ∷ 3 ∷ []} ((3, 2) ∷ []) here refl refl (refl, (refl, (refl, refl)))
-          ((λ e. cc), ((λ e. cc), ((λ e. cc), tt))) ((λ i. i), tt) (apart_from 3 (0 ∷ 1 ∷ 2 ∷ 0 ∷ 1 ∷ 2 ∷ 0 ∷ 1 ∷ 2 ∷ []) refl) (refl, refl, apart 1 0 refl, apart 1 0 refl, tt)
+          ((λ e. cc), ((λ e. cc), ((λ e. cc), tt))) ((λ i. i), tt) (apart_from 3 (0 ∷ 1 ∷ 2 ∷ 0 ∷ 1 ∷ 2 ∷ 0 ∷ 1 ∷ 2 ∷ []) refl) (refl, apart 1 0 refl, apart 1 0 refl, tt)
           ((λ h. (refl, ground_in_ground (T 0), (λ e. cc))), ((λ h. (refl, ground_in_ground (T 1), (λ e. cc))), ((λ h. absurd (h refl)), tt)))
           refl
           (keeps (apart 1 0 refl) (λ e. cc) (ground_in_ground (T 0)) (keeps (apart 1 0 refl) (λ e. cc) (ground_in_ground (T 1)) (output (apart 1 0 refl) refl no_more)))

@@ -227,11 +227,11 @@ module _ (S : System) (D : Parameters) (F : Fits S D) (C : Calls) (called : Call
       TellLists.next_tells (λ x. In x (t.0 ∷ t.1 ∷ [])) (λ x. In x (pair_list ts)) (λ x. In x (t.0 ∷ t.1 ∷ pair_list ts)) (λ s. s t.0 ≡ s t.1) (λ s. s t.0 ≢ s t.1) (AllSame ts) (OneDiffers ts) (AllSame (t ∷ ts)) (OneDiffers (t ∷ ts)) false false (K ++ pair_list ts) K a (λ a'. BindsOnly [] a a' × TypedAt S θ T M c a') (test_of t a) (λ a'. tests_of ts a')
       (λ x i. ⊎_elim (λ e. inl e) (λ j. ⊎_elim (λ e. inr (inl e)) (λ z. absurd z) j) i) (λ x i. inr (inr i)) (λ x i. in_left x K (pair_list ts) i) (λ x i. in_right x K (pair_list ts) i) (λ x i. ⊎_elim (λ j. inl j) (λ j. inr (inr (inr j))) (in_split x K (pair_list ts) i))
       (λ s y z. (y, z)) (λ s n. inl n) (λ s n. inr n)
-      (test_each t a q.2 q.3 p.0 p.1 m)
-      (test_tells t a (K ++ pair_list ts) q.2 q.3 p.0 p.1 m)
-      (λ a' g r. Lists.each_map (λ d. Grows a' d × (BindsOnly [] a' d × TypedAt S θ T M c d)) (λ d. Grows a' d) (λ d z. z.0) (tests_of ts a') (tests_each ts a' q.4 p.2 r.1))
+      (test_each t a q.1 q.2 p.0 p.1 m)
+      (test_tells t a (K ++ pair_list ts) q.1 q.2 p.0 p.1 m)
+      (λ a' g r. Lists.each_map (λ d. Grows a' d × (BindsOnly [] a' d × TypedAt S θ T M c d)) (λ d. Grows a' d) (λ d z. z.0) (tests_of ts a') (tests_each ts a' q.3 p.2 r.1))
       (λ s a' k g r z. inl z)
-      (λ a' g r. tests_tell ts a' K q.4 p.2 r.1)
+      (λ a' g r. tests_tell ts a' K q.3 p.2 r.1)
 
   -- a builtin over fresh variables, and their tests: what they tell of the builtin over its arguments
   module _ (Y N : List Val → Type 0) (k : ℕ) (is xs zs : List ℕ) (tests : List (ℕ × ℕ)) (fresh : Freshened k is xs zs tests) (distinct : Distinct (firsts tests)) (apart : (x : ℕ) → In x xs → In x (firsts tests) → ⊥) (ok : TestsInOrder S T tests c) (pairs : PairsIn M tests)

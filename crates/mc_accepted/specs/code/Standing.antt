@@ -32,7 +32,7 @@ module _ (S : System) (T : ℕ → TypeTerm) where
 
   abbrev pub TestsTyped : List (ℕ × ℕ) → Type 0
   TestsTyped [] = Unit {0}
-  TestsTyped (t ∷ ts) = ((T t.0 ≡ T t.1) × (is_state (T t.0) ≡ false)) × TestsTyped ts
+  TestsTyped (t ∷ ts) = (T t.0 ≡ T t.1) × TestsTyped ts
 
   -- a builtin with implied outputs, with the fresh variables that stand for them, and with their
   -- tests

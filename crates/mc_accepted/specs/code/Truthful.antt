@@ -7,7 +7,7 @@ use Rattle.mc_accepted.specs.Inclusion.{Included, Merged}
 use Rattle.mc_model.specs.Stream.{is_bound}
 use Rattle.mc_model.specs.Good.{System}
 use Rattle.mc_source.specs.Determinism.{is_zero}
-use Rattle.mc_accepted.specs.Ordered.{is_state, modes_of_procedure, IsSymbolOver}
+use Rattle.mc_accepted.specs.Ordered.{modes_of_procedure, IsSymbolOver}
 use Rattle.mc_accepted.specs.Arranged.{Declared}
 use Rattle.mc_accepted.specs.Chosen.{Chosen}
 
@@ -35,8 +35,7 @@ module _ (S : System) (T : ℕ → TypeTerm) where
         (i j : ℕ) (t : TypeTerm) → C.fits i j t ≡ true → Included S.world.source S.insts i j t
     pub fits_not :
         (i j : ℕ) (t : TypeTerm) → C.fits i j t ≡ false → Included S.world.source S.insts i j t → ⊥
-    pub typed_as :
-        (z x : ℕ) → C.typed_as z x ≡ true → (T z ≡ T x) × (is_state (T z) ≡ false)
+    pub typed_as : (z x : ℕ) → C.typed_as z x ≡ true → T z ≡ T x
 
   -- the modes are those of the procedures
   pub record IsDeclared (p : ℕ) (d : Declared) : Type 0 where

@@ -142,6 +142,12 @@ writes_in_a_condition = unmarked (Ite [] new_line nothing nothing)
 abbrev pub writes_and_fails : Node
 writes_and_fails = in_a_row (const 2 2 ∷ new_line ∷ test 2 1 ∷ [])
 
+-- `q(A, C) :- nl(A, C).`, called with two states: the one that comes out is tested
+abbrev pub compares_states : Det → Procedure
+compares_states d =
+    procedure main (0 ∷ 1 ∷ []) (2 ∷ 1 ∷ []) (3 ∷ 1 ∷ []) d
+    (in_a_row (unmarked (Apply B.Nl (0 ∷ []) (2 ∷ [])) ∷ unmarked (Test 2 1) ∷ []))
+
 abbrev pub misplaced_io : Option Fault
 misplaced_io = Some (R.U1, codes "io goal is misplaced")
 
@@ -151,6 +157,7 @@ MisplacedIo =
     (fault_of (declared (main_of (uncommitted false) writes_in_a_condition)) [] ≡ misplaced_io)
     × (fault_of (declared (main_of (uncommitted false) new_line)) [] ≡ None)
     × (fault_of (declared (main_of (uncommitted true) writes_and_fails)) [] ≡ misplaced_io)
+    × (fault_of (declared (compares_states (uncommitted true))) [] ≡ misplaced_io)
     × (fault_of (declared (main_of (uncommitted false) writes_and_fails)) []
     ≡ Some (R.E1, codes "declared det, inferred semidet"))
     × (fault_of (declared (main_of (uncommitted false) new_line)) [] ≢ misplaced_io)

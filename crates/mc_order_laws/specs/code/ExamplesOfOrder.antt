@@ -240,3 +240,17 @@ StatesInTurn =
     ∷ [])
     ≢ in_order
     (in_a_row (apply B.Nl (0 ∷ []) (2 ∷ []) ∷ apply B.Nl (0 ∷ []) (1 ∷ []) ∷ [])))
+
+-- `q(A, C) :- nl(A, C).`, called with two states: the one that comes out is compared as any result
+-- is, though an io goal that can fail is refused later
+abbrev pub compared_state : (first last : List ℕ) → Verdict
+compared_state first last =
+    order_with of_io first last
+    (clause (over (0 ∷ 1 ∷ [])) (call_of new_line (over (0 ∷ 1 ∷ []))) ∷ [])
+
+abbrev pub StatesCompared : Type 0
+StatesCompared =
+    (compared_state (2 ∷ 1 ∷ []) (3 ∷ 1 ∷ [])
+    ≡ in_order (in_a_row (apply B.Nl (0 ∷ []) (2 ∷ []) ∷ unmarked (Test 2 1) ∷ [])))
+    × (compared_state (2 ∷ 0 ∷ []) (3 ∷ 2 ∷ []) ≡ in_order (apply B.Nl (0 ∷ []) (1 ∷ [])))
+    × (compared_state (2 ∷ 1 ∷ []) (3 ∷ 1 ∷ []) ≢ in_order (apply B.Nl (0 ∷ []) (1 ∷ [])))

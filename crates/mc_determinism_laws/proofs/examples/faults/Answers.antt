@@ -14,7 +14,7 @@ unfolding digits
 returns-clause-calls c = (refl, refl, refl, refl, refl, refl, refl, (λ e. cc))
 
 pub returns-clause-io : goal.returns-clause-io
-returns-clause-io c = (refl, refl, refl, refl, (λ e. cc))
+returns-clause-io c = (refl, refl, refl, refl, refl, (λ e. cc))
 
 pub returns-clause-contexts : goal.returns-clause-contexts
 unfolding digits

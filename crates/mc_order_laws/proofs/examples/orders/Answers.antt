@@ -15,3 +15,6 @@ returns-clause-results_compared c = (refl, (λ e. cc))
 
 pub returns-clause-states_in_turn : goal.returns-clause-states_in_turn
 returns-clause-states_in_turn c = (refl, (λ e. cc))
+
+pub returns-clause-states_compared : goal.returns-clause-states_compared
+returns-clause-states_compared c = (refl, refl, (λ e. cc))
