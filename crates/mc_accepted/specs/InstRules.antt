@@ -130,7 +130,51 @@ parameters_from n (suc k) = inst_then (parameter n) (parameters_from (suc n) k)
 abbrev pub ReachesOthers : Bodies → (parameters definition : ℕ) → Type 0
 ReachesOthers body n d = (ts : InstTerms) × Reaches body d d ts × (ts ≢ parameters_from 0 n)
 
--- Nor is a mode definition that reaches itself, where each is followed by the one that it names.
+-- One inst comes to another before any constructor: at once, or by definitions that are names of
+-- others. (`StandsFor` says so of expanded definitions.)
+pub data ComesTo (body : Bodies) : InstTerm → InstTerm → Type 0 where
+  at_that : {i : InstTerm} → ComesTo body i i
+  by_definition :
+      {d : ℕ} {is : InstTerms} {i : InstTerm} → ComesTo body (over is (body d)) i
+      → ComesTo body (defined d is) i
+
+-- The item of a definition breaks the rule where the definition, by itself, comes back to itself,
+-- over whatever insts, or reaches itself with others than its own parameters. So of
+-- `f(I) == I. a == f(a).` it is that of a, which gives the argument. What is said of items stands
+-- from here on; what is said of expanded definitions serves those that are added to a graph.
+abbrev pub ComesBack : Bodies → (definition : ℕ) → Type 0
+ComesBack body d = (is : InstTerms) × ComesTo body (body d) (defined d is)
+
+abbrev pub NotWellFounded : Bodies → (parameters definition : ℕ) → Type 0
+NotWellFounded body n d = ComesBack body d ⊎ ReachesOthers body n d
+
+abbrev pub OneIs : InstTerms → InstTerm → Type 0
+OneIs no_insts i = ⊥
+OneIs (inst_then j js) i = (j ≡ i) ⊎ OneIs js i
+
+-- An inst puts another into a constructor: as an argument of one that it lists, or as an argument
+-- of a definition that puts that parameter into a constructor. So does one that is written in it.
+pub data PutsInside (body : Bodies) : InstTerm → InstTerm → Type 0 where
+  listed :
+      {is : InstTerms} {i j : InstTerm} → OneIs is j → ComesTo body j i
+      → PutsInside body (bound_over is) i
+  given :
+      {d k : ℕ} {is : InstTerms} {i : InstTerm} → PutsInside body (body d) (parameter k)
+      → ComesTo body (inst_at is k) i → PutsInside body (defined d is) i
+  in_listed :
+      {is : InstTerms} {i j : InstTerm} → OneIs is j → PutsInside body j i
+      → PutsInside body (bound_over is) i
+  in_given :
+      {d : ℕ} {is : InstTerms} {i j : InstTerm} → OneIs is j → PutsInside body j i
+      → PutsInside body (defined d is) i
+
+-- An item, of a definition or a mode, breaks the rule where an inst that is written in it puts
+-- `free` into a constructor. One that only uses such a definition doesn't.
+abbrev pub PutsFreeInside : Bodies → InstTerm → Type 0
+PutsFreeInside body i = PutsInside body i (inst_node 0)
+
+-- Nor is a mode definition well founded that reaches itself, where each is followed by the one
+-- that it names.
 abbrev pub ModeIsUnfounded : (named : ℕ → Option ℕ) → ℕ → Type 0
 ModeIsUnfounded named k = LeadsTo named k k
 

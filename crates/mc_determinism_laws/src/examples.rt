@@ -1,7 +1,7 @@
 //! Computed switch forms, determinisms, and rules of determinism that procedures break. Each is the contract of a
 //! function that does nothing, and each group has an equation that does not hold.
 ghost use Rattle.mc_determinism_laws.specs.code.ExamplesOfInference.{LeastOnes};
-ghost use Rattle.mc_determinism_laws.specs.code.ExamplesOfInsts.{Unfounded, FreeInside, OtherParameters, TidyModes, UnfoundedModes};
+ghost use Rattle.mc_determinism_laws.specs.code.ExamplesOfInsts.{Unfounded, FreeInside, OtherParameters, ParametersFounded, ParametersInside, InstTexts, TidyModes, UnfoundedModes};
 ghost use Rattle.mc_determinism_laws.specs.code.ExamplesOfClauses.{ClausesSwitched};
 ghost use Rattle.mc_determinism_laws.specs.code.ExamplesOfSwitches.{ArmsMerged, FactsSwitched, ListsSwitched, WhatIsLookedThrough, SeveralVariables, LabelsDontOverlap};
 ghost use Rattle.mc_determinism_laws.specs.code.ExamplesOfDeterminisms.{ListsDetermined, FactsDetermined, HeadsDetermined, CallsDetermined, Marks};
@@ -52,6 +52,9 @@ pub fn insts()
     ensures unfounded { Unfounded }
     ensures free_inside { FreeInside }
     ensures other_parameters { OtherParameters }
+    ensures parameters_founded { ParametersFounded }
+    ensures parameters_inside { ParametersInside }
+    ensures texts { InstTexts }
     ensures modes { UnfoundedModes }
     ensures tidy { TidyModes }
 {}

@@ -1,5 +1,6 @@
 pub mod ArrangedGoals
 pub mod Arranging
+pub mod DeclaredModes
 pub mod EndsMet
 pub mod FreshOutputs
 pub mod MarkedGoals

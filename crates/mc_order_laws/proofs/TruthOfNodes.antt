@@ -10,6 +10,7 @@ use Rattle.mc_order_laws.specs.OrderLaws.{Below}
 use Rattle.mc_order_laws.specs.code.Examples as example
 use Rattle.mc_order_laws.specs.code.ExamplesOfNodes.{few, joined, fits, chosen, copies, system, PremisesAreMet}
 use Rattle.mc_order_laws.specs.code.ExamplesOfNodes as N
+use Rattle.mc_order_laws.proofs.DeclaredModes.{modes-are-declared}
 use Rattle.mc_order_laws.proofs.MarkedGoals.{Each, merged-one}
 
 is-dead : (i : ℕ) → N.is_dead i ≡ true → few i ≡ dead
@@ -98,4 +99,4 @@ two-below : Below 2 copies.head
 two-below x i = ⊎_elim (λ e. omega (arith, e)) (λ j. ⊎_elim (λ e. omega (arith, e)) (λ k. absurd k) j) i
 
 pub premises-are-met : PremisesAreMet
-premises-are-met = (truthful, (λ p. tt), two-below, tt, refl)
+premises-are-met = (truthful, (λ p. (modes-are-declared system (type_of system copies) p).0), refl, refl, two-below, tt, refl)

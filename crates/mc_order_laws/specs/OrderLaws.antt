@@ -1,5 +1,5 @@
 -- What ties the one order of goals, which is computed, to the relation of ordered goals.
-use Rattle.std.specs.Prelude.{◌≡◌, ◌≢◌, ◌↔◌, ◌⊎◌, ℕ, ◌<◌, ◌≤◌, List, [], ◌∷◌, ◌++◌, length, Option, Some, None, Bool, true, false}
+use Rattle.std.specs.Prelude.{◌≡◌, ◌≢◌, ◌↔◌, ◌⊎◌, ℕ, ◌<◌, ◌≤◌, List, [], ◌∷◌, ◌++◌, map, length, Option, Some, None, Bool, true, false}
 use Rattle.mc_program.specs.Programs.{TypeTerm, Source}
 use Rattle.mc_model.specs.Flat as F
 use Rattle.mc_model.specs.Flat.{Flat_goal, Flat_goals, no_flat, flat_then, variables_of, variables_of_all, free_in}
@@ -15,7 +15,7 @@ use Rattle.mc_accepted.specs.Unmarked.{unmarked_node}
 use Rattle.mc_accepted.specs.Arranged.{Operations, Declared, Point, runs, trial, alone, lacks, in_order, faulty, ascending, arrange}
 use Rattle.mc_accepted.specs.Chosen.{Chosen, of_nodes}
 use Rattle.mc_accepted.specs.Forms.{Form, of_forms}
-use Rattle.mc_accepted.specs.InOrder.{Tells}
+use Rattle.mc_accepted.specs.InOrder.{Tells, modes_declared}
 use Rattle.mc_accepted.specs.code.Truthful.{Truthful, AllDeclared}
 use Rattle.mc_accepted.specs.code.Standing.{Standing}
 
@@ -137,3 +137,15 @@ NamedByFaults =
     → Rising (ascending f xs)
     × ((y : ℕ) → In y (ascending f xs) ↔ (In y xs × (f y ≡ true)))
     × IsLeast f xs (least f xs)
+
+-- The declared modes of a predicate are those of its procedures: of each of them, rising and so
+-- each once.
+abbrev pub procedures_declared : System → (predicate : ℕ) → List ℕ
+procedures_declared S p = map (λ (d : Declared). d.proc) (modes_declared S p)
+
+abbrev pub ModesAreDeclared : Type 0
+ModesAreDeclared =
+    (S : System) (T : ℕ → TypeTerm) (p : ℕ)
+    → AllDeclared S T p (modes_declared S p)
+    × Rising (procedures_declared S p)
+    × ((k : ℕ) → In k (procedures_declared S p) ↔ ((k < S.count) × ((S.procs k).pred ≡ p)))

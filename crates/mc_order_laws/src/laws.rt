@@ -2,7 +2,7 @@
 //! does nothing.
 ghost use Rattle.std.specs.Prelude.{ℕ};
 ghost use Rattle.mc_accepted.specs.Forms.{Form};
-ghost use Rattle.mc_order_laws.specs.OrderLaws.{ArrangedStands, InOrderIsOrdered, NamedByFaults, NothingLacks, OneOrder, OthersStay, StandingIsOrdered};
+ghost use Rattle.mc_order_laws.specs.OrderLaws.{ArrangedStands, InOrderIsOrdered, ModesAreDeclared, NamedByFaults, NothingLacks, OneOrder, OthersStay, StandingIsOrdered};
 
 /// A goal changes no variable but its own, and those that are numbered on.
 pub fn others_stay()
@@ -29,6 +29,11 @@ pub fn standing_is_ordered()
 /// insts.
 pub fn in_order_is_ordered()
     ensures { InOrderIsOrdered }
+{}
+
+/// The declared modes of a predicate are those of its procedures, of each once and in their order.
+pub fn modes_are_declared()
+    ensures { ModesAreDeclared }
 {}
 
 /// Insts without numbers never lack: a goal has its order, or breaks a rule.

@@ -1,9 +1,10 @@
 -- Definitions of insts that break rules, and beside each one that doesn't.
-use Rattle.std.specs.Prelude.{ℕ, zero, suc, List, [], ◌∷◌, Option, Some, None, false, codes}
+use Rattle.std.specs.Prelude.{◌≡◌, ℕ, zero, suc, List, [], ◌∷◌, Option, Some, None, false, codes}
+use Rattle.mc_source.specs.declared.rule.Rule.TheVariants as R
 use Rattle.mc_model.specs.declared.inst.InstRef.{InstRef}
 use Rattle.mc_model.specs.declared.inst.InstRef.TheVariants.{Old, New}
 use Rattle.mc_model.specs.Scheduled.{Procedure}
-use Rattle.mc_accepted.specs.InstRules.{PlainChoice, PlainInstDef, same_inst, bound_inst, IsUnfounded, HasFreeInside, InstTerm, parameter, inst_node, defined, bound_over, InstTerms, no_insts, inst_then, Bodies, ReachesOthers, ModeIsUnfounded, IsUntidy}
+use Rattle.mc_accepted.specs.InstRules.{PlainChoice, PlainInstDef, same_inst, bound_inst, IsUnfounded, HasFreeInside, InstTerm, parameter, inst_node, defined, bound_over, InstTerms, no_insts, inst_then, Bodies, ReachesOthers, NotWellFounded, PutsFreeInside, ModeIsUnfounded, IsUntidy, free_inside, not_well_founded, outside_io}
 use Rattle.mc_determinism_laws.specs.code.Examples.{main, pick, program, procedure, uncommitted, nothing}
 
 abbrev pub choice : List ℕ → (arity : ℕ) → List InstRef → PlainChoice
@@ -64,6 +65,60 @@ OtherParameters =
     (ReachesOthers (cells_of (list (parameter 0))) 1 0 → ⊥)
     × ReachesOthers (cells_of (list (list (parameter 0)))) 1 0
     × ReachesOthers (cells_of (list (inst_node 1))) 1 0
+
+-- `:- inst f(I) == I.`, or whatever f and a are
+abbrev pub f_and_a : (f a : InstTerm) → Bodies
+f_and_a f a zero = f
+f_and_a f a (suc d) = a
+
+abbrev pub f_of : InstTerm → InstTerm
+f_of i = defined 0 (one i)
+
+abbrev pub a : InstTerm
+a = defined 1 no_insts
+
+-- the bodies of `f(I) == I`, and of f(I) that lists `x(I)` and `c(I, free)`, or another than `free`
+abbrev pub its_parameter : InstTerm
+its_parameter = parameter 0
+
+abbrev pub x_of_it : InstTerm
+x_of_it = bound_over (one (parameter 0))
+
+abbrev pub c_of_it : InstTerm → InstTerm
+c_of_it i = bound_over (inst_then (parameter 0) (one i))
+
+-- `:- inst list(I) == list(I).` comes back to itself, and the list above doesn't. Where f(I) is I,
+-- `:- inst a == f(a).` comes back to itself, f doesn't, nor does `:- inst a == f(ground).`; and
+-- where f(I) lists `x(I)`, `:- inst a == f(a).` is well founded.
+abbrev pub ParametersFounded : Type 0
+ParametersFounded =
+    NotWellFounded (λ d. list (parameter 0)) 1 0
+    × (NotWellFounded (cells_of (list (parameter 0))) 1 0 → ⊥)
+    × NotWellFounded (f_and_a its_parameter (f_of a)) 0 1
+    × (NotWellFounded (f_and_a its_parameter (f_of a)) 1 0 → ⊥)
+    × (NotWellFounded (f_and_a its_parameter (f_of (inst_node 1))) 0 1 → ⊥)
+    × (NotWellFounded (f_and_a x_of_it (f_of a)) 0 1 → ⊥)
+
+-- Where f(I) lists `c(I, free)`, f has `free` inside, and `:- inst a == f(ground).` only uses that;
+-- with `ground` for `free` nothing has. Where f(I) lists `x(I)`, `:- inst a == f(free).` puts it
+-- inside, f doesn't, nor does one that uses a.
+abbrev pub ParametersInside : Type 0
+ParametersInside =
+    PutsFreeInside (f_and_a (c_of_it (inst_node 0)) (f_of (inst_node 1))) (c_of_it (inst_node 0))
+    × (PutsFreeInside (f_and_a (c_of_it (inst_node 0)) (f_of (inst_node 1))) (f_of (inst_node 1))
+    → ⊥)
+    × (PutsFreeInside (f_and_a (c_of_it (inst_node 1)) (f_of (inst_node 1)))
+    (c_of_it (inst_node 1)) → ⊥)
+    × PutsFreeInside (f_and_a x_of_it (f_of (inst_node 0))) (f_of (inst_node 0))
+    × (PutsFreeInside (f_and_a x_of_it (f_of (inst_node 0))) x_of_it → ⊥)
+    × (PutsFreeInside (f_and_a x_of_it (f_of (inst_node 0))) a → ⊥)
+
+-- what is told of them
+abbrev pub InstTexts : Type 0
+InstTexts =
+    (free_inside ≡ (R.M6, codes "free inside a bound inst"))
+    × (not_well_founded (codes "boxed") ≡ (R.M7, codes "inst boxed is not well founded"))
+    × (outside_io ≡ (R.M8, codes "unique or dead outside io"))
 
 -- `:- mode m == n. :- mode n == m. :- mode o == m.`, where modes 0 and 1 name one another
 abbrev pub named : ℕ → Option ℕ

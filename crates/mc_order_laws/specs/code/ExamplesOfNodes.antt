@@ -9,7 +9,8 @@ use Rattle.mc_model.specs.Scheduled.{Assign, Procedure}
 use Rattle.mc_model.specs.Good.{System}
 use Rattle.mc_accepted.specs.Fits.{type_of}
 use Rattle.mc_accepted.specs.Unmarked.{unmarked}
-use Rattle.mc_accepted.specs.Arranged.{Declared, in_order, arrange}
+use Rattle.mc_accepted.specs.Arranged.{in_order, arrange}
+use Rattle.mc_accepted.specs.InOrder.{modes_declared}
 use Rattle.mc_accepted.specs.Chosen.{Chosen, of_nodes}
 use Rattle.mc_accepted.specs.code.Truthful.{Truthful, AllDeclared}
 use Rattle.mc_order_laws.specs.OrderLaws.{Below, FlatScopes}
@@ -81,20 +82,20 @@ abbrev pub system : System
 system =
     record {
       world = record { source = example.source; outcome = λ op vs. fails };
-      count = 0;
+      count = 1;
       procs = λ k. copies;
       insts = few;
     }
 
-abbrev pub no_modes : ℕ → List Declared
-no_modes p = []
-
 abbrev pub PremisesAreMet : Type 0
 PremisesAreMet =
     Truthful system (type_of system copies) chosen
-    × ((p : ℕ) → AllDeclared system (type_of system copies) p (no_modes p))
+    × ((p : ℕ) → AllDeclared system (type_of system copies) p (modes_declared system p))
+    × (modes_declared system 0
+    ≡ record { proc = 0; modes = (1, 1) ∷ (0, 1) ∷ []; never = false } ∷ [])
+    × (modes_declared system 1 ≡ [])
     × Below 2 copies.head
     × FlatScopes copies.head (F.Same 1 0)
-    × (arrange (of_nodes chosen) example.source no_modes (type_of system copies) 2 copies.head
-    copies.first copies.last (F.Same 1 0)
+    × (arrange (of_nodes chosen) example.source (modes_declared system) (type_of system copies) 2
+    copies.head copies.first copies.last (F.Same 1 0)
     ≡ in_order (unmarked (Assign 1 0)))
