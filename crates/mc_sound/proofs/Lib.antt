@@ -9,6 +9,9 @@ pub mod Changes
 pub mod Combine
 pub mod Counts
 pub mod Entry
+pub mod LendDead
+pub mod LendEntry
+pub mod LendSound
 pub mod Levels
 pub mod Lists
 pub mod MainExample

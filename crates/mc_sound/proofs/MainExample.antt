@@ -97,7 +97,6 @@ lines_fit = (
   record { insts = insts_fit; types = types_of_lines; builtins = builtins_fit line_source library library_types [] has_types has_builtins (omega arith); procedures = λ k l. procedure_fits },
   (λ k l. accepted),
   builtins_do_io line_source library library_types [] has_builtins,
-  (λ k l. ((λ q. refl), ((λ q. absurd (apart 0 2 refl q)), tt))),
 )
 
 pub line_is_written : LineIsWritten

@@ -78,7 +78,7 @@ quiet_made x f ys e (Some (str n)) = tt
 quiet_made x f ys e (Some (con g vs)) = quiet_option (cond (nat_eq f g) (unify ys (map Some (listed vs)) e) None)
 quiet_made x f ys e (Some (state n k)) = tt
 
-calm_pruned : (P : Bindings → Type 0) (m : Bool) (xs : Items Bindings) → Calm P xs → Calm P (pruned_to m xs)
+pub calm_pruned : {A : Type 0} (P : A → Type 0) (m : Bool) (xs : Items A) → Calm P xs → Calm P (pruned_to m xs)
 calm_pruned P true xs h = calm_first P xs h
 calm_pruned P false xs h = h
 

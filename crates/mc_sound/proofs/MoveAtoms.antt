@@ -61,12 +61,18 @@ module _ (S : System) (D : Parameters) (F : Fits S D) (T : ℕ → TypeTerm) whe
   abbrev pub NoneNew : List ℕ → Insts → Insts → Type 0
   NoneNew L b c = (x : ℕ) → In x L → Live S T c x → Live S T b x
 
-  pub holds_still : (W : World) (M L : List ℕ) (b c : Insts) (e a : Bindings) → Among L M → Holds S T W M b e → NoneNew L b c → Grows e a → SharesAt S T L c a → Holds S T W L c a
-  holds_still W M L b c e a lm h n g sa =
+  -- after a goal: nothing is newly live, and each state that a value holds may be shared
+  abbrev pub StillAfter : List ℕ → Insts → Bindings → Option Insts → Bindings → Type 0
+  StillAfter L b e None a = ⊥
+  StillAfter L b e (Some c) a = NoneNew L b c × (Grows e a × SharesAt S T L c a)
+
+  pub still_holds : (W : World) (M L : List ℕ) (b : Insts) (e : Bindings) (o : Option Insts) → Among L M → Holds S T W M b e → (a : Bindings) → StillAfter L b e o a → HoldsAfter S T L o W a
+  still_holds W M L b e None lm h a s = absurd s
+  still_holds W M L b e (Some c) lm h a s =
       record {
-        tells = λ x i l. let t = h.tells x (lm x i) (n x i l) in (t.0, t.1, t.2, g x (Rattle.mc_program.specs.Values.state t.0 t.1) t.3);
-        alone = λ x y i j l m. h.alone x y (lm x i) (lm y j) (n x i l) (n y j m);
-        shares = sa;
+        tells = λ x i l. let t = h.tells x (lm x i) (s.0 x i l) in (t.0, t.1, t.2, s.1.0 x (Rattle.mc_program.specs.Values.state t.0 t.1) t.3);
+        alone = λ x y i j l m. h.alone x y (lm x i) (lm y j) (s.0 x i l) (s.0 y j m);
+        shares = s.1.1;
       }
 
   pub not_unique : (i : ℕ) (ls : List Listed) → S.insts i ≡ bound ls → i ≡ 2 → ⊥
@@ -79,18 +85,26 @@ module _ (S : System) (D : Parameters) (F : Fits S D) (T : ℕ → TypeTerm) whe
   also_none L b x i n y j l = (l.0, also_on (nat_eq y x) i (b y) (b y ≡ 2) l.1 (λ t q. absurd (n q)) (λ t q. q))
 
   module _ (θ : TypeChoice) where
-    -- an answer of an atom that binds no state
-    pub still_moves : (known : Known) (L vs : List ℕ) (e : Bindings) (b c : Insts) (d : Determinism) (xs : Items Bindings) → Sound S θ T known L vs e (Some c) d xs → Quiet xs → NoneNew L b c → Loose (SharesAt S T L c) xs → (W : World) (M : List ℕ) → Holds S T W M b e → Among L M → Calm (HoldsAfter S T L (Some c) W) xs
-    still_moves known L vs e b c d xs s q n sh W M h lm =
-        quiet_each (HoldsAfter S T L (Some c) W) xs q (Lists.each_map (λ a. (Grows e a × (BindsOnly vs e a × Reached S θ T L (Some c) a)) × SharesAt S T L c a) (HoldsAfter S T L (Some c) W) (λ a z. holds_still W M L b c e a lm h n z.0.0 z.1) xs (each_loose (λ a. Grows e a × (BindsOnly vs e a × Reached S θ T L (Some c) a)) (SharesAt S T L c) xs s.each sh))
+    -- an answer of an atom that makes no variable live
+    pub still_after : (known : Known) (L vs : List ℕ) (e : Bindings) (b c : Insts) (d : Determinism) (xs : Items Bindings) → Sound S θ T known L vs e (Some c) d xs → Quiet xs → NoneNew L b c → Loose (SharesAt S T L c) xs → Calm (StillAfter L b e (Some c)) xs
+    still_after known L vs e b c d xs s q n sh =
+        quiet_each (StillAfter L b e (Some c)) xs q (Lists.each_map (λ a. (Grows e a × (BindsOnly vs e a × Reached S θ T L (Some c) a)) × SharesAt S T L c a) (StillAfter L b e (Some c)) (λ a z. (n, (z.0.0, z.1))) xs (each_loose (λ a. Grows e a × (BindsOnly vs e a × Reached S θ T L (Some c) a)) (SharesAt S T L c) xs s.each sh))
 
     -- an answer of an atom that changes nothing
-    pub same_moves : (known : Known) (L vs : List ℕ) (e : Bindings) (b : Insts) (d : Determinism) (xs : Items Bindings) → Sound S θ T known L vs e (Some b) d xs → Quiet xs → TypedAt S θ T L b e → (W : World) (M : List ℕ) → Holds S T W M b e → Among L M → Calm (HoldsAfter S T L (Some b) W) xs
-    same_moves known L vs e b d xs s q li W M h lm =
-        still_moves known L vs e b b d xs s q (λ x i l. l) (each_is_loose (SharesAt S T L b) xs (Lists.each_map (λ a. Grows e a × (BindsOnly vs e a × Reached S θ T L (Some b) a)) (SharesAt S T L b) (λ a z x i n v r. stay_shares S D F θ T L b b e a x v (li x i) (z.1.1 x i) z.0 refl r (λ p. h.shares x (lm x i) n v p)) xs s.each)) W M h lm
+    pub same_after : (known : Known) (L vs : List ℕ) (e : Bindings) (b : Insts) (d : Determinism) (xs : Items Bindings) → Sound S θ T known L vs e (Some b) d xs → Quiet xs → TypedAt S θ T L b e → (M : List ℕ) → SharesAt S T M b e → Among L M → Calm (StillAfter L b e (Some b)) xs
+    same_after known L vs e b d xs s q li M sm lm =
+        still_after known L vs e b b d xs s q (λ x i l. l) (each_is_loose (SharesAt S T L b) xs (Lists.each_map (λ a. Grows e a × (BindsOnly vs e a × Reached S θ T L (Some b) a)) (SharesAt S T L b) (λ a z x i n v r. stay_shares S D F θ T L b b e a x v (li x i) (z.1.1 x i) z.0 refl r (λ p. sm x (lm x i) n v p)) xs s.each))
 
-    pub never_moves : (known : Known) (L vs : List ℕ) (e : Bindings) (d : Determinism) (xs : Items Bindings) → Sound S θ T known L vs e None d xs → Quiet xs → (W : World) → Calm (HoldsAfter S T L None W) xs
-    never_moves known L vs e d xs s q W = quiet_each (HoldsAfter S T L None W) xs q (Lists.each_map (λ a. Grows e a × (BindsOnly vs e a × ⊥)) (HoldsAfter S T L None W) (λ a z. z.1.1) xs s.each)
+    pub never_after : (known : Known) (L vs : List ℕ) (e : Bindings) (b : Insts) (d : Determinism) (xs : Items Bindings) → Sound S θ T known L vs e None d xs → Quiet xs → Calm (StillAfter L b e None) xs
+    never_after known L vs e b d xs s q = quiet_each (StillAfter L b e None) xs q (Lists.each_map (λ a. Grows e a × (BindsOnly vs e a × ⊥)) (StillAfter L b e None) (λ a z. z.1.1) xs s.each)
+
+  assigned_shares : (θ : TypeChoice) (M L : List ℕ) (b : Insts) (e : Bindings) (x y : ℕ) (v : Val) → T x ≡ T y → S.insts (b y) ≢ dead → In y M → Among L M → e y ≡ Some v → SharesAt S T M b e → SharesAt S T L (also x (b y) (cond (is_state (T y)) (also y 3 b) b)) (put x v e)
+  assigned_shares θ M L b e x y v t nd ym lm q sm =
+      put_shares S D F θ T L (cond (is_state (T y)) (also y 3 b) b) e x (b y) v (subst (λ u. Shares S.world.source S.insts v (b y) u) (sym t) (sm y ym nd v q)) (gone (is_state (T y)))
+    where
+      gone : (s : Bool) → SharesAt S T L (cond s (also y 3 b) b) e
+      gone true = known_shares S D F θ T L b e y 3 v q (λ n. absurd (n F.insts.is_dead)) (λ z i. sm z (lm z i))
+      gone false = λ z i. sm z (lm z i)
 
   -- an assignment passes the state on
   assigned : (θ : TypeChoice) (W : World) (M L : List ℕ) (b : Insts) (e : Bindings) (x y : ℕ) (v : Val) → T x ≡ T y → S.insts (b y) ≢ dead → In y M → Among L M → e y ≡ Some v → Holds S T W M b e → Holds S T W L (also x (b y) (cond (is_state (T y)) (also y 3 b) b)) (put x v e)
@@ -98,13 +112,9 @@ module _ (S : System) (D : Parameters) (F : Fits S D) (T : ℕ → TypeTerm) whe
       record {
         tells = λ z i l. told z i l;
         alone = λ z w i j l m. both z w i j l m;
-        shares = put_shares S D F θ T L (cond (is_state (T y)) (also y 3 b) b) e x (b y) v (subst (λ u. Shares S.world.source S.insts v (b y) u) (sym t) (h.shares y ym nd v q)) (gone (is_state (T y)));
+        shares = assigned_shares θ M L b e x y v t nd ym lm q h.shares;
       }
     where
-      gone : (s : Bool) → SharesAt S T L (cond s (also y 3 b) b) e
-      gone true = known_shares S D F θ T L b e y 3 v q (λ n. absurd (n F.insts.is_dead)) (λ z i. h.shares z (lm z i))
-      gone false = λ z i. h.shares z (lm z i)
-
       -- the inst of y after, where y is the state
       moved : (z : ℕ) → T z ≡ state_type → T y ≡ state_type → cond (is_state (T y)) (also y 3 b) b z ≡ 2 → (z ≡ y → ⊥) × (b z ≡ 2)
       moved z tz ty r = on (is_state (T y)) (state_is (T y) ty) r
@@ -181,6 +191,14 @@ module _ (S : System) (D : Parameters) (F : Fits S D) (T : ℕ → TypeTerm) whe
   assign_moves θ W M L b e x y v None None ex ey n q t nd ym lm h = tt
   assign_moves θ W M L b e x y v None (Some w) ex ey n q t nd ym lm h = (assigned θ W M L b e x y w t nd ym lm ey h, tt)
   assign_moves θ W M L b e x y v (Some u) p ex ey n q t nd ym lm h = absurd (no n)
+    where
+      no : Some u ≡ None → ⊥
+      no e = cc
+
+  pub assign_shares : (θ : TypeChoice) (M L : List ℕ) (b : Insts) (e : Bindings) (x y : ℕ) (v : Val) (o p : Option Val) → e x ≡ o → e y ≡ p → o ≡ None → p ≡ Some v → T x ≡ T y → S.insts (b y) ≢ dead → In y M → Among L M → SharesAt S T M b e → Calm (SharesAt S T L (also x (b y) (cond (is_state (T y)) (also y 3 b) b))) (same_items x y e o p)
+  assign_shares θ M L b e x y v None None ex ey n q t nd ym lm h = tt
+  assign_shares θ M L b e x y v None (Some w) ex ey n q t nd ym lm h = (assigned_shares θ M L b e x y w t nd ym lm ey h, tt)
+  assign_shares θ M L b e x y v (Some u) p ex ey n q t nd ym lm h = absurd (no n)
     where
       no : Some u ≡ None → ⊥
       no e = cc

@@ -18,18 +18,19 @@ use Rattle.mc_program.specs.declared.builtin.Builtin.{Builtin}
 use Rattle.mc_program.specs.declared.builtin.Builtin.TheVariants as B
 use Rattle.mc_sound.specs.code.Passes.{Grows, BindsOnly, TypedAt, Reached}
 use Rattle.mc_sound.specs.IoLaws.{FitsIo, NoIo, Advances, LastIs}
-use Rattle.mc_sound.specs.code.Moves.{Calm, World, Flow, Live, Holds, HoldsAfter, StateAt, AllowsShared, Shares, SharesAt, ReturnedWith, NoPlace, Made, Moves}
+use Rattle.mc_sound.specs.code.Moves.{Calm, World, Flow, Live, Holds, HoldsAfter, StateAt, AllowsShared, Shares, SharesAt, ReturnedWith, NoPlace, TakenAt, Made, Moves}
 use Rattle.mc_sound.proofs.Arguments
 use Rattle.mc_sound.proofs.Callings
 use Rattle.mc_sound.proofs.Callings.{woven}
 use Rattle.mc_sound.proofs.Combine.{in_left, in_right, in_split}
 use Rattle.mc_sound.proofs.MoveCalls
-use Rattle.mc_sound.proofs.MoveReturns.{MatchAt, unify_at, TakenAt, returned_holds}
+use Rattle.mc_sound.proofs.MoveReturns.{MatchAt, unify_at, returned_holds}
 use Rattle.mc_accepted.specs.Inclusion.{Path}
 use Rattle.mc_source.specs.declared.det.Most.TheVariants.{One}
 use Rattle.mc_sound.proofs.Lists
 use Rattle.mc_sound.proofs.MoveArms.{quiet_option}
-use Rattle.mc_sound.proofs.MoveAtoms.{holds_still, quiet_each}
+use Rattle.mc_sound.proofs.MoveAtoms.{StillAfter, still_holds, quiet_each}
+use Rattle.mc_sound.proofs.MoveLists
 use Rattle.mc_sound.proofs.MoveGiven.{AnswerShares, after_shares}
 use Rattle.mc_sound.proofs.MoveQuiet.{none_new}
 use Rattle.mc_sound.proofs.MoveShares.{ground_allows}
@@ -178,10 +179,10 @@ option_flow Q one W None h = tt
 option_flow Q true W (Some a) h = (h.0, tt)
 option_flow Q false W (Some a) h = (h.0, tt)
 
-module _ (S : System) (D : Parameters) (F : Fits S D) (θ : TypeChoice) (T : ℕ → TypeTerm) (proper : (x : ℕ) → ProperType D (T x)) (σ : ℕ → TypeTerm) (b : Insts) (e : Bindings) (W : World) (M : List ℕ) (hw : Holds S T W M b e) where
+module _ (S : System) (D : Parameters) (F : Fits S D) (θ : TypeChoice) (T : ℕ → TypeTerm) (proper : (x : ℕ) → ProperType D (T x)) (σ : ℕ → TypeTerm) (b : Insts) (e : Bindings) where
   -- the variable that is taken
   pub io_taken : {ms : List Mode} {bs : List Bool} {ts : List TypeTerm} → IoForm ms bs ts → (all xs : List ℕ) → UsableAt S T all ms xs b → Arguments.TypesAt S D F θ T proper σ xs ts → TypedAt S θ T xs b e →
-      (y : ℕ) × In y xs × Live S T b y × TakenAt S D F T y ms xs × ((w : List ℕ) (k : ℕ) → e y ≡ Some (state w k) → (vs : List Val) → gather (at_inputs bs xs) e ≡ Some vs → LastIs w vs)
+      (y : ℕ) × In y xs × Live S T b y × TakenAt S y ms xs × ((w : List ℕ) (k : ℕ) → e y ≡ Some (state w k) → (vs : List Val) → gather (at_inputs bs xs) e ≡ Some vs → LastIs w vs)
   io_taken writer all [] u y m = absurd u
   io_taken writer all (x ∷ []) u y m = absurd u.1
   io_taken writer all (x ∷ z ∷ []) u y m = absurd u.1.1
@@ -190,7 +191,7 @@ module _ (S : System) (D : Parameters) (F : Fits S D) (θ : TypeChoice) (T : ℕ
       let r = u.1.0 two_zero in (
         z,
         inr (inl refl),
-        MoveCalls.live_at S D F θ T proper σ b e W M hw 2 z state_type refl refl y.1.0 r.0 r.1 (m z (inr (inl refl))),
+        MoveCalls.live_at S D F θ T proper σ b e 2 z state_type refl refl y.1.0 r.0 r.1 (m z (inr (inl refl))),
         inr (inl (refl, F.insts.is_dead, refl)),
         (λ w k q vs g. both_last (e x) w k vs (subst (λ o. both (e x) (both o (Some [])) ≡ Some vs) q g)),
       )
@@ -201,7 +202,7 @@ module _ (S : System) (D : Parameters) (F : Fits S D) (θ : TypeChoice) (T : ℕ
       let r = u.0 two_zero in (
         z,
         inl refl,
-        MoveCalls.live_at S D F θ T proper σ b e W M hw 2 z state_type refl refl y.0 r.0 r.1 (m z (inl refl)),
+        MoveCalls.live_at S D F θ T proper σ b e 2 z state_type refl refl y.0 r.0 r.1 (m z (inl refl)),
         inl (refl, F.insts.is_dead, refl),
         (λ w k q vs g. one_last w k vs (subst (λ o. both o (Some []) ≡ Some vs) q g)),
       )
@@ -213,7 +214,7 @@ module _ (S : System) (D : Parameters) (F : Fits S D) (θ : TypeChoice) (T : ℕ
       let r = u.1.0 two_zero in (
         z,
         inr (inl refl),
-        MoveCalls.live_at S D F θ T proper σ b e W M hw 2 z state_type refl refl y.1.0 r.0 r.1 (m z (inr (inl refl))),
+        MoveCalls.live_at S D F θ T proper σ b e 2 z state_type refl refl y.1.0 r.0 r.1 (m z (inr (inl refl))),
         inr (inl (refl, F.insts.is_dead, refl)),
         (λ w k q vs g. one_last w k vs (subst (λ o. both o (Some []) ≡ Some vs) q g)),
       )
@@ -245,8 +246,8 @@ module _ (S : System) (D : Parameters) (F : Fits S D) (θ : TypeChoice) (T : ℕ
   io_shares reader (x ∷ z ∷ []) a y o = absurd y.1.1
   io_shares reader (x ∷ z ∷ u ∷ xs) a y o = ((λ n d v q. ground_one x a (λ v q. o x v (inl refl) q) v q), ((λ n d. absurd (d F.insts.is_dead)), ((λ n d v q. state_shares v 2 (T u) (o u v (inr (inr (inl refl))) q) y.1.1.0), tt)))
 
-  module _ (K : Library_types) (io : FitsIo S.world K) (known : Known) (L : List ℕ) (p : ℕ) (op : Builtin) (xs : List ℕ) (c : Insts) (is : (S.world.source.preds p).builtin ≡ Some op) (types : Arguments.TypesAt S D F θ T proper σ xs (S.world.source.preds p).types) (usable : Usable S T (modes_of op) xs b)
-      (none : implied_places 0 (modes_of op) xs (λ x. is_bound (b x)) ≡ []) (after : After S T (modes_of op) xs b c) (typed : TypedAt S θ T xs b e) (live : TypedAt S θ T L b e) (lm : Among L M) (xm : Among xs M) (one : Bool) where
+  module _ (M : List ℕ) (sm : SharesAt S T M b e) (K : Library_types) (io : FitsIo S.world K) (known : Known) (L : List ℕ) (p : ℕ) (op : Builtin) (xs : List ℕ) (c : Insts) (is : (S.world.source.preds p).builtin ≡ Some op) (types : Arguments.TypesAt S D F θ T proper σ xs (S.world.source.preds p).types) (usable : Usable S T (modes_of op) xs b)
+      (none : implied_places 0 (modes_of op) xs (λ x. is_bound (b x)) ≡ []) (after : After S T (modes_of op) xs b c) (typed : TypedAt S θ T xs b e) (live : TypedAt S θ T L b e) (lm : Among L M) (xm : Among xs M) where
     both_live : TypedAt S θ T (L ++ xs) b e
     both_live x i = ⊎_elim (λ j. live x j) (λ j. typed x j) (in_split x L xs i)
 
@@ -265,61 +266,72 @@ module _ (S : System) (D : Parameters) (F : Fits S D) (θ : TypeChoice) (T : ℕ
     values a t x v i q = typed_value S D F θ T proper (L ++ xs) c a t x v (in_right x L xs i) q
 
     shared_after : (a : Bindings) → Grows e a → TypedAt S θ T (L ++ xs) c a → AnswerShares S D F θ T proper (modes_of op) xs a → SharesAt S T L c a
-    shared_after a g t s = after_shares S D F θ T proper after L M e a lm hw.shares live (λ x i. t x (in_left x L xs i)) g s
+    shared_after a g t s = after_shares S D F θ T proper after L M e a lm sm live (λ x i. t x (in_left x L xs i)) g s
 
-    quiet_moves : is_io_builtin op ≡ false → (r : Outcome) → NoIo r → GivesOf S.world.source (also_instance θ σ) (at_places false (inputs_of op) (S.world.source.preds p).types) r → (op ≡ B.Error → Throws r) → (op ≡ B.Error) ⊎ ((builtin_most op ≡ One) × ((builtin_determinism op).most ≡ One)) →
-        Calm (HoldsAfter S T L (unless_never (builtin_most op) c) W) (outcome_items (at_outputs (inputs_of op) xs) e r)
-    quiet_moves f fails n g t v = tt
-    quiet_moves f (throws x) n g t v = tt
-    quiet_moves f (writes x ws) n g t v = absurd n
-    quiet_moves f (reads x ws) n g t v = absurd n
-    quiet_moves f (reads_and_throws x ws) n g t v = absurd n
-    quiet_moves f (gives ws) n g t v =
+    quiet_after : is_io_builtin op ≡ false → (r : Outcome) → NoIo r → GivesOf S.world.source (also_instance θ σ) (at_places false (inputs_of op) (S.world.source.preds p).types) r → (op ≡ B.Error → Throws r) → (op ≡ B.Error) ⊎ ((builtin_most op ≡ One) × ((builtin_determinism op).most ≡ One)) →
+        Calm (StillAfter S D F T L b e (unless_never (builtin_most op) c)) (outcome_items (at_outputs (inputs_of op) xs) e r)
+    quiet_after f fails n g t v = tt
+    quiet_after f (throws x) n g t v = tt
+    quiet_after f (writes x ws) n g t v = absurd n
+    quiet_after f (reads x ws) n g t v = absurd n
+    quiet_after f (reads_and_throws x ws) n g t v = absurd n
+    quiet_after f (gives ws) n g t v =
         ⊎_elim (λ q. absurd (t q))
         (λ m.
         let gr = quiet_ground op f in
-        subst (λ k. Calm (HoldsAfter S T L (unless_never k c) W) (of_option (unify (at_outputs (inputs_of op) xs) (map Some ws) e))) (sym m.0)
-        (quiet_each (HoldsAfter S T L (Some c) W) (of_option (unify (at_outputs (inputs_of op) xs) (map Some ws) e)) (quiet_option (unify (at_outputs (inputs_of op) xs) (map Some ws) e))
-        (Lists.each_map (λ a. (Grows e a × TypedAt S θ T (L ++ xs) c a) × MatchAt xs (woven (inputs_of op) ws) a) (HoldsAfter S T L (Some c) W)
-        (λ a z. holds_still S D F T W M L b c e a lm hw (none_new S D F T L after (ground_makes_none (modes_of op) gr)) z.0.0 (shared_after a z.0.0 z.0.1 (ground_shares S D F θ T proper (modes_of op) xs c a gr (values a z.0.1))))
+        subst (λ k. Calm (StillAfter S D F T L b e (unless_never k c)) (of_option (unify (at_outputs (inputs_of op) xs) (map Some ws) e))) (sym m.0)
+        (quiet_each (StillAfter S D F T L b e (Some c)) (of_option (unify (at_outputs (inputs_of op) xs) (map Some ws) e)) (quiet_option (unify (at_outputs (inputs_of op) xs) (map Some ws) e))
+        (Lists.each_map (λ a. (Grows e a × TypedAt S θ T (L ++ xs) c a) × MatchAt xs (woven (inputs_of op) ws) a) (StillAfter S D F T L b e (Some c))
+        (λ a z. (none_new S D F T L after (ground_makes_none (modes_of op) gr), (z.0.0, shared_after a z.0.0 z.0.1 (ground_shares S D F θ T proper (modes_of op) xs c a gr (values a z.0.1)))))
         (of_option (unify (at_outputs (inputs_of op) xs) (map Some ws) e)) (output_each ws m.0 m.1 g)))) v
 
-    io_each : (w : List ℕ) (ws : List Val) → is_io_builtin op ≡ true → EachOf S.world.source (also_instance θ σ) (at_places false (inputs_of op) (S.world.source.preds p).types) ws → LastIs w ws → (y : ℕ) → In y xs → Live S T b y → TakenAt S D F T y (modes_of op) xs → Each (HoldsAfter S T L (Some c) (Some w)) (of_option (unify (at_outputs (inputs_of op) xs) (map Some ws) e))
-    io_each w ws t o l y yi ly ty =
-        let m = io_most op t in
-        let form = io_form K op t in
-        let ts = (io.named p op is).1 in
-        Lists.each_map (λ a. (Grows e a × TypedAt S θ T (L ++ xs) c a) × MatchAt xs (woven (inputs_of op) ws) a) (HoldsAfter S T L (Some c) (Some w))
-        (λ a z. returned_holds S D F T W (Some w) M L (modes_of op) xs (woven (inputs_of op) ws) b c e a after lm hw y (xm y yi) ly ty (io_returns S.world.source (also_instance θ σ) form w ws (subst (λ us. EachOf S.world.source (also_instance θ σ) (at_places false (inputs_of op) us) ws) ts o) l) z.1
-        (shared_after a z.0.0 z.0.1 (io_shares form xs a (subst (λ us. Arguments.TypesAt S D F θ T proper σ xs us) ts types) (values a z.0.1))))
-        (of_option (unify (at_outputs (inputs_of op) xs) (map Some ws) e)) (output_each ws m.0 m.1 o)
+    inputs : (vs : List Val) × (gather (at_inputs (inputs_of op) xs) e ≡ Some vs) × EachOf S.world.source (also_instance θ σ) (at_places true (inputs_of op) (S.world.source.preds p).types) vs
+    inputs = Callings.inputs_there S D F θ T proper known L (inputs_of op) (modes_of op) xs xs (S.world.source.preds p).types σ b e (Callings.modes_fit S D F θ T proper known L op) usable types typed
 
-    io_moves : is_io_builtin op ≡ true → (w : List ℕ) → W ≡ Some w → (y : ℕ) → In y xs → Live S T b y → TakenAt S D F T y (modes_of op) xs → (r : Outcome) → Advances w r → GivesOf S.world.source (also_instance θ σ) (at_places false (inputs_of op) (S.world.source.preds p).types) r → Flow (HoldsAfter S T L (Some c)) one W (outcome_items (at_outputs (inputs_of op) xs) e r)
-    io_moves t w q y yi ly ty fails n g = absurd n
-    io_moves t w q y yi ly ty (throws x) n g = tt
-    io_moves t w q y yi ly ty (gives ws) n g = subst (λ V. Flow (HoldsAfter S T L (Some c)) one V (of_option (unify (at_outputs (inputs_of op) xs) (map Some ws) e))) (sym q) (option_flow (HoldsAfter S T L (Some c)) one (Some w) (unify (at_outputs (inputs_of op) xs) (map Some ws) e) (io_each w ws t g n y yi ly ty))
-    io_moves t w q y yi ly ty (writes x ws) n g = subst (λ V. Flow (HoldsAfter S T L (Some c)) one V (Wrote x (of_option (unify (at_outputs (inputs_of op) xs) (map Some ws) e)))) (sym q) (option_flow (HoldsAfter S T L (Some c)) one (Some (w ++ x)) (unify (at_outputs (inputs_of op) xs) (map Some ws) e) (io_each (w ++ x) ws t g n y yi ly ty))
-    io_moves t w q y yi ly ty (reads x ws) n g = subst (λ V. Flow (HoldsAfter S T L (Some c)) one V (Read x (of_option (unify (at_outputs (inputs_of op) xs) (map Some ws) e)))) (sym q) (option_flow (HoldsAfter S T L (Some c)) one (Some w) (unify (at_outputs (inputs_of op) xs) (map Some ws) e) (io_each w ws t g n y yi ly ty))
-    io_moves t w q y yi ly ty (reads_and_throws x z) n g = subst (λ V. Flow (HoldsAfter S T L (Some c)) one V (Read x (Stopped (Rattle.mc_model.specs.EventList.thrown z)))) (sym q) tt
+    outputs : GivesOf S.world.source (also_instance θ σ) (at_places false (inputs_of op) (S.world.source.preds p).types) (S.world.outcome op inputs.0)
+    outputs = F.builtins.outputs (also_instance θ σ) p op inputs.0 is inputs.2
 
-    pub apply_moves : Moves (HoldsAfter S T L (unless_never (builtin_most op) c)) (is_io_builtin op) one W (apply_items (S.world.outcome op) (at_outputs (inputs_of op) xs) e (gather (at_inputs (inputs_of op) xs) e))
-    apply_moves = on (is_io_builtin op) refl
-      where
-        r : (vs : List Val) × (gather (at_inputs (inputs_of op) xs) e ≡ Some vs) × EachOf S.world.source (also_instance θ σ) (at_places true (inputs_of op) (S.world.source.preds p).types) vs
-        r = Callings.inputs_there S D F θ T proper known L (inputs_of op) (modes_of op) xs xs (S.world.source.preds p).types σ b e (Callings.modes_fit S D F θ T proper known L op) usable types typed
+    abbrev run : Items Bindings
+    run = apply_items (S.world.outcome op) (at_outputs (inputs_of op) xs) e (gather (at_inputs (inputs_of op) xs) e)
 
-        gv : GivesOf S.world.source (also_instance θ σ) (at_places false (inputs_of op) (S.world.source.preds p).types) (S.world.outcome op r.0)
-        gv = F.builtins.outputs (also_instance θ σ) p op r.0 is r.2
+    -- a builtin that does no io
+    pub quiet_apply : is_io_builtin op ≡ false → Calm (StillAfter S D F T L b e (unless_never (builtin_most op) c)) (apply_items (S.world.outcome op) (at_outputs (inputs_of op) xs) e (gather (at_inputs (inputs_of op) xs) e))
+    quiet_apply t =
+        subst (λ o. Calm (StillAfter S D F T L b e (unless_never (builtin_most op) c)) (apply_items (S.world.outcome op) (at_outputs (inputs_of op) xs) e o)) (sym inputs.1)
+        (quiet_after t (S.world.outcome op inputs.0) (io.quiet op inputs.0 t) outputs (λ q. subst (λ k. (S.world.source.preds p).builtin ≡ Some k → EachOf S.world.source (also_instance θ σ) (at_places true (inputs_of k) (S.world.source.preds p).types) inputs.0 → Throws (S.world.outcome k inputs.0)) (sym q) (λ i z. F.builtins.error_throws (also_instance θ σ) p inputs.0 i z) is inputs.2) (Callings.builtin_view op))
 
-        on : (t : Bool) → is_io_builtin op ≡ t → Moves (HoldsAfter S T L (unless_never (builtin_most op) c)) t one W (apply_items (S.world.outcome op) (at_outputs (inputs_of op) xs) e (gather (at_inputs (inputs_of op) xs) e))
-        on false t =
-            subst (λ o. Calm (HoldsAfter S T L (unless_never (builtin_most op) c) W) (apply_items (S.world.outcome op) (at_outputs (inputs_of op) xs) e o)) (sym r.1)
-            (quiet_moves t (S.world.outcome op r.0) (io.quiet op r.0 t) gv (λ q. subst (λ k. (S.world.source.preds p).builtin ≡ Some k → EachOf S.world.source (also_instance θ σ) (at_places true (inputs_of k) (S.world.source.preds p).types) r.0 → Throws (S.world.outcome k r.0)) (sym q) (λ i z. F.builtins.error_throws (also_instance θ σ) p r.0 i z) is r.2) (Callings.builtin_view op))
-        on true t =
-            let form = io_form K op t in
-            let ts = (io.named p op is).1 in
-            let y = io_taken form xs xs usable (subst (λ us. Arguments.TypesAt S D F θ T proper σ xs us) ts types) typed in
-            let w = hw.tells y.0 (xm y.0 y.1) y.2 in
-            subst (λ k. Flow (HoldsAfter S T L (unless_never k c)) one W (apply_items (S.world.outcome op) (at_outputs (inputs_of op) xs) e (gather (at_inputs (inputs_of op) xs) e))) (sym (io_most op t).0)
-            (subst (λ o. Flow (HoldsAfter S T L (Some c)) one W (apply_items (S.world.outcome op) (at_outputs (inputs_of op) xs) e o)) (sym r.1)
-            (io_moves t w.0 w.2 y.0 y.1 y.2 y.3 (S.world.outcome op r.0) (io.advances (also_instance θ σ) op w.0 r.0 (subst (λ us. EachOf S.world.source (also_instance θ σ) (at_places true (inputs_of op) us) r.0) ts r.2) t (y.4 w.0 w.1 w.3 r.0 r.1)) gv))
+    -- one that does takes a state
+    pub apply_taken : is_io_builtin op ≡ true → (y : ℕ) × In y xs × Live S T b y × TakenAt S y (modes_of op) xs × ((w : List ℕ) (k : ℕ) → e y ≡ Some (state w k) → (vs : List Val) → gather (at_inputs (inputs_of op) xs) e ≡ Some vs → LastIs w vs)
+    apply_taken t = io_taken (io_form K op t) xs xs usable (subst (λ us. Arguments.TypesAt S D F θ T proper σ xs us) (io.named p op is).1 types) typed
+
+    module _ (W : World) (hw : Holds S T W M b e) (one : Bool) where
+      io_each : (w : List ℕ) (ws : List Val) → is_io_builtin op ≡ true → EachOf S.world.source (also_instance θ σ) (at_places false (inputs_of op) (S.world.source.preds p).types) ws → LastIs w ws → (y : ℕ) → In y xs → Live S T b y → TakenAt S y (modes_of op) xs → Each (HoldsAfter S T L (Some c) (Some w)) (of_option (unify (at_outputs (inputs_of op) xs) (map Some ws) e))
+      io_each w ws t o l y yi ly ty =
+          let m = io_most op t in
+          let form = io_form K op t in
+          let ts = (io.named p op is).1 in
+          Lists.each_map (λ a. (Grows e a × TypedAt S θ T (L ++ xs) c a) × MatchAt xs (woven (inputs_of op) ws) a) (HoldsAfter S T L (Some c) (Some w))
+          (λ a z. returned_holds S D F T W (Some w) M L (modes_of op) xs (woven (inputs_of op) ws) b c e a after lm hw y (xm y yi) ly ty (io_returns S.world.source (also_instance θ σ) form w ws (subst (λ us. EachOf S.world.source (also_instance θ σ) (at_places false (inputs_of op) us) ws) ts o) l) z.1
+          (shared_after a z.0.0 z.0.1 (io_shares form xs a (subst (λ us. Arguments.TypesAt S D F θ T proper σ xs us) ts types) (values a z.0.1))))
+          (of_option (unify (at_outputs (inputs_of op) xs) (map Some ws) e)) (output_each ws m.0 m.1 o)
+
+      io_moves : is_io_builtin op ≡ true → (w : List ℕ) → W ≡ Some w → (y : ℕ) → In y xs → Live S T b y → TakenAt S y (modes_of op) xs → (r : Outcome) → Advances w r → GivesOf S.world.source (also_instance θ σ) (at_places false (inputs_of op) (S.world.source.preds p).types) r → Flow (HoldsAfter S T L (Some c)) one W (outcome_items (at_outputs (inputs_of op) xs) e r)
+      io_moves t w q y yi ly ty fails n g = absurd n
+      io_moves t w q y yi ly ty (throws x) n g = tt
+      io_moves t w q y yi ly ty (gives ws) n g = subst (λ V. Flow (HoldsAfter S T L (Some c)) one V (of_option (unify (at_outputs (inputs_of op) xs) (map Some ws) e))) (sym q) (option_flow (HoldsAfter S T L (Some c)) one (Some w) (unify (at_outputs (inputs_of op) xs) (map Some ws) e) (io_each w ws t g n y yi ly ty))
+      io_moves t w q y yi ly ty (writes x ws) n g = subst (λ V. Flow (HoldsAfter S T L (Some c)) one V (Wrote x (of_option (unify (at_outputs (inputs_of op) xs) (map Some ws) e)))) (sym q) (option_flow (HoldsAfter S T L (Some c)) one (Some (w ++ x)) (unify (at_outputs (inputs_of op) xs) (map Some ws) e) (io_each (w ++ x) ws t g n y yi ly ty))
+      io_moves t w q y yi ly ty (reads x ws) n g = subst (λ V. Flow (HoldsAfter S T L (Some c)) one V (Read x (of_option (unify (at_outputs (inputs_of op) xs) (map Some ws) e)))) (sym q) (option_flow (HoldsAfter S T L (Some c)) one (Some w) (unify (at_outputs (inputs_of op) xs) (map Some ws) e) (io_each w ws t g n y yi ly ty))
+      io_moves t w q y yi ly ty (reads_and_throws x z) n g = subst (λ V. Flow (HoldsAfter S T L (Some c)) one V (Read x (Stopped (Rattle.mc_model.specs.EventList.thrown z)))) (sym q) tt
+
+      pub apply_moves : Moves (HoldsAfter S T L (unless_never (builtin_most op) c)) (is_io_builtin op) one W (apply_items (S.world.outcome op) (at_outputs (inputs_of op) xs) e (gather (at_inputs (inputs_of op) xs) e))
+      apply_moves = on (is_io_builtin op) refl
+        where
+          on : (t : Bool) → is_io_builtin op ≡ t → Moves (HoldsAfter S T L (unless_never (builtin_most op) c)) t one W run
+          on false t = MoveLists.calm_map (StillAfter S D F T L b e (unless_never (builtin_most op) c)) (HoldsAfter S T L (unless_never (builtin_most op) c) W) (still_holds S D F T W M L b e (unless_never (builtin_most op) c) lm hw) run (quiet_apply t)
+          on true t =
+              let ts = (io.named p op is).1 in
+              let y = apply_taken t in
+              let w = hw.tells y.0 (xm y.0 y.1) y.2 in
+              subst (λ k. Flow (HoldsAfter S T L (unless_never k c)) one W run) (sym (io_most op t).0)
+              (subst (λ o. Flow (HoldsAfter S T L (Some c)) one W (apply_items (S.world.outcome op) (at_outputs (inputs_of op) xs) e o)) (sym inputs.1)
+              (io_moves t w.0 w.2 y.0 y.1 y.2 y.3 (S.world.outcome op inputs.0) (io.advances (also_instance θ σ) op w.0 inputs.0 (subst (λ us. EachOf S.world.source (also_instance θ σ) (at_places true (inputs_of op) us) inputs.0) ts inputs.2) t (y.4 w.0 w.1 w.3 inputs.0 inputs.1)) outputs))

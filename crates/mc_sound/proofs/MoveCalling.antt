@@ -13,16 +13,17 @@ use Rattle.mc_model.specs.Good.{System, TypeChoice, types_of}
 use Rattle.mc_accepted.specs.ProperTypes.{Parameters, ProperType}
 use Rattle.mc_accepted.specs.Fits.{Fits}
 use Rattle.mc_sound.specs.code.Passes.{Grows, BindsOnly, Reached, TypedAt}
-use Rattle.mc_sound.specs.code.Moves.{Calm, World, Flow, Moves, Live, Holds, HoldsAfter, Tells, TidyModes, OnePlace, NoPlace, Taken, Handed, ReturnedBy, EachShares, SharesAt}
+use Rattle.mc_sound.specs.code.Moves.{Calm, World, Flow, Moves, Live, Holds, HoldsAfter, Tells, TidyModes, OnePlace, Taken, TakenAt, Handed, ReturnedBy, LentBy, EachShares, SharesAt}
 use Rattle.mc_source.specs.declared.det.Most.{Most}
 use Rattle.mc_source.specs.declared.det.Most.TheVariants.{Zero, One, Many}
 use Rattle.mc_sound.proofs.Arguments
 use Rattle.mc_sound.proofs.MoveCalls
 use Rattle.mc_sound.proofs.MoveLists
-use Rattle.mc_sound.proofs.MoveQuiet.{call_calm}
-use Rattle.mc_sound.proofs.MoveReturns.{TakenAt, call_flows}
+use Rattle.mc_sound.proofs.MoveAtoms.{StillAfter}
+use Rattle.mc_sound.proofs.MoveQuiet.{call_lent}
+use Rattle.mc_sound.proofs.MoveReturns.{call_flows}
 
-calm_moves : {A : Type 0} (Q : World → A → Type 0) (io one : Bool) (W : World) (xs : Items A) → Calm (Q W) xs → Moves Q io one W xs
+pub calm_moves : {A : Type 0} (Q : World → A → Type 0) (io one : Bool) (W : World) (xs : Items A) → Calm (Q W) xs → Moves Q io one W xs
 calm_moves Q false one W xs h = h
 calm_moves Q true one W xs h = MoveLists.calm_flow Q one W xs h
 
@@ -32,10 +33,6 @@ flow_moves Q false one W xs q h = absurd (no q)
   where
     no : false ≡ true → ⊥
     no e = cc
-
-one_of_none : (ms : List Mode) → NoPlace Taken ms → OnePlace Taken ms
-one_of_none [] n = tt
-one_of_none (m ∷ ms) n = ((λ q. n.1), one_of_none ms n.1)
 
 or_second : (a b : Bool) → b ≡ true → (a || b) ≡ true
 or_second true b q = refl
@@ -49,42 +46,37 @@ or_front false b q = absurd (no q)
     no e = cc
 
 module _ (S : System) (D : Parameters) (F : Fits S D) (θ : TypeChoice) (T : ℕ → TypeTerm) (proper : (x : ℕ) → ProperType D (T x)) where
-  taken_dead : (y : ℕ) (is ls xs : List ℕ) → TakenAt S D F T y (zipped is ls) xs → leaves_dead S T ls ≡ true
+  taken_dead : (y : ℕ) (is ls xs : List ℕ) → TakenAt S y (zipped is ls) xs → leaves_dead S T ls ≡ true
   taken_dead y [] ls xs h = absurd h
   taken_dead y (i ∷ is) [] xs h = absurd h
   taken_dead y (i ∷ is) (l ∷ ls) [] h = absurd h
   taken_dead y (i ∷ is) (l ∷ ls) (x ∷ xs) h = ⊎_elim (λ q. or_front (is_dead (S.insts l)) (leaves_dead S T ls) (ap is_dead q.1)) (λ q. or_second (is_dead (S.insts l)) (leaves_dead S T ls) (taken_dead y is ls xs q)) h
 
-  module _ (σ : ℕ → TypeTerm) (b : Insts) (e : Bindings) (W : World) (M : List ℕ) (hw : Holds S T W M b e) where
-    handed_none : (all : List ℕ) (ms : List Mode) (xs : List ℕ) → UsableAt S T all ms xs b → NoPlace Taken ms → Handed ms (map e xs) (Tells None)
-    handed_none all [] [] u n = tt
-    handed_none all [] (x ∷ xs) u n = absurd u
-    handed_none all (m ∷ ms) [] u n = absurd u
-    handed_none all (m ∷ ms) (x ∷ xs) u n = ((λ q. absurd (n.0 q)), handed_none all ms xs u.1 n.1)
+  module _ (σ : ℕ → TypeTerm) (b : Insts) (e : Bindings) (p : Procedure) (tidy : TidyModes S (modes_of_procedure p) (types_of S p)) (xs : List ℕ) (c : Insts) (L : List ℕ) (us : Usable S T (modes_of_procedure p) xs b) (after : After S T (modes_of_procedure p) xs b c) (types : Arguments.TypesAt S D F θ T proper σ xs (types_of S p)) (typed : TypedAt S θ T xs b e) where
+    unless_after : (m : Most) (zs : Items Bindings) → Each (λ a. Grows e a × (BindsOnly xs e a × Reached S θ T L (unless_never m c) a)) zs → Calm (StillAfter S D F T L b e (Some c)) zs → Calm (StillAfter S D F T L b e (unless_never m c)) zs
+    unless_after Zero zs i h = MoveLists.calm_each (λ a. Grows e a × (BindsOnly xs e a × ⊥)) (StillAfter S D F T L b e (Some c)) (StillAfter S D F T L b e None) (λ a j q. absurd j.1.1) zs i h
+    unless_after One zs i h = h
+    unless_after Many zs i h = h
 
-    -- no place takes the state, or one does
-    split : (all : List ℕ) (ms : List Mode) (xs : List ℕ) (ts : List TypeTerm) → UsableAt S T all ms xs b → TidyModes S ms ts → Arguments.TypesAt S D F θ T proper σ xs ts → TypedAt S θ T xs b e → NoPlace Taken ms ⊎ ((y : ℕ) × In y xs × Live S T b y × TakenAt S D F T y ms xs)
-    split all [] xs ts u t y m = inl tt
-    split all (k ∷ ms) [] ts u t y m = absurd u
-    split all (k ∷ ms) (x ∷ xs) [] u t y m = absurd t
-    split all (k ∷ ms) (x ∷ xs) (s ∷ ts) u t y m =
-        ⊎_elim
-        (λ q. let v = u.0 (λ w. two (sym w ∙ q)) in inr (x, inl refl, MoveCalls.live_at S D F θ T proper σ b e W M hw k.0 x s q (t.0 q).0 y.0 v.0 v.1 (m x (inl refl)), inl (q, (t.0 q).1, refl)))
-        (λ n. ⊎_elim (λ r. inl (n, r)) (λ r. inr (r.0, inr r.1, r.2, inr r.3)) (split all ms xs ts u.1 t.2 y.1 (λ z i. m z (inr i)))) (cases_eq k.0 2)
-      where
-        two : (◌≡◌ {A = ℕ} 0 2) → ⊥
-        two e = omega arith
+    -- a call that takes no state
+    pub lent_after : (I : List (Option Val) → Type 0) (ys : Items (List (Option Val))) → Each I ys → ((os : List (Option Val)) → I os → EachShares S p.last (types_of S p) os → Each (SharesAt S T L c) (of_option (unify xs os e))) → Each (λ a. Grows e a × (BindsOnly xs e a × Reached S θ T L (unless_never p.det.most c) a)) (bind ys (λ os. of_option (unify xs os e))) →
+        Calm (LentBy S p) ys → Calm (StillAfter S D F T L b e (unless_never p.det.most c)) (bind ys (λ os. of_option (unify xs os e)))
+    lent_after I ys i sh j f =
+        unless_after p.det.most (bind ys (λ os. of_option (unify xs os e))) j
+        (call_lent S D F T θ proper σ b e L (modes_of_procedure p) xs (types_of S p) c I (LentBy S p) ys us tidy types typed after i (λ os z. z.0) (λ os k z. sh os k z.1) f)
 
-    module _ (p : Procedure) (tidy : TidyModes S (modes_of_procedure p) (types_of S p)) (xs : List ℕ) (c : Insts) (L : List ℕ) (lm : Among L M) (xm : Among xs M) (us : Usable S T (modes_of_procedure p) xs b) (after : After S T (modes_of_procedure p) xs b c) (types : Arguments.TypesAt S D F θ T proper σ xs (types_of S p)) (typed : TypedAt S θ T xs b e) (one : Bool) where
-      call_reached : (I : List (Option Val) → Type 0) (ys : Items (List (Option Val))) → Each I ys → ((os : List (Option Val)) → I os → EachShares S p.last (types_of S p) os → Each (SharesAt S T L c) (of_option (unify xs os e))) → ((V : World) → OnePlace Taken (modes_of_procedure p) → Handed (modes_of_procedure p) (map e xs) (Tells V) → Flow (ReturnedBy S p) false V ys) →
-          Moves (HoldsAfter S T L (Some c)) (leaves_dead S T p.last) one W (bind ys (λ os. of_option (unify xs os e)))
-      call_reached I ys i sh moved =
-          ⊎_elim
-          (λ n. calm_moves (HoldsAfter S T L (Some c)) (leaves_dead S T p.last) one W (bind ys (λ os. of_option (unify xs os e))) (call_calm S D F T W M L (modes_of_procedure p) xs b c e I (ReturnedBy S p) ys i after lm hw (λ V os z. z.0) (λ V os j z. sh os j z.1) (moved None (one_of_none (modes_of_procedure p) n) (handed_none xs (modes_of_procedure p) xs us n))))
-          (λ y.
-          let h = MoveCalls.handed S D F θ T proper σ b e W M hw xs (modes_of_procedure p) xs (types_of S p) (λ z. omega arith) us tidy types typed xm in
-          flow_moves (HoldsAfter S T L (Some c)) (leaves_dead S T p.last) one W (bind ys (λ os. of_option (unify xs os e))) (taken_dead y.0 p.first p.last xs y.3) (call_flows S D F T W M L (modes_of_procedure p) xs b c e I (ReturnedBy S p) ys i after lm hw y.0 (xm y.0 y.1) y.2 y.3 (λ V os z. z.0) (λ V os j z. sh os j z.1) (moved W h.0 h.1)))
-          (split xs (modes_of_procedure p) xs (types_of S p) us tidy types typed)
+    pub height_calm : (P : Bindings → Type 0) (last : Bool) (h : ℕ) (f : ℕ → Items Bindings) → ((k : ℕ) → Calm P (f k)) → Calm P (at_height last h f)
+    height_calm P true h f s = s h
+    height_calm P false zero f s = tt
+    height_calm P false (suc h) f s = s h
+
+    module _ (W : World) (M : List ℕ) (hw : Holds S T W M b e) (lm : Among L M) (xm : Among xs M) (one : Bool) where
+      -- a call that takes the state
+      call_reached : (I : List (Option Val) → Type 0) (ys : Items (List (Option Val))) → (y : ℕ) → In y xs → Live S T b y → TakenAt S y (modes_of_procedure p) xs → Each I ys → ((os : List (Option Val)) → I os → EachShares S p.last (types_of S p) os → Each (SharesAt S T L c) (of_option (unify xs os e))) →
+          (OnePlace Taken (modes_of_procedure p) → Handed (modes_of_procedure p) (map e xs) (Tells W) → Flow (ReturnedBy S p) false W ys) → Moves (HoldsAfter S T L (Some c)) (leaves_dead S T p.last) one W (bind ys (λ os. of_option (unify xs os e)))
+      call_reached I ys y yi ly ty i sh moved =
+          let h = MoveCalls.handed S D F θ T proper σ b e W M hw y (xm y yi) ly xs (modes_of_procedure p) xs (types_of S p) ty (omega (arith, MoveCalls.taken_once S T b xs y (modes_of_procedure p) xs us ty)) us tidy types typed xm in
+          flow_moves (HoldsAfter S T L (Some c)) (leaves_dead S T p.last) one W (bind ys (λ os. of_option (unify xs os e))) (taken_dead y p.first p.last xs ty) (call_flows S D F T W M L (modes_of_procedure p) xs b c e I (ReturnedBy S p) ys i after lm hw y (xm y yi) ly ty (λ V os z. z.0) (λ V os j z. sh os j z.1) (moved h.0 h.1))
 
       unless_moves : (m : Most) (io : Bool) (zs : Items Bindings) → Each (λ a. Grows e a × (BindsOnly xs e a × Reached S θ T L (unless_never m c) a)) zs → Moves (HoldsAfter S T L (Some c)) io one W zs → Moves (HoldsAfter S T L (unless_never m c)) io one W zs
       unless_moves Zero io zs i h = MoveLists.moves_each (λ a. Grows e a × (BindsOnly xs e a × ⊥)) (HoldsAfter S T L (Some c)) (HoldsAfter S T L None) (λ V a j q. absurd j.1.1) io one W zs i h
@@ -100,7 +92,7 @@ module _ (S : System) (D : Parameters) (F : Fits S D) (θ : TypeChoice) (T : ℕ
       height_moves Q io true h f s = s h
       height_moves Q io false h f s = below_moves Q io h f s
 
-      pub call_moves : (I : List (Option Val) → Type 0) (ys : Items (List (Option Val))) → Each I ys → ((os : List (Option Val)) → I os → EachShares S p.last (types_of S p) os → Each (SharesAt S T L c) (of_option (unify xs os e))) → Each (λ a. Grows e a × (BindsOnly xs e a × Reached S θ T L (unless_never p.det.most c) a)) (bind ys (λ os. of_option (unify xs os e))) →
-          ((V : World) → OnePlace Taken (modes_of_procedure p) → Handed (modes_of_procedure p) (map e xs) (Tells V) → Flow (ReturnedBy S p) false V ys) →
+      pub call_moves : (I : List (Option Val) → Type 0) (ys : Items (List (Option Val))) → (y : ℕ) → In y xs → Live S T b y → TakenAt S y (modes_of_procedure p) xs → Each I ys → ((os : List (Option Val)) → I os → EachShares S p.last (types_of S p) os → Each (SharesAt S T L c) (of_option (unify xs os e))) →
+          Each (λ a. Grows e a × (BindsOnly xs e a × Reached S θ T L (unless_never p.det.most c) a)) (bind ys (λ os. of_option (unify xs os e))) → (OnePlace Taken (modes_of_procedure p) → Handed (modes_of_procedure p) (map e xs) (Tells W) → Flow (ReturnedBy S p) false W ys) →
           Moves (HoldsAfter S T L (unless_never p.det.most c)) (leaves_dead S T p.last) one W (bind ys (λ os. of_option (unify xs os e)))
-      call_moves I ys i sh j moved = unless_moves p.det.most (leaves_dead S T p.last) (bind ys (λ os. of_option (unify xs os e))) j (call_reached I ys i sh moved)
+      call_moves I ys y yi ly ty i sh j moved = unless_moves p.det.most (leaves_dead S T p.last) (bind ys (λ os. of_option (unify xs os e))) j (call_reached I ys y yi ly ty i sh moved)

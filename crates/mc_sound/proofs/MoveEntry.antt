@@ -19,7 +19,7 @@ use Rattle.mc_accepted.specs.Fits.{FitsProcedure, Fits, goal_of, type_of}
 use Rattle.mc_accepted.specs.Accepted.{entered, Final, FinalAfter, AcceptedProcedure, Accepted}
 use Rattle.mc_sound.specs.code.Passes.{Grows, BindsOnly, TypedAt, Reached, Sound, CallsSound}
 use Rattle.mc_sound.specs.IoLaws.{FitsIo}
-use Rattle.mc_sound.specs.code.Moves.{World, Flow, Live, Holds, HoldsAfter, Shares, SharesAt, Tells, TidyModes, TidyProcedures, OnePlace, NoPlace, Taken, Made, Handed, Returned, ReturnedBy, EachShares, CallsMove}
+use Rattle.mc_sound.specs.code.Moves.{World, Flow, Live, Holds, HoldsAfter, Shares, SharesAt, Tells, TidyModes, TidyProcedures, OnePlace, NoPlace, Taken, Made, Handed, Returned, ReturnedBy, EachShares, CallsMove, CallsLend}
 use Rattle.mc_sound.proofs.Binds
 use Rattle.mc_sound.proofs.Combine.{in_split}
 use Rattle.mc_sound.proofs.Entry
@@ -36,10 +36,10 @@ use Rattle.mc_sound.proofs.TypeInstances.{of_general}
 zero_two : (◌≡◌ {A = ℕ} 0 2) → ⊥
 zero_two e = omega arith
 
-no_length : (n : ℕ) → suc n ≡ 0 → ⊥
+pub no_length : (n : ℕ) → suc n ≡ 0 → ⊥
 no_length n e = omega (arith, e)
 
-less : (m n : ℕ) → suc m ≡ suc n → m ≡ n
+pub less : (m n : ℕ) → suc m ≡ suc n → m ≡ n
 less m n e = omega (arith, e)
 
 -- entry
@@ -80,7 +80,7 @@ module _ (S : System) (T : ℕ → TypeTerm) where
   enter_one true false i k u u' v o w b f g h d q = absurd (Binds.none_some None w refl q)
   enter_one false p i k u u' v o w b f g h d q = h d q
 
-  enter_shares : (ys is : List ℕ) (ts : List TypeTerm) (vs : List (Option Val)) → map T ys ≡ ts → EachShares S is ts vs → (x : ℕ) → S.insts (entered ys is x) ≢ dead → (w : Val) → enter ys is vs x ≡ Some w → Shares S.world.source S.insts w (entered ys is x) (T x)
+  pub enter_shares : (ys is : List ℕ) (ts : List TypeTerm) (vs : List (Option Val)) → map T ys ≡ ts → EachShares S is ts vs → (x : ℕ) → S.insts (entered ys is x) ≢ dead → (w : Val) → enter ys is vs x ≡ Some w → Shares S.world.source S.insts w (entered ys is x) (T x)
   enter_shares [] is ts vs m h x d w q = absurd (Binds.none_some None w refl q)
   enter_shares (y ∷ ys) [] ts vs m h x d w q = absurd (Binds.none_some None w refl q)
   enter_shares (y ∷ ys) (i ∷ is) ts [] m h x d w q = absurd (Binds.none_some None w refl q)
@@ -100,7 +100,7 @@ module _ (S : System) (D : Parameters) (F : Fits S D) (θ : TypeChoice) (p : Pro
   left_one l o v false b n e = absurd (n (Typed.free_is l b))
 
   -- exit
-  exit_shares : (ys ls : List ℕ) (ts : List TypeTerm) (c : Insts) (a : Bindings) → map T ys ≡ ts → Final S p ys ls c → SharesAt S T ys c a → TypedAt S θ T ys c a → EachShares S ls ts (leave ys ls a)
+  pub exit_shares : (ys ls : List ℕ) (ts : List TypeTerm) (c : Insts) (a : Bindings) → map T ys ≡ ts → Final S p ys ls c → SharesAt S T ys c a → TypedAt S θ T ys c a → EachShares S ls ts (leave ys ls a)
   exit_shares [] [] ts c a m f s t = tt
   exit_shares [] (l ∷ ls) ts c a m f s t = absurd f
   exit_shares (y ∷ ys) [] ts c a m f s t = absurd f
@@ -114,7 +114,7 @@ module _ (S : System) (D : Parameters) (F : Fits S D) (θ : TypeChoice) (p : Pro
     exit_shares ys ls ts c a (Sounds.cons_rest (T y) u (map T ys) ts m) f.1 (λ z i. s z (inr i)) (λ z i. t z (inr i)),
   )
 
-  exit_live : (y l : ℕ) (c : Insts) (o : Option Val) → l ≡ 2 → T y ≡ state_type → Included S.world.source S.insts (c y) l (T y) → BoundAs S θ (c y) (T y) o → Live S T c y
+  pub exit_live : (y l : ℕ) (c : Insts) (o : Option Val) → l ≡ 2 → T y ≡ state_type → Included S.world.source S.insts (c y) l (T y) → BoundAs S θ (c y) (T y) o → Live S T c y
   exit_live y l c o q e f b =
       let g : Included S.world.source S.insts (c y) 2 (T y) = subst (λ k. Included S.world.source S.insts (c y) k (T y)) q f in
       let k = included_more (S.insts (c y)) (S.insts 2) (NoMore S.world.source S.insts (c y) 2 (T y)) g (λ z. not_free (sym F.insts.is_unique ∙ z)) (λ z. not_dead (sym F.insts.is_unique ∙ z)) in
@@ -165,10 +165,10 @@ body_flows : (Q : World → Bindings → Type 0) (R : World → List (Option Val
 body_flows Q R I f true W xs i g h = MoveLists.flow_first R true false W (bind xs (λ a. Answer (f a) End)) (MoveLists.flow_bind_first (λ a. Answer (f a) End) I Q R true W xs i h (λ V a j q. (g V a j q, tt)) (λ a j. tt))
 body_flows Q R I f false W xs i g h = MoveLists.flow_bind_calm (λ a. Answer (f a) End) I Q R W xs i h (λ V a j q. (g V a j q, tt))
 
-module _ (S : System) (D : Parameters) (F : Fits S D) (accepted : Accepted S) (tidy : TidyProcedures S) (lib : Library_types) (io : FitsIo S.world lib) where
-  body_moves : (C : Calls) → CallsSound S C → CallsMove S C → (θ : TypeChoice) (h : ℕ) (p : Procedure) (vs : List (Option Val)) → FitsProcedure S D p → AcceptedProcedure S p → TidyModes S (modes_of_procedure p) (types_of S p) → Given S θ p.first (types_of S p) vs → EachShares S p.first (types_of S p) vs →
+module _ (S : System) (D : Parameters) (F : Fits S D) (accepted : Accepted S) (tidy : TidyProcedures S) (lib : Library_types) (io : FitsIo S.world lib) (lends : (n : ℕ) → CallsLend S (calls S.world.outcome S.procs n)) where
+  body_moves : (C : Calls) → CallsSound S C → CallsMove S C → CallsLend S C → (θ : TypeChoice) (h : ℕ) (p : Procedure) (vs : List (Option Val)) → FitsProcedure S D p → AcceptedProcedure S p → TidyModes S (modes_of_procedure p) (types_of S p) → Given S θ p.first (types_of S p) vs → EachShares S p.first (types_of S p) vs →
       (W : World) → OnePlace Taken (modes_of_procedure p) → Handed (modes_of_procedure p) vs (Tells W) → Flow (ReturnedBy S p) false W (body_items S.world.outcome C h p vs)
-  body_moves C called moved θ h p vs fit r td g es W one handed =
+  body_moves C called moved lent θ h p vs fit r td g es W one handed =
       let T = type_of S p in
       let e : Bindings = enter p.head p.first vs in
       let b = entered p.head p.first in
@@ -182,7 +182,7 @@ module _ (S : System) (D : Parameters) (F : Fits S D) (accepted : Accepted S) (t
       } in
       let s : Sound S θ T nothing_known p.head _ e r.after _ (stream S.world.outcome C h p.body e) =
       Sounds.sound_node S D F C called (lined S D F accepted) T fit.types θ r.ordered fit.typed nothing_known h p.head (λ x i. i) e (enter_closed p.head p.first vs) (λ x i. et x) (λ x i. et x) in
-      let m = moves_node S D F C called (lined S D F accepted) T fit.types θ moved tidy lib io r.ordered fit.typed nothing_known h p.det.committed r.io p.head (λ x i. i) e (enter_closed p.head p.first vs) (λ x i. et x) (λ x i. et x) (known_none S D F accepted e) W M hw (λ x i. Rattle.mc_sound.proofs.Combine.in_left x p.head (variables_of (goal_of S p).body) i) (λ x i. Rattle.mc_sound.proofs.Combine.in_right x p.head (variables_of (goal_of S p).body) i) in
+      let m = moves_node S D F C called (lined S D F accepted) T fit.types θ moved lent tidy lib io r.ordered fit.typed nothing_known h p.det.committed r.io p.head (λ x i. i) e (enter_closed p.head p.first vs) (λ x i. et x) (λ x i. et x) (known_none S D F accepted e) W M hw (λ x i. Rattle.mc_sound.proofs.Combine.in_left x p.head (variables_of (goal_of S p).body) i) (λ x i. Rattle.mc_sound.proofs.Combine.in_right x p.head (variables_of (goal_of S p).body) i) in
       let dh : Distinct p.head = subst Distinct (sym r.head) (from_distinct 0 (goal_of S p).arity) in
       cond_true (λ ys. Flow (ReturnedBy S p) false W ys) (ready p.first vs) (pruned_to p.det.committed (bind (stream S.world.outcome C h p.body e) (λ a. Answer (leave p.head p.last a) End))) Stuck (given_ready S θ p.first (types_of S p) vs g)
       (body_flows (HoldsAfter S T p.head r.after) (ReturnedBy S p) (λ a. Grows e a × (BindsOnly (variables_of_node p.body) e a × Reached S θ T p.head r.after a)) (λ a. leave p.head p.last a) p.det.committed W (stream S.world.outcome C h p.body e) s.each
@@ -192,4 +192,4 @@ module _ (S : System) (D : Parameters) (F : Fits S D) (accepted : Accepted S) (t
   pub calls_move : (n : ℕ) → CallsMove S (calls S.world.outcome S.procs n)
   calls_move zero θ h k vs l g es W one handed = tt
   calls_move (suc n) θ h k vs l g es W one handed =
-      body_moves (calls S.world.outcome S.procs n) (calls_sound S D F accepted n) (calls_move n) θ h (S.procs k) vs (F.procedures k l) (accepted k l) (tidy k l) g es W one handed
+      body_moves (calls S.world.outcome S.procs n) (calls_sound S D F accepted n) (calls_move n) (lends n) θ h (S.procs k) vs (F.procedures k l) (accepted k l) (tidy k l) g es W one handed

@@ -15,7 +15,7 @@ use Rattle.mc_model.specs.Good.{System, TypeChoice, BoundAs}
 use Rattle.mc_accepted.specs.ProperTypes.{Parameters, ProperType}
 use Rattle.mc_accepted.specs.Fits.{Fits}
 use Rattle.mc_sound.specs.code.Passes.{TypedAt, Reached}
-use Rattle.mc_sound.specs.code.Moves.{World, Holds, HoldsAfter, Shares, SharesAt}
+use Rattle.mc_sound.specs.code.Moves.{World, Holds, HoldsAfter, Shares, SharesAt, Lent, LentAfter}
 use Rattle.mc_sound.proofs.MoveShares.{shares_more}
 use Rattle.mc_sound.proofs.TypeInstances.{of_general}
 use Rattle.mc_sound.proofs.Typed.{true_not_false, View, all_free, one_dead, more, merged_view, only_free, Is, is_at, is_reachable}
@@ -75,6 +75,18 @@ module _ (S : System) (D : Parameters) (F : Fits S D) (θ : TypeChoice) where
     pub holds_joined : (L O : List ℕ) (b : Insts) (os : List (Option Insts)) (w : Option Insts) → Among L O → Joined S T O b (reachable os) w → (o : Option Insts) → Is o os → (W : World) (a : Bindings) → Reached S θ T L o a → HoldsAfter S T L o W a → HoldsAfter S T L w W a
     holds_joined L O b os w u j None i W a r h = absurd h
     holds_joined L O b os w u j (Some c) i W a r h = holds_end L O b (reachable os) c w u j (is_reachable c os i) W a r h
+
+    lent_end : (N : Lent) (L O : List ℕ) (b : Insts) (ends : List Insts) (c : Insts) (w : Option Insts) → Among L O → Joined S T O b ends w → Is c ends → (a : Bindings) → TypedAt S θ T L c a → LentAfter S T N L (Some c) a → LentAfter S T N L w a
+    lent_end N L O b [] c w u j i a r h = absurd i
+    lent_end N L O b (d ∷ ends) c None u j i a r h = absurd j
+    lent_end N L O b (d ∷ ends) c (Some e) u j i a r h = (
+      (λ x k l. h.0 x k (l.0, from_one (c x) (e x) (T x) (a x) l.0 l.1 (merged_view S.world.source S.insts (map (λ (f : Insts). f x) (d ∷ ends)) (c x) (e x) (T x) (is_at x c (d ∷ ends) i) ((j x).0 (u x k))) (r x k))),
+      (λ x k n v q. shares_one (c x) (e x) (T x) (a x) (proper x) (merged_view S.world.source S.insts (map (λ (f : Insts). f x) (d ∷ ends)) (c x) (e x) (T x) (is_at x c (d ∷ ends) i) ((j x).0 (u x k))) (r x k) n v q (λ m. h.1 x k m v q)),
+    )
+
+    pub lent_joined : (N : Lent) (L O : List ℕ) (b : Insts) (os : List (Option Insts)) (w : Option Insts) → Among L O → Joined S T O b (reachable os) w → (o : Option Insts) → Is o os → (a : Bindings) → Reached S θ T L o a → LentAfter S T N L o a → LentAfter S T N L w a
+    lent_joined N L O b os w u j None i a r h = absurd h
+    lent_joined N L O b os w u j (Some c) i a r h = lent_end N L O b (reachable os) c w u j (is_reachable c os i) a r h
 
 -- a goal without io is placed anywhere
 module _ (S : System) (T : ℕ → TypeTerm) where

@@ -12,7 +12,7 @@ use Rattle.mc_model.specs.Good.{System}
 use Rattle.mc_accepted.specs.ProperTypes.{Parameters}
 use Rattle.mc_accepted.specs.Fits.{Fits}
 use Rattle.mc_sound.specs.code.Passes.{Grows}
-use Rattle.mc_sound.specs.code.Moves.{World, Flow, Live, Holds, HoldsAfter, Tells, OnePlace, NoPlace, Made, Returned, ReturnedWith, SharesAt}
+use Rattle.mc_sound.specs.code.Moves.{World, Flow, Live, Holds, HoldsAfter, Tells, OnePlace, NoPlace, TakenAt, Made, Returned, ReturnedWith, SharesAt}
 use Rattle.mc_sound.proofs.Binds
 use Rattle.mc_sound.proofs.Lists
 use Rattle.mc_sound.proofs.MoveArms.{quiet_option}
@@ -66,11 +66,6 @@ made_tells V z (k ∷ ms) (x ∷ xs) (None ∷ os) a h r m = ⊎_elim (λ q. abs
 made_tells V z (k ∷ ms) (x ∷ xs) (Some v ∷ os) a h r m = ⊎_elim (λ q. subst (λ o. Tells V o) (sym (ap a q.1 ∙ m.0)) (r.0 q.0)) (λ q. made_tells V z ms xs os a q r.1 m.1) h
 
 module _ (S : System) (D : Parameters) (F : Fits S D) (T : ℕ → TypeTerm) where
-  -- a variable stands where an argument that is unique dies
-  abbrev pub TakenAt : ℕ → List Mode → List ℕ → Type 0
-  TakenAt z (m ∷ ms) (x ∷ xs) = ((m.0 ≡ 2) × (S.insts m.1 ≡ dead) × (z ≡ x)) ⊎ TakenAt z ms xs
-  TakenAt z _ _ = ⊥
-
   not_dead : (l : ℕ) → S.insts l ≡ dead → l ≡ 2 → ⊥
   not_dead l d q = no (sym F.insts.is_unique ∙ (ap S.insts (sym q) ∙ d))
     where
@@ -81,31 +76,31 @@ module _ (S : System) (D : Parameters) (F : Fits S D) (T : ℕ → TypeTerm) whe
   two e = omega arith
 
   -- what lives after a call is made by it, or lived before and isn't taken
-  lives : {there : ℕ → Bool} {ms : List Mode} {xs : List ℕ} {b c : Insts} → AfterArguments S T there ms xs b c → (z : ℕ) → Live S T c z → MadeAt z ms xs ⊎ (Live S T b z × (TakenAt z ms xs → ⊥))
+  pub lives : {there : ℕ → Bool} {ms : List Mode} {xs : List ℕ} {b c : Insts} → AfterArguments S T there ms xs b c → (z : ℕ) → Live S T c z → MadeAt z ms xs ⊎ (Live S T b z × (TakenAt S z ms xs → ⊥))
   lives no_more z l = inr (l, λ h. h)
   lives (not_passed r) z l = ⊎_elim (λ m. inl (inr m)) (λ k. inr (k.0, ⊎_elim (λ t. two t.0) k.1)) (lives r z l)
   lives (implied n q r) z l = ⊎_elim (λ m. inl (inr m)) (λ k. inr (k.0, ⊎_elim (λ t. two t.0) k.1)) (lives r z l)
   lives (output {b = b} {x = x} {l = i} {ms = ms} {xs = xs} n q r) z l =
       ⊎_elim (λ m. inl (inr m))
-      (λ k. also_on (nat_eq z x) i (b z) (MadeAt z ((0, i) ∷ ms) (x ∷ xs) ⊎ (Live S T b z × (TakenAt z ((0, i) ∷ ms) (x ∷ xs) → ⊥))) k.0.1 (λ t s. inl (inl (s, eqb-true z x t))) (λ t s. inr ((k.0.0, s), ⊎_elim (λ u. two u.0) k.1))) (lives r z l)
+      (λ k. also_on (nat_eq z x) i (b z) (MadeAt z ((0, i) ∷ ms) (x ∷ xs) ⊎ (Live S T b z × (TakenAt S z ((0, i) ∷ ms) (x ∷ xs) → ⊥))) k.0.1 (λ t s. inl (inl (s, eqb-true z x t))) (λ t s. inr ((k.0.0, s), ⊎_elim (λ u. two u.0) k.1))) (lives r z l)
   lives (dies {b = b} {x = x} {i = j} {l = i} {ms = ms} {xs = xs} n q r) z l =
       ⊎_elim (λ m. inl (inr m))
-      (λ k. also_on (nat_eq z x) i (b z) (MadeAt z ((j, i) ∷ ms) (x ∷ xs) ⊎ (Live S T b z × (TakenAt z ((j, i) ∷ ms) (x ∷ xs) → ⊥))) k.0.1 (λ t s. absurd (not_dead i q s)) (λ t s. inr ((k.0.0, s), ⊎_elim (λ u. true_not_false (sym (eq-eqb z x u.2) ∙ t)) k.1))) (lives r z l)
+      (λ k. also_on (nat_eq z x) i (b z) (MadeAt z ((j, i) ∷ ms) (x ∷ xs) ⊎ (Live S T b z × (TakenAt S z ((j, i) ∷ ms) (x ∷ xs) → ⊥))) k.0.1 (λ t s. absurd (not_dead i q s)) (λ t s. inr ((k.0.0, s), ⊎_elim (λ u. true_not_false (sym (eq-eqb z x u.2) ∙ t)) k.1))) (lives r z l)
   lives (keeps n q i r) z l = ⊎_elim (λ m. inl (inr m)) (λ k. inr (k.0, ⊎_elim (λ t. q t.1) k.1)) (lives r z l)
   lives (becomes {b = b} {x = x} {i = j} {l = i} {ms = ms} {xs = xs} n q w r) z l =
       ⊎_elim (λ m. inl (inr m))
-      (λ k. also_on (nat_eq z x) i (b z) (MadeAt z ((j, i) ∷ ms) (x ∷ xs) ⊎ (Live S T b z × (TakenAt z ((j, i) ∷ ms) (x ∷ xs) → ⊥))) k.0.1 (λ t s. inl (inl (s, eqb-true z x t))) (λ t s. inr ((k.0.0, s), ⊎_elim (λ u. q u.1) k.1))) (lives r z l)
+      (λ k. also_on (nat_eq z x) i (b z) (MadeAt z ((j, i) ∷ ms) (x ∷ xs) ⊎ (Live S T b z × (TakenAt S z ((j, i) ∷ ms) (x ∷ xs) → ⊥))) k.0.1 (λ t s. inl (inl (s, eqb-true z x t))) (λ t s. inr ((k.0.0, s), ⊎_elim (λ u. q u.1) k.1))) (lives r z l)
 
   -- what holds after a call that takes the one live variable
-  pub returned_holds : (W V : World) (M L : List ℕ) (ms : List Mode) (xs : List ℕ) (os : List (Option Val)) (b c : Insts) (e a : Bindings) → After S T ms xs b c → Among L M → Holds S T W M b e → (y : ℕ) → In y M → Live S T b y → TakenAt y ms xs → ReturnedWith ms V os → MatchAt xs os a → SharesAt S T L c a → Holds S T V L c a
+  pub returned_holds : (W V : World) (M L : List ℕ) (ms : List Mode) (xs : List ℕ) (os : List (Option Val)) (b c : Insts) (e a : Bindings) → After S T ms xs b c → Among L M → Holds S T W M b e → (y : ℕ) → In y M → Live S T b y → TakenAt S y ms xs → ReturnedWith ms V os → MatchAt xs os a → SharesAt S T L c a → Holds S T V L c a
   returned_holds W V M L ms xs os b c e a r lm hw y ym ly ty z m s =
       record { tells = λ x k l. made_tells V x ms xs os a (made x k l) z.1 m; alone = λ x w k h l g. made_one x w ms xs z.0 (made x k l) (made w h g); shares = s }
     where
       made : (x : ℕ) → In x L → Live S T c x → MadeAt x ms xs
-      made x k l = ⊎_elim (λ m. m) (λ s. absurd (s.1 (subst (λ u. TakenAt u ms xs) (hw.alone y x ym (lm x k) ly s.0) ty))) (lives r x l)
+      made x k l = ⊎_elim (λ m. m) (λ s. absurd (s.1 (subst (λ u. TakenAt S u ms xs) (hw.alone y x ym (lm x k) ly s.0) ty))) (lives r x l)
 
   -- a call that takes the one live variable
-  pub call_flows : (W : World) (M L : List ℕ) (ms : List Mode) (xs : List ℕ) (b c : Insts) (e : Bindings) (I : List (Option Val) → Type 0) (Q : World → List (Option Val) → Type 0) (ys : Items (List (Option Val))) → Each I ys → After S T ms xs b c → Among L M → Holds S T W M b e → (y : ℕ) → In y M → Live S T b y → TakenAt y ms xs →
+  pub call_flows : (W : World) (M L : List ℕ) (ms : List Mode) (xs : List ℕ) (b c : Insts) (e : Bindings) (I : List (Option Val) → Type 0) (Q : World → List (Option Val) → Type 0) (ys : Items (List (Option Val))) → Each I ys → After S T ms xs b c → Among L M → Holds S T W M b e → (y : ℕ) → In y M → Live S T b y → TakenAt S y ms xs →
       ((V : World) (os : List (Option Val)) → Q V os → ReturnedWith ms V os) → ((V : World) (os : List (Option Val)) → I os → Q V os → Each (SharesAt S T L c) (of_option (unify xs os e))) → Flow Q false W ys → Flow (HoldsAfter S T L (Some c)) false W (bind ys (λ os. of_option (unify xs os e)))
   call_flows W M L ms xs b c e I Q ys i r lm hw y ym ly ty ret sh f =
       MoveLists.flow_bind_calm (λ os. of_option (unify xs os e)) I Q (HoldsAfter S T L (Some c)) W ys i f

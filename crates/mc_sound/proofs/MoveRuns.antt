@@ -10,12 +10,13 @@ use Rattle.mc_accepted.specs.ProperTypes.{Parameters}
 use Rattle.mc_accepted.specs.Fits.{Fits}
 use Rattle.mc_accepted.specs.Accepted.{Accepted}
 use Rattle.mc_sound.specs.code.Moves.{World, Flow, Tells, OnePlace, Taken, Handed, Returned, CallsMove, ReturnedBy, EachShares, StateAt, AllowsShared, TidyModes, TidyProcedures}
-use Rattle.mc_sound.specs.IoLaws.{NoneLent, MainWritesAll}
+use Rattle.mc_sound.specs.IoLaws.{MainWritesAll}
 use Rattle.mc_accepted.specs.Tidy.{EachTidy}
 use Rattle.mc_accepted.specs.Inclusion.{Path}
 use Rattle.mc_program.specs.Programs.{TypeTerm, state_type}
 use Rattle.mc_sound.proofs.MoveEntry.{calls_move}
 use Rattle.mc_sound.proofs.Entry.{calls_sound}
+use Rattle.mc_sound.proofs.LendEntry.{calls_lend}
 use Rattle.mc_sound.proofs.Levels.{call_levels}
 use Rattle.mc_sound.proofs.Lists
 use Rattle.mc_sound.proofs.MoveLists
@@ -82,20 +83,20 @@ module _ (S : System) (D : Parameters) (F : Fits S D) (accepted : Accepted S) (k
       no : (◌≡◌ {A = ℕ} 0 2) → ⊥
       no e = omega arith
 
--- tidy insts that lend no state make tidy modes
-tidy_modes : (S : System) (D : Parameters) (F : Fits S D) (is ls : List ℕ) (ts : List TypeTerm) → length is ≡ length ts → length ls ≡ length ts → EachTidy S.world.source S.insts is ts → EachTidy S.world.source S.insts ls ts → NoneLent S.insts is ls → TidyModes S (zipped is ls) ts
-tidy_modes S D F [] ls [] e f y z n = tt
-tidy_modes S D F [] ls (t ∷ ts) e f y z n = absurd (omega (arith, e))
-tidy_modes S D F (i ∷ is) [] [] e f y z n = absurd (omega (arith, e))
-tidy_modes S D F (i ∷ is) [] (t ∷ ts) e f y z n = absurd (omega (arith, f))
-tidy_modes S D F (i ∷ is) (l ∷ ls) [] e f y z n = absurd (omega (arith, e))
-tidy_modes S D F (i ∷ is) (l ∷ ls) (t ∷ ts) e f y z n = (
-  (λ q. (y.0 [] i t (refl, refl) (inl (ap S.insts q ∙ F.insts.is_unique)), n.0 q)),
+-- tidy insts make tidy modes
+tidy_modes : (S : System) (D : Parameters) (F : Fits S D) (is ls : List ℕ) (ts : List TypeTerm) → length is ≡ length ts → length ls ≡ length ts → EachTidy S.world.source S.insts is ts → EachTidy S.world.source S.insts ls ts → TidyModes S (zipped is ls) ts
+tidy_modes S D F [] ls [] e f y z = tt
+tidy_modes S D F [] ls (t ∷ ts) e f y z = absurd (omega (arith, e))
+tidy_modes S D F (i ∷ is) [] [] e f y z = absurd (omega (arith, e))
+tidy_modes S D F (i ∷ is) [] (t ∷ ts) e f y z = absurd (omega (arith, f))
+tidy_modes S D F (i ∷ is) (l ∷ ls) [] e f y z = absurd (omega (arith, e))
+tidy_modes S D F (i ∷ is) (l ∷ ls) (t ∷ ts) e f y z = (
+  (λ q. y.0 [] i t (refl, refl) (inl (ap S.insts q ∙ F.insts.is_unique))),
   (λ q. z.0 [] l t (refl, refl) (inl (ap S.insts q ∙ F.insts.is_unique))),
-  tidy_modes S D F is ls ts (omega (arith, e)) (omega (arith, f)) y.1 z.1 n.1,
+  tidy_modes S D F is ls ts (omega (arith, e)) (omega (arith, f)) y.1 z.1,
 )
 
 pub main_writes_all : MainWritesAll
-main_writes_all S D K F io A none k l first last θ n h vs g =
-    let tidy : TidyProcedures S = λ j m. tidy_modes S D F (S.procs j).first (S.procs j).last (types_of S (S.procs j)) (A j m).lengths.0 (A j m).lengths.1 (F.procedures j m).tidy.0 (F.procedures j m).tidy.1 (none j m) in
-    run_writes S D F A k l first last n (calls_move S D F A tidy K io n) θ h vs g
+main_writes_all S D K F io A k l first last θ n h vs g =
+    let tidy : TidyProcedures S = λ j m. tidy_modes S D F (S.procs j).first (S.procs j).last (types_of S (S.procs j)) (A j m).lengths.0 (A j m).lengths.1 (F.procedures j m).tidy.0 (F.procedures j m).tidy.1 in
+    run_writes S D F A k l first last n (calls_move S D F A tidy K io (calls_lend S D F A tidy K io) n) θ h vs g

@@ -17,7 +17,7 @@ use Rattle.mc_accepted.specs.ProperTypes.{Parameters, ProperType}
 use Rattle.mc_accepted.specs.Fits.{Fits}
 use Rattle.mc_sound.specs.code.Passes.{Grows, BindsOnly, Closed, HasLabel, Knows, TypedAt, Reached, Sound, CallsSound}
 use Rattle.mc_sound.specs.IoLaws.{FitsIo}
-use Rattle.mc_sound.specs.code.Moves.{Calm, World, Moves, Holds, HoldsAfter, CallsMove, TidyProcedures}
+use Rattle.mc_sound.specs.code.Moves.{Calm, World, Moves, Holds, HoldsAfter, CallsMove, CallsLend, TidyProcedures}
 use Rattle.mc_accepted.specs.Ordered as O
 use Rattle.mc_source.specs.declared.det.Most.{Most}
 use Rattle.mc_source.specs.declared.det.Most.TheVariants.{Zero, One, Many}
@@ -28,7 +28,7 @@ use Rattle.mc_sound.proofs.MoveArms.{opens_calm}
 use Rattle.mc_sound.proofs.MoveGoals.{IoFits, conj_moves, disj_moves, ite_moves, zero_append}
 use Rattle.mc_sound.proofs.MoveHolds.{holds_joined, placed_free}
 use Rattle.mc_sound.proofs.MoveLists
-use Rattle.mc_sound.proofs.MoveEquations.{equation_moves}
+use Rattle.mc_sound.proofs.MoveEquations.{tested_moves, assign_goal}
 use Rattle.mc_sound.proofs.MoveCallAtoms.{call_atom}
 use Rattle.mc_sound.proofs.MoveBuiltins.{apply_moves}
 use Rattle.mc_sound.proofs.TellFresh.{append_end}
@@ -151,7 +151,7 @@ here_sure : (S : System) (T : ℕ → TypeTerm) (io one m : Bool) (d : Determini
 here_sure S T true one m d q h = h.1
 here_sure S T false one m d q h = absurd (true_not_false (sym q))
 
-io_sure : (S : System) (T : ℕ → TypeTerm) (b : Insts) (known : Known) (one : Bool) (n : Node) → IoPlaced S T b known one n → is_io S T n ≡ true → (determined S T b known n).can_fail ≡ false
+pub io_sure : (S : System) (T : ℕ → TypeTerm) (b : Insts) (known : Known) (one : Bool) (n : Node) → IoPlaced S T b known one n → is_io S T n ≡ true → (determined S T b known n).can_fail ≡ false
 io_sure S T b known one (node s changes d m) h q = here_sure S T (is_io_in S T s) one m (determined S T b known (node s changes d m)) q h.0
 
 or_right : (a b : Bool) → b ≡ true → (a || b) ≡ true
@@ -185,7 +185,7 @@ module _ (S : System) (D : Parameters) (F : Fits S D) (C : Calls) (called : Call
   test_moves R true one V a false f m = tt
   test_moves R false one V a false f m = tt
 
-  same_bound : (R : World → Bindings → Type 0) (io one : Bool) (V : World) (a : Bindings) (x y : ℕ) (v w : Val) (f : Bindings → Items Bindings) → Moves R io one V (f a) → (o p : Option Val) → o ≡ Some v → p ≡ Some w → Moves R io one V (bind (first (same_items x y a o p)) f)
+  pub same_bound : (R : World → Bindings → Type 0) (io one : Bool) (V : World) (a : Bindings) (x y : ℕ) (v w : Val) (f : Bindings → Items Bindings) → Moves R io one V (f a) → (o p : Option Val) → o ≡ Some v → p ≡ Some w → Moves R io one V (bind (first (same_items x y a o p)) f)
   same_bound R io one V a x y v w f m None p q r = absurd (no q)
     where
       no : None ≡ Some v → ⊥
@@ -210,7 +210,7 @@ module _ (S : System) (D : Parameters) (F : Fits S D) (C : Calls) (called : Call
       (tests_move R known h one V K c ns ts u.3 p.2 a m (fits_any (one_is_io S T (tested_by ts ns)) one (determined_all S T c known (tested_by (s ∷ ts) ns)) (determined_all S T c known (tested_by ts ns)) refl fit) pl.1 k)
       (a s.0) (a s.1) v.1 w.1
 
-  module _ (moved : CallsMove S C) (tidy : TidyProcedures S) (lib : Library_types) (io : FitsIo S.world lib) where
+  module _ (moved : CallsMove S C) (lends : CallsLend S C) (tidy : TidyProcedures S) (lib : Library_types) (io : FitsIo S.world lib) where
     -- variables that are free hold nothing
     holds_more : (W : World) (M N : List ℕ) (b : Insts) (e : Bindings) → ((x : ℕ) → In x N → In x M ⊎ ((b x ≡ 0) × (e x ≡ None))) → Holds S T W M b e → Holds S T W N b e
     holds_more W M N b e f h =
@@ -250,18 +250,18 @@ module _ (S : System) (D : Parameters) (F : Fits S D) (C : Calls) (called : Call
           let k = moves_node r tg known h one (placed_free S T n b known one pl) [] (λ x i. absurd i) e (λ x. ⊎_elim (λ z. inl (⊎_elim (λ y. inl (in_left x O (free_in g) y)) (λ y. inr y) z)) (λ z. inr z) (cl x)) ty (λ x i. absurd i) kk W M hw (λ x i. absurd i) gm in
           subst (λ io. Moves (HoldsAfter S T L (Some b)) io one W (stream_of S.world.outcome C h (Not n) e)) (sym pl)
           (MoveLists.calm_negate (HoldsAfter S T [] o W) (HoldsAfter S T L (Some b) W) e (stream S.world.outcome C h n e) (subst (λ io. Moves (HoldsAfter S T [] o) io one W (stream S.world.outcome C h n e)) pl k) (holds_in W M L b e lm hw))
-      moves (O.assign {x = x} {y = y} n m a) tg known h one fit pl L u e cl ty li kk W M hw lm gm = equation_moves S D F C called lined T proper θ (O.assign n m a) tt tg known h L u e cl ty li W M hw lm gm
-      moves (O.assign_back {x = x} {y = y} n m a) tg known h one fit pl L u e cl ty li kk W M hw lm gm = equation_moves S D F C called lined T proper θ (O.assign_back n m a) tt tg known h L u e cl ty li W M hw lm gm
-      moves (O.test n m s a) tg known h one fit pl L u e cl ty li kk W M hw lm gm = equation_moves S D F C called lined T proper θ (O.test n m s a) tt tg known h L u e cl ty li W M hw lm gm
-      moves (O.build n a m d w) tg known h one fit pl L u e cl ty li kk W M hw lm gm = equation_moves S D F C called lined T proper θ (O.build n a m d w) tt tg known h L u e cl ty li W M hw lm gm
-      moves (O.take n d a w) tg known h one fit pl L u e cl ty li kk W M hw lm gm = equation_moves S D F C called lined T proper θ (O.take n d a w) tt tg known h L u e cl ty li W M hw lm gm
-      moves (O.take_never n d a) tg known h one fit pl L u e cl ty li kk W M hw lm gm = equation_moves S D F C called lined T proper θ (O.take_never n d a) tt tg known h L u e cl ty li W M hw lm gm
-      moves (O.put n) tg known h one fit pl L u e cl ty li kk W M hw lm gm = equation_moves S D F C called lined T proper θ (O.put n) tt tg known h L u e cl ty li W M hw lm gm
-      moves (O.test_constant n d a) tg known h one fit pl L u e cl ty li kk W M hw lm gm = equation_moves S D F C called lined T proper θ (O.test_constant n d a) tt tg known h L u e cl ty li W M hw lm gm
-      moves (O.test_never n d a) tg known h one fit pl L u e cl ty li kk W M hw lm gm = equation_moves S D F C called lined T proper θ (O.test_never n d a) tt tg known h L u e cl ty li W M hw lm gm
-      moves (O.call {b = b} {c = c} {p = p} {xs = xs} {last = last} l us d a) tg known h one fit pl L u e cl ty li kk W M hw lm gm = call_atom S D F C called moved tidy lined T proper θ b c p xs last l us a tg known h one L e ty li W M hw lm gm
+      moves (O.assign {x = x} {y = y} n m a) tg known h one fit pl L u e cl ty li kk W M hw lm gm = assign_goal S D F C called lined T proper θ n m a.1.0 tg h L e (ty x (inl refl)) (ty y (inr (inl refl))) W M hw lm (gm y (inr (inl refl)))
+      moves (O.assign_back {x = x} {y = y} n m a) tg known h one fit pl L u e cl ty li kk W M hw lm gm = assign_goal S D F C called lined T proper θ n m a.1.0 (sym tg) h L e (ty x (inr (inl refl))) (ty y (inl refl)) W M hw lm (gm y (inl refl))
+      moves (O.test n m s a) tg known h one fit pl L u e cl ty li kk W M hw lm gm = tested_moves S D F C called lined T proper θ (O.test n m s a) tt tg known h L u e cl ty li W M hw lm gm
+      moves (O.build n a m d w) tg known h one fit pl L u e cl ty li kk W M hw lm gm = tested_moves S D F C called lined T proper θ (O.build n a m d w) tt tg known h L u e cl ty li W M hw lm gm
+      moves (O.take n d a w) tg known h one fit pl L u e cl ty li kk W M hw lm gm = tested_moves S D F C called lined T proper θ (O.take n d a w) tt tg known h L u e cl ty li W M hw lm gm
+      moves (O.take_never n d a) tg known h one fit pl L u e cl ty li kk W M hw lm gm = tested_moves S D F C called lined T proper θ (O.take_never n d a) tt tg known h L u e cl ty li W M hw lm gm
+      moves (O.put n) tg known h one fit pl L u e cl ty li kk W M hw lm gm = tested_moves S D F C called lined T proper θ (O.put n) tt tg known h L u e cl ty li W M hw lm gm
+      moves (O.test_constant n d a) tg known h one fit pl L u e cl ty li kk W M hw lm gm = tested_moves S D F C called lined T proper θ (O.test_constant n d a) tt tg known h L u e cl ty li W M hw lm gm
+      moves (O.test_never n d a) tg known h one fit pl L u e cl ty li kk W M hw lm gm = tested_moves S D F C called lined T proper θ (O.test_never n d a) tt tg known h L u e cl ty li W M hw lm gm
+      moves (O.call {b = b} {c = c} {p = p} {xs = xs} {last = last} l us d a) tg known h one fit pl L u e cl ty li kk W M hw lm gm = call_atom S D F C called lends tidy lined T proper θ b c p xs last l us a tg known h L e ty li M hw.shares lm gm moved W hw one
       moves (O.apply {b = b} {c = c} {p = p} {op = op} {xs = xs} q us d i a) tg known h one fit pl L u e cl ty li kk W M hw lm gm =
-          apply_moves S D F θ T proper tg.0 b e W M hw lib io known L p op xs c q (Sounds.map_types S T D F θ proper tg.0 xs (S.world.source.preds p).types tg.1) us i a ty li lm gm one
+          apply_moves S D F θ T proper tg.0 b e M hw.shares lib io known L p op xs c q (Sounds.map_types S T D F θ proper tg.0 xs (S.world.source.preds p).types tg.1) us i a ty li lm gm W hw one
       moves (O.disj {O = O} {b = b} {ns = ns} {os = os} {o = o} r jn) tg known h one fit pl L u e cl ty li kk W M hw lm gm =
           (moves_any r tg known h one pl.0 (fits_rank (one_is_io S T ns) one (determined_any S T b known ns) fit) pl.1 L u e cl ty li kk W M hw lm gm o (Typed.joined_reached S D F θ T proper L O b os o u jn) (holds_joined S D F θ T proper L O b os o u jn)).0
       moves (O.switch {O = O} {b = b} {x = x} {gs = gs} {os = os} {o = o} n i r jn) tg known h one fit pl L u e cl ty li kk W M hw lm gm =
@@ -387,6 +387,7 @@ module _ (S : System) (D : Parameters) (F : Fits S D) (C : Calls) (called : Call
           Sounds.closed_within (O ++ (xs ++ zs)) (Q ++ vs) (Q ++ (xs ++ zs)) c a (λ x z. ⊎_elim (λ y. in_left x Q (xs ++ zs) y) (λ y. in_right x Q (xs ++ zs) (in_right x xs zs (⊎_elim (λ w. in_inputs (inputs_of op) zs x w) (λ w. in_outputs (inputs_of op) zs x w) (in_split x (at_inputs (inputs_of op) zs) (at_outputs (inputs_of op) zs) y)))) (in_split x Q vs z))
           (closed_after O Q (xs ++ zs) vs b c e a (apply_from S D F T op zs b c af) bo cl) in
           let old : (x : ℕ) → In x (M ++ zs) → In x M ⊎ ((b x ≡ 0) × (e x ≡ None)) = λ x z. ⊎_elim (λ y. inl y) (λ y. ⊎_elim (λ w. inl (gm x (picks_goal pk x w))) (λ w. ⊎_elim (λ r. absurd (apt x w (⊎_elim (λ k. in_left x O (Q ++ variables_of_all gs) k) (λ k. in_right x O (Q ++ variables_of_all gs) (in_left x Q (variables_of_all gs) k)) r))) (λ r. inr r) (cl x)) (split x y)) (in_split x M zs z) in
+          let hz = holds_more W M (M ++ zs) b e old hw in
           conj_moves S θ T known K L vs Ws e kk (Some c) o (determined S T b known n) (determined_all S T (insts_after n b) known rs) (stream S.world.outcome C h n e) (λ a. stream_all S.world.outcome C h rs a)
           (Combine.pruned_sound S θ T known K vs e (Some c) (determined_in S T b known ap) mark (stream_of S.world.outcome C h ap e)
           (subst (λ k. Sound S θ T known K vs e (unless_never k c) (determined_in S T b known ap) (stream_of S.world.outcome C h ap e)) mo
@@ -400,9 +401,9 @@ module _ (S : System) (D : Parameters) (F : Fits S D) (C : Calls) (called : Call
           (HoldsAfter S T K (Some c)) (HoldsAfter S T L o) (is_io S T n) (one_is_io S T rs) one oneN W (λ z. and_first one (none_fails S T (insts_after n b) known rs) z)
           (pruned_moves S T (HoldsAfter S T K (Some c)) (is_io_in S T ap) oneN mark (determined S T b known n) W (stream_of S.world.outcome C h ap e) pl.0.0
           (subst (λ k. Moves (HoldsAfter S T K (unless_never k c)) (is_io_in S T ap) (oneN || mark) W (stream_of S.world.outcome C h ap e)) mo
-          (apply_moves S D F θ T proper q.0.0 b e W (M ++ zs) (holds_more W M (M ++ zs) b e old hw) lib io known K p op zs c bq types us i af tz tk
+          (apply_moves S D F θ T proper q.0.0 b e (M ++ zs) hz.shares lib io known K p op zs c bq types us i af tz tk
           (λ x z. ⊎_elim (λ y. in_left x M zs (lm x y)) (λ y. ⊎_elim (λ w. in_left x M zs (gm x (picks_rest pk x w))) (λ w. ⊎_elim (λ r. in_left x M zs (gm x (picks_goal pk x r))) (λ r. in_right x M zs r) (in_split x xs zs w)) (in_split x (variables_of_all rest) (xs ++ zs) y)) (in_split x L V z))
-          (λ x z. in_right x M zs z) (oneN || mark))))
+          (λ x z. in_right x M zs z) W hz (oneN || mark))))
           fit
           (λ f X a j z.
           tests_move (HoldsAfter S T L o) known h one X K c ns tests ts pairs a j.1.1 (subst (λ y. IoFits (one_is_io S T rs) one (determined_all S T y known rs)) after f) (subst (λ y. IoAllPlaced S T y known one rs) after pl.1)

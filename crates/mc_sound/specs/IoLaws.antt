@@ -1,9 +1,8 @@
--- What main writes: where io's builtins append to the state what they write, and no procedure
--- lends its state, a run of main's form writes what its last state has gained. (Mercury Language
--- Reference Manual: the library's io; Modes, unique modes; this project's profile of io.)
+-- What main writes: where io's builtins append to the state what they write, a run of main's form
+-- writes what its last state has gained. (Mercury Language Reference Manual: the library's io;
+-- Modes, unique modes; this project's profile of io.)
 use Rattle.std.specs.Prelude.{◌≡◌, ℕ, ◌<◌, List, [], ◌∷◌, ◌++◌, Option, true, false}
 use Rattle.mc_program.specs.Values.{Val, state}
-use Rattle.mc_model.specs.Insts.{dead, Graph}
 use Rattle.mc_model.specs.Outcomes.{Outcome, fails, gives, throws, writes, reads, reads_and_throws, inputs_of}
 use Rattle.mc_model.specs.Builtins.{Library, outcome}
 use Rattle.mc_model.specs.Truth.{World}
@@ -55,20 +54,11 @@ BuiltinsDoIo =
     (P : Source) (L : Library) (K : Library_types) (input : List ℕ)
     → HasBuiltins P K → FitsIo (record { source = P; outcome = outcome L input }) K
 
--- an argument that is unique at the call is dead at an answer: it isn't lent
-abbrev pub NoneLent : Graph → List ℕ → List ℕ → Type 0
-NoneLent G (i ∷ is) (l ∷ ls) = (i ≡ 2 → G l ≡ dead) × NoneLent G is ls
-NoneLent G _ _ = Unit {0}
-
-abbrev pub NoneIsLent : System → Type 0
-NoneIsLent S =
-    (k : ℕ) → k < S.count → NoneLent S.insts (S.procs k).first (S.procs k).last
-
 -- main takes the state and gives a state
 abbrev pub MainWritesAll : Type 0
 MainWritesAll =
     (S : System) (D : Parameters) (K : Library_types)
-    → Fits S D → FitsIo S.world K → Accepted S → NoneIsLent S → (k : ℕ)
+    → Fits S D → FitsIo S.world K → Accepted S → (k : ℕ)
     → k < S.count → (S.procs k).first ≡ 2 ∷ 0 ∷ [] → (S.procs k).last ≡ 3 ∷ 2 ∷ []
     → (θ : TypeChoice) (n h : ℕ) (vs : List (Option Val))
     → Given S θ (S.procs k).first (types_of S (S.procs k)) vs

@@ -23,7 +23,7 @@ pub fn builtins_do_io()
     ensures { BuiltinsDoIo }
 {}
 
-/// A run of main's form writes what its last state has gained, where no procedure lends its state.
+/// A run of main's form writes what its last state has gained, also where procedures lend the state.
 pub fn main_writes_all()
     ensures { MainWritesAll }
 {}

@@ -13,7 +13,7 @@ use Rattle.mc_accepted.specs.BuiltinTypes.{builtin_name}
 use Rattle.mc_accepted.specs.Fits.{Fits}
 use Rattle.mc_accepted.specs.Accepted.{Accepted}
 use Rattle.mc_program.specs.declared.builtin.Builtin.TheVariants as B
-use Rattle.mc_sound.specs.IoLaws.{FitsIo, NoneIsLent}
+use Rattle.mc_sound.specs.IoLaws.{FitsIo}
 use Rattle.mc_sound.specs.code.Examples.{det, symbols, symbols_of, parameters, library, library_types, graph}
 
 abbrev pub main_pred : Predicate
@@ -68,10 +68,10 @@ lines =
       insts = graph;
     }
 
--- it fits and is accepted, its builtins do io as they should, and its state isn't lent
+-- it fits and is accepted, and its builtins do io as they should
 abbrev pub LinesFit : Type 0
 LinesFit =
-    Fits lines parameters × Accepted lines × FitsIo lines.world library_types × NoneIsLent lines
+    Fits lines parameters × Accepted lines × FitsIo lines.world library_types
 
 -- its run writes the end of a line, which its last state has
 abbrev pub LineIsWritten : Type 0

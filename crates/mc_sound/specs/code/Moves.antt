@@ -127,20 +127,18 @@ module _ (S : System) (T : ℕ → TypeTerm) where
   HoldsAfter L None W a = ⊥
   HoldsAfter L (Some c) W a = Holds W L c a
 
--- Modes are tidy: `unique` and `dead` stand at io's state alone. An input that is unique dies: it
--- is not lent.
+-- Modes are tidy: `unique` stands at io's state alone.
 abbrev pub TidyModes : System → List Mode → List TypeTerm → Type 0
 TidyModes S [] [] = Unit {0}
 TidyModes S (m ∷ ms) (t ∷ ts) =
-    (m.0 ≡ 2 → (t ≡ state_type) × (S.insts m.1 ≡ dead)) × (m.1 ≡ 2 → t ≡ state_type)
-    × TidyModes S ms ts
+    (m.0 ≡ 2 → t ≡ state_type) × (m.1 ≡ 2 → t ≡ state_type) × TidyModes S ms ts
 TidyModes S _ _ = ⊥
 
 abbrev pub TidyProcedures : System → Type 0
 TidyProcedures S =
     (k : ℕ) → k < S.count → TidyModes S (modes_of_procedure (S.procs k)) (types_of S (S.procs k))
 
--- at a call: the arguments that die as unique ones, at most one, tell the world
+-- at a call: the arguments that are unique, at most one, tell the world
 abbrev pub Handed : List Mode → List (Option Val) → (Option Val → Type 0) → Type 0
 Handed [] [] Q = Unit {0}
 Handed (m ∷ ms) (v ∷ vs) Q = (m.0 ≡ 2 → Q v) × Handed ms vs Q
@@ -161,6 +159,12 @@ Taken m = m.0 ≡ 2
 
 abbrev pub Made : Mode → Type 0
 Made m = m.1 ≡ 2
+
+-- a variable stands where an argument that is unique dies: the call takes its state
+abbrev pub TakenAt : System → ℕ → List Mode → List ℕ → Type 0
+TakenAt S z (m ∷ ms) (x ∷ xs) =
+    ((m.0 ≡ 2) × (S.insts m.1 ≡ dead) × (z ≡ x)) ⊎ TakenAt S z ms xs
+TakenAt S z _ _ = ⊥
 
 -- the arguments that are unique at an answer tell the world
 abbrev pub Returned : List Mode → List (Option Val) → (Option Val → Type 0) → Type 0
@@ -193,6 +197,67 @@ CallsMove S C =
     (W : World) → OnePlace Taken (modes_of_procedure (S.procs k)) →
     Handed (modes_of_procedure (S.procs k)) vs (Tells W) →
     Flow (ReturnedBy S (S.procs k)) false W (C h k vs)
+
+-- A call that takes no state: what is unique at the call isn't dead at an answer, it is lent.
+abbrev pub Lends : System → List Mode → Type 0
+Lends S [] = Unit {0}
+Lends S (m ∷ ms) = (m.0 ≡ 2 → S.insts m.1 ≢ dead) × Lends S ms
+
+-- no argument is unique at an answer that wasn't at the call
+abbrev pub MakesNone : List Mode → Type 0
+MakesNone [] = Unit {0}
+MakesNone (m ∷ ms) = (m.1 ≡ 2 → m.0 ≡ 2) × MakesNone ms
+
+abbrev pub LentBy : System → Procedure → List (Option Val) → Type 0
+LentBy S p os = MakesNone (modes_of_procedure p) × EachShares S p.last (types_of S p) os
+
+-- calls that take no state are calm, and make none
+abbrev pub CallsLend : System → Calls → Type 0
+CallsLend S C =
+    (θ : TypeChoice) (h k : ℕ) (vs : List (Option Val)) → k < S.count →
+    Given S θ (S.procs k).first (types_of S (S.procs k)) vs →
+    EachShares S (S.procs k).first (types_of S (S.procs k)) vs →
+    Lends S (modes_of_procedure (S.procs k)) → Calm (LentBy S (S.procs k)) (C h k vs)
+
+-- Variables that are lent; a goal runs with them. Of these variables only lent ones are live.
+abbrev pub Lent : Type 0
+Lent = ℕ → Bool
+
+abbrev pub all_lent : Lent
+all_lent x = true
+
+module _ (S : System) (T : ℕ → TypeTerm) where
+  abbrev pub LiveWithin : Lent → List ℕ → Insts → Type 0
+  LiveWithin N M b = (x : ℕ) → In x M → Live S T b x → N x ≡ true
+
+  abbrev pub LentAfter : Lent → List ℕ → Option Insts → Bindings → Type 0
+  LentAfter N L None a = ⊥
+  LentAfter N L (Some c) a = LiveWithin N L c × SharesAt S T L c a
+
+  -- none of them is dead at this point
+  abbrev pub Alive : Lent → List ℕ → Insts → Type 0
+  Alive N O c = (x : ℕ) → N x ≡ true → In x O × (S.insts (c x) ≢ dead)
+
+  abbrev pub Survives : Lent → List ℕ → Option Insts → Type 0
+  Survives N O None = Unit {0}
+  Survives N O (Some c) = Alive N O c
+
+  abbrev pub AliveAfter : Lent → List ℕ → Option Insts → Type 0
+  AliveAfter N O None = ⊥
+  AliveAfter N O (Some c) = Alive N O c
+
+-- The pass of what is lent at a goal: one that holds no io goal, or whose end is unreachable, or
+-- that leaves each lent variable as it was, is calm.
+abbrev pub GoalLends : System → (T : ℕ → TypeTerm) → Calls → Type 0
+GoalLends S T C =
+    (O Q : List ℕ) (b : Insts) (g : Flat_goal) (n : Node) (o : Option Insts)
+    → OrderedNode S T O Q b g n o → TypedGoal S.world.source T g → (θ : TypeChoice) (known : Known)
+    (h : ℕ) (one : Bool) → IoPlaced S T b known one n → (L : List ℕ) → Among L O → (e : Bindings)
+    → Closed O Q b e → TypedAt S θ T (variables_of g) b e → TypedAt S θ T L b e → Knows known e
+    → (N : Lent) → LiveWithin S T N (L ++ variables_of g) b
+    → SharesAt S T (L ++ variables_of g) b e
+    → ((is_io S T n ≡ false) × ((x : ℕ) → N x ≡ true)) ⊎ Survives S T N O o
+    → Calm (LentAfter S T N L o) (stream S.world.outcome C h n e)
 
 -- The third pass at a goal.
 abbrev pub GoalMoves : System → (T : ℕ → TypeTerm) → Calls → Type 0
