@@ -1,19 +1,19 @@
 -- Whether the point after an ordered goal is reachable is told by the goal.
-use Rattle.std.proofs.Common.{◌≡◌, ◌≢◌, ◌⊎◌, inl, inr, ℕ, List, [], ◌∷◌, ◌++◌, map, Bool, true, false, cond, not, nat_eq, ◌||◌, ◌&&◌, Option, Some, None, refl, sym, ap, ap₂, ◌∙◌, subst, ⊎_elim}
+use Rattle.std.proofs.Common.{◌≡◌, inl, inr, ℕ, List, [], ◌∷◌, Bool, true, false, not, nat_eq, ◌||◌, ◌&&◌, Option, Some, None, refl, sym, ap, ap₂, ◌∙◌, subst, ⊎_elim}
 use Rattle.std.proofs.Math.Path.{fun_ext}
 use Rattle.std.specs.Cmp.Lexicographic.{pointwise, bytes_decides}
 use Rattle.std.proofs.lemmas.Bool.{eqb-true, eq-eqb, and_parts}
-use Rattle.mc_program.specs.Programs.{TypeTerm, Source, FullName}
+use Rattle.mc_program.specs.Programs.{TypeTerm, Source}
 use Rattle.mc_source.specs.Determinism.{is_zero}
 use Rattle.mc_source.specs.declared.det.Most.{Most}
 use Rattle.mc_source.specs.declared.det.Most.TheVariants.{Zero, One, Many}
 use Rattle.mc_model.specs.Insts.{Listed, InstNode, free, ground, unique, dead, bound, Lists, AllowsSymbol, AllowsConstants}
 use Rattle.mc_model.specs.Flat.{Flat_goal, Flat_goals}
-use Rattle.mc_model.specs.Scheduled.{Node, node, Scheduled, Conj, Disj, Switch, Ite, Not, Exists, Assign, Test, Build, Take, Const, TestConst, Call, Apply, Nodes, no_nodes, node_then, Arms, no_arms, arm_then}
+use Rattle.mc_model.specs.Scheduled.{Node, Scheduled, Nodes, no_nodes, Arms}
 use Rattle.mc_model.specs.Good.{System}
 use Rattle.mc_accepted.specs.Ordered as R
 use Rattle.mc_accepted.specs.Ordered.{Insts, change_at, reachable, unless_never, builtin_most, tested_by, KeepsChanges, Joined, Ordered, OrderedNode, OrderedAll, OrderedAny, OrderedArms, kept}
-use Rattle.mc_accepted.specs.Determined.{insts_after, lists_name, allows_name, excludes}
+use Rattle.mc_accepted.specs.Determined.{insts_after, lists_name, allows_name}
 use Rattle.mc_accepted.specs.MergedArms.{takes_constants, never_ends, never_ends_in, one_never_ends, each_never_ends, each_arm_never_ends}
 use Rattle.mc_program.specs.declared.builtin.Builtin.{Builtin}
 

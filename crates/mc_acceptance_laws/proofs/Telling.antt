@@ -1,30 +1,27 @@
 -- An ordered goal stays ordered where its determinisms and marks are told.
-use Rattle.std.proofs.Common.{◌≡◌, ◌≢◌, ◌⊎◌, inl, inr, ℕ, zero, suc, List, [], ◌∷◌, ◌++◌, length, Bool, true, false, cond, if◌then◌else◌, not, nat_eq, ◌||◌, ◌&&◌, Option, Some, None, refl, sym, ap, ap₂, ◌∙◌, subst, ⊎_elim}
+use Rattle.std.proofs.Common.{◌≡◌, inl, inr, ℕ, List, [], ◌∷◌, ◌++◌, Bool, true, false, not, ◌||◌, Option, Some, None, refl, sym, ap, ap₂, ◌∙◌, subst, ⊎_elim}
 use Rattle.std.proofs.Math.Path.{fun_ext}
 use Rattle.std.proofs.lemmas.List.{append-nil, append_assoc}
 use Rattle.mc_program.specs.Programs.{TypeTerm}
 use Rattle.mc_source.specs.Determinism.{inferred, semidet, is_zero}
 use Rattle.mc_source.specs.declared.det.Det.{Det}
 use Rattle.mc_model.specs.Outcomes.{inputs_of}
-use Rattle.mc_model.specs.Flat as F
 use Rattle.mc_model.specs.Flat.{Flat_goal, Flat_goals, variables_of, variables_of_all, free_in}
-use Rattle.mc_model.specs.Lists.{In, Among, is_in, without}
-use Rattle.mc_model.specs.Scheduled.{Label, Node, node, Scheduled, Conj, Disj, Switch, Ite, Not, Exists, Assign, Test, Build, Take, Const, TestConst, Call, Apply, Nodes, no_nodes, node_then, Arms, no_arms, arm_then, Procedure}
+use Rattle.mc_model.specs.Lists.{without}
+use Rattle.mc_model.specs.Scheduled.{Label, Node, node, Scheduled, Test, Apply, Nodes, no_nodes, node_then, Arms, Procedure}
 use Rattle.mc_model.specs.Stream.{is_bound}
 use Rattle.mc_model.specs.Good.{System}
 use Rattle.mc_accepted.specs.Ordered as R
 use Rattle.mc_accepted.specs.Ordered.{Insts, Mode, plain_modes, modes_of, Freshened, FreshenedHere, at_inputs, at_outputs, tested_by, binds_one, is_pruned, IsEmpty, Opens, OpensScheduled, OneOpens, EachOpens, EachArmOpens, IsEquation, AbsentFrom, UsableAt, KeepsChanges, Ordered, OrderedNode, OrderedAll, OrderedAny, OrderedArms, kept, variables_of_node, variables_of_scheduled, variables_of_nodes, variables_of_arms}
 use Rattle.mc_accepted.specs.Determined.{Known, learned, insts_after}
-use Rattle.mc_accepted.specs.MergedArms.{never_ends, never_ends_in}
+use Rattle.mc_accepted.specs.MergedArms.{never_ends_in}
 use Rattle.mc_accepted.specs.Fits.{type_of}
 use Rattle.mc_accepted.specs.Accepted.{KeepsDeterminism, KeepsInside, AllKeep, EachKeeps, ArmsKeep}
-use Rattle.mc_program.specs.declared.builtin.Builtin.{Builtin}
-use Rattle.mc_program.specs.declared.builtin.Builtin.TheVariants as B
 use Rattle.mc_acceptance_laws.specs.Told as W
 use Rattle.mc_acceptance_laws.specs.Told.{Retold, RetoldIn, RetoldAll, RetoldArms, retold, is_marked, mark_of, KeepsMarks, MarksInside, AllKeepMarks, EachKeepsMarks, ArmsKeepMarks}
 use Rattle.mc_acceptance_laws.specs.AcceptedLaws.{ToldStaysOrdered}
 use Rattle.mc_acceptance_laws.proofs.Ends.{is_none, after_kept, ends_in, ends_node}
-use Rattle.mc_acceptance_laws.proofs.Outside.{Same, same_self, same_append, same_binds, same_onto, in-left, in-right, in-either, pairs, binds_nothing, fresh_same}
+use Rattle.mc_acceptance_laws.proofs.Outside.{Same, same_self, same_append, same_binds, same_onto, pairs, binds_nothing, fresh_same}
 
 -- ---- a goal that is told has the variables of the goal
 mutual

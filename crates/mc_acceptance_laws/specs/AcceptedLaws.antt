@@ -1,7 +1,6 @@
 -- What a procedure's phases have to tell, so that it is accepted. (Mercury Language Reference Manual:
 -- Modes; Determinism; this project's certificates.)
 use Rattle.std.specs.Prelude.{◌≡◌, ℕ, ◌<◌, List, length, Option, None, true}
-use Rattle.mc_program.specs.Programs.{TypeTerm}
 use Rattle.mc_source.specs.declared.det.Det.{Det}
 use Rattle.mc_source.specs.declared.det.Most.TheVariants.{Many}
 use Rattle.mc_model.specs.Flat.{Flat_goal, variables_of}
@@ -56,3 +55,37 @@ FaultlessIsAccepted =
     → BodyIsOrdered (system_of D ds) ((system_of D ds).procs k)
     ((system_of D ds).procs k).body o
     → AcceptedProcedure (system_of D ds) ((system_of D ds).procs k)
+
+-- The procedure's goal is in order over nodes of the graph, where the functions that look for nodes
+-- tell its truth, the modes are those of the procedures, variables from the next number on are in
+-- no goal, and the goal's scopes are written out.
+pub record IsInOrder (S : System) (p : Procedure) (x : Node) : Type 0 where
+  pub choice : Chosen
+  pub modes : ℕ → List Declared
+  pub next : ℕ
+  pub truthful : Truthful S (type_of S p) choice
+  pub declared : (q : ℕ) → AllDeclared S (type_of S p) q (modes q)
+  pub head_below : Below next p.head
+  pub goal_below : Below next (variables_of (goal_of S p).body)
+  pub scopes : FlatScopes p.head (goal_of S p).body
+  pub order :
+      arrange (of_nodes choice) S.world.source modes (type_of S p) next p.head p.first p.last
+      (goal_of S p).body
+      ≡ in_order x
+
+-- Such an order is that of an ordered goal, and a procedure without a fault of determinism is
+-- accepted where its body is that goal, told.
+abbrev pub InOrderIsAccepted : Type 0
+InOrderIsAccepted =
+    (D : DeclaredSystem) (ds : ℕ → Det) (k : ℕ) (x : Node) → Closed D ds → k < D.count
+    → procedure_fault (system_of D ds) (D.procs k) ((system_of D ds).procs k) ≡ None
+    → IsTold (system_of D ds) ((system_of D ds).procs k)
+    → IsInOrder (system_of D ds) ((system_of D ds).procs k) x
+    → (n : Node)
+    × (unmarked_node n ≡ x)
+    × (Retold n ((system_of D ds).procs k).body
+    → KeepsMarks (system_of D ds) (type_of (system_of D ds) ((system_of D ds).procs k))
+    ((system_of D ds).procs k).head
+    (entered ((system_of D ds).procs k).head ((system_of D ds).procs k).first)
+    ((system_of D ds).procs k).body
+    → AcceptedProcedure (system_of D ds) ((system_of D ds).procs k))

@@ -1,6 +1,6 @@
 -- Ordered goals as they are told: the same goals with their determinisms and marks. (Mercury Language
 -- Reference Manual: Determinism; this project's form of scheduled goals.)
-use Rattle.std.specs.Prelude.{◌≡◌, ℕ, List, [], ◌∷◌, ◌++◌, Bool, true, false, not, ◌||◌}
+use Rattle.std.specs.Prelude.{◌≡◌, ℕ, List, ◌++◌, Bool, true, false, not, ◌||◌}
 use Rattle.mc_program.specs.Values.{Val}
 use Rattle.mc_program.specs.Programs.{TypeTerm}
 use Rattle.mc_program.specs.declared.builtin.Builtin.{Builtin}
