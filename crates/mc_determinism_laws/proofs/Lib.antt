@@ -1,6 +1,6 @@
 mod Enough
 mod Equality
-mod Faultless
+pub mod Faultless
 mod Forms
 mod Grouping
 mod Inferring

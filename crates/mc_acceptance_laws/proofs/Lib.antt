@@ -1,0 +1,4 @@
+pub mod Accepting
+pub mod Ends
+pub mod Outside
+pub mod Telling

@@ -1,0 +1,91 @@
+-- What a procedure's phases have to tell, so that it is accepted. (Mercury Language Reference Manual:
+-- Modes; Determinism; this project's certificates.)
+use Rattle.std.specs.Prelude.{◌≡◌, ℕ, ◌<◌, List, length, Option, None, true}
+use Rattle.mc_source.specs.declared.det.Det.{Det}
+use Rattle.mc_source.specs.declared.det.Most.TheVariants.{Many}
+use Rattle.mc_model.specs.Flat.{Flat_goal, variables_of}
+use Rattle.mc_model.specs.Lists.{from}
+use Rattle.mc_model.specs.Good.{System}
+use Rattle.mc_model.specs.Scheduled.{Node, Procedure}
+use Rattle.mc_accepted.specs.Ordered.{Insts, OrderedNode}
+use Rattle.mc_accepted.specs.Determined.{Known, nothing_known}
+use Rattle.mc_accepted.specs.Fits.{goal_of, type_of}
+use Rattle.mc_accepted.specs.Unmarked.{unmarked_node}
+use Rattle.mc_accepted.specs.Arranged.{Declared, in_order, arrange}
+use Rattle.mc_accepted.specs.Chosen.{Chosen, of_nodes}
+use Rattle.mc_accepted.specs.code.Truthful.{Truthful, AllDeclared}
+use Rattle.mc_accepted.specs.Accepted.{entered, FinalAfter, KeepsDeterminism, AcceptedProcedure}
+use Rattle.mc_accepted.specs.Inferred.{DeclaredSystem, system_of, Closed}
+use Rattle.mc_accepted.specs.DeterminismFaults.{procedure_fault}
+use Rattle.mc_order_laws.specs.OrderLaws.{Below, FlatScopes}
+use Rattle.mc_acceptance_laws.specs.Told.{Retold, KeepsMarks}
+
+-- An ordered goal stays ordered where its determinisms are told by the table and its marks by the
+-- insts after its goals.
+abbrev pub ToldStaysOrdered : Type 0
+ToldStaysOrdered =
+    (S : System) (p : Procedure) (O Q : List ℕ) (b : Insts) (known : Known) (g : Flat_goal)
+    (n m : Node) (o : Option Insts) → OrderedNode S (type_of S p) O Q b g n o → Retold n m
+    → KeepsMarks S (type_of S p) Q b m → KeepsDeterminism S p b known m
+    → OrderedNode S (type_of S p) O Q b g m o
+
+-- What is told of a procedure: its head variables and their insts are as many as its predicate's
+-- arguments, each of its goals has the determinism of the table, and a committed determinism has
+-- many answers.
+pub record IsTold (S : System) (p : Procedure) : Type 0 where
+  pub head : p.head ≡ from 0 (goal_of S p).arity
+  pub first : length p.first ≡ (goal_of S p).arity
+  pub last : length p.last ≡ (goal_of S p).arity
+  pub determinisms : KeepsDeterminism S p (entered p.head p.first) nothing_known p.body
+  pub committed : p.det.committed ≡ true → p.det.most ≡ Many
+
+-- the body is the predicate's goal in an order of the relation, whose end meets the final insts
+abbrev pub BodyIsOrdered : System → Procedure → (body : Node) → Option Insts → Type 0
+BodyIsOrdered S p n o =
+    OrderedNode S (type_of S p) p.head p.head (entered p.head p.first) (goal_of S p).body n o
+    × FinalAfter S p o
+
+-- A procedure without a fault of determinism is accepted, where determinisms are closed and its
+-- body is ordered.
+abbrev pub FaultlessIsAccepted : Type 0
+FaultlessIsAccepted =
+    (D : DeclaredSystem) (ds : ℕ → Det) (k : ℕ) (o : Option Insts) → Closed D ds → k < D.count
+    → procedure_fault (system_of D ds) (D.procs k) ((system_of D ds).procs k) ≡ None
+    → IsTold (system_of D ds) ((system_of D ds).procs k)
+    → BodyIsOrdered (system_of D ds) ((system_of D ds).procs k)
+    ((system_of D ds).procs k).body o
+    → AcceptedProcedure (system_of D ds) ((system_of D ds).procs k)
+
+-- The procedure's goal is in order over nodes of the graph, where the functions that look for nodes
+-- tell its truth, the modes are those of the procedures, variables from the next number on are in
+-- no goal, and the goal's scopes are written out.
+pub record IsInOrder (S : System) (p : Procedure) (x : Node) : Type 0 where
+  pub choice : Chosen
+  pub modes : ℕ → List Declared
+  pub next : ℕ
+  pub truthful : Truthful S (type_of S p) choice
+  pub declared : (q : ℕ) → AllDeclared S (type_of S p) q (modes q)
+  pub head_below : Below next p.head
+  pub goal_below : Below next (variables_of (goal_of S p).body)
+  pub scopes : FlatScopes p.head (goal_of S p).body
+  pub order :
+      arrange (of_nodes choice) S.world.source modes (type_of S p) next p.head p.first p.last
+      (goal_of S p).body
+      ≡ in_order x
+
+-- Such an order is that of an ordered goal, and a procedure without a fault of determinism is
+-- accepted where its body is that goal, told.
+abbrev pub InOrderIsAccepted : Type 0
+InOrderIsAccepted =
+    (D : DeclaredSystem) (ds : ℕ → Det) (k : ℕ) (x : Node) → Closed D ds → k < D.count
+    → procedure_fault (system_of D ds) (D.procs k) ((system_of D ds).procs k) ≡ None
+    → IsTold (system_of D ds) ((system_of D ds).procs k)
+    → IsInOrder (system_of D ds) ((system_of D ds).procs k) x
+    → (n : Node)
+    × (unmarked_node n ≡ x)
+    × (Retold n ((system_of D ds).procs k).body
+    → KeepsMarks (system_of D ds) (type_of (system_of D ds) ((system_of D ds).procs k))
+    ((system_of D ds).procs k).head
+    (entered ((system_of D ds).procs k).head ((system_of D ds).procs k).first)
+    ((system_of D ds).procs k).body
+    → AcceptedProcedure (system_of D ds) ((system_of D ds).procs k))

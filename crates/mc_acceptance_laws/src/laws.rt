@@ -1,0 +1,18 @@
+//! The laws that what the definitions compute is accepted. Each is the contract of a function that does nothing.
+ghost use Rattle.mc_acceptance_laws.specs.AcceptedLaws.{FaultlessIsAccepted, InOrderIsAccepted, ToldStaysOrdered};
+
+/// An ordered goal stays ordered where its determinisms and marks are told.
+pub fn told_stays_ordered()
+    ensures { ToldStaysOrdered }
+{}
+
+/// A procedure without a fault of determinism is accepted, where its body is ordered.
+pub fn faultless_is_accepted()
+    ensures { FaultlessIsAccepted }
+{}
+
+/// The order over nodes of a procedure's goal is that of an ordered goal, and a procedure without a fault of
+/// determinism is accepted where its body is that goal, told.
+pub fn in_order_is_accepted()
+    ensures { InOrderIsAccepted }
+{}

@@ -1,0 +1,4 @@
+//! The laws that what the definitions compute is accepted.
+#![tactic(auto)]
+
+pub mod laws;
