@@ -1,11 +1,11 @@
 -- Procedures that take no state are calm, and make none: entry, exit, and levels of calls.
-use Rattle.std.proofs.Common.{◌≡◌, ◌≢◌, inl, inr, ℕ, zero, suc, List, [], ◌∷◌, ◌++◌, map, length, Bool, true, false, cond, nat_eq, Option, Some, None, refl, sym, ap, ◌∙◌, subst, arith}
+use Rattle.std.proofs.Common.{◌≡◌, ◌≢◌, inl, inr, ℕ, zero, suc, List, [], ◌∷◌, ◌++◌, map, length, Bool, true, false, cond, nat_eq, Option, Some, None, refl, sym, ◌∙◌, subst}
 use Rattle.std.proofs.lemmas.Bool.{eqb-true, eq-eqb, ne_eqb}
 use Rattle.mc_program.specs.Values.{Val}
-use Rattle.mc_program.specs.Programs.{TypeTerm, state_type}
+use Rattle.mc_program.specs.Programs.{TypeTerm}
 use Rattle.mc_model.specs.Insts.{InstNode, free, ground, unique, dead, bound}
 use Rattle.mc_model.specs.Flat.{variables_of}
-use Rattle.mc_model.specs.Lists.{In, Among, Distinct}
+use Rattle.mc_model.specs.Lists.{In, Distinct}
 use Rattle.mc_model.specs.EventList.{End, Stuck, Answer, bind}
 use Rattle.mc_model.specs.Stream.{Bindings, Calls, calls, body_items, enter, leave, ready, pruned_to, stream}
 use Rattle.mc_model.specs.Scheduled.{Procedure}
@@ -24,7 +24,7 @@ use Rattle.mc_sound.proofs.Combine.{in_left, in_right}
 use Rattle.mc_sound.proofs.Entry.{lined, known_none, enter_typed, enter_closed, given_ready, from_distinct, cond_true, calls_sound}
 use Rattle.mc_sound.proofs.LendSound.{lends_node}
 use Rattle.mc_sound.proofs.MoveArms.{calm_pruned}
-use Rattle.mc_sound.proofs.MoveEntry.{enter_shares, exit_shares, exit_live, no_length, less}
+use Rattle.mc_sound.proofs.MoveEntry.{enter_shares, exit_shares, exit_live, less}
 use Rattle.mc_sound.proofs.MoveLists
 use Rattle.mc_sound.proofs.Sound as Sounds
 use Rattle.mc_sound.proofs.Typed.{true_not_false}

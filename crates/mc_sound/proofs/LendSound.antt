@@ -1,5 +1,5 @@
 -- The pass of what is lent: a goal that takes no state is calm, and makes none.
-use Rattle.std.proofs.Common.{◌≡◌, ◌≢◌, ◌⊎◌, inl, inr, ℕ, ◌<◌, ◌≤◌, List, [], ◌∷◌, ◌++◌, length, map, Bool, true, false, cond, nat_eq, ◌||◌, ◌&&◌, Option, Some, None, refl, sym, ap, ◌∙◌, subst, arith, ⊎_elim}
+use Rattle.std.proofs.Common.{◌≡◌, ◌≢◌, ◌⊎◌, inl, inr, ℕ, ◌<◌, List, [], ◌∷◌, ◌++◌, length, map, Bool, true, false, cond, nat_eq, ◌||◌, ◌&&◌, Option, Some, None, refl, sym, ap, ◌∙◌, subst, arith, ⊎_elim}
 use Rattle.std.proofs.lemmas.Bool.{eqb-true, or_parts}
 use Rattle.mc_program.specs.Values.{Val}
 use Rattle.mc_program.specs.Programs.{TypeTerm, state_type}
@@ -7,23 +7,26 @@ use Rattle.mc_model.specs.Insts.{dead}
 use Rattle.mc_model.specs.Flat.{Flat_goal, Flat_goals, variables_of, variables_of_all, free_in}
 use Rattle.mc_model.specs.Lists.{without, In, Among}
 use Rattle.mc_model.specs.EventList.{Items, End, Stuck, Stopped, Answer, Called, Wrote, Read, Each, Succeeds}
-use Rattle.mc_model.specs.Stream.{Bindings, Calls, is_bound, pruned_to, stream, stream_of, stream_all, stream_any, stream_arms}
-use Rattle.mc_model.specs.Scheduled.{Node, node, Scheduled, Ite, Not, Assign, Call, Apply, Nodes, Arms}
+use Rattle.mc_model.specs.Stream.{Bindings, Calls, is_bound, stream, stream_of, stream_all, stream_any, stream_arms}
+use Rattle.mc_model.specs.Scheduled.{Node, node, Scheduled, Ite, Assign, Call, Apply, Nodes, Arms}
 use Rattle.mc_source.specs.Determinism.{Determinism}
 use Rattle.mc_model.specs.Outcomes.{inputs_of}
 use Rattle.mc_accepted.specs.Ordered.{Insts, Mode, arm_goal, zipped, also, is_state, Usable, After, Joined, reachable, TestsInOrder, implied_places, modes_of, modes_of_procedure, firsts, unless_never, builtin_most, at_inputs, at_outputs, tested_by, Ordered, OrderedNode, OrderedAll, OrderedAny, OrderedArms, variables_of_node, variables_of_nodes}
 use Rattle.mc_accepted.specs.Determined.{Known, learned, insts_after, determined, determined_in, is_io, is_io_in, one_is_io, arm_is_io, is_dead, leaves_dead, is_io_builtin, none_fails, IoPlaced, IoPlacedIn, IoAllPlaced, IoEachPlaced, IoArmsPlaced}
 use Rattle.mc_accepted.specs.Typing.{TypedGoal, TypedGoals}
 use Rattle.mc_accepted.specs.BuiltinTypes.{Library_types}
-use Rattle.mc_model.specs.Good.{System, TypeChoice, types_of}
+use Rattle.mc_model.specs.Good.{System, TypeChoice, BoundAs, types_of}
 use Rattle.mc_accepted.specs.ProperTypes.{Parameters, ProperType}
 use Rattle.mc_accepted.specs.Fits.{Fits}
 use Rattle.mc_sound.specs.code.Passes.{Grows, BindsOnly, Closed, Knows, TypedAt, Reached, Sound, CallsSound}
 use Rattle.mc_sound.specs.IoLaws.{FitsIo}
-use Rattle.mc_sound.specs.code.Moves.{Never, Calm, Live, SharesAt, CallsLend, TidyProcedures, Lends, Lent, all_lent, LiveWithin, LentAfter, Alive, Survives, AliveAfter}
+use Rattle.mc_sound.specs.code.Moves.{Never, Calm, Live, SharesAt, TakenAt, CallsLend, TidyProcedures, Lends, Lent, all_lent, LiveWithin, LentAfter, Alive, Survives, AliveAfter}
 use Rattle.mc_accepted.specs.Ordered as O
+use Rattle.mc_model.specs.Flat as G
+use Rattle.mc_program.specs.declared.builtin.Builtin.{Builtin}
 use Rattle.mc_source.specs.declared.det.Most.{Most}
 use Rattle.mc_source.specs.declared.det.Most.TheVariants.{Zero, One, Many}
+use Rattle.mc_sound.proofs.Arguments
 use Rattle.mc_sound.proofs.Callings
 use Rattle.mc_sound.proofs.Changes.{node_after, closed_after, closed_more, node_from, apply_from}
 use Rattle.mc_sound.proofs.Combine
@@ -33,7 +36,6 @@ use Rattle.mc_sound.proofs.MoveArms.{calm_pruned, opens_calm}
 use Rattle.mc_sound.proofs.MoveAtoms.{StillAfter, also_on, state_is}
 use Rattle.mc_sound.proofs.MoveBuiltins
 use Rattle.mc_sound.proofs.MoveCallAtoms.{lent_atom}
-use Rattle.mc_sound.proofs.MoveCalls
 use Rattle.mc_sound.proofs.MoveCalls.{also_here, taken_once, taken_dies, split}
 use Rattle.mc_sound.proofs.MoveEquations.{IsTested, equation_still, assign_goal_shares}
 use Rattle.mc_sound.proofs.MoveHolds.{lent_joined, placed_free}
@@ -172,22 +174,23 @@ module _ (S : System) (D : Parameters) (F : Fits S D) (C : Calls) (called : Call
   none_some v e = cc
 
   module _ (lends : CallsLend S C) (tidy : TidyProcedures S) (lib : Library_types) (io : FitsIo S.world lib) where
+    -- an equation that assigns nothing, an assignment, a builtin and a call
     tested_lends : {O Q : List ℕ} {b : Insts} {g : Flat_goal} {s : Scheduled} {o : Option Insts} → Ordered S T O Q b g s o → IsTested s → TypedGoal S.world.source T g → (known : Known) (h : ℕ) → (L : List ℕ) → Among L O → (e : Bindings) → Closed O Q b e → TypedAt S θ T (variables_of g) b e → TypedAt S θ T L b e →
         (N : Lent) (M : List ℕ) → LiveWithin S T N M b → SharesAt S T M b e → Among L M → Among (variables_of g) M → Calm (LentAfter S T N L o) (stream_of S.world.outcome C h s e)
     tested_lends {b = b} {s = s} {o = o} r i tg known h L u e cl ty li N M w sm lm gm =
         MoveLists.calm_map (StillAfter S D F T L b e o) (LentAfter S T N L o) (still_lent S D F T N M L b e o lm w) (stream_of S.world.outcome C h s e) (equation_still S D F C called lined T proper θ r i tg known h L u e cl ty li M sm lm gm)
 
-    assign_lends : (O : List ℕ) {b : Insts} {x y : ℕ} → b x ≡ 0 → b y ≢ 0 → S.insts (b y) ≢ dead → T x ≡ T y → (h : ℕ) (L : List ℕ) (e : Bindings) → Rattle.mc_model.specs.Good.BoundAs S θ (b x) (T x) (e x) → Rattle.mc_model.specs.Good.BoundAs S θ (b y) (T y) (e y) → (N : Lent) (M : List ℕ) → LiveWithin S T N M b → SharesAt S T M b e → Among L M → In y M →
+    assign_lends : (O : List ℕ) {b : Insts} {x y : ℕ} → b x ≡ 0 → b y ≢ 0 → S.insts (b y) ≢ dead → T x ≡ T y → (h : ℕ) (L : List ℕ) (e : Bindings) → BoundAs S θ (b x) (T x) (e x) → BoundAs S θ (b y) (T y) (e y) → (N : Lent) (M : List ℕ) → LiveWithin S T N M b → SharesAt S T M b e → Among L M → In y M →
         Lasts S D F T N O false (Some (also x (b y) (cond (is_state (T y)) (also y 3 b) b))) → Calm (LentAfter S T N L (Some (also x (b y) (cond (is_state (T y)) (also y 3 b) b)))) (stream_of S.world.outcome C h (Assign x y) e)
     assign_lends O {b = b} {x = x} {y = y} n m nd t h L e tx ty N M w sm lm ym sp =
         let c = also x (b y) (cond (is_state (T y)) (also y 3 b) b) in
         MoveLists.calm_map (SharesAt S T L c) (LentAfter S T N L (Some c)) (λ a z. (assign_within S D F T N O M L b x y sp w ym lm n t, z)) (stream_of S.world.outcome C h (Assign x y) e) (assign_goal_shares S D F C called lined T proper θ n m nd t h L e tx ty M sm lm ym)
 
     -- a variable that a call takes is dead after it, and it was lent
-    taken_alive : (N : Lent) (O M : List ℕ) (b c : Insts) (ms : List Mode) (xs : List ℕ) → LiveWithin S T N M b → Among xs M → Usable S T ms xs b → After S T ms xs b c → Alive S T N O c → (y : ℕ) → In y xs → Live S T b y → Rattle.mc_sound.specs.code.Moves.TakenAt S y ms xs → ⊥
+    taken_alive : (N : Lent) (O M : List ℕ) (b c : Insts) (ms : List Mode) (xs : List ℕ) → LiveWithin S T N M b → Among xs M → Usable S T ms xs b → After S T ms xs b c → Alive S T N O c → (y : ℕ) → In y xs → Live S T b y → TakenAt S y ms xs → ⊥
     taken_alive N O M b c ms xs w xm us a al y yi ly ty = (al y (w y (xm y yi) ly)).1 (taken_dies S T a y ty (omega (arith, taken_once S T b xs y ms xs us ty)))
 
-    apply_lends : (b c : Insts) (p : ℕ) (op : Rattle.mc_program.specs.declared.builtin.Builtin.Builtin) (xs : List ℕ) → (q : (S.world.source.preds p).builtin ≡ Some op) → Usable S T (modes_of op) xs b → implied_places 0 (modes_of op) xs (λ x. is_bound (b x)) ≡ [] → After S T (modes_of op) xs b c → (known : Known) (h : ℕ) (σ : ℕ → TypeTerm) → Rattle.mc_sound.proofs.Arguments.TypesAt S D F θ T proper σ xs (S.world.source.preds p).types →
+    apply_lends : (b c : Insts) (p : ℕ) (op : Builtin) (xs : List ℕ) → (q : (S.world.source.preds p).builtin ≡ Some op) → Usable S T (modes_of op) xs b → implied_places 0 (modes_of op) xs (λ x. is_bound (b x)) ≡ [] → After S T (modes_of op) xs b c → (known : Known) (h : ℕ) (σ : ℕ → TypeTerm) → Arguments.TypesAt S D F θ T proper σ xs (S.world.source.preds p).types →
         (O L : List ℕ) (e : Bindings) → TypedAt S θ T xs b e → TypedAt S θ T L b e → (N : Lent) (M : List ℕ) → LiveWithin S T N M b → SharesAt S T M b e → Among L M → Among xs M → Lasts S D F T N O (is_io_builtin op) (unless_never (builtin_most op) c) → Calm (LentAfter S T N L (unless_never (builtin_most op) c)) (stream_of S.world.outcome C h (Apply op (at_inputs (inputs_of op) xs) (at_outputs (inputs_of op) xs)) e)
     apply_lends b c p op xs q us i a known h σ types O L e ty li N M w sm lm xm sp =
         let o = unless_never (builtin_most op) c in
@@ -200,7 +203,7 @@ module _ (S : System) (D : Parameters) (F : Fits S D) (C : Calls) (called : Call
             ⊎_elim (λ z. z.0)
             (λ al. let y = MoveBuiltins.apply_taken S D F θ T proper σ b e M sm lib io known L p op xs c q types us i a ty li lm xm t in absurd (taken_alive N O M b c (modes_of op) xs w xm us a (never_alive S D F T N O c (builtin_most op) al) y.0 y.1 y.2 y.3)) sp
 
-    call_lends : (b c : Insts) (p : ℕ) (xs : List ℕ) (last : Bool) → (l : p < S.count) → Usable S T (modes_of_procedure (S.procs p)) xs b → After S T (modes_of_procedure (S.procs p)) xs b c → TypedGoal S.world.source T (Rattle.mc_model.specs.Flat.Call (S.procs p).pred xs) → (known : Known) (h : ℕ) (O L : List ℕ) (e : Bindings) → TypedAt S θ T xs b e → TypedAt S θ T L b e →
+    call_lends : (b c : Insts) (p : ℕ) (xs : List ℕ) (last : Bool) → (l : p < S.count) → Usable S T (modes_of_procedure (S.procs p)) xs b → After S T (modes_of_procedure (S.procs p)) xs b c → TypedGoal S.world.source T (G.Call (S.procs p).pred xs) → (known : Known) (h : ℕ) (O L : List ℕ) (e : Bindings) → TypedAt S θ T xs b e → TypedAt S θ T L b e →
         (N : Lent) (M : List ℕ) → LiveWithin S T N M b → SharesAt S T M b e → Among L M → Among xs M → Lasts S D F T N O (leaves_dead S T (S.procs p).last) (unless_never (S.procs p).det.most c) →
         Calm (LentAfter S T N L (unless_never (S.procs p).det.most c)) (stream_of S.world.outcome C h (Call p xs (implied_places 0 (modes_of_procedure (S.procs p)) xs (λ x. is_bound (b x))) last) e)
     call_lends b c p xs last l us a tg known h O L e ty li N M w sm lm xm sp =

@@ -11,6 +11,7 @@ pub mod Counts
 pub mod Entry
 pub mod LendDead
 pub mod LendEntry
+pub mod LendExample
 pub mod LendSound
 pub mod Levels
 pub mod Lists

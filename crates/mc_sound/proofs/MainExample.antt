@@ -18,7 +18,7 @@ use Rattle.mc_sound.proofs.BuiltinTypings.{builtins_fit}
 use Rattle.mc_sound.proofs.SumsExample.{insts_fit, types_fit}
 use Rattle.mc_laws.proofs.ListInsts.{swapped}
 
-apart : (a b : ℕ) → nat_eq a b ≡ false → a ≢ b
+pub apart : (a b : ℕ) → nat_eq a b ≡ false → a ≢ b
 apart a b e = eqb-false a b e
 
 types_of_lines : FitsTypes line_source parameters
@@ -51,9 +51,9 @@ types (suc (suc x)) = on (T (suc (suc x))) refl
     on : (t : TypeTerm) → T (suc (suc x)) ≡ t → ProperType parameters t
     on t e = subst (λ k. ProperType parameters k) e tt
 
-tidy : (i : ℕ) → Tidy line_source graph i state_type
-tidy i [] j u l c = sym l.1
-tidy i (step ∷ path) j u l c = absurd l
+pub tidy_state : (i : ℕ) → Tidy line_source graph i state_type
+tidy_state i [] j u l c = sym l.1
+tidy_state i (step ∷ path) j u l c = absurd l
 
 procedure_fits : FitsProcedure lines parameters main_procedure
 procedure_fits =
@@ -63,14 +63,14 @@ procedure_fits =
       types = types;
       head_types = refl;
       typed = ((λ v. int_type), refl);
-      tidy = ((tidy 2, (tidy 0, tt)), (tidy 3, (tidy 2, tt)));
+      tidy = ((tidy_state 2, (tidy_state 0, tt)), (tidy_state 3, (tidy_state 2, tt)));
       no_builtin = refl;
     }
 
 abbrev entry : Insts
 entry = entered (0 ∷ 1 ∷ []) (2 ∷ 0 ∷ [])
 
-unique_in_unique : (t : TypeTerm) → Included line_source graph 2 2 t
+pub unique_in_unique : (t : TypeTerm) → Included line_source graph 2 2 t
 unique_in_unique t path e a = a
 
 accepted : AcceptedProcedure lines main_procedure

@@ -1,13 +1,12 @@
 -- A call moves the world as it should, where its run does.
-use Rattle.std.proofs.Common.{◌≡◌, ◌⊎◌, inl, inr, ℕ, zero, suc, List, [], ◌∷◌, map, Bool, true, false, ◌||◌, Option, Some, None, refl, sym, ap, ◌∙◌, arith, ⊎_elim}
-use Rattle.std.proofs.lemmas.Bool.{cases_eq}
+use Rattle.std.proofs.Common.{◌≡◌, ℕ, zero, suc, List, [], ◌∷◌, map, Bool, true, false, ◌||◌, Option, Some, None, refl, ap, arith, ⊎_elim}
 use Rattle.mc_program.specs.Values.{Val}
 use Rattle.mc_program.specs.Programs.{TypeTerm}
 use Rattle.mc_model.specs.Lists.{In, Among}
 use Rattle.mc_model.specs.EventList.{Items, Each, bind, of_option}
 use Rattle.mc_model.specs.Stream.{Bindings, unify, below, at_height}
 use Rattle.mc_model.specs.Scheduled.{Procedure}
-use Rattle.mc_accepted.specs.Ordered.{Insts, Mode, zipped, modes_of_procedure, UsableAt, Usable, After, unless_never}
+use Rattle.mc_accepted.specs.Ordered.{Insts, zipped, modes_of_procedure, Usable, After, unless_never}
 use Rattle.mc_accepted.specs.Determined.{leaves_dead, is_dead}
 use Rattle.mc_model.specs.Good.{System, TypeChoice, types_of}
 use Rattle.mc_accepted.specs.ProperTypes.{Parameters, ProperType}

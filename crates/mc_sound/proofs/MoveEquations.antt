@@ -114,6 +114,7 @@ module _ (S : System) (D : Parameters) (F : Fits S D) (C : Calls) (called : Call
   equation_still (O.neg r m) i tg known h L u e cl ty li M sm lm gm = absurd i
   equation_still (O.some a r) i tg known h L u e cl ty li M sm lm gm = absurd i
 
+  -- so what holds the world before holds it after
   pub tested_moves : {O Q : List ℕ} {b : Insts} {g : Flat_goal} {s : Scheduled} {o : Option Insts} → Ordered S T O Q b g s o → IsTested s → TypedGoal S.world.source T g → (known : Known) (h : ℕ) →
       (L : List ℕ) → Among L O → (e : Bindings) → Closed O Q b e → TypedAt S θ T (variables_of g) b e → TypedAt S θ T L b e →
       (W : World) (M : List ℕ) → Holds S T W M b e → Among L M → Among (variables_of g) M → Calm (HoldsAfter S T L o W) (stream_of S.world.outcome C h s e)
@@ -126,6 +127,7 @@ module _ (S : System) (D : Parameters) (F : Fits S D) (C : Calls) (called : Call
       let w = Typed.bound_at S D F θ (b y) (T y) (e y) m ty in
       assign_moves S D F T θ W M L b e x y w.0 (e x) (e y) refl refl (Typed.free_at S D F θ (b x) (T x) (e x) n tx) w.1 t nd ym lm hw
 
+  -- and the states that it holds
   pub assign_goal_shares : {b : Insts} {x y : ℕ} → b x ≡ 0 → b y ≢ 0 → S.insts (b y) ≢ dead → T x ≡ T y → (h : ℕ) (L : List ℕ) (e : Bindings) → BoundAs S θ (b x) (T x) (e x) → BoundAs S θ (b y) (T y) (e y) → (M : List ℕ) → SharesAt S T M b e → Among L M → In y M → Calm (SharesAt S T L (also x (b y) (cond (is_state (T y)) (also y 3 b) b))) (stream_of S.world.outcome C h (Assign x y) e)
   assign_goal_shares {b = b} {x = x} {y = y} n m nd t h L e tx ty M sm lm ym =
       let w = Typed.bound_at S D F θ (b y) (T y) (e y) m ty in

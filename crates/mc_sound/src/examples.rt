@@ -1,6 +1,6 @@
 //! A system that meets all that the theorem asks, and what is turned away.
 ghost use Rattle.mc_sound.specs.code.Examples.{SumsFit};
-ghost use Rattle.mc_sound.specs.code.MainExamples.{LineIsWritten, LinesFit};
+ghost use Rattle.mc_sound.specs.code.MainExamples.{LineIsWritten, LinesFit, OneLineIsWritten, PeeksFit};
 ghost use Rattle.mc_sound.specs.code.Premises.{ArmsAreAsked, BuiltinsAreAsked, DeterminismsAreAsked, InstsAreAsked, MarksAreAsked, SumsFail, SymbolsAreAsked};
 
 /// `p(X, Y, Z) :- X + Y = Z.`, over the real builtins.
@@ -12,6 +12,12 @@ pub fn sums()
 pub fn lines()
     ensures fits { LinesFit }
     ensures writes { LineIsWritten }
+{}
+
+/// `main(!IO) :- peek(!.IO), io.nl(!IO).`, where `peek(_)` is lent the state, which stays unique.
+pub fn peeks()
+    ensures fits { PeeksFit }
+    ensures writes { OneLineIsWritten }
 {}
 
 /// What each premise turns away.

@@ -219,7 +219,7 @@ CallsLend S C =
     EachShares S (S.procs k).first (types_of S (S.procs k)) vs →
     Lends S (modes_of_procedure (S.procs k)) → Calm (LentBy S (S.procs k)) (C h k vs)
 
--- Variables that are lent; a goal runs with them. Of these variables only lent ones are live.
+-- the variables whose states are lent to a goal
 abbrev pub Lent : Type 0
 Lent = ℕ → Bool
 
@@ -227,14 +227,16 @@ abbrev pub all_lent : Lent
 all_lent x = true
 
 module _ (S : System) (T : ℕ → TypeTerm) where
+  -- of these variables only lent ones are live
   abbrev pub LiveWithin : Lent → List ℕ → Insts → Type 0
   LiveWithin N M b = (x : ℕ) → In x M → Live S T b x → N x ≡ true
 
+  -- so it is after a goal; no other state that a value holds may be one that is not shared
   abbrev pub LentAfter : Lent → List ℕ → Option Insts → Bindings → Type 0
   LentAfter N L None a = ⊥
   LentAfter N L (Some c) a = LiveWithin N L c × SharesAt S T L c a
 
-  -- none of them is dead at this point
+  -- each is a variable of these, and not dead
   abbrev pub Alive : Lent → List ℕ → Insts → Type 0
   Alive N O c = (x : ℕ) → N x ≡ true → In x O × (S.insts (c x) ≢ dead)
 
@@ -246,8 +248,9 @@ module _ (S : System) (T : ℕ → TypeTerm) where
   AliveAfter N O None = ⊥
   AliveAfter N O (Some c) = Alive N O c
 
--- The pass of what is lent at a goal: one that holds no io goal, or whose end is unreachable, or
--- that leaves each lent variable as it was, is calm.
+-- The pass of what is lent at a goal. One is calm that holds no io goal, whatever is live at it; or
+-- whose end is unreachable, since an io goal cannot fail; or at whose end no lent variable is dead,
+-- since io would have taken one.
 abbrev pub GoalLends : System → (T : ℕ → TypeTerm) → Calls → Type 0
 GoalLends S T C =
     (O Q : List ℕ) (b : Insts) (g : Flat_goal) (n : Node) (o : Option Insts)
