@@ -1,0 +1,16 @@
+pub mod Found
+pub mod Growth
+pub mod Scenes
+pub mod Steps
+pub mod Results
+pub mod Walks
+pub mod Bridge
+pub mod Nodes
+pub mod Narrowing
+pub mod FunctorKeys
+pub mod TypeKeys
+pub mod Climbing
+pub mod Constructors
+pub mod Tables
+pub mod Numbered
+pub mod Growing

@@ -1,0 +1,7 @@
+use Rattle.std.proofs.Common.{rules}
+use Rattle.std.proofs.lemmas.List.Sorted.{IsNonDecreasingBy-from_sort_by_key}
+use Rattle.mc_insts.specs.declared.rows.Constructor.{Constructor}
+use Rattle.mc_insts.proofs.rows.sorted_constructors.Goals as goal
+
+pub returns-clause-sorted : goal.returns-clause-sorted
+returns-clause-sorted c = IsNonDecreasingBy-from_sort_by_key (λ (x : Constructor). x.functor) _ c.in_ok-sort_by_key.ensures.sorted (λ a r q k. search rules)

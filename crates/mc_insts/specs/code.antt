@@ -1,0 +1,14 @@
+pub mod Functors
+pub mod TypeRows
+pub mod Frames
+pub mod Lists
+pub mod Cases
+pub mod Walks
+pub mod Overs
+pub mod OverArgs
+pub mod Pushes
+pub mod Steps
+pub mod Shown
+pub mod Narrowing
+pub mod Through
+pub mod Tables
