@@ -1,4 +1,5 @@
 pub mod Accepting
 pub mod Ends
+pub mod Groups
 pub mod Outside
 pub mod Telling

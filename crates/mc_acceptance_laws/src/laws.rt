@@ -1,4 +1,5 @@
 //! The laws that what the definitions compute is accepted. Each is the contract of a function that does nothing.
+ghost use Rattle.mc_acceptance_laws.specs.GroupLaws.{GroupsMergeAsAll, MergingKeepsSets};
 ghost use Rattle.mc_acceptance_laws.specs.AcceptedLaws.{FaultlessIsAccepted, InOrderIsAccepted, ToldStaysOrdered};
 
 /// An ordered goal stays ordered where its determinisms and marks are told.
@@ -15,4 +16,10 @@ pub fn faultless_is_accepted()
 /// determinism is accepted where its body is that goal, told.
 pub fn in_order_is_accepted()
     ensures { InOrderIsAccepted }
+{}
+
+/// What merges the merged insts of groups, as those of a switch's arms, merges all that are in the groups, in any order.
+pub fn groups_merge_as_all()
+    ensures groups { GroupsMergeAsAll }
+    ensures sets { MergingKeepsSets }
 {}
