@@ -1,5 +1,6 @@
 pub mod Accepting
 pub mod Ends
+pub mod FormVariables
 pub mod Groups
 pub mod Outside
 pub mod Telling

@@ -1,3 +1,4 @@
 pub mod AcceptedLaws
+pub mod FormLaws
 pub mod GroupLaws
 pub mod Told

@@ -1,4 +1,5 @@
 //! The laws that what the definitions compute is accepted. Each is the contract of a function that does nothing.
+ghost use Rattle.mc_acceptance_laws.specs.FormLaws.{FormsKeepVariables};
 ghost use Rattle.mc_acceptance_laws.specs.GroupLaws.{GroupsMergeAsAll, MergingKeepsSets};
 ghost use Rattle.mc_acceptance_laws.specs.AcceptedLaws.{FaultlessIsAccepted, InOrderIsAccepted, ToldStaysOrdered};
 
@@ -22,4 +23,9 @@ pub fn in_order_is_accepted()
 pub fn groups_merge_as_all()
     ensures groups { GroupsMergeAsAll }
     ensures sets { MergingKeepsSets }
+{}
+
+/// A goal and its switch form have the same variables.
+pub fn forms_keep_variables()
+    ensures { FormsKeepVariables }
 {}

@@ -175,7 +175,7 @@ module _ (outcome : Builtin → List Val → Outcome) (C : Calls) (h : ℕ) (e :
 
   module _ (S : System) (T : ℕ → TypeTerm) (b : Insts) where
     -- the variable that is chosen is opened by each disjunct
-    chosen_opens : (out : List ℕ) (ds : List Disjunct) (x : ℕ) → chosen S T out b ds ≡ Some x → list_all (λ (d : Disjunct). is_told (label_in x d.opens)) ds ≡ true
+    pub chosen_opens : (out : List ℕ) (ds : List Disjunct) (x : ℕ) → chosen S T out b ds ≡ Some x → list_all (λ (d : Disjunct). is_told (label_in x d.opens)) ds ≡ true
     chosen_opens out ds x q = by_first (least (λ y. is_opened S T out b ds y && covers S T (allowed_in S T (T y) (b y)) (labels_of y ds)) (opened_variables ds)) refl q
       where
         opens : is_opened S T out b ds x ≡ true → list_all (λ (d : Disjunct). is_told (label_in x d.opens)) ds ≡ true

@@ -1,10 +1,10 @@
 mod Enough
 mod Equality
 pub mod Faultless
-mod Forms
-mod Grouping
+pub mod Forms
+pub mod Grouping
 mod Inferring
-mod Labels
+pub mod Labels
 mod Monotone
 mod Opened
 mod Places
