@@ -1,13 +1,12 @@
 -- A goal and its switch form have the same variables.
-use Rattle.std.proofs.Common.{◌≡◌, ◌⊎◌, inl, inr, ℕ, zero, suc, List, [], ◌∷◌, ◌++◌, Option, Some, None, Bool, true, false, cond, if◌then◌else◌, nat_eq, ◌&&◌, refl, sym, ap, ◌∙◌, subst, ⊎_elim}
+use Rattle.std.proofs.Common.{◌≡◌, ◌⊎◌, inl, inr, ℕ, zero, suc, List, [], ◌∷◌, ◌++◌, Option, Some, None, Bool, true, false, if◌then◌else◌, nat_eq, refl, sym, ap, ◌∙◌, subst, ⊎_elim}
 use Rattle.std.specs.List.{list_all}
 use Rattle.std.proofs.lemmas.Bool.{eqb-true, eq-eqb, and_parts}
-use Rattle.mc_program.specs.Values.{Val, same_value}
 use Rattle.mc_program.specs.Programs.{TypeTerm}
 use Rattle.mc_model.specs.EventList.{End}
 use Rattle.mc_model.specs.Outcomes.{fails}
 use Rattle.mc_model.specs.Lists.{In}
-use Rattle.mc_model.specs.Scheduled.{Label, for_symbol, for_constant, Node, node, Scheduled, Conj, Disj, Switch, Ite, Not, Exists, Assign, Test, Build, Take, Const, TestConst, Call, Apply, Nodes, no_nodes, node_then, Arms, no_arms, arm_then}
+use Rattle.mc_model.specs.Scheduled.{Label, for_symbol, for_constant, Node, node, Scheduled, Conj, Disj, Switch, Ite, Not, Exists, Assign, Test, Build, Take, Const, TestConst, Call, Apply, Nodes, no_nodes, node_then}
 use Rattle.mc_model.specs.Good.{System}
 use Rattle.mc_accepted.specs.Ordered.{Insts, variables_of_node, variables_of_scheduled, variables_of_nodes, variables_of_arms}
 use Rattle.mc_accepted.specs.Determined.{insts_after}
@@ -20,11 +19,11 @@ use Rattle.mc_determinism_laws.proofs.Grouping.{chosen_opens}
 use Rattle.mc_acceptance_laws.specs.FormLaws.{FormsKeepVariables}
 use Rattle.mc_acceptance_laws.proofs.Outside.{Same, same_self, same_onto, in-left, in-right, in-either}
 
-same_label_self : (l : Label) → same_label l l ≡ true
+pub same_label_self : (l : Label) → same_label l l ≡ true
 same_label_self (for_symbol s) = eq-eqb s s refl
 same_label_self (for_constant v) = same_of v v refl
 
-same_both : (xs ys us vs : List ℕ) → Same xs us → Same ys vs → Same (xs ++ ys) (us ++ vs)
+pub same_both : (xs ys us vs : List ℕ) → Same xs us → Same ys vs → Same (xs ++ ys) (us ++ vs)
 same_both xs ys us vs p q = (
   (λ x i. ⊎_elim (λ j. in-left x us vs (p.0 x j)) (λ j. in-right x us vs (q.0 x j)) (in-either x xs ys i)),
   (λ x i. ⊎_elim (λ j. in-left x xs ys (p.1 x j)) (λ j. in-right x xs ys (q.1 x j)) (in-either x us vs i)),

@@ -3,4 +3,5 @@ pub mod Ends
 pub mod FormVariables
 pub mod Groups
 pub mod Outside
+pub mod Switching
 pub mod Telling

@@ -1,6 +1,7 @@
 //! The laws that what the definitions compute is accepted. Each is the contract of a function that does nothing.
 ghost use Rattle.mc_acceptance_laws.specs.FormLaws.{FormsKeepVariables};
 ghost use Rattle.mc_acceptance_laws.specs.GroupLaws.{GroupsMergeAsAll, MergingKeepsSets};
+ghost use Rattle.mc_acceptance_laws.specs.SwitchStands.{SwitchesStand};
 ghost use Rattle.mc_acceptance_laws.specs.AcceptedLaws.{FaultlessIsAccepted, InOrderIsAccepted, ToldStaysOrdered};
 
 /// An ordered goal stays ordered where its determinisms and marks are told.
@@ -28,4 +29,10 @@ pub fn groups_merge_as_all()
 /// A goal and its switch form have the same variables.
 pub fn forms_keep_variables()
     ensures { FormsKeepVariables }
+{}
+
+/// A disjunction that is ordered is ordered in its switch form, where the kept insts of arms join those of their
+/// disjuncts.
+pub fn switches_stand()
+    ensures { SwitchesStand }
 {}

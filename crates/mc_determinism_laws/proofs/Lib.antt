@@ -6,7 +6,7 @@ pub mod Grouping
 mod Inferring
 pub mod Labels
 mod Monotone
-mod Opened
+pub mod Opened
 mod Places
 mod Placing
 mod Quiet
