@@ -11,6 +11,8 @@ use Rattle.mc_accepted.specs.Proper.{ProperGraph}
 use Rattle.mc_accepted.specs.ProperTypes.{Parameters, ProperType, EachProper, EachBelow}
 use Rattle.mc_accepted.specs.Tidy.{EachTidy}
 use Rattle.mc_accepted.specs.BuiltinFits.{FitsBuiltins}
+use Rattle.mc_accepted.specs.BuiltinTypes.{Library_types}
+use Rattle.mc_accepted.specs.IoFits.{FitsIo}
 use Rattle.mc_accepted.specs.Scope.{ClauseHasScopes}
 use Rattle.mc_accepted.specs.Normal.{Normal_goal, normal_goal}
 use Rattle.mc_accepted.specs.Typing.{TypedGoal}
@@ -90,4 +92,5 @@ pub record Fits (S : System) (D : Parameters) : Type 0 where
   pub insts : FitsInsts S.insts
   pub types : FitsTypes S.world.source D
   pub builtins : FitsBuiltins S.world
+  pub io : (K : Library_types) × FitsIo S.world K
   pub procedures : (k : ℕ) → k < S.count → FitsProcedure S D (S.procs k)

@@ -11,6 +11,7 @@ pub mod InOrder
 pub mod Inclusion
 pub mod Inferred
 pub mod InstRules
+pub mod IoFits
 pub mod Least
 pub mod MergedArms
 pub mod Normal

@@ -19,6 +19,11 @@ takes_constants unique = true
 takes_constants dead = true
 takes_constants (bound ls) = false
 
+-- a variable has this inst after each of the branches
+abbrev pub EachGives : (x i : ℕ) → List Insts → Type 0
+EachGives x i [] = Unit {0}
+EachGives x i (e ∷ ends) = (e x ≡ i) × EachGives x i ends
+
 module _ (S : System) (T : ℕ → TypeTerm) where
   -- whether the point after a goal is unreachable: of a deconstruction that the inst excludes, of a
   -- call that is declared to have no answer, and of goals whose parts leave no way
@@ -68,8 +73,9 @@ module _ (S : System) (T : ℕ → TypeTerm) where
   arm_ends b (arm_then l n arms) = with_end b n (arm_ends b arms)
 
   -- What an arm of several disjuncts changes, where the whole has these insts before and after it:
-  -- a variable that was bound, or that the whole binds, gets the merged inst of the ends; any other
-  -- stays free. Nothing is changed where no end is reachable.
+  -- a variable that was bound, or that the whole binds, gets the merged inst of the ends, and where
+  -- these give it one inst, just that; any other stays free. Nothing is changed where no end is
+  -- reachable.
   abbrev pub ChangesMerge : (before after : Insts) → (ends : List Insts) → List (ℕ × ℕ) → Type 0
   ChangesMerge b c [] changes = changes ≡ []
   ChangesMerge b c (e ∷ es) changes =
@@ -79,6 +85,9 @@ module _ (S : System) (T : ℕ → TypeTerm) where
       → (is_bound (b x) || is_bound (c x)) ≡ true
       → Merged S.world.source S.insts (map (λ (d : Insts). d x) (e ∷ es))
       (change_at x changes (b x)) (T x))
+      × ((x i : ℕ)
+      → (is_bound (b x) || is_bound (c x)) ≡ true
+      → EachGives x i (e ∷ es) → change_at x changes (b x) ≡ i)
       × ((x : ℕ) → (is_bound (b x) || is_bound (c x)) ≡ false → change_at x changes (b x) ≡ 0)
 
   -- an arm that is a disjunction or a switch again is one of several disjuncts
@@ -87,7 +96,8 @@ module _ (S : System) (T : ℕ → TypeTerm) where
   ArmMerges b c (node (Switch x arms) changes d m) = ChangesMerge b c (arm_ends b arms) changes
   ArmMerges b c n = Unit {0}
 
-  -- in a goal in switch form each such arm changes what its disjuncts change together
+  -- In a goal in switch form each such arm changes what its disjuncts change together. The arms of
+  -- an arm that is a switch again go by the insts around the whole disjunction too.
   abbrev mutual
     pub ArmsMerge : Insts → Node → Type 0
     ArmsMerge b (node s changes d m) = ArmsMergeIn b (insts_after (node s changes d m) b) s
@@ -120,4 +130,7 @@ module _ (S : System) (T : ℕ → TypeTerm) where
     pub EachArmMerges : (before after : Insts) → Arms → Type 0
     EachArmMerges b c no_arms = Unit {0}
     EachArmMerges b c (arm_then l n arms) =
-        ArmMerges b c n × ArmsMerge b n × EachArmMerges b c arms
+        ArmMerges b c n × MergeInside b c n × EachArmMerges b c arms
+
+    pub MergeInside : (before after : Insts) → Node → Type 0
+    MergeInside b c (node s changes d m) = ArmsMergeIn b c s

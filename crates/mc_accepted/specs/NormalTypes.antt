@@ -1,9 +1,9 @@
 -- The types and names of a normal goal's variables, and the clause that a query is. (Mercury
 -- Language Reference Manual: Types; Syntax, implicit quantification; this project's profile: a query
 -- is a predicate without a name.)
-use Rattle.std.specs.Prelude.{ℕ, ◌+◌, Bool, true, false, nat_eq, List, [], ◌∷◌, ◌++◌, map, length, drop, get_or, if◌then◌else◌}
+use Rattle.std.specs.Prelude.{ℕ, Bool, true, nat_eq, List, [], ◌∷◌, ◌++◌, map, drop, get_or, if◌then◌else◌}
 use Rattle.mc_program.specs.Programs.{TypeTerm, variable_type, variable, ClauseForm, Formula}
-use Rattle.mc_model.specs.Lists.{is_in, once}
+use Rattle.mc_model.specs.Lists.{once}
 use Rattle.mc_accepted.specs.Scope.{free_of, quantified, scoped}
 use Rattle.mc_accepted.specs.Normal.{other_variables}
 
