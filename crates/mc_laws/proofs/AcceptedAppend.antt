@@ -1,5 +1,5 @@
 -- append in the mode (in, in, out) is accepted.
-use Rattle.std.proofs.Common.{◌≡◌, ◌⊎◌, inl, ℕ, zero, suc, List, [], ◌∷◌, length, Some, Bool, true, false, cond, not, nat_eq, refl, sym, ap, ◌∙◌, subst, arith, ⊎_elim}
+use Rattle.std.proofs.Common.{◌≡◌, inl, ℕ, zero, suc, List, [], ◌∷◌, length, Some, Bool, true, false, cond, not, nat_eq, refl, sym, ap, ◌∙◌, subst, arith, ⊎_elim}
 use Rattle.mc_program.specs.Programs.{TypeTerm, variable_type, Source}
 use Rattle.mc_model.specs.Lists.{In}
 use Rattle.mc_model.specs.Insts.{Listed, bound, Graph}
@@ -7,15 +7,15 @@ use Rattle.mc_accepted.specs.Inclusion.{Merged}
 use Rattle.mc_accepted.specs.Proper.{ProperGraph}
 use Rattle.mc_accepted.specs.ProperTypes.{EachProper, EachBelow}
 use Rattle.mc_accepted.specs.Fits.{type_of, NoArgumentFree, FitsInsts, FitsTypes, FitsProcedure, Fits}
-use Rattle.mc_accepted.specs.Ordered.{Insts, also, change_at, here, there, no_part, to_part, to_rest, keeps, output, no_more, assign, take, build, call, conj, switch, OrderedNode, kept, next, done, arm, no_arm}
-use Rattle.mc_accepted.specs.Accepted.{entered, AcceptedProcedure}
+use Rattle.mc_accepted.specs.Ordered.{Insts, also, change_at, here, there, no_part, to_part, to_rest, keeps, output, no_more, assign, take, build, call, conj, disj, switch, KeepsChanges, Joined, OrderedNode, kept, next, done, either, no_other, arm, no_arm}
+use Rattle.mc_accepted.specs.Accepted.{entered, FinalAfter, AcceptedProcedure}
 use Rattle.mc_model.specs.Flat as F
 use Rattle.mc_model.specs.Flat.{flats}
 use Rattle.mc_model.specs.Scheduled.{Procedure}
 use Rattle.mc_laws.specs.code.Examples.{det, nil, cell}
 use Rattle.mc_source.specs.declared.det.Det.{Det}
 use Rattle.mc_laws.specs.code.ExamplesOfGoals.{append, append_goal}
-use Rattle.mc_laws.specs.code.ExamplesOfProcedures.{append_pred, list_parameters, list_source, list_insts, nil_listed, cell_listed, empty_arm, cell_arm, append_body, append_system, append_procedure, AppendIsAccepted}
+use Rattle.mc_laws.specs.code.ExamplesOfProcedures.{append_pred, list_parameters, list_source, list_insts, nil_listed, cell_listed, empty_arm, cell_arm, append_goals, append_body, append_system, append_procedure, AppendIsAccepted}
 use Rattle.mc_laws.proofs.ListInsts.{swapped, entered_off, apart, differ, bound_below_ground, included_ground, both_ground, ground_or_cell, nil_or_cell, ground_tidy, free_tidy, types_proper}
 use Rattle.std.proofs.lemmas.Option.{same_Some}
 use Rattle.mc_program.specs.PlainPrograms.{no_pred}
@@ -115,26 +115,39 @@ cell_is_ordered =
 by_head : (Q : ℕ → Type 0) → Q 0 → Q 1 → Q 2 → (x : ℕ) → In x head → Q x
 by_head Q a b c x h = ⊎_elim (λ e. subst Q (sym e) a) (λ h. ⊎_elim (λ e. subst Q (sym e) b) (λ h. ⊎_elim (λ e. subst Q (sym e) c) (λ h. absurd h) h) h) h
 
+-- what both give, joined
+after_joins : Joined append_system T head entry (after_empty ∷ after_cell ∷ []) (Some after_both)
+after_joins x = (
+  by_head (λ y. Merged P G (after_empty y ∷ after_cell y ∷ []) (after_both y) (T y)) (nil_or_cell P (T 0)) (both_ground P (T 1)) (ground_or_cell P (T 2)) x,
+  (λ out. inl (entered_off head (6 ∷ 1 ∷ 1 ∷ []) x out)),
+)
+
+both_changes : KeepsChanges entry (Some after_both) ((0, 6) ∷ (2, 1) ∷ [])
+both_changes = (changed_both, (omega arith, (omega arith, tt)), (apart 1 6 refl, (apart 0 1 refl, tt)))
+
+pub goals_are_ordered : OrderedNode append_system T head head entry append_goal append_goals (Some after_both)
+goals_are_ordered = kept (disj (either {o = Some after_empty} empty_is_ordered (either {o = Some after_cell} cell_is_ordered no_other)) after_joins) both_changes
+
 body_is_ordered : OrderedNode append_system T head head entry append_goal (append_body det) (Some after_both)
 body_is_ordered =
     kept
     (switch (apart 1 0 refl) (inl refl)
     (arm {o = Some after_empty} (to_part (to_rest no_part)) tt (tt, inl (refl, refl)) ((λ e. cc), tt) empty_is_ordered
     (arm {o = Some after_cell} (to_part no_part) tt (tt, inl (refl, refl)) tt cell_is_ordered no_arm))
-    (λ x. (
-      by_head (λ y. Merged P G (after_empty y ∷ after_cell y ∷ []) (after_both y) (T y)) (nil_or_cell P (T 0)) (both_ground P (T 1)) (ground_or_cell P (T 2)) x,
-      (λ out. inl (entered_off head (6 ∷ 1 ∷ 1 ∷ []) x out)),
-    )))
-    (changed_both, (omega arith, (omega arith, tt)), (apart 1 6 refl, (apart 0 1 refl, tt)))
+    after_joins)
+    both_changes
 
-accepted_append : AcceptedProcedure append_system p
+pub final_is_met : FinalAfter append_system p (Some after_both)
+final_is_met = (bound_below_ground P 6 (nil_listed ∷ cell_listed ∷ []) (T 0) refl (refl, (refl, tt)), (included_ground P (T 1), (included_ground P (T 2), tt)))
+
+pub accepted_append : AcceptedProcedure append_system p
 accepted_append =
     record {
       head = refl;
       lengths = (refl, refl);
       after = Some after_both;
       ordered = body_is_ordered;
-      final = (bound_below_ground P 6 (nil_listed ∷ cell_listed ∷ []) (T 0) refl (refl, (refl, tt)), (included_ground P (T 1), (included_ground P (T 2), tt)));
+      final = final_is_met;
       kept = (refl, ((refl, ((refl, tt), ((refl, tt), tt))), ((refl, ((refl, tt), ((refl, tt), ((refl, tt), tt)))), tt)));
       allowed = ((λ h. h), omega arith);
       declared = λ e. absurd (differ e);
@@ -155,7 +168,7 @@ append_fits =
       no_builtin = refl;
     }
 
-insts_fit : FitsInsts G
+pub insts_fit : FitsInsts G
 insts_fit = record { is_free = refl; is_ground = refl; is_unique = refl; is_dead = refl; are_bound = are_bound; proper = proper }
   where
     are_bound : (i : ℕ) → (ls : List Listed) × (G (suc (suc (suc (suc i)))) ≡ bound ls) × NoArgumentFree ls
@@ -209,6 +222,14 @@ system_fits =
             succeeds = λ θ q op vs e. absurd (no_builtins q op e);
             error_throws = λ θ q vs e. absurd (no_builtins q B.Error e);
           };
+      io = (
+        record { list = 0; result = 1 },
+        record {
+          named = λ q op e. absurd (no_builtins q op e);
+          advances = λ θ q op w vs e. absurd (no_builtins q op e);
+          quiet = λ q op vs e. absurd (no_builtins q op e);
+        },
+      );
       procedures = λ k lt. append_fits;
     }
 

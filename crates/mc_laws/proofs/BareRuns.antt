@@ -1,11 +1,11 @@
 -- Procedures run as their bare forms do: the event list looks at no inst but whether it is `free`.
-use Rattle.std.proofs.Common.{if◌then◌else◌, nat_eq, ◌≡◌, ℕ, zero, suc, List, [], ◌∷◌, map, Bool, true, false, Option, Some, None, refl, sym, ap, ◌∙◌}
+use Rattle.std.proofs.Common.{if◌then◌else◌, nat_eq, ◌≡◌, ℕ, zero, suc, List, [], ◌∷◌, map, Bool, true, false, Option, Some, None, refl, ap, ◌∙◌}
 use Rattle.std.proofs.Math.Path.{fun_ext}
 use Rattle.mc_program.specs.Values.{Val}
 use Rattle.mc_model.specs.EventList.{Items, Stuck, Answer, End, Called, append, bind, choose, negate, cut}
 use Rattle.mc_model.specs.Scheduled.{Node, node, Scheduled, Conj, Disj, Switch, Ite, Not, Exists, Assign, Test, Build, Take, Const, TestConst, Call, Apply, Nodes, no_nodes, node_then, Arms, no_arms, arm_then, Procedure}
 use Rattle.mc_model.specs.Outcomes.{Outcome}
-use Rattle.mc_model.specs.Stream.{Bindings, Calls, below, pruned_to, stream, stream_of, stream_all, stream_any, stream_arms, is_bound, ready, enter, leave, body_items, calls, nothing_bound}
+use Rattle.mc_model.specs.Stream.{Bindings, Calls, below, pruned_to, stream, stream_of, stream_all, stream_any, stream_arms, is_bound, ready, enter, leave, body_items, calls}
 use Rattle.mc_model.specs.Bare.{bare_node, bare_scheduled, bare_nodes, bare_arms, bare_inst, bare_procedure}
 use Rattle.mc_program.specs.declared.builtin.Builtin.{Builtin}
 use Rattle.mc_laws.specs.BareLaws.{each_bare, GoalsRunBare, CallsRunBare, QueriesRunBare}

@@ -50,7 +50,7 @@ unless_met : (x : ℕ) (t : Expression) (ts : List Expression) (i : ℕ) (met : 
 unless_met x t ts i true rest e = absurd (none-some i e)
 unless_met x t ts i false rest e = later x t ts i rest e
 
-is_argument : (x : ℕ) (ts : List Expression) (i : ℕ) → head_place x ts ≡ Some i → IsArgument x i ts
+pub is_argument : (x : ℕ) (ts : List Expression) (i : ℕ) → head_place x ts ≡ Some i → IsArgument x i ts
 is_argument x [] i e = absurd (none-some i e)
 is_argument x (variable y ∷ ts) i e = by_test (nat_eq x y) (eqb-true x y) e (λ q. later x (variable y) ts i (λ k h. is_argument x ts k h) q)
   where

@@ -95,7 +95,7 @@ inner_has names m z x (constant v) a l = absurd (omega (arith, a, l))
 inner_has names m z x (made f ts) a l = all_made_have names m x ts a l
 inner_has names m z x (applied p ts) a l = all_made_have names m x ts a l
 
-one_variable : (names : ℕ → ℕ) (m : ℕ) (t : Expression) → (name_term names m t).variables ≡ the_variable (name_term names m t) ∷ []
+pub one_variable : (names : ℕ → ℕ) (m : ℕ) (t : Expression) → (name_term names m t).variables ≡ the_variable (name_term names m t) ∷ []
 one_variable names m (variable x) = refl
 one_variable names m (constant v) = refl
 one_variable names m (made f ts) = refl

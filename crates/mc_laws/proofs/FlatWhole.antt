@@ -79,7 +79,7 @@ is_in_false x (y ∷ ys) e i = by_test (nat_eq x y) refl e (is_in_false x ys)
     by_test true q h rest = let f : true ≡ false = h in cc
     by_test false q h rest = ⊎_elim (λ e. eqb-false x y q e) (λ j. rest h j) i
 
-in_or_not : (x : ℕ) (xs : List ℕ) → In x xs ⊎ (In x xs → ⊥)
+pub in_or_not : (x : ℕ) (xs : List ℕ) → In x xs ⊎ (In x xs → ⊥)
 in_or_not x xs = by_test (is_in x xs) refl
   where
     by_test : (t : Bool) → is_in x xs ≡ t → In x xs ⊎ (In x xs → ⊥)

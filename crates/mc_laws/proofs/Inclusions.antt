@@ -101,14 +101,14 @@ no_types P (val_then v vs) h = h
 module _ (P : Source) (G : Graph) (proper : ProperGraph G) where
   -- what holds of an inst holds of each argument
   module _ (i j s : ℕ) (t : TypeTerm) (is js : List ℕ) (ts : List TypeTerm) (types : argument_types P s t ≡ Some ts) (over : Over P (G i) i s is) (under : Over P (G j) j s js) where
-    goes_down : (k : ℕ) (path : Path) (e : Tip) → k < length is → Allows P G path e (get_or is k 0) (get_or ts k (variable_type 0)) → Allows P G ((s, k) ∷ path) e i t
+    pub goes_down : (k : ℕ) (path : Path) (e : Tip) → k < length is → Allows P G path e (get_or is k 0) (get_or ts k (variable_type 0)) → Allows P G ((s, k) ∷ path) e i t
     goes_down k path e lt a =
         subst
         (λ o. OnTypes o (λ us. AllowsSymbol P (G i) i s (λ ks. (k < length ks) × Allows P G path e (get_or ks k 0) (get_or us k (variable_type 0)))))
         (sym types)
         (over_allows P (G i) i s (λ ks. (k < length ks) × Allows P G path e (get_or ks k 0) (get_or ts k (variable_type 0))) is over (lt, a))
 
-    comes_up : (k : ℕ) (path : Path) (e : Tip) → Allows P G ((s, k) ∷ path) e j t → Allows P G path e (get_or js k 0) (get_or ts k (variable_type 0))
+    pub comes_up : (k : ℕ) (path : Path) (e : Tip) → Allows P G ((s, k) ∷ path) e j t → Allows P G path e (get_or js k 0) (get_or ts k (variable_type 0))
     comes_up k path e a =
         let h =
         subst

@@ -1,5 +1,5 @@
 -- Procedures of less common forms are accepted.
-use Rattle.std.proofs.Common.{◌≡◌, ◌≢◌, ◌⊎◌, inl, ℕ, List, [], ◌∷◌, Some, Bool, true, false, cond, nat_eq, refl, sym, ap, ◌∙◌, subst, arith, ⊎_elim}
+use Rattle.std.proofs.Common.{◌≡◌, ◌≢◌, inl, ℕ, List, [], ◌∷◌, Some, Bool, true, false, cond, nat_eq, refl, sym, ap, ◌∙◌, subst, arith, ⊎_elim}
 use Rattle.mc_program.specs.Programs.{TypeTerm, Source}
 use Rattle.mc_model.specs.Lists.{In}
 use Rattle.mc_model.specs.Insts.{Graph}
@@ -10,13 +10,14 @@ use Rattle.mc_program.specs.Values.{int}
 use Rattle.std.specs.Prelude.{pos}
 use Rattle.mc_accepted.specs.Inclusion.{Merged}
 use Rattle.mc_accepted.specs.Ordered.{Insts, also, change_at, here, no_part, to_part, to_rest, keeps, output, no_more, take, put, call, apply, implied_alone, conj, disj, switch, ite, neg, some, OrderedNode, kept, next, done, implied_outputs, either, no_other, arm, no_arm}
+use Rattle.mc_accepted.specs.Scope.{ClauseHasScopes}
 use Rattle.mc_accepted.specs.Fits.{type_of}
 use Rattle.mc_accepted.specs.Accepted.{entered, AcceptedProcedure}
 use Rattle.mc_laws.specs.code.Examples.{nil, cell}
 use Rattle.mc_laws.specs.code.ExamplesOfGoals.{plus}
 use Rattle.mc_laws.specs.code.ExamplesOfLists.{member_of}
 use Rattle.mc_laws.specs.code.ExamplesOfProcedures.{list_insts, nil_listed, cell_listed}
-use Rattle.mc_laws.specs.code.ExamplesOfLegalGoals.{lists_with, has_preds, has_procedure, differs_preds, differs_procedure, BuiltinAlone, len_preds, len_empty, len_changes, len_goals, len_cell, len_procedure, SwitchThroughSome, some_preds, some_procedure, BranchesUnderSome}
+use Rattle.mc_laws.specs.code.ExamplesOfLegalGoals.{lists_with, has_preds, has_procedure, differs_preds, differs_procedure, BuiltinAlone, len_preds, len_empty, len_changes, len_goals, len_cell, len_procedure, SwitchThroughSome, some_preds, some_procedure, BranchesUnderSome, negations_clause, negations_procedure, negations_system, NegationInNegation}
 use Rattle.mc_program.specs.declared.builtin.Builtin.TheVariants as B
 use Rattle.mc_laws.proofs.AcceptedBranches.{apart_lists}
 use Rattle.mc_laws.proofs.ListInsts.{swapped, entered_off, apart, differ, bound_below_ground, included_ground, both_ground, nil_or_cell}
@@ -290,3 +291,47 @@ branches_under_some =
       placed = (tt, (tt, tt));
       io = (tt, (tt, ((λ e f. absurd (differ f)), ((tt, tt), ((tt, tt), tt)))));
     }
+
+-- negations in a negation
+negations_have_scopes : ClauseHasScopes negations_clause
+negations_have_scopes = ((λ x i. i), ((λ x i j. j), (((λ x i. absurd i), ((λ x i j. j), tt)), (tt, tt))))
+
+negations_are_accepted : AcceptedProcedure negations_system negations_procedure
+negations_are_accepted =
+    record {
+      head = refl;
+      lengths = (refl, refl);
+      after = Some nothing_bound;
+      ordered =
+          kept
+          (neg {o = Some nothing_bound}
+          (kept
+          (some (apart_lists (0 ∷ []) [] refl)
+          (kept
+          (disj
+          (either {o = Some nothing_bound}
+          (kept
+          (neg {o = Some (also 0 1 nothing_bound)}
+          (kept
+          (some (apart_lists (0 ∷ []) [] refl)
+          (kept (call {c = also 0 1 nothing_bound} {p = 0} (omega arith) ((λ h. absurd (h refl)), tt) ((λ e. cc), tt) (output (apart 1 0 refl) refl no_more)) ((λ x. refl), (omega arith, tt), (apart 0 1 refl, tt))))
+          ((λ x. refl), (omega arith, tt), (apart 0 1 refl, tt)))
+          refl)
+          ((λ x. refl), tt, tt))
+          (either {o = Some (also 0 1 nothing_bound)} (kept (call {c = also 0 1 nothing_bound} {p = 1} (omega arith) ((λ h. absurd (h refl)), tt) ((λ e. cc), tt) (output (apart 1 0 refl) refl no_more)) ((λ x. refl), (omega arith, tt), (apart 0 1 refl, tt)))
+          no_other))
+          (λ x. ((λ i. absurd i), (λ out. inl refl))))
+          ((λ x. refl), tt, tt)))
+          ((λ x. refl), tt, tt))
+          refl)
+          ((λ x. refl), tt, tt);
+      final = tt;
+      kept = (refl, (refl, (refl, ((refl, (refl, (refl, tt))), ((refl, tt), tt)))));
+      allowed = ((λ h. h), omega arith);
+      declared = λ e. absurd (differ e);
+      placed = ((λ e. absurd (differ e)), ((λ e. absurd (differ e)), tt));
+      io = (tt, refl);
+    }
+
+pub negation_in_negation : NegationInNegation
+negation_in_negation = (refl, negations_have_scopes, negations_are_accepted, (refl, refl), (refl, refl))

@@ -170,10 +170,10 @@ calls_alike B P (suc n) (suc m) l h p vs =
 goal_levels : (B : Meaning) (P : Procedures) (n m h : ℕ) → n ≤ m → (goal : Node) (e : Bindings) → cut n (stream B (calls B P n) h goal e) ≡ cut n (stream B (calls B P m) h goal e)
 goal_levels B P n m h l goal e = alike_cut (alike B n (calls B P n) (calls B P m) (calls_alike B P n m l) h goal e)
 
-call_levels : (B : Meaning) (P : Procedures) (n m h : ℕ) → n ≤ m → (k : ℕ) (vs : List (Option Val)) → cut n (below h (λ j. calls B P n j k vs)) ≡ cut n (below h (λ j. calls B P m j k vs))
+pub call_levels : (B : Meaning) (P : Procedures) (n m h : ℕ) → n ≤ m → (k : ℕ) (vs : List (Option Val)) → cut n (below h (λ j. calls B P n j k vs)) ≡ cut n (below h (λ j. calls B P m j k vs))
 call_levels B P n m h l k vs = alike_cut (alike_below n h (λ j. calls B P n j k vs) (λ j. calls B P m j k vs) (λ j. calls_alike B P n m l j k vs))
 
-body_levels : (B : Meaning) (P : Procedures) (n m h : ℕ) → n ≤ m → (q : Procedure) (vs : List (Option Val)) → cut n (body_items B (calls B P n) h q vs) ≡ cut n (body_items B (calls B P m) h q vs)
+pub body_levels : (B : Meaning) (P : Procedures) (n m h : ℕ) → n ≤ m → (q : Procedure) (vs : List (Option Val)) → cut n (body_items B (calls B P n) h q vs) ≡ cut n (body_items B (calls B P m) h q vs)
 body_levels B P n m h l q vs = alike_cut (alike_body B n (calls B P n) (calls B P m) (calls_alike B P n m l) h q vs)
 
 pub levels_suffice : LevelsSuffice

@@ -1,6 +1,7 @@
 pub mod AcceptedAppend
 pub mod AcceptedBranches
 pub mod BareRuns
+pub mod BuiltinModes
 pub mod ClauseNumbers
 pub mod Equality
 pub mod FlatAtoms
@@ -14,6 +15,7 @@ pub mod ListInsts
 pub mod Merging
 pub mod Monotone
 pub mod NoOrder
+pub mod PlainProcedures
 pub mod PredicateGoals
 pub mod Prefixes
 pub mod Refusals

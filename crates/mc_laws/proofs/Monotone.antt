@@ -41,12 +41,12 @@ le_rank Many Zero h = absurd (omega arith)
 le_rank Many One h = absurd (omega arith)
 le_rank Many Many h = refl
 
-to_allows : (d i : Determinism) → allows d i ≡ true → Allows d i
+pub to_allows : (d i : Determinism) → allows d i ≡ true → Allows d i
 to_allows d i e =
     let h = and_parts (implies i.can_fail d.can_fail) (nat_le (rank i.most) (rank d.most)) e in
     (implied i.can_fail d.can_fail h.0, rank_le i.most d.most h.1)
 
-from_allows : (d i : Determinism) → Allows d i → allows d i ≡ true
+pub from_allows : (d i : Determinism) → Allows d i → allows d i ≡ true
 from_allows d i a = and_from (implies i.can_fail d.can_fail) (nat_le (rank i.most) (rank d.most)) (implies_from i.can_fail d.can_fail a.0) (le_rank i.most d.most a.1)
 
 -- a test of all six determinisms

@@ -1,5 +1,5 @@
 -- Programs that are refused.
-use Rattle.std.proofs.Common.{◌≡◌, ◌⊎◌, inl, ℕ, List, [], ◌∷◌, ◌++◌, Option, Some, Bool, true, false, cond, not, ◌&&◌, refl, sym, ap, ap₂, ◌∙◌, subst, arith, ⊎_elim}
+use Rattle.std.proofs.Common.{◌≡◌, inl, inr, ℕ, List, [], ◌∷◌, ◌++◌, Option, Some, Bool, true, false, cond, not, ◌&&◌, refl, sym, ap, ap₂, ◌∙◌, subst, arith, ⊎_elim}
 use Rattle.std.proofs.lemmas.Option.{none-some, same_Some}
 use Rattle.mc_program.specs.Values.{Val, int, char, str, con, state, Vals, no_vals, val_then}
 use Rattle.mc_program.specs.Programs.{TypeTerm, no_types, Source}
@@ -10,16 +10,18 @@ use Rattle.mc_model.specs.Flat.{Flat_goals, no_flat, flat_then, flats, variables
 use Rattle.mc_model.specs.Stream.{is_bound}
 use Rattle.mc_model.specs.Scheduled.{Node, node, Conj, Disj, Apply, Nodes, no_nodes, node_then}
 use Rattle.mc_model.specs.Good.{System}
-use Rattle.mc_accepted.specs.Ordered.{Insts, also, Mode, modes_of, at_outputs, variables_of_node, implied_places, Freshened, firsts, BindsNone, AfterArguments, OrderedNode, OrderedAll, no_more, not_passed, output, implied, dies, keeps, becomes, put, call, apply, implied_alone, conj, neg, some, kept, here, there, done, dropped, next, implied_outputs}
+use Rattle.mc_accepted.specs.Ordered.{Insts, also, Mode, modes_of, at_outputs, variables_of_node, implied_places, Freshened, firsts, BindsNone, AfterArguments, OrderedNode, OrderedAll, no_more, not_passed, output, implied, dies, keeps, becomes, put, call, apply, implied_alone, test, conj, disj, either, no_other, neg, some, kept, here, there, done, dropped, next, implied_outputs}
+use Rattle.mc_accepted.specs.Inclusion.{Merged}
 use Rattle.mc_accepted.specs.Fits.{type_of}
 use Rattle.mc_accepted.specs.Accepted.{entered, AcceptedProcedure}
 use Rattle.mc_model.specs.Outcomes.{inputs_of}
 use Rattle.mc_program.specs.declared.builtin.Builtin.{Builtin}
 use Rattle.mc_program.specs.declared.builtin.Builtin.TheVariants as B
 use Rattle.mc_laws.specs.code.Examples.{cc_nondet}
-use Rattle.mc_laws.specs.code.ExamplesOfRefusals.{source_of, system_of, two_type, one_procedure, one_system, CommittedWithoutAnswers, pred_of, NumbersPastTheSymbols, sum_preds, bracket, sum_procedure, FreshVariableTwice, main_procedure, SwitchBehindWriting, all_preds, any_procedure, AllBindsNothing}
+use Rattle.mc_laws.specs.code.ExamplesOfRefusals.{source_of, system_of, two_type, one_procedure, one_system, CommittedWithoutAnswers, pred_of, NumbersPastTheSymbols, sum_preds, bracket, sum_system, one_for_both, one_for_each, FreshVariableTwice, main_procedure, SwitchBehindWriting, all_preds, any_procedure, AllBindsNothing}
 use Rattle.mc_laws.proofs.FlatGoals.{in_left, in_right}
 use Rattle.mc_laws.proofs.FlatWhole.{is_in_true}
+use Rattle.mc_laws.proofs.AcceptedBranches.{apart_lists}
 use Rattle.mc_laws.proofs.ListInsts.{apart, differ}
 use Rattle.mc_laws.proofs.Switches.{values_are_listed, accepted_switches_open}
 
@@ -63,11 +65,11 @@ pub numbers_past_the_symbols : NumbersPastTheSymbols
 numbers_past_the_symbols = (tt, (λ h. h), only_a)
 
 -- a fresh variable that is used twice
-abbrev sum_system : System
-sum_system = system_of (source_of [] sum_preds) sum_procedure
+abbrev one_sum : System
+one_sum = sum_system one_for_both
 
 abbrev sum_types : ℕ → TypeTerm
-sum_types = type_of sum_system sum_procedure
+sum_types = type_of one_sum one_for_both
 
 -- the goals of a conjunction
 abbrev inside : Node → Nodes
@@ -91,7 +93,7 @@ DisjFirst no_nodes = ⊥
 DisjFirst (node_then n ns) = IsDisj n × HasMore ns
 
 abbrev first_node : Nodes → Node
-first_node no_nodes = node (Conj no_nodes) [] (sum_procedure.det) false
+first_node no_nodes = node (Conj no_nodes) [] (one_for_both.det) false
 first_node (node_then n ns) = n
 
 abbrev rest_of : Nodes → Nodes
@@ -126,9 +128,9 @@ seven true [] tests f e = absurd f
 seven true (z ∷ []) tests f e = absurd f.1
 seven true (z ∷ y ∷ []) tests f e = absurd f.1.1
 seven true (z ∷ y ∷ x ∷ []) [] f e = absurd f.1.1
-seven true (z ∷ y ∷ x ∷ []) (test ∷ tests) f e = inl (sym (ap (λ (t : ℕ × ℕ). t.0) f.1.1.0 ∙ ap (λ l. first_of l) e))
+seven true (z ∷ y ∷ x ∷ []) (pair ∷ tests) f e = inl (sym (ap (λ (t : ℕ × ℕ). t.0) f.1.1.0 ∙ ap (λ l. first_of l) e))
 seven true (z ∷ y ∷ x ∷ w ∷ ws) [] f e = absurd f.1.1
-seven true (z ∷ y ∷ x ∷ w ∷ ws) (test ∷ tests) f e = absurd f.1.1.1
+seven true (z ∷ y ∷ x ∷ w ∷ ws) (pair ∷ tests) f e = absurd f.1.1.1
 seven false [] tests f e = absurd f
 seven false (z ∷ []) tests f e = absurd f.1
 seven false (z ∷ y ∷ []) tests f e = absurd f.1.1
@@ -147,12 +149,12 @@ fresh_seven c op zs tests same =
 plus_outputs : (op : Builtin) → B.IntPlus ≡ op → at_outputs (inputs_of op) (0 ∷ 1 ∷ 2 ∷ []) ≡ 7 ∷ [] → ⊥
 plus_outputs op same = subst (λ (f : Builtin). at_outputs (inputs_of f) (0 ∷ 1 ∷ 2 ∷ []) ≡ 7 ∷ [] → ⊥) same (λ e. apart 2 7 refl (ap (λ l. first_of l) e))
 
-call_outputs : (O Q : List ℕ) (c : Insts) (p : ℕ) (n : Node) (o : Option Insts) → ((op : Builtin) → (sum_preds p).builtin ≡ Some op → B.IntPlus ≡ op) → OrderedNode sum_system sum_types O Q c (F.Call p (0 ∷ 1 ∷ 2 ∷ [])) n o → outputs_of n ≡ 7 ∷ [] → ⊥
+call_outputs : (O Q : List ℕ) (c : Insts) (p : ℕ) (n : Node) (o : Option Insts) → ((op : Builtin) → (sum_preds p).builtin ≡ Some op → B.IntPlus ≡ op) → OrderedNode one_sum sum_types O Q c (F.Call p (0 ∷ 1 ∷ 2 ∷ [])) n o → outputs_of n ≡ 7 ∷ [] → ⊥
 call_outputs O Q c p n o plus (kept (call lt us nd af) k) e = cc
 call_outputs O Q c p n o plus (kept (apply {op = op} q us nd i af) k) e = plus_outputs op (plus op q) e
 call_outputs O Q c p n o plus (kept (implied_alone r) k) e = cc
 
-seven_is_outside : (O Q : List ℕ) (c : Insts) (ns : Nodes) (o : Option Insts) → OrderedAll sum_system sum_types O Q c (flat_then (F.Call 9 (0 ∷ 1 ∷ 2 ∷ [])) no_flat) ns o → In 7 Q → outputs_of (first_node ns) ≡ 7 ∷ [] → ⊥
+seven_is_outside : (O Q : List ℕ) (c : Insts) (ns : Nodes) (o : Option Insts) → OrderedAll one_sum sum_types O Q c (flat_then (F.Call 9 (0 ∷ 1 ∷ 2 ∷ [])) no_flat) ns o → In 7 Q → outputs_of (first_node ns) ≡ 7 ∷ [] → ⊥
 seven_is_outside O Q c ns o (dropped {n = n} here h) i e = call_outputs _ _ c 9 n _ is_plus h e
 seven_is_outside O Q c ns o (dropped (there q) h) i e = elim q [ ]
 seven_is_outside O Q c ns o (next {n = n} here h r) i e = call_outputs _ _ c 9 n _ is_plus h e
@@ -164,14 +166,98 @@ seven_is_outside O Q c ns o (implied_outputs tests (there p) q m f nd d a y u im
 abbrev bracket_goals : Flat_goals
 bracket_goals = flats (F.And (flats (F.Call 9 (0 ∷ 0 ∷ 1 ∷ []) ∷ F.Same 0 0 ∷ [])) ∷ [])
 
-pub fresh_variable_twice : FreshVariableTwice
-fresh_variable_twice a =
+twice_is_refused : AcceptedProcedure one_sum one_for_both → ⊥
+twice_is_refused a =
     let head : List ℕ = 0 ∷ 1 ∷ 2 ∷ [] in
     let before : Insts = entered head (1 ∷ 1 ∷ 1 ∷ []) in
     let goals : Flat_goals = flats (F.Or bracket_goals ∷ F.Call 9 head ∷ []) in
-    let all = conj_inside sum_system sum_types head head before goals sum_procedure.body a.after a.ordered in
-    let rest = after_disj sum_system sum_types head head before bracket_goals 9 head (inside sum_procedure.body) a.after all (tt, tt) in
-    seven_is_outside (head ++ variables_of (F.Or bracket_goals)) (head ++ variables_of_node bracket) rest.0 (rest_of (inside sum_procedure.body)) a.after rest.1 (is_in_true 7 (head ++ variables_of_node bracket) refl) refl
+    let all = conj_inside one_sum sum_types head head before goals one_for_both.body a.after a.ordered in
+    let rest = after_disj one_sum sum_types head head before bracket_goals 9 head (inside one_for_both.body) a.after all (tt, tt) in
+    seven_is_outside (head ++ variables_of (F.Or bracket_goals)) (head ++ variables_of_node (bracket false)) rest.0 (rest_of (inside one_for_both.body)) a.after rest.1 (is_in_true 7 (head ++ variables_of_node (bracket false)) refl) refl
+
+-- with a fresh variable for each sum it is accepted
+abbrev two_sums : System
+two_sums = sum_system one_for_each
+
+abbrev each_type : ℕ → TypeTerm
+each_type = type_of two_sums one_for_each
+
+abbrev three : List ℕ
+three = 0 ∷ 1 ∷ 2 ∷ []
+
+abbrev all_in : Insts
+all_in = entered three (1 ∷ 1 ∷ 1 ∷ [])
+
+abbrev in_brackets : Insts
+in_brackets = also 7 1 all_in
+
+abbrev summed : Insts
+summed = also 6 1 all_in
+
+ground_alone : (t : TypeTerm) → Merged two_sums.world.source two_sums.insts (1 ∷ []) 1 t
+ground_alone t = (
+  ((λ e. cc), tt),
+  ((λ e. cc), tt),
+  record { above = ((λ path e a. a), tt); least = λ H q h m. m.0 },
+)
+
+by_three : (Q : ℕ → Type 0) → Q 0 → Q 1 → Q 2 → (x : ℕ) → In x (three ++ three) → Q x
+by_three Q a b c x h =
+    ⊎_elim (λ e. subst Q (sym e) a) (λ h. ⊎_elim (λ e. subst Q (sym e) b) (λ h. ⊎_elim (λ e. subst Q (sym e) c)
+    (λ h. ⊎_elim (λ e. subst Q (sym e) a) (λ h. ⊎_elim (λ e. subst Q (sym e) b) (λ h. ⊎_elim (λ e. subst Q (sym e) c) (λ h. absurd h) h) h) h) h) h) h
+
+brackets_are_ordered : OrderedNode two_sums each_type (three ++ three) (three ++ (0 ∷ 1 ∷ 6 ∷ 6 ∷ 2 ∷ [])) all_in (F.Or bracket_goals) (bracket true) (Some all_in)
+brackets_are_ordered =
+    kept
+    (disj {os = Some in_brackets ∷ []}
+    (either
+    (kept
+    (conj
+    (implied_outputs {c = in_brackets} {op = B.IntPlus} {zs = 0 ∷ 0 ∷ 7 ∷ []} ((7, 1) ∷ []) here refl refl (refl, (refl, (refl, refl))) ((λ e. cc), ((λ e. cc), ((λ e. cc), tt))) ((λ i. i), tt)
+    (apart_lists (7 ∷ []) (0 ∷ 1 ∷ 2 ∷ 0 ∷ 1 ∷ 2 ∷ 0 ∷ 1 ∷ 2 ∷ 0 ∷ 1 ∷ 6 ∷ 6 ∷ 2 ∷ 0 ∷ 0 ∷ 1 ∷ 0 ∷ 0 ∷ []) refl) (refl, apart 1 0 refl, apart 1 0 refl, tt)
+    ((λ h. (refl, (λ path e a. a), (λ e. cc))), ((λ h. (refl, (λ path e a. a), (λ e. cc))), ((λ h. absurd (h refl)), tt)))
+    refl
+    (keeps (apart 1 0 refl) (λ e. cc) (λ path e a. a) (keeps (apart 1 0 refl) (λ e. cc) (λ path e a. a) (output (apart 1 0 refl) refl no_more)))
+    ((λ x. refl), (omega arith, tt), (apart 0 1 refl, tt))
+    (next here (kept (test (apart 1 0 refl) (apart 1 0 refl) refl ((λ e. cc), ((λ e. cc), tt))) ((λ x. refl), tt, tt)) done)))
+    ((λ x. refl), (omega arith, tt), (apart 0 1 refl, tt)))
+    no_other)
+    (λ x. (
+      by_three (λ y. Merged two_sums.world.source two_sums.insts (in_brackets y ∷ []) (all_in y) (each_type y)) (ground_alone (each_type 0)) (ground_alone (each_type 1)) (ground_alone (each_type 2)) x,
+      (λ out. inr refl),
+    )))
+    ((λ x. refl), tt, tt)
+
+sums_are_ordered : OrderedNode two_sums each_type three three all_in (F.And (flats (F.Or bracket_goals ∷ F.Call 9 three ∷ []))) one_for_each.body (Some summed)
+sums_are_ordered =
+    kept
+    (conj
+    (next here brackets_are_ordered
+    (implied_outputs {c = summed} {op = B.IntPlus} {zs = 0 ∷ 1 ∷ 6 ∷ []} ((6, 2) ∷ []) here refl refl (refl, (refl, (refl, refl))) ((λ e. cc), ((λ e. cc), ((λ e. cc), tt))) ((λ i. i), tt)
+    (apart_lists (6 ∷ []) (0 ∷ 1 ∷ 2 ∷ 0 ∷ 0 ∷ 1 ∷ 0 ∷ 0 ∷ 0 ∷ 1 ∷ 2 ∷ 0 ∷ 0 ∷ 7 ∷ 7 ∷ 1 ∷ 0 ∷ 0 ∷ 0 ∷ 1 ∷ 2 ∷ []) refl) (refl, apart 1 0 refl, apart 1 0 refl, tt)
+    ((λ h. (refl, (λ path e a. a), (λ e. cc))), ((λ h. (refl, (λ path e a. a), (λ e. cc))), ((λ h. absurd (h refl)), tt)))
+    refl
+    (keeps (apart 1 0 refl) (λ e. cc) (λ path e a. a) (keeps (apart 1 0 refl) (λ e. cc) (λ path e a. a) (output (apart 1 0 refl) refl no_more)))
+    ((λ x. refl), (omega arith, tt), (apart 0 1 refl, tt)) done)))
+    ((λ x. refl), (omega arith, tt), (apart 0 1 refl, tt))
+
+each_is_accepted : AcceptedProcedure two_sums one_for_each
+each_is_accepted =
+    record {
+      head = refl;
+      lengths = (refl, refl);
+      after = Some summed;
+      ordered = sums_are_ordered;
+      final = ((λ path e a. a), ((λ path e a. a), ((λ path e a. a), tt)));
+      kept = (refl, ((refl, ((refl, ((refl, tt), ((refl, tt), ((refl, tt), tt)))), tt)), ((refl, tt), ((refl, tt), tt))));
+      allowed = ((λ h. h), omega arith);
+      declared = λ e. absurd (differ e);
+      placed = (((tt, (tt, (tt, tt))), tt), (tt, (tt, tt)));
+      io = (tt, ((tt, ((λ e f. absurd (differ f)), ((tt, ((tt, tt), ((tt, tt), ((tt, tt), tt)))), tt))), ((tt, tt), ((tt, tt), tt))));
+    }
+
+pub fresh_variable_twice : FreshVariableTwice
+fresh_variable_twice = (twice_is_refused, each_is_accepted)
 
 -- a switch behind a goal that writes
 pub switch_behind_writing : SwitchBehindWriting

@@ -16,7 +16,7 @@ in_or_out x xs = by_test (is_in x xs) (is_in_true x xs) (in_list x xs)
     by_test true f g = inl (f refl)
     by_test false f g = inr (λ i. let e : false ≡ true = g i in cc)
 
-out_of_without : (x : ℕ) (xs vs : List ℕ) → In x (without xs vs) → In x vs → ⊥
+pub out_of_without : (x : ℕ) (xs vs : List ℕ) → In x (without xs vs) → In x vs → ⊥
 out_of_without x [] vs h i = h
 out_of_without x (y ∷ ys) vs h i = by_test (is_in y vs) (in_list y vs) h (λ j. out_of_without x ys vs j i)
   where
@@ -33,7 +33,7 @@ nothing_left (y ∷ ys) vs h = by_test (is_in y vs) (in_list y vs (h y (inl refl
     by_test false e rest = cc
 
 -- lists behind lists
-wider : (X Y Z : List ℕ) → Among X Y → Among (X ++ Z) (Y ++ Z)
+pub wider : (X Y Z : List ℕ) → Among X Y → Among (X ++ Z) (Y ++ Z)
 wider X Y Z h x i = ⊎_elim (λ a. in_left x Y Z (h x a)) (λ b. in_right x Y Z b) (in_either x X Z i)
 
 between : (X Y vs ys : List ℕ) → Among X Y → Among (X ++ ys) (Y ++ (vs ++ ys))
@@ -75,26 +75,26 @@ condition_around X O Q vs ys h x i =
     (in_either x (O ++ ys) (Q ++ vs) i)
 
 -- the variables that a goal quantifies by itself
-abbrev own : List ℕ → Formula → List ℕ
+abbrev pub own : List ℕ → Formula → List ℕ
 own X g = once (without (free_of g) X)
 
-is_own : (x : ℕ) (X : List ℕ) (g : Formula) → In x (free_of g) → (In x X → ⊥) → In x (own X g)
+pub is_own : (x : ℕ) (X : List ℕ) (g : Formula) → In x (free_of g) → (In x X → ⊥) → In x (own X g)
 is_own x X g i out = in_once x (without (free_of g) X) (in_without x (free_of g) X i out)
 
-own_is_out : (x : ℕ) (X : List ℕ) (g : Formula) → In x (own X g) → In x X → ⊥
+pub own_is_out : (x : ℕ) (X : List ℕ) (g : Formula) → In x (own X g) → In x X → ⊥
 own_is_out x X g i j = out_of_without x (free_of g) X (from_once x (without (free_of g) X) i) j
 
-free_quantified : (x : ℕ) (vs : List ℕ) (g : Formula) → In x (free_of (quantified vs g)) → In x (free_of g) × (In x vs → ⊥)
+pub free_quantified : (x : ℕ) (vs : List ℕ) (g : Formula) → In x (free_of (quantified vs g)) → In x (free_of g) × (In x vs → ⊥)
 free_quantified x [] g i = (i, (λ j. j))
 free_quantified x (v ∷ vs) g i = (from_without x (free_of g) (v ∷ vs) i, out_of_without x (free_of g) (v ∷ vs) i)
 
 -- writing scopes out leaves what occurs in a goal
-occurs_quantified : (vs : List ℕ) (g : Formula) → occurring (quantified vs g) ≡ occurring g
+pub occurs_quantified : (vs : List ℕ) (g : Formula) → occurring (quantified vs g) ≡ occurring g
 occurs_quantified [] g = refl
 occurs_quantified (v ∷ vs) g = refl
 
 mutual
-  occurs : (X : List ℕ) (g : Formula) → occurring (scoped X g) ≡ occurring g
+  pub occurs : (X : List ℕ) (g : Formula) → occurring (scoped X g) ≡ occurring g
   occurs X (Equal a b) = refl
   occurs X (Call p ts) = refl
   occurs X (And gs) = parts_occur X gs
@@ -104,17 +104,17 @@ mutual
   occurs X (Not g) = occurs_quantified (own X (scoped X g)) (scoped X g) ∙ occurs X g
   occurs X (Exists vs g) = occurs (X ++ vs) g
 
-  parts_occur : (X : List ℕ) (gs : Formulas) → occurring_all (scoped_parts X gs) ≡ occurring_all gs
+  pub parts_occur : (X : List ℕ) (gs : Formulas) → occurring_all (scoped_parts X gs) ≡ occurring_all gs
   parts_occur X no_formulas = refl
   parts_occur X (formula_then g gs) = ap₂ (λ xs ys. xs ++ ys) (occurs (X ++ occurring_all gs) g) (parts_occur (X ++ occurring g) gs)
 
-  disjuncts_occur : (X : List ℕ) (gs : Formulas) → occurring_all (scoped_disjuncts X gs) ≡ occurring_all gs
+  pub disjuncts_occur : (X : List ℕ) (gs : Formulas) → occurring_all (scoped_disjuncts X gs) ≡ occurring_all gs
   disjuncts_occur X no_formulas = refl
   disjuncts_occur X (formula_then g gs) = ap₂ (λ xs ys. xs ++ ys) (occurs X g) (disjuncts_occur X gs)
 
 -- each variable that is free in a negation or a condition is one of those around it
 abbrev mutual
-  Written : List ℕ → Formula → Type 0
+  pub Written : List ℕ → Formula → Type 0
   Written X (Equal a b) = Unit {0}
   Written X (Call p ts) = Unit {0}
   Written X (And gs) = PartsWritten X gs
@@ -123,11 +123,11 @@ abbrev mutual
   Written X (Not g) = Among (free_of g) X × Written X g
   Written X (Exists vs g) = Written (X ++ vs) g
 
-  PartsWritten : List ℕ → Formulas → Type 0
+  pub PartsWritten : List ℕ → Formulas → Type 0
   PartsWritten X no_formulas = Unit {0}
   PartsWritten X (formula_then g gs) = Written (X ++ occurring_all gs) g × PartsWritten (X ++ occurring g) gs
 
-  DisjunctsWritten : List ℕ → Formulas → Type 0
+  pub DisjunctsWritten : List ℕ → Formulas → Type 0
   DisjunctsWritten X no_formulas = Unit {0}
   DisjunctsWritten X (formula_then g gs) = Written X g × DisjunctsWritten X gs
 
@@ -163,7 +163,7 @@ written_quantified X [] g w = w
 written_quantified X (v ∷ vs) g w = more X (X ++ (v ∷ vs)) g (λ x i. in_left x X (v ∷ vs) i) w
 
 mutual
-  written : (X : List ℕ) (g : Formula) → Written X (scoped X g)
+  pub written : (X : List ℕ) (g : Formula) → Written X (scoped X g)
   written X (Equal a b) = tt
   written X (Call p ts) = tt
   written X (And gs) = parts_written X gs
@@ -190,14 +190,14 @@ mutual
       )
   written X (Exists vs g) = written (X ++ vs) g
 
-  parts_written : (X : List ℕ) (gs : Formulas) → PartsWritten X (scoped_parts X gs)
+  pub parts_written : (X : List ℕ) (gs : Formulas) → PartsWritten X (scoped_parts X gs)
   parts_written X no_formulas = tt
   parts_written X (formula_then g gs) = (
     subst (λ l. Written (X ++ l) (scoped (X ++ occurring_all gs) g)) (sym (parts_occur (X ++ occurring g) gs)) (written (X ++ occurring_all gs) g),
     subst (λ l. PartsWritten (X ++ l) (scoped_parts (X ++ occurring g) gs)) (sym (occurs (X ++ occurring_all gs) g)) (parts_written (X ++ occurring g) gs),
   )
 
-  disjuncts_written : (X : List ℕ) (gs : Formulas) → DisjunctsWritten X (scoped_disjuncts X gs)
+  pub disjuncts_written : (X : List ℕ) (gs : Formulas) → DisjunctsWritten X (scoped_disjuncts X gs)
   disjuncts_written X no_formulas = tt
   disjuncts_written X (formula_then g gs) = (written X g, disjuncts_written X gs)
 

@@ -5,6 +5,7 @@ pub mod ExamplesOfGoals
 pub mod ExamplesOfLegalGoals
 pub mod ExamplesOfLists
 pub mod ExamplesOfModes
+pub mod ExamplesOfPlainGoals
 pub mod ExamplesOfProcedures
 pub mod ExamplesOfRefusals
 pub mod ExamplesOfRuns

@@ -3,12 +3,13 @@
 ghost use Rattle.mc_laws.specs.code.ExamplesOfBranches.{BranchesAreAccepted};
 ghost use Rattle.mc_laws.specs.code.ExamplesOfBuiltins.{NumbersWrap, DivisionRounds, DivisionAtItsEnds, Comparisons, NumbersInTexts, CharactersInTexts, Writing, Reading, InPrograms};
 ghost use Rattle.mc_laws.specs.code.ExamplesOfGoals.{NegationsQuantify, ConditionsQuantify, ScopesAreWritten, ScopesInScopes, NormalGoals, QueriesAsk, NormalVariables};
-ghost use Rattle.mc_laws.specs.code.ExamplesOfLegalGoals.{ConditionAnswersOnce, BuiltinAlone, SwitchThroughSome, BranchesUnderSome};
+ghost use Rattle.mc_laws.specs.code.ExamplesOfLegalGoals.{ConditionAnswersOnce, BuiltinAlone, SwitchThroughSome, FreeVariables, BranchesUnderSome, NegationInNegation};
+ghost use Rattle.mc_laws.specs.code.ExamplesOfPlainGoals.{PlainProcedures};
 ghost use Rattle.mc_laws.specs.code.ExamplesOfLists.{Facts, Appends, Members, Queens};
 ghost use Rattle.mc_laws.specs.code.ExamplesOfModes.{Determinisms, CommittedCalls, IoGoals, GoalsWithoutOrder};
 ghost use Rattle.mc_laws.specs.code.ExamplesOfProcedures.{AppendIsAccepted};
 ghost use Rattle.mc_laws.specs.code.ExamplesOfRefusals.{CommittedWithoutAnswers, NumbersPastTheSymbols, FreshVariableTwice, SwitchBehindWriting, AllBindsNothing};
-ghost use Rattle.mc_laws.specs.code.ExamplesOfRuns.{Order, Budgets, Depths, Throws, Output};
+ghost use Rattle.mc_laws.specs.code.ExamplesOfRuns.{Order, RunEvents, Budgets, Depths, Throws, Output};
 
 /// What builtins do at some inputs.
 pub fn builtins()
@@ -46,6 +47,16 @@ pub fn queens()
 /// A conjunction whose goals run in another order than they are written.
 pub fn order()
     ensures { Order }
+{}
+
+/// The events of a run, and the values of an answer.
+pub fn run_events()
+    ensures { RunEvents }
+{}
+
+/// The plain view of a procedure value.
+pub fn plain_procedures()
+    ensures { PlainProcedures }
 {}
 
 /// Runs that a budget, or the depth, stops, and runs that they just allow.
@@ -119,5 +130,7 @@ pub fn legal_goals()
     ensures condition_answers_once { ConditionAnswersOnce }
     ensures builtin_alone { BuiltinAlone }
     ensures switch_through_some { SwitchThroughSome }
+    ensures free_variables { FreeVariables }
     ensures branches_under_some { BranchesUnderSome }
+    ensures negation_in_negation { NegationInNegation }
 {}

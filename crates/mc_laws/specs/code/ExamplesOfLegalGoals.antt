@@ -1,12 +1,14 @@
 -- Procedures with scopes, builtins and switches of less common forms, all of which are accepted.
-use Rattle.std.specs.Prelude.{ℕ, zero, suc, List, [], ◌∷◌, nat_eq, true, false, pos, Some, None, codes, if◌then◌else◌}
+use Rattle.std.specs.Prelude.{◌≡◌, ◌≢◌, ℕ, zero, suc, List, [], ◌∷◌, map, nat_eq, true, false, pos, Some, None, codes, if◌then◌else◌}
 use Rattle.mc_program.specs.Values.{int}
 use Rattle.mc_program.specs.Programs.{int_type, made, no_expressions, variable, Equal, If, Not, Exists, ClauseForm, Predicate}
 use Rattle.mc_model.specs.Scheduled as S
 use Rattle.mc_model.specs.Scheduled.{Node, node, for_symbol, nodes, no_arms, arm_then, Procedure}
 use Rattle.mc_model.specs.Good.{System}
+use Rattle.mc_accepted.specs.Scope.{clause_scoped, ClauseHasScopes}
+use Rattle.mc_accepted.specs.Ordered.{variables_of_node, free_in_node}
 use Rattle.mc_accepted.specs.Accepted.{AcceptedProcedure}
-use Rattle.mc_laws.specs.code.Examples.{nil, cell, det, semidet, ints, Answers, started, plenty}
+use Rattle.mc_laws.specs.code.Examples.{nil, cell, det, semidet, nondet, ints, numbered, Answers, started, plenty}
 use Rattle.mc_laws.specs.code.ExamplesOfGoals.{call_of, both, either, only, plus, sum, number}
 use Rattle.mc_laws.specs.code.ExamplesOfBranches.{is_cell, nothing}
 use Rattle.mc_laws.specs.code.ExamplesOfLists.{member_of}
@@ -150,6 +152,15 @@ len_procedure =
 abbrev pub SwitchThroughSome : Type 0
 SwitchThroughSome = AcceptedProcedure (lists_with len_preds len_procedure) len_procedure
 
+-- The variables of scheduled goals that no part of them quantifies: not 5 of the second arm, and not
+-- 2 of the condition, though it stands in the goal.
+abbrev pub FreeVariables : Type 0
+FreeVariables =
+    (free_in_node len_cell ≡ 0 ∷ 2 ∷ 3 ∷ 3 ∷ 4 ∷ 4 ∷ 1 ∷ [])
+    × (free_in_node has_procedure.body ≡ 0 ∷ 1 ∷ 1 ∷ [])
+    × (variables_of_node has_procedure.body ≡ 2 ∷ 2 ∷ 0 ∷ 1 ∷ 1 ∷ [])
+    × (free_in_node has_procedure.body ≢ variables_of_node has_procedure.body)
+
 -- `r :- some [X] ( X = 1 ; true ).`: X is bound in one branch alone, but doesn't occur outside
 abbrev pub some_preds : ℕ → Predicate
 some_preds k = pred_of (codes "r") 0 [] (only [] (Exists (0 ∷ []) (either (is 0 1) nothing)))
@@ -177,3 +188,94 @@ some_procedure =
 
 abbrev pub BranchesUnderSome : Type 0
 BranchesUnderSome = AcceptedProcedure (lists_with some_preds some_procedure) some_procedure
+
+-- `s :- not ( not p(X) ; q(X) ).`: each negation quantifies its own X, so that s is true where p is
+-- true of something and q of nothing
+abbrev pub negations_written : ClauseForm
+negations_written =
+    record {
+      head = [];
+      body = Not (either (Not (call_of 0 (0 ∷ []))) (call_of 1 (0 ∷ [])));
+    }
+
+abbrev pub negations_clause : ClauseForm
+negations_clause =
+    record {
+      head = [];
+      body =
+          Not
+          (Exists (0 ∷ [])
+          (either (Not (Exists (0 ∷ []) (call_of 0 (0 ∷ [])))) (call_of 1 (0 ∷ []))));
+    }
+
+abbrev pub negations_preds : ℕ → Predicate
+negations_preds zero = pred_of (codes "p") 1 (int_type ∷ []) []
+negations_preds (suc zero) = pred_of (codes "q") 1 (int_type ∷ []) []
+negations_preds (suc (suc k)) = pred_of (codes "s") 0 [] (negations_clause ∷ [])
+
+-- the facts of p, or of q, each about a number
+abbrev pub facts_of : ℕ → List ℕ → Procedure
+facts_of k ns =
+    record {
+      pred = k;
+      head = 0 ∷ [];
+      first = 0 ∷ [];
+      last = 1 ∷ [];
+      body = node (S.Disj (nodes (map (is_constant 0) ns))) ((0, 1) ∷ []) nondet false;
+      det = nondet;
+      var_types = int_type ∷ [];
+    }
+
+-- a call that binds X, which doesn't occur outside the body
+abbrev pub found_by : ℕ → Node
+found_by k = node (S.Call k (0 ∷ []) [] false) ((0, 1) ∷ []) semidet true
+
+abbrev pub found_by_none : Node
+found_by_none =
+    node (S.Not (node (S.Exists (0 ∷ []) (found_by 0)) ((0, 1) ∷ []) semidet true)) [] semidet true
+
+abbrev pub negations_procedure : Procedure
+negations_procedure =
+    record {
+      pred = 2;
+      head = [];
+      first = [];
+      last = [];
+      body =
+          node
+          (S.Not
+          (node
+          (S.Exists (0 ∷ [])
+          (node (S.Disj (nodes (found_by_none ∷ found_by 1 ∷ []))) [] semidet true))
+          [] semidet true))
+          [] semidet true;
+      det = semidet;
+      var_types = int_type ∷ [];
+    }
+
+-- `p(1). p(2).`, and what q is true of
+abbrev pub negations_program : List ℕ → List Procedure
+negations_program ns =
+    facts_of 0 (1 ∷ 2 ∷ []) ∷ facts_of 1 ns ∷ negations_procedure ∷ []
+
+abbrev pub negations_system : System
+negations_system =
+    record {
+      world =
+          record {
+            source = record list_source { preds = negations_preds };
+            outcome = nothing_done;
+          };
+      count = 3;
+      procs = numbered (negations_program (3 ∷ []));
+      insts = list_insts;
+    }
+
+-- it is accepted, with the scopes that are written out; where q is true of nothing it answers once
+abbrev pub NegationInNegation : Type 0
+NegationInNegation =
+    (clause_scoped negations_written ≡ negations_clause)
+    × ClauseHasScopes negations_clause
+    × AcceptedProcedure negations_system negations_procedure
+    × Answers (started (negations_program (3 ∷ [])) plenty plenty 2 []) []
+    × Answers (started (negations_program []) plenty plenty 2 []) ([] ∷ [])

@@ -5,7 +5,7 @@ use Rattle.mc_program.specs.Programs.{TypeTerm, variable_type, union_type, no_ty
 use Rattle.mc_program.specs.PlainPrograms.{no_symbol, no_pred}
 use Rattle.mc_model.specs.Insts.{Listed, free, ground, unique, dead, bound, Graph}
 use Rattle.mc_model.specs.Outcomes.{Outcome, fails}
-use Rattle.mc_model.specs.Scheduled.{for_symbol, Node, node, Conj, Switch, Assign, Build, Take, Call, nodes, no_arms, arm_then, Procedure}
+use Rattle.mc_model.specs.Scheduled.{for_symbol, Node, node, Conj, Disj, Switch, Assign, Build, Take, Call, nodes, no_arms, arm_then, Procedure}
 use Rattle.mc_model.specs.Good.{System}
 use Rattle.mc_accepted.specs.ProperTypes.{Parameters}
 use Rattle.mc_accepted.specs.Fits.{Fits}
@@ -102,6 +102,11 @@ cell_arm =
     ((0, 5) ∷ (2, 5) ∷ (3, 1) ∷ (4, 1) ∷ (5, 1) ∷ [])
     det
     false
+
+-- the two in the order of the clauses, before they are a switch
+abbrev pub append_goals : Node
+append_goals =
+    node (Disj (nodes (empty_arm ∷ cell_arm ∷ []))) ((0, 6) ∷ (2, 1) ∷ []) det false
 
 -- the switch, with the determinism that is kept of it
 abbrev pub append_body : Det → Node

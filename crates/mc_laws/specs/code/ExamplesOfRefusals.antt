@@ -1,6 +1,6 @@
 -- Programs that are refused, since their runs would not be good: each breaks one rule of accepted
 -- procedures.
-use Rattle.std.specs.Prelude.{◌≡◌, ℕ, zero, suc, List, [], ◌∷◌, nat_eq, true, false, pos, Some, None, codes, if◌then◌else◌}
+use Rattle.std.specs.Prelude.{◌≡◌, ℕ, zero, suc, List, [], ◌∷◌, nat_eq, replicate, Bool, true, false, pos, Some, None, codes, if◌then◌else◌}
 use Rattle.mc_program.specs.Values.{Val, int, con, no_vals}
 use Rattle.mc_program.specs.Programs.{TypeTerm, int_type, state_type, union_type, no_types, made, no_expressions, variable, Formula, Equal, Or, Exists, Not, Constructor, ClauseForm, Predicate, Source}
 use Rattle.mc_program.specs.PlainPrograms.{formulas, no_symbol}
@@ -140,33 +140,49 @@ tested x y = node (S.Test x y) [] semidet true
 abbrev pub sum_of : (x y z : ℕ) → Node
 sum_of x y z = node (S.Apply B.IntPlus (x ∷ y ∷ []) (z ∷ [])) ((z, 1) ∷ []) det false
 
--- both sums stand as the variable 7, which is tested against Y and against Z
-abbrev pub bracket : Node
-bracket =
+-- the sum in brackets stands as the fresh variable 7, which is tested against Y; where no goal after
+-- it has 7, the goals in brackets are pruned
+abbrev pub bracket : (pruned : Bool) → Node
+bracket pruned =
     node
     (S.Disj
     (nodes
-    (node (S.Conj (nodes (sum_of 0 0 7 ∷ tested 7 1 ∷ tested 0 0 ∷ []))) ((7, 1) ∷ []) semidet false
+    (node (S.Conj (nodes (sum_of 0 0 7 ∷ tested 7 1 ∷ tested 0 0 ∷ []))) ((7, 1) ∷ []) semidet
+    pruned
     ∷ [])))
     [] semidet true
 
-abbrev pub sum_procedure : Procedure
-sum_procedure =
+-- all variables are of type `int`; the sum of X and Y stands as this fresh variable, which is tested
+-- against Z
+abbrev pub sum_procedure : (pruned : Bool) → (fresh : ℕ) → Procedure
+sum_procedure pruned fresh =
     record {
       pred = 0;
       head = 0 ∷ 1 ∷ 2 ∷ [];
       first = 1 ∷ 1 ∷ 1 ∷ [];
       last = 1 ∷ 1 ∷ 1 ∷ [];
       body =
-          node (S.Conj (nodes (bracket ∷ sum_of 0 1 7 ∷ tested 7 2 ∷ []))) ((7, 1) ∷ []) semidet
-          true;
+          node (S.Conj (nodes (bracket pruned ∷ sum_of 0 1 fresh ∷ tested fresh 2 ∷ [])))
+          ((fresh, 1) ∷ []) semidet true;
       det = semidet;
-      var_types = three_ints;
+      var_types = replicate 8 int_type;
     }
 
+abbrev pub sum_system : Procedure → System
+sum_system = system_of (source_of [] sum_preds)
+
+-- one fresh variable for both sums, and two
+abbrev pub one_for_both : Procedure
+one_for_both = sum_procedure false 7
+
+abbrev pub one_for_each : Procedure
+one_for_each = sum_procedure true 6
+
+-- a fresh variable stands nowhere else
 abbrev pub FreshVariableTwice : Type 0
 FreshVariableTwice =
-    AcceptedProcedure (system_of (source_of [] sum_preds) sum_procedure) sum_procedure → ⊥
+    (AcceptedProcedure (sum_system one_for_both) one_for_both → ⊥)
+    × AcceptedProcedure (sum_system one_for_each) one_for_each
 
 -- `main(!IO) :- X = a, ( X = a, nl(!IO) ; nl(!IO), X = b ).`; 9 is the number of `nl`
 abbrev pub line : Formula

@@ -1,7 +1,10 @@
 -- Programs over numbers and io, and what their runs do with a budget and a depth.
-use Rattle.std.specs.Prelude.{◌≡◌, ◌≢◌, ℕ, List, [], ◌∷◌, ◌++◌, Option, Some, None, pos, codes}
+use Rattle.std.specs.Prelude.{◌≡◌, ◌≢◌, ℕ, List, [], ◌∷◌, ◌++◌, map, Option, Some, None, pos, codes}
 use Rattle.mc_program.specs.Values.{Val, int, str, state}
 use Rattle.mc_model.specs.EventList.{zero_divide, budget, too_deep, thrown, written}
+use Rattle.mc_model.specs.Events as E
+use Rattle.mc_model.specs.Events.{events_of, bound_values, plain_item}
+use Rattle.mc_model.specs.declared.run.Item.TheVariants as I
 use Rattle.mc_model.specs.Scheduled.{Label, for_symbol, for_constant, Node, Ite, Exists, Assign, Build, Take, Const, TestConst, Procedure}
 use Rattle.mc_laws.specs.code.Examples.{det, semidet, multi, nondet, goal, once, all_of, one_of, switch_on, call, apply, number, free_inst, ground_inst, procedure, query, nil, cell, Shown, called, answered, wrote, at_end, at_stop, ending, answers_of, calls_of, Shows, asked, started, plenty}
 use Rattle.mc_program.specs.declared.builtin.Builtin.TheVariants as B
@@ -104,6 +107,16 @@ Order =
     × Shows (asked order 3 plenty p_of_one) (called 0 ∷ called 1 ∷ called 2 ∷ int_is 30 ∷ [])
     (at_stop budget)
     × (answers_of (asked order 3 plenty p_of_one) ≢ answers_of (asked order 4 plenty p_of_one))
+
+-- The events of that run as a program keeps them: of an answer the values that are bound.
+abbrev pub RunEvents : Type 0
+RunEvents =
+    (events_of (asked order 3 plenty p_of_one)
+    ≡ E.called 0 ∷ E.called 1 ∷ E.called 2 ∷ E.answered (int (pos 30) ∷ []) ∷ [])
+    × (bound_values (Some (int (pos 1)) ∷ None ∷ Some (int (pos 2)) ∷ [])
+    ≡ int (pos 1) ∷ int (pos 2) ∷ [])
+    × (map plain_item (I.Call 0 ∷ I.Call 1 ∷ I.Call 2 ∷ [])
+    ≢ events_of (asked order 3 plenty p_of_one))
 
 -- depth(N, D) :- ( if N = 0 then D = 0 else depth(N - 1, D0), D = D0 + 1 ).  loop :- loop.
 abbrev deep : List Procedure

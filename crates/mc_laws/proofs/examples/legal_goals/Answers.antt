@@ -1,5 +1,5 @@
 use Rattle.std.proofs.Common.{refl}
-use Rattle.mc_laws.proofs.LegalGoals.{has_is_accepted, builtin_alone, switch_through_some, branches_under_some}
+use Rattle.mc_laws.proofs.LegalGoals.{has_is_accepted, builtin_alone, switch_through_some, branches_under_some, negation_in_negation}
 use Rattle.mc_laws.proofs.examples.legal_goals.Goals as goal
 
 pub returns-clause-condition_answers_once : goal.returns-clause-condition_answers_once
@@ -13,3 +13,9 @@ returns-clause-switch_through_some c = switch_through_some
 
 pub returns-clause-branches_under_some : goal.returns-clause-branches_under_some
 returns-clause-branches_under_some c = branches_under_some
+
+pub returns-clause-negation_in_negation : goal.returns-clause-negation_in_negation
+returns-clause-negation_in_negation c = negation_in_negation
+
+pub returns-clause-free_variables : goal.returns-clause-free_variables
+returns-clause-free_variables c = (refl, refl, refl, (λ e. cc))
