@@ -188,8 +188,20 @@ module _ (d : Database) (q : Question) (θ : TypeChoice) where
       (answered_good d (Some q) θ C (length d.relations) us (query_procedure d q).body (open_arguments d q) c rows (ap (λ (π : Predicate). π.types) the_query) f (length_open d q) given (query_yes m asks f)
       (λ ws x n. query_no m ws asks (extended_length (from 0 (length us)) ws x ∙ length_open d q) n))
 
+-- none is of main's form: there is no input
+not_a_state : (us : List ℕ) → firsts us ≡ 2 ∷ 0 ∷ [] → ⊥
+not_a_state [] e = cc
+not_a_state (u ∷ us) e = zero_two (ap (λ is. get_or is 0 0) e)
+  where
+    zero_two : (◌≡◌ {A = ℕ} 0 2) → ⊥
+    zero_two e = omega (arith, e)
+
 pub procedures_good : FactsAreGood
-procedures_good d q fits θ n h k vs less given = procedure_good d q θ n h k vs fits less given
+procedures_good d q fits =
+    record {
+      runs = λ θ n h k vs less given. procedure_good d q θ n h k vs fits less given;
+      writes = λ θ n h k vs less takes given. absurd (not_a_state (relation_at d k).types takes.first);
+    }
 
 pub queries_good : QueriesAreGood
 queries_good d q fits asks n h θ = query_good d q θ n h fits asks

@@ -17,7 +17,7 @@ use Rattle.mc_sound.proofs.Binds
 use Rattle.mc_sound.proofs.Binds.{Matches, and_also}
 use Rattle.mc_sound.proofs.Lists
 use Rattle.mc_sound.proofs.Typed
-use Rattle.mc_sound.proofs.Typed.{true_not_false, bound_is, free_is, is_bound_of, is_free_of}
+use Rattle.mc_sound.proofs.Typed.{bound_is, free_is}
 use Rattle.mc_sound.proofs.TypeInstances.{also_instance, instance_twice}
 
 module _ (S : System) (D : Parameters) (F : Fits S D) (θ : TypeChoice) (T : ℕ → TypeTerm) (proper : (x : ℕ) → ProperType D (T x)) where

@@ -2,8 +2,8 @@
 use Rattle.std.proofs.Common.{◌≡◌, ◌≢◌, ◌⊎◌, inl, inr, ℕ, ◌≤◌, List, [], ◌∷◌, map, Bool, true, false, cond, not, nat_eq, Option, Some, None, refl, sym, ap, ap₂, ◌∙◌, subst, arith, ⊎_elim}
 use Rattle.std.proofs.lemmas.Bool.{eqb-true, not-false}
 use Rattle.mc_program.specs.Values.{Val, int, char, str, con, state, Vals, vals, same_value}
-use Rattle.mc_program.specs.Programs.{TypeTerm, int_type, char_type, string_type, state_type, variable_type, union_type, TypeTerms, FullName}
-use Rattle.mc_model.specs.Types.{instance_of, instances_of, argument_types, OfType, AllOfTypes, IsValue}
+use Rattle.mc_program.specs.Programs.{TypeTerm, int_type, char_type, string_type, state_type, variable_type, union_type, TypeTerms}
+use Rattle.mc_model.specs.Types.{instance_of, argument_types, OfType, AllOfTypes, IsValue}
 use Rattle.mc_model.specs.Insts.{Listed, free, bound, AllowsSymbol, AllowsConstants, Within, AllWithin}
 use Rattle.mc_model.specs.Lists.{In}
 use Rattle.mc_model.specs.EventList.{Items, End, Answer, Each, EachCall, AtMost, answers, Succeeds, of_option}
@@ -20,10 +20,10 @@ use Rattle.mc_sound.specs.code.Passes.{Grows, BindsOnly, TypedAt, Sound, Knows}
 use Rattle.mc_source.specs.declared.det.Most.{Most}
 use Rattle.mc_source.specs.declared.det.Most.TheVariants.{Zero, One, Many}
 use Rattle.mc_sound.proofs.Binds
-use Rattle.mc_sound.proofs.Binds.{Matches, and_also, some_inj}
+use Rattle.mc_sound.proofs.Binds.{some_inj, true_not_false}
 use Rattle.mc_sound.proofs.Lists
 use Rattle.mc_sound.proofs.Typed
-use Rattle.mc_sound.proofs.Typed.{true_not_false, bound_is, free_is, is_bound_of, is_free_of}
+use Rattle.mc_sound.proofs.Typed.{bound_is}
 use Rattle.mc_sound.proofs.TypeInstances.{IsPlain, arguments_instance}
 use Rattle.mc_laws.proofs.Equality.{value_same, same_of}
 

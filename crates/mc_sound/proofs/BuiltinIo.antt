@@ -15,11 +15,12 @@ use Rattle.mc_model.specs.Good.{TypeChoice}
 use Rattle.mc_accepted.specs.BuiltinFits.{at_places, EachOf}
 use Rattle.mc_accepted.specs.BuiltinTypes.{Library_types, builtin_types}
 use Rattle.mc_accepted.specs.Determined.{is_io_builtin}
-use Rattle.mc_sound.specs.IoLaws.{LastIs, Advances, NoIo, BuiltinsDoIo}
+use Rattle.mc_accepted.specs.IoFits.{LastIs, Advances, NoIo}
+use Rattle.mc_sound.specs.IoLaws.{BuiltinsDoIo}
 use Rattle.mc_program.specs.declared.builtin.Builtin.{Builtin}
 use Rattle.mc_program.specs.declared.builtin.Builtin.TheVariants as B
 use Rattle.mc_sound.proofs.TypeInstances.{none_of}
-use Rattle.mc_sound.proofs.Typed.{true_not_false}
+use Rattle.mc_sound.proofs.Binds.{true_not_false}
 
 -- tests and inputs without io
 of_cond : (X : Outcome → Type 0) (t : Bool) (x y : Outcome) → X x → X y → X (cond t x y)
@@ -175,4 +176,4 @@ module _ (P : Source) (L : Library) (K : Library_types) (input : List ℕ) (θ :
   advances B.Error w vs h e l = absurd (true_not_false (sym e))
 
 pub builtins_do_io : BuiltinsDoIo
-builtins_do_io P L K input named = record { named = named; advances = λ θ op w vs h e l. advances P L K input θ op w vs h e l; quiet = λ op vs e. quiet L input op vs e }
+builtins_do_io P L K input named = record { named = named; advances = λ θ p op w vs is h e l. advances P L K input θ op w vs (subst (λ ts. EachOf P θ (at_places true (inputs_of op) ts) vs) (named p op is).1 h) e l; quiet = λ p op vs is e. quiet L input op vs e }

@@ -27,7 +27,7 @@ use Rattle.mc_sound.specs.BuiltinLaws.{BuiltinsFit}
 use Rattle.mc_program.specs.declared.builtin.Builtin.{Builtin}
 use Rattle.mc_program.specs.declared.builtin.Builtin.TheVariants as B
 use Rattle.mc_sound.proofs.TypeInstances.{none_of}
-use Rattle.mc_sound.proofs.Typed.{true_not_false}
+use Rattle.mc_sound.proofs.Binds.{true_not_false}
 
 cond_in : (X : Outcome → Type 0) (t : Bool) (x y : Outcome) → (t ≡ true → X x) → (t ≡ false → X y) → X (cond t x y)
 cond_in X true x y f g = f refl

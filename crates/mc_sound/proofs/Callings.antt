@@ -5,8 +5,7 @@ use Rattle.std.proofs.lemmas.Bool.{or_parts}
 use Rattle.mc_program.specs.Values.{Val}
 use Rattle.mc_program.specs.Programs.{TypeTerm}
 use Rattle.mc_model.specs.Types.{instance_of, OfType}
-use Rattle.mc_model.specs.Lists.{In}
-use Rattle.mc_model.specs.EventList.{Items, End, Stopped, Answer, Wrote, Read, too_deep, bind, Each, EachCall, AtMost, answers, Succeeds, of_option}
+use Rattle.mc_model.specs.EventList.{Items, Stopped, Wrote, Read, too_deep, bind, Each, AtMost, Succeeds, of_option}
 use Rattle.mc_model.specs.Stream.{Bindings, meet, and_then, unify, gather, both, is_bound, below, at_height, outcome_items, apply_items}
 use Rattle.mc_model.specs.Outcomes.{Outcome, fails, gives, throws, writes, reads, reads_and_throws, inputs_of}
 use Rattle.mc_model.specs.Scheduled.{Procedure}
@@ -24,14 +23,16 @@ use Rattle.mc_source.specs.declared.det.Most.{Most}
 use Rattle.mc_source.specs.declared.det.Most.TheVariants.{Zero, One, Many}
 use Rattle.mc_sound.proofs.Binds
 use Rattle.mc_sound.proofs.CallLists
-use Rattle.mc_sound.proofs.Counts.{times}
+use Rattle.mc_sound.proofs.Counts.{times_one}
 use Rattle.mc_sound.proofs.Lists
 use Rattle.mc_sound.proofs.Typed
-use Rattle.mc_sound.proofs.Typed.{true_not_false, bound_is}
+use Rattle.mc_sound.proofs.Typed.{bound_is}
 use Rattle.mc_sound.proofs.Atoms
 use Rattle.mc_sound.proofs.Atoms.{unify_binds, binds_more, none_at_most, at_most_option, calls_option}
 use Rattle.mc_sound.proofs.Arguments
 use Rattle.mc_sound.proofs.TypeInstances.{also_instance, instance_twice, IsPlain}
+use Rattle.mc_laws.proofs.FlatGoals.{in_right}
+use Rattle.mc_sound.proofs.Binds.{true_not_false}
 
 -- a call with tests of its implied arguments
 conj_semidet : (m : Most) → cond (is_zero m || is_zero One) Zero (greater m One) ≡ m
@@ -62,11 +63,6 @@ row_count false m xs h = h
 row_zero : (c : Bool) (m : Most) → cond c Many m ≡ Zero → m ≡ Zero
 row_zero true m e = cc
 row_zero false m e = e
-
-times_one : (m : Most) → times m One ≡ m
-times_one Zero = refl
-times_one One = refl
-times_one Many = refl
 
 stop_at_most : (A : Type 0) (m : Most) → AtMost {A = A} m (Stopped too_deep)
 stop_at_most A m = none_at_most {A = A} m (Stopped too_deep) refl
@@ -296,10 +292,6 @@ module _ (S : System) (D : Parameters) (F : Fits S D) (θ : TypeChoice) (T : ℕ
 
     outputs_binds : (a : Bindings) → BindsOnly (at_outputs (inputs_of op) xs) e a → BindsOnly (at_inputs (inputs_of op) xs ++ at_outputs (inputs_of op) xs) e a
     outputs_binds a h = binds_more (at_outputs (inputs_of op) xs) (at_inputs (inputs_of op) xs ++ at_outputs (inputs_of op) xs) e a (λ y j. in_right y (at_inputs (inputs_of op) xs) (at_outputs (inputs_of op) xs) j) h
-      where
-        in_right : (x : ℕ) (xs ys : List ℕ) → In x ys → In x (xs ++ ys)
-        in_right x [] ys h = h
-        in_right x (z ∷ xs) ys h = inr (in_right x xs ys h)
 
     pub gives_sound : (vs : List Val) → builtin_most op ≡ One → (builtin_determinism op).most ≡ One → EachOf S.world.source (also_instance θ σ) (at_places false (inputs_of op) (S.world.source.preds p).types) vs → Ended (of_option (unify (at_outputs (inputs_of op) xs) (map Some vs) e))
     gives_sound vs m d o =

@@ -9,7 +9,7 @@ use Rattle.mc_model.specs.Lists.{In}
 use Rattle.mc_model.specs.Stream.{Bindings, is_bound}
 use Rattle.mc_model.specs.Outcomes.{inputs_of}
 use Rattle.mc_model.specs.Scheduled.{Node, Scheduled, Nodes, Arms}
-use Rattle.mc_accepted.specs.Ordered.{Insts, Mode, also, take_all, is_state, modes_of, at_inputs, at_outputs, AfterArguments, After, no_more, not_passed, output, implied, dies, keeps, becomes, unless_never, reachable, Joined, Ordered, OrderedNode, OrderedAll, OrderedAny, OrderedArms, variables_of_node, variables_of_scheduled, variables_of_nodes, variables_of_arms, tested_by, modes_of_procedure, KeepsChanges}
+use Rattle.mc_accepted.specs.Ordered.{Insts, Mode, also, take_all, is_state, modes_of, at_inputs, at_outputs, AfterArguments, After, no_more, not_passed, output, implied, dies, keeps, becomes, unless_never, reachable, Joined, Ordered, OrderedNode, OrderedAll, OrderedAny, OrderedArms, variables_of_node, variables_of_scheduled, variables_of_nodes, variables_of_arms, tested_by}
 use Rattle.mc_accepted.specs.Determined.{insts_after}
 use Rattle.mc_model.specs.Good.{System}
 use Rattle.mc_accepted.specs.ProperTypes.{Parameters}
@@ -17,12 +17,14 @@ use Rattle.mc_accepted.specs.Fits.{Fits}
 use Rattle.mc_sound.specs.code.Passes.{BindsOnly, Closed}
 use Rattle.mc_accepted.specs.Ordered as O
 use Rattle.mc_program.specs.declared.builtin.Builtin.{Builtin}
-use Rattle.mc_program.specs.declared.builtin.Builtin.TheVariants as B
 use Rattle.mc_source.specs.declared.det.Most.{Most}
 use Rattle.mc_source.specs.declared.det.Most.TheVariants.{Zero, One, Many}
+use Rattle.mc_laws.proofs.BuiltinModes.{modes_length}
 use Rattle.mc_sound.proofs.Typed
 use Rattle.mc_sound.proofs.Typed.{View, all_free, one_dead, more}
-use Rattle.mc_sound.proofs.Combine.{in_left, in_right, in_cases}
+use Rattle.mc_laws.proofs.FlatGoals.{in_left, in_right}
+use Rattle.mc_laws.proofs.FlatWhole.{in_or_not}
+use Rattle.mc_sound.proofs.Binds.{none_some, true_not_false}
 
 -- what is free before and is none of these is free after
 abbrev pub From : List ℕ → Insts → Insts → Type 0
@@ -41,7 +43,7 @@ then_from w b c None h k = tt
 then_from w b c (Some d) h k = λ z n q. k z n (h z n q)
 
 also_on : (t : Bool) (i k : ℕ) → t ≡ false → k ≡ 0 → cond t i k ≡ 0
-also_on true i k e h = absurd (Typed.true_not_false e)
+also_on true i k e h = absurd (true_not_false e)
 also_on false i k e h = h
 
 also_off : (x i : ℕ) (b : Insts) (z : ℕ) → (z ≡ x → ⊥) → b z ≡ 0 → also x i b z ≡ 0
@@ -64,37 +66,6 @@ after_length S T (implied a q r) = ap suc (after_length S T r)
 after_length S T (dies a q r) = ap suc (after_length S T r)
 after_length S T (keeps a q i r) = ap suc (after_length S T r)
 after_length S T (becomes a q i r) = ap suc (after_length S T r)
-
-modes_length : (op : Builtin) → length (inputs_of op) ≡ length (modes_of op)
-modes_length B.IntPlus = refl
-modes_length B.IntMinus = refl
-modes_length B.IntTimes = refl
-modes_length B.IntQuotient = refl
-modes_length B.IntDiv = refl
-modes_length B.IntMod = refl
-modes_length B.IntRem = refl
-modes_length B.IntNegate = refl
-modes_length B.IntLess = refl
-modes_length B.IntGreater = refl
-modes_length B.IntAtMost = refl
-modes_length B.IntAtLeast = refl
-modes_length B.StringJoin = refl
-modes_length B.StringLength = refl
-modes_length B.StringCodePoints = refl
-modes_length B.IntToString = refl
-modes_length B.CharToString = refl
-modes_length B.ToCharList = refl
-modes_length B.StringToInt = refl
-modes_length B.CharToInt = refl
-modes_length B.CharFromInt = refl
-modes_length B.CharIsDigit = refl
-modes_length B.WriteString = refl
-modes_length B.WriteChar = refl
-modes_length B.WriteInt = refl
-modes_length B.Write = refl
-modes_length B.Nl = refl
-modes_length B.ReadLine = refl
-modes_length B.Error = refl
 
 pub covered : (bs : List Bool) (xs : List ℕ) (z : ℕ) → length bs ≡ length xs → In z xs → In z (at_inputs bs xs) ⊎ In z (at_outputs bs xs)
 covered [] [] z e i = absurd i
@@ -159,7 +130,7 @@ module _ (S : System) (D : Parameters) (F : Fits S D) (T : ℕ → TypeTerm) whe
   joined_from O vs b (Some c ∷ os) (Some e) j h =
       λ x n q. ⊎_elim
       (λ i. merged_first (c x) (e x) _ (Typed.merged_view S.world.source S.insts (map (λ (f : Insts). f x) (c ∷ reachable os)) (c x) (e x) (T x) (inl refl) ((j x).0 i)) (h.0 x n q))
-      (λ m. ⊎_elim (λ z. z) (λ z. z ∙ q) ((j x).1 m)) (in_cases x O)
+      (λ m. ⊎_elim (λ z. z) (λ z. z ∙ q) ((j x).1 m)) (in_or_not x O)
 
   pub apply_from : (op : Builtin) (xs : List ℕ) (b c : Insts) → After S T (modes_of op) xs b c → From (at_inputs (inputs_of op) xs ++ at_outputs (inputs_of op) xs) b c
   apply_from op xs b c a z n h =
@@ -237,13 +208,10 @@ pub none_on : (o : Option Val) (X : Type 0) → ((v : Val) → o ≡ Some v → 
 none_on None X f = refl
 none_on (Some v) X f = absurd (f v refl)
 
-pub no_both : (o : Option Val) (v : Val) → o ≡ None → o ≡ Some v → ⊥
-no_both o v n s = cc
-
 pub closed_after : (O Q V vs : List ℕ) (b c : Insts) (e a : Bindings) → From vs b c → BindsOnly vs e a → Closed O Q b e → Closed (O ++ V) (Q ++ vs) c a
 closed_after O Q V vs b c e a f g h x =
     ⊎_elim (λ i. inl (⊎_elim (λ j. inl (in_left x O V j)) (λ j. inr (in_left x Q vs j)) i))
-    (λ n. ⊎_elim (λ i. inl (inr (in_right x Q vs i))) (λ m. inr (f x m n.0, none_on (a x) (Unit {0}) (λ v q. ⊎_elim (λ z. no_both (e x) v n.1 z) m (g x v q)))) (in_cases x vs))
+    (λ n. ⊎_elim (λ i. inl (inr (in_right x Q vs i))) (λ m. inr (f x m n.0, none_on (a x) (Unit {0}) (λ v q. ⊎_elim (λ z. none_some (e x) v n.1 z) m (g x v q)))) (in_or_not x vs))
     (h x)
 
 pub closed_more : (O Q V W : List ℕ) (b : Insts) (e : Bindings) → Closed O Q b e → Closed (O ++ V) (Q ++ W) b e

@@ -1,9 +1,9 @@
 -- The first pass at compound goals, by their lists.
-use Rattle.std.proofs.Common.{◌≡◌, ◌⊎◌, inl, inr, ℕ, List, [], ◌∷◌, ◌++◌, Bool, true, false, cond, not, ◌||◌, ◌&&◌, Option, Some, refl, sym, subst, ⊎_elim}
-use Rattle.std.proofs.lemmas.Bool.{or_parts, and_cases, cases_eq}
+use Rattle.std.proofs.Common.{◌≡◌, ◌⊎◌, inl, inr, ℕ, List, ◌++◌, Bool, true, false, cond, not, ◌||◌, ◌&&◌, Option, Some, refl, sym, subst, ⊎_elim}
+use Rattle.std.proofs.lemmas.Bool.{or_parts, and_cases}
 use Rattle.mc_program.specs.Programs.{TypeTerm}
 use Rattle.mc_model.specs.Lists.{In, Among}
-use Rattle.mc_model.specs.EventList.{Items, append, bind, choose, first, negate, Each, EachCall, AtMost, answers, Succeeds}
+use Rattle.mc_model.specs.EventList.{Items, append, bind, choose, negate, Each, EachCall, AtMost, answers, Succeeds}
 use Rattle.mc_model.specs.Stream.{Bindings, pruned_to}
 use Rattle.mc_source.specs.Determinism.{Determinism, conj, disj, ite, negated, negated_row, pruned, is_zero, is_many, greater}
 use Rattle.mc_accepted.specs.Ordered.{Insts}
@@ -16,34 +16,19 @@ use Rattle.mc_sound.proofs.Counts.{times, plus, either}
 use Rattle.mc_sound.proofs.Binds
 use Rattle.mc_sound.proofs.CallLists
 use Rattle.mc_sound.proofs.Lists
-use Rattle.mc_sound.proofs.Typed.{true_not_false}
 use Rattle.mc_sound.proofs.Atoms.{binds_more}
+use Rattle.mc_laws.proofs.FlatGoals.{in_either, in_left, in_right}
+use Rattle.mc_sound.proofs.Binds.{true_not_false}
 
--- membership
-pub in_left : (x : ℕ) (xs ys : List ℕ) → In x xs → In x (xs ++ ys)
-in_left x [] ys h = absurd h
-in_left x (z ∷ xs) ys h = ⊎_elim (λ e. inl e) (λ i. inr (in_left x xs ys i)) h
-
-pub in_right : (x : ℕ) (xs ys : List ℕ) → In x ys → In x (xs ++ ys)
-in_right x [] ys h = h
-in_right x (z ∷ xs) ys h = inr (in_right x xs ys h)
-
-pub in_split : (x : ℕ) (xs ys : List ℕ) → In x (xs ++ ys) → In x xs ⊎ In x ys
-in_split x [] ys h = inr h
-in_split x (z ∷ xs) ys h = ⊎_elim (λ e. inl (inl e)) (λ i. ⊎_elim (λ j. inl (inr j)) (λ j. inr j) (in_split x xs ys i)) h
-
-pub in_cases : (x : ℕ) (xs : List ℕ) → In x xs ⊎ (In x xs → ⊥)
-in_cases x [] = inr (λ h. h)
-in_cases x (y ∷ ys) = ⊎_elim (λ e. inl (inl e)) (λ n. ⊎_elim (λ h. inl (inr h)) (λ m. inr (⊎_elim n m)) (in_cases x ys)) (cases_eq x y)
-
+-- lists of which one is among the other
 pub among_both : (L O ys : List ℕ) → Among L O → Among (L ++ ys) (O ++ ys)
-among_both L O ys u x i = ⊎_elim (λ j. in_left x O ys (u x j)) (λ j. in_right x O ys j) (in_split x L ys i)
+among_both L O ys u x i = ⊎_elim (λ j. in_left x O ys (u x j)) (λ j. in_right x O ys j) (in_either x L ys i)
 
 pub among_left : (L O ys : List ℕ) → Among L O → Among L (O ++ ys)
 among_left L O ys u x i = in_left x O ys (u x i)
 
 pub among_two : (L O ys zs : List ℕ) → Among L O → Among (L ++ zs) (O ++ (ys ++ zs))
-among_two L O ys zs u x i = ⊎_elim (λ j. in_left x O (ys ++ zs) (u x j)) (λ j. in_right x O (ys ++ zs) (in_right x ys zs j)) (in_split x L zs i)
+among_two L O ys zs u x i = ⊎_elim (λ j. in_left x O (ys ++ zs) (u x j)) (λ j. in_right x O (ys ++ zs) (in_right x ys zs j)) (in_either x L zs i)
 
 -- the tables against the counts
 conj_times : (m k : Most) → cond (is_zero m || is_zero k) Zero (greater m k) ≡ times m k

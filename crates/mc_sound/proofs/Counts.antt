@@ -1,4 +1,5 @@
 -- The numbers of answers of compound goals, by cases.
+use Rattle.std.proofs.Common.{◌≡◌, refl}
 use Rattle.mc_source.specs.declared.det.Most.{Most}
 use Rattle.mc_source.specs.declared.det.Most.TheVariants.{Zero, One, Many}
 
@@ -23,3 +24,8 @@ either One Zero = One
 either One One = One
 either One Many = Many
 either Many m = Many
+
+pub times_one : (m : Most) → times m One ≡ m
+times_one Zero = refl
+times_one One = refl
+times_one Many = refl

@@ -21,13 +21,14 @@ use Rattle.mc_source.specs.declared.det.Most.{Most}
 use Rattle.mc_source.specs.declared.det.Most.TheVariants.{Zero, One, Many}
 use Rattle.mc_sound.proofs.Binds
 use Rattle.mc_sound.proofs.CallLists
-use Rattle.mc_sound.proofs.Combine.{in_cases}
-use Rattle.mc_sound.proofs.Counts.{times}
+use Rattle.mc_sound.proofs.Counts.{times_one}
 use Rattle.mc_sound.proofs.Lists
 use Rattle.mc_sound.proofs.Sound
 use Rattle.mc_sound.proofs.Typed
-use Rattle.mc_sound.proofs.Typed.{true_not_false, bound_is, free_is, is_bound_of}
+use Rattle.mc_sound.proofs.Typed.{bound_is, free_is, is_bound_of}
 use Rattle.mc_sound.proofs.Atoms.{none_at_most}
+use Rattle.mc_laws.proofs.FlatWhole.{in_or_not}
+use Rattle.mc_sound.proofs.Binds.{true_not_false}
 
 -- entry
 entry_bound : (S : System) (θ : TypeChoice) (t p : Bool) (i : ℕ) (u u' : TypeTerm) (v o : Option Val) (k : ℕ) → is_bound i ≡ p → (t ≡ true → u' ≡ u) → (i ≢ 0 → BoundAs S θ i u v) → BoundAs S θ k u' o → BoundAs S θ (cond t i k) u' (cond t (cond p v None) o)
@@ -80,7 +81,7 @@ enter_out (y ∷ ys) (i ∷ is) (v ∷ vs) x n = on (nat_eq x y) (cond (is_bound
     on false o e h = h
 
 pub enter_closed : (ys is : List ℕ) (vs : List (Option Val)) → Closed ys ys (entered ys is) (enter ys is vs)
-enter_closed ys is vs x = ⊎_elim (λ i. inl (inl i)) (λ n. inr (entered_out ys is x n, enter_out ys is vs x n)) (in_cases x ys)
+enter_closed ys is vs x = ⊎_elim (λ i. inl (inl i)) (λ n. inr (entered_out ys is x n, enter_out ys is vs x n)) (in_or_not x ys)
 
 -- the inputs stand at the head variables
 abbrev pub At : List ℕ → List ℕ → List (Option Val) → Bindings → Type 0
@@ -93,11 +94,11 @@ at_other (y ∷ ys) [] vs e a f h = tt
 at_other (y ∷ ys) (i ∷ is) [] e a f h = tt
 at_other (y ∷ ys) (i ∷ is) (v ∷ vs) e a f h = ((λ n. f y (inl refl) ∙ h.0 n), at_other ys is vs e a (λ z j. f z (inr j)) h.1)
 
-cond_here : {A : Type 0} (t : Bool) (x y : A) → t ≡ true → cond t x y ≡ x
+pub cond_here : {A : Type 0} (t : Bool) (x y : A) → t ≡ true → cond t x y ≡ x
 cond_here true x y e = refl
 cond_here false x y e = absurd (true_not_false (sym e))
 
-cond_there : {A : Type 0} (t : Bool) (x y : A) → t ≡ false → cond t x y ≡ y
+pub cond_there : {A : Type 0} (t : Bool) (x y : A) → t ≡ false → cond t x y ≡ y
 cond_there true x y e = absurd (true_not_false e)
 cond_there false x y e = refl
 
@@ -225,11 +226,6 @@ pub cond_true : {A : Type 0} (Q : A → Type 0) (t : Bool) (x y : A) → t ≡ t
 cond_true Q true x y e q = q
 cond_true Q false x y e q = absurd (true_not_false (sym e))
 
-times_id : (m : Most) → times m One ≡ m
-times_id Zero = refl
-times_id One = refl
-times_id Many = refl
-
 row_many : (c : Bool) (m k : Most) → (c ≡ true → m ≡ Many) → rank k ≤ rank (cond c Many m) → rank k ≤ rank m
 row_many true m k f h = subst (λ z. rank k ≤ rank z) (sym (f refl)) h
 row_many false m k f h = h
@@ -270,7 +266,7 @@ module _ (S : System) (D : Parameters) (F : Fits S D) (accepted : Accepted S) wh
             (λ a z. (exit_after S D F θ p fit.types p.first r.after vs e a (r.lengths.0 ∙ sym r.lengths.1) fit.head_types g r.final z.1.1 (enter_at p.head p.first vs dh) z.0, tt));
         calls = CallLists.calls_bind (GivenCall S) (λ a. Grows e a × (BindsOnly _ e a × Reached S θ T p.head r.after a)) f xs s.each s.calls (λ a z. tt);
         count = more_answers (determined S T b nothing_known p.body).most p.det.most (bind xs f) (row_many p.det.committed p.det.most (determined S T b nothing_known p.body).most r.declared r.allowed.1)
-            (subst (λ m. AtMost m (bind xs f)) (times_id (determined S T b nothing_known p.body).most) (Lists.at_most_bind (λ a. Grows e a × (BindsOnly _ e a × Reached S θ T p.head r.after a)) f (determined S T b nothing_known p.body).most One xs s.each (s.count (known_none e)) (λ a z. one_answer (leave p.head p.last a))));
+            (subst (λ m. AtMost m (bind xs f)) (times_one (determined S T b nothing_known p.body).most) (Lists.at_most_bind (λ a. Grows e a × (BindsOnly _ e a × Reached S θ T p.head r.after a)) f (determined S T b nothing_known p.body).most One xs s.each (s.count (known_none e)) (λ a z. one_answer (leave p.head p.last a))));
         sure = λ q. Lists.succeeds_bind (λ a. Grows e a × (BindsOnly _ e a × Reached S θ T p.head r.after a)) f xs s.each (s.sure (known_none e) (not_fails (determined S T b nothing_known p.body).can_fail p.det.can_fail r.allowed.0 q)) (λ a z. tt);
       }))
 

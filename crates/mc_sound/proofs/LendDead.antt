@@ -6,7 +6,7 @@ use Rattle.mc_model.specs.Flat.{Flat_goal, Flat_goals, variables_of, variables_o
 use Rattle.mc_model.specs.Lists.{In, without}
 use Rattle.mc_model.specs.Scheduled.{Node, Scheduled, Nodes, Arms}
 use Rattle.mc_model.specs.Stream.{is_bound}
-use Rattle.mc_accepted.specs.Ordered.{Insts, Mode, also, take_all, is_state, NoneDead, After, modes_of, modes_of_procedure, implied_places, firsts, unless_never, builtin_most, reachable, Joined, Ordered, OrderedNode, OrderedAll, OrderedAny, OrderedArms}
+use Rattle.mc_accepted.specs.Ordered.{Insts, Mode, also, take_all, is_state, NoneDead, After, modes_of, modes_of_procedure, implied_places, unless_never, builtin_most, reachable, Joined, Ordered, OrderedNode, OrderedAll, OrderedAny, OrderedArms}
 use Rattle.mc_model.specs.Good.{System}
 use Rattle.mc_accepted.specs.ProperTypes.{Parameters}
 use Rattle.mc_accepted.specs.Fits.{Fits}
@@ -14,11 +14,11 @@ use Rattle.mc_accepted.specs.Ordered as O
 use Rattle.mc_source.specs.declared.det.Most.{Most}
 use Rattle.mc_source.specs.declared.det.Most.TheVariants.{Zero, One, Many}
 use Rattle.std.proofs.lemmas.Bool.{eqb-true}
-use Rattle.mc_sound.proofs.Combine.{in_left}
 use Rattle.mc_sound.proofs.MoveCalls.{after_same}
 use Rattle.mc_sound.proofs.Sound.{fresh_split}
 use Rattle.mc_sound.proofs.Typed
 use Rattle.mc_sound.proofs.Typed.{View, all_free, one_dead, more}
+use Rattle.mc_laws.proofs.FlatGoals.{in_left}
 
 module _ (S : System) (D : Parameters) (F : Fits S D) (T : ℕ → TypeTerm) where
   abbrev pub StaysDead : List ℕ → Insts → Option Insts → Type 0

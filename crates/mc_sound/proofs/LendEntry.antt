@@ -18,16 +18,16 @@ use Rattle.mc_accepted.specs.Determined.{nothing_known}
 use Rattle.mc_accepted.specs.Fits.{FitsProcedure, Fits, goal_of, type_of}
 use Rattle.mc_accepted.specs.Accepted.{entered, Final, FinalAfter, AcceptedProcedure, Accepted}
 use Rattle.mc_sound.specs.code.Passes.{Grows, BindsOnly, TypedAt, Reached, Sound, CallsSound}
-use Rattle.mc_sound.specs.IoLaws.{FitsIo}
+use Rattle.mc_accepted.specs.IoFits.{FitsIo}
 use Rattle.mc_sound.specs.code.Moves.{Calm, Live, SharesAt, TidyModes, TidyProcedures, EachShares, Lends, MakesNone, LentBy, CallsLend, Lent, LiveWithin, LentAfter, Survives}
-use Rattle.mc_sound.proofs.Combine.{in_left, in_right}
 use Rattle.mc_sound.proofs.Entry.{lined, known_none, enter_typed, enter_closed, given_ready, from_distinct, cond_true, calls_sound}
 use Rattle.mc_sound.proofs.LendSound.{lends_node}
 use Rattle.mc_sound.proofs.MoveArms.{calm_pruned}
 use Rattle.mc_sound.proofs.MoveEntry.{enter_shares, exit_shares, exit_live, less}
 use Rattle.mc_sound.proofs.MoveLists
 use Rattle.mc_sound.proofs.Sound as Sounds
-use Rattle.mc_sound.proofs.Typed.{true_not_false}
+use Rattle.mc_laws.proofs.FlatGoals.{in_left, in_right}
+use Rattle.mc_sound.proofs.Binds.{true_not_false}
 
 not_dead_in : (N K : InstNode) (Q : Type 0) → IncludedNodes N K Q → K ≢ dead → N ≢ dead
 not_dead_in free K Q h n = λ e. cc

@@ -132,9 +132,8 @@ accepted (suc (suc k)) l = absurd (no_more_than_two k l)
 
 pub peeks_fit : PeeksFit
 peeks_fit = (
-  record { insts = insts_fit; types = types_of_peeks; builtins = builtins_fit peek_source library library_types [] has_types has_builtins (omega arith); procedures = fits },
+  record { insts = insts_fit; types = types_of_peeks; builtins = builtins_fit peek_source library library_types [] has_types has_builtins (omega arith); io = (library_types, builtins_do_io peek_source library library_types [] has_builtins); procedures = fits },
   accepted,
-  builtins_do_io peek_source library library_types [] has_builtins,
 )
 
 pub one_line_is_written : OneLineIsWritten

@@ -19,7 +19,7 @@ use Rattle.mc_model.specs.Good.{System, TypeChoice, BoundAs, types_of}
 use Rattle.mc_accepted.specs.ProperTypes.{Parameters, ProperType}
 use Rattle.mc_accepted.specs.Fits.{Fits}
 use Rattle.mc_sound.specs.code.Passes.{Grows, BindsOnly, Closed, Knows, TypedAt, Reached, Sound, CallsSound}
-use Rattle.mc_sound.specs.IoLaws.{FitsIo}
+use Rattle.mc_accepted.specs.IoFits.{FitsIo}
 use Rattle.mc_sound.specs.code.Moves.{Never, Calm, Live, SharesAt, TakenAt, CallsLend, TidyProcedures, Lends, Lent, all_lent, LiveWithin, LentAfter, Alive, Survives, AliveAfter}
 use Rattle.mc_accepted.specs.Ordered as O
 use Rattle.mc_model.specs.Flat as G
@@ -30,7 +30,7 @@ use Rattle.mc_sound.proofs.Arguments
 use Rattle.mc_sound.proofs.Callings
 use Rattle.mc_sound.proofs.Changes.{node_after, closed_after, closed_more, node_from, apply_from}
 use Rattle.mc_sound.proofs.Combine
-use Rattle.mc_sound.proofs.Combine.{in_left, in_right, in_split, among_left, among_both, among_two, knows_more}
+use Rattle.mc_sound.proofs.Combine.{among_left, among_both, among_two, knows_more}
 use Rattle.mc_sound.proofs.LendDead.{StaysDead, merged_dead, fewer_dead, all_dead, node_dead}
 use Rattle.mc_sound.proofs.MoveArms.{calm_pruned, opens_calm}
 use Rattle.mc_sound.proofs.MoveAtoms.{StillAfter, also_on, state_is}
@@ -44,7 +44,9 @@ use Rattle.mc_sound.proofs.MoveSound.{io_sure, same_bound}
 use Rattle.mc_sound.proofs.Sound as Sounds
 use Rattle.mc_sound.proofs.Sound.{picks_goal, picks_rest, picks_typed, parts_typed, parts_some, parts_others, arm_typed, arm_variables, knows_learned, PairsIn, fresh_split, fresh_pairs, in_inputs, in_outputs}
 use Rattle.mc_sound.proofs.Typed
-use Rattle.mc_sound.proofs.Typed.{true_not_false, Is, is_at, is_reachable, merged_view}
+use Rattle.mc_sound.proofs.Typed.{Is, is_at, is_reachable, merged_view}
+use Rattle.mc_laws.proofs.FlatGoals.{in_either, in_left, in_right}
+use Rattle.mc_sound.proofs.Binds.{true_not_false}
 
 -- a list that answers where it ends, and whose answers can't be
 each_never : {A : Type 0} (P : A → Type 0) → ((a : A) → P a → ⊥) → (xs : Items A) → Each P xs → Succeeds xs → Never xs
@@ -230,7 +232,7 @@ module _ (S : System) (D : Parameters) (F : Fits S D) (C : Calls) (called : Call
           (N : Lent) (M : List ℕ) → LiveWithin S T N M b → SharesAt S T M b e → Among L M → Among (variables_of g) M → Lasts S D F T N O (is_io_in S T s) o → Calm (LentAfter S T N L o) (stream_of S.world.outcome C h s e)
       lends_in (O.conj r) tg known h one pl L u e cl ty li kk N M w sm lm gm sp = lends_all r tg known h one pl L u e cl ty li kk N M w sm lm gm sp
       lends_in (O.implied_alone {xs = xs} r) tg known h one pl L u e cl ty li kk N M w sm lm gm sp =
-          lends_all r (tg, tt) known h one pl L u e cl (λ x i. ty x (⊎_elim (λ j. j) (λ j. absurd j) (in_split x xs [] i))) li kk N M w sm lm (λ x i. gm x (⊎_elim (λ j. j) (λ j. absurd j) (in_split x xs [] i))) sp
+          lends_all r (tg, tt) known h one pl L u e cl (λ x i. ty x (⊎_elim (λ j. j) (λ j. absurd j) (in_either x xs [] i))) li kk N M w sm lm (λ x i. gm x (⊎_elim (λ j. j) (λ j. absurd j) (in_either x xs [] i))) sp
       lends_in (O.some {O = O} {vs = vs} {g = g} {n = n} {o = o} a r) tg known h one pl L u e cl ty li kk N M w sm lm gm sp =
           lends_node r tg known h one pl L u e cl (λ x i. ty x (in_right x vs (variables_of g) i)) li kk N M w sm lm (λ x i. gm x (in_right x vs (variables_of g) i)) (lasts_spares S D F T N O (is_io S T n) o sp)
       lends_in (O.neg {O = O} {Q = Q} {b = b} {g = g} {n = n} {o = o} r m) tg known h one pl L u e cl ty li kk N M w sm lm gm sp =
@@ -266,7 +268,7 @@ module _ (S : System) (D : Parameters) (F : Fits S D) (C : Calls) (called : Call
           let tc : TypedAt S θ T (variables_of g) b e = λ x z. ty x (vg x z) in
           let te : TypedAt S θ T (variables_of j) b e = λ x z. ty x (vj x z) in
           let K = L ++ variables_of i in
-          let tk : TypedAt S θ T K b e = λ x z. ⊎_elim (λ y. li x y) (λ y. ty x (vi x y)) (in_split x L (variables_of i) z) in
+          let tk : TypedAt S θ T K b e = λ x z. ⊎_elim (λ y. li x y) (λ y. ty x (vi x y)) (in_either x L (variables_of i) z) in
           let eqc : insts_after n b ≡ c = node_after rc in
           let wo = without (free_in g) vs ++ variables_of i in
           let ko = among_two L O (without (free_in g) vs) (variables_of i) u in
@@ -284,7 +286,7 @@ module _ (S : System) (D : Parameters) (F : Fits S D) (C : Calls) (called : Call
           (λ N' w' sc st' tr.
           MoveLists.calm_choose_each (λ d. stream S.world.outcome C h t d) (λ d. Grows e d × (BindsOnly vn e d × TypedAt S θ T K c d)) (LentAfter S T N' K (Some c)) (LentAfter S T N L o'') xs ys
           (Sounds.sound_node S D F C called lined T proper θ rc tg.0 known h K ko e clc tc tk).each
-          (lends_node rc tg.0 known h one (placed_free S T n b known one pl.0) K ko e clc tc tk kk N' M w' sm (λ x z. ⊎_elim (λ y. lm x y) (λ y. gm x (vi x y)) (in_split x L (variables_of i) z)) (λ x z. gm x (vg x z)) sc)
+          (lends_node rc tg.0 known h one (placed_free S T n b known one pl.0) K ko e clc tc tk kk N' M w' sm (λ x z. ⊎_elim (λ y. lm x y) (λ y. gm x (vi x y)) (in_either x L (variables_of i) z)) (λ x z. gm x (vg x z)) sc)
           (λ d y z.
           let cd = closed_after O Q (variables_of g) vn b c e d (node_from S D F T rc) y.1.0 cl in
           let lo = among_left L O (variables_of g) u in
@@ -333,14 +335,14 @@ module _ (S : System) (D : Parameters) (F : Fits S D) (C : Calls) (called : Call
           let eqc : insts_after n b ≡ c = node_after r in
           let clc = closed_more O Q V (variables_of_nodes ns) b e cl in
           let tc : TypedAt S θ T (variables_of g) b e = λ x i. ty x (picks_goal p x i) in
-          let tl : TypedAt S θ T (L ++ V) b e = λ x i. ⊎_elim (λ j. li x j) (λ j. ty x (picks_rest p x j)) (in_split x L V i) in
+          let tl : TypedAt S θ T (L ++ V) b e = λ x i. ⊎_elim (λ j. li x j) (λ j. ty x (picks_rest p x j)) (in_either x L V i) in
           let lo = among_both L O V u in
           let vg = variables_of g in
           let sn : Spares S D F T N (O ++ V) (is_io S T n) (Some c) = ⊎_elim (λ z. inl ((or_parts (is_io S T n) (one_is_io S T ns) z.0).0, z.1)) (λ al. inr (alive_in S D F T N O (O ++ V) c (λ x i. in_left x O V i) (alive_before S D F T N O c o (fewer_dead S D F T O (O ++ vg) c o (λ x i. in_left x O vg i) (all_dead S D F T t)) al))) sp in
           let st : Lasts S D F T N (O ++ vg) (one_is_io S T ns) o = ⊎_elim (λ z. inl ((or_parts (is_io S T n) (one_is_io S T ns) z.0).1, z.1)) (λ al. inr (after_in S D F T N O (O ++ vg) o (λ x i. in_left x O vg i) al)) sp in
           MoveLists.calm_bind_each (λ a. stream_all S.world.outcome C h ns a) (λ a. Grows e a × (BindsOnly vn e a × TypedAt S θ T (L ++ V) c a)) (LentAfter S T N (L ++ V) (Some c)) (LentAfter S T N L o) (stream S.world.outcome C h n e)
           (Sounds.sound_node S D F C called lined T proper θ r q.0 known h (L ++ V) lo e clc tc tl).each
-          (lends_node r q.0 known h (one && none_fails S T (insts_after n b) known ns) pl.0 (L ++ V) lo e clc tc tl kk N M w sm (λ x i. ⊎_elim (λ j. lm x j) (λ j. gm x (picks_rest p x j)) (in_split x L V i)) (λ x i. gm x (picks_goal p x i)) sn)
+          (lends_node r q.0 known h (one && none_fails S T (insts_after n b) known ns) pl.0 (L ++ V) lo e clc tc tl kk N M w sm (λ x i. ⊎_elim (λ j. lm x j) (λ j. gm x (picks_rest p x j)) (in_either x L V i)) (λ x i. gm x (picks_goal p x i)) sn)
           (λ a i z.
           lends_all t q.1 known h one (subst (λ y. IoAllPlaced S T y known one ns) eqc pl.1) L (among_left L O vg u) a (closed_after O Q vg vn b c e a (node_from S D F T r) i.1.0 cl) (λ x j. i.1.1 x (in_right x L V j)) (λ x j. i.1.1 x (in_left x L V j)) (knows_more known e a i.0 kk) N (L ++ V) z.0 z.1 (λ x j. in_left x L V j) (λ x j. in_right x L V j) st)
       lends_all (O.implied_outputs {O = O} {Q = Q} {b = b} {c = c} {p = p} {op = op} {xs = xs} {zs = zs} {gs = gs} {rest = rest} {changes = changes} {d = d} {ns = ns} {o = o} tests pk bq mo fr nd di apt ts us i af kc t) tg known h one pl L u e cl ty li kk N M w sm lm gm sp =
@@ -356,14 +358,14 @@ module _ (S : System) (D : Parameters) (F : Fits S D) (C : Calls) (called : Call
           let split = fresh_split S T 0 places xs zs tests fr in
           let tx : TypedAt S θ T xs b e = λ x z. ty x (picks_goal pk x z) in
           let tz : TypedAt S θ T zs b e = Sounds.typed_fresh S D F C called lined T proper θ O Q xs zs (firsts tests) gs b e cl apt split tx in
-          let tk : TypedAt S θ T K b e = λ x z. ⊎_elim (λ y. li x y) (λ y. ⊎_elim (λ v. ty x (picks_rest pk x v)) (λ v. ⊎_elim (λ r. tx x r) (λ r. tz x r) (in_split x xs zs v)) (in_split x (variables_of_all rest) (xs ++ zs) y)) (in_split x L V z) in
+          let tk : TypedAt S θ T K b e = λ x z. ⊎_elim (λ y. li x y) (λ y. ⊎_elim (λ v. ty x (picks_rest pk x v)) (λ v. ⊎_elim (λ r. tx x r) (λ r. tz x r) (in_either x xs zs v)) (in_either x (variables_of_all rest) (xs ++ zs) y)) (in_either x L V z) in
           let types = Sounds.fresh_types S T D F θ proper c q.0.0 0 places xs zs tests (S.world.source.preds p).types (Sounds.map_types S T D F θ proper q.0.0 xs (S.world.source.preds p).types q.0.1) ts fr in
           let after : insts_after n b ≡ c = Rattle.std.proofs.Math.Path.fun_ext (λ x. sym (kc.0 x)) in
           let pairs = fresh_pairs S T K 0 places xs zs tests (λ y z. in_right y L V (in_right y (variables_of_all rest) (xs ++ zs) (in_left y xs zs z))) (λ y z. in_right y L V (in_right y (variables_of_all rest) (xs ++ zs) (in_right y xs zs z))) fr in
           let closed : (a : Bindings) → BindsOnly vs e a → Closed (O ++ (xs ++ zs)) (Q ++ (xs ++ zs)) c a = λ a bo.
-          Sounds.closed_within (O ++ (xs ++ zs)) (Q ++ vs) (Q ++ (xs ++ zs)) c a (λ x z. ⊎_elim (λ y. in_left x Q (xs ++ zs) y) (λ y. in_right x Q (xs ++ zs) (in_right x xs zs (⊎_elim (λ v. in_inputs (inputs_of op) zs x v) (λ v. in_outputs (inputs_of op) zs x v) (in_split x (at_inputs (inputs_of op) zs) (at_outputs (inputs_of op) zs) y)))) (in_split x Q vs z))
+          Sounds.closed_within (O ++ (xs ++ zs)) (Q ++ vs) (Q ++ (xs ++ zs)) c a (λ x z. ⊎_elim (λ y. in_left x Q (xs ++ zs) y) (λ y. in_right x Q (xs ++ zs) (in_right x xs zs (⊎_elim (λ v. in_inputs (inputs_of op) zs x v) (λ v. in_outputs (inputs_of op) zs x v) (in_either x (at_inputs (inputs_of op) zs) (at_outputs (inputs_of op) zs) y)))) (in_either x Q vs z))
           (closed_after O Q (xs ++ zs) vs b c e a (apply_from S D F T op zs b c af) bo cl) in
-          let old : (x : ℕ) → In x (M ++ zs) → In x M ⊎ ((b x ≡ 0) × (e x ≡ None)) = λ x z. ⊎_elim (λ y. inl y) (λ y. ⊎_elim (λ v. inl (gm x (picks_goal pk x v))) (λ v. ⊎_elim (λ r. absurd (apt x v (⊎_elim (λ k. in_left x O (Q ++ variables_of_all gs) k) (λ k. in_right x O (Q ++ variables_of_all gs) (in_left x Q (variables_of_all gs) k)) r))) (λ r. inr r) (cl x)) (split x y)) (in_split x M zs z) in
+          let old : (x : ℕ) → In x (M ++ zs) → In x M ⊎ ((b x ≡ 0) × (e x ≡ None)) = λ x z. ⊎_elim (λ y. inl y) (λ y. ⊎_elim (λ v. inl (gm x (picks_goal pk x v))) (λ v. ⊎_elim (λ r. absurd (apt x v (⊎_elim (λ k. in_left x O (Q ++ variables_of_all gs) k) (λ k. in_right x O (Q ++ variables_of_all gs) (in_left x Q (variables_of_all gs) k)) r))) (λ r. inr r) (cl x)) (split x y)) (in_either x M zs z) in
           let io_n = is_io_builtin op in
           let wz : LiveWithin S T N (M ++ zs) b = λ x z l. ⊎_elim (λ y. w x y l) (λ y. absurd (zero_two (sym y.0 ∙ l.1))) (old x z) in
           let sz : SharesAt S T (M ++ zs) b e = λ x z nn v r. ⊎_elim (λ y. sm x y nn v r) (λ y. absurd (none_some v (sym y.1 ∙ r))) (old x z) in
@@ -376,7 +378,7 @@ module _ (S : System) (D : Parameters) (F : Fits S D) (C : Calls) (called : Call
           (calm_pruned (LentAfter S T N K (Some c)) mark (stream_of S.world.outcome C h ap e)
           (subst (λ k. Calm (LentAfter S T N K (unless_never k c)) (stream_of S.world.outcome C h ap e)) mo
           (apply_lends b c p op zs bq us i af known h q.0.0 types O K e tz tk N (M ++ zs) wz sz
-          (λ x z. ⊎_elim (λ y. in_left x M zs (lm x y)) (λ y. ⊎_elim (λ v. in_left x M zs (gm x (picks_rest pk x v))) (λ v. ⊎_elim (λ r. in_left x M zs (gm x (picks_goal pk x r))) (λ r. in_right x M zs r) (in_split x xs zs v)) (in_split x (variables_of_all rest) (xs ++ zs) y)) (in_split x L V z))
+          (λ x z. ⊎_elim (λ y. in_left x M zs (lm x y)) (λ y. ⊎_elim (λ v. in_left x M zs (gm x (picks_rest pk x v))) (λ v. ⊎_elim (λ r. in_left x M zs (gm x (picks_goal pk x r))) (λ r. in_right x M zs r) (in_either x xs zs v)) (in_either x (variables_of_all rest) (xs ++ zs) y)) (in_either x L V z))
           (λ x z. in_right x M zs z) (subst (λ k. Lasts S D F T N O io_n (unless_never k c)) (sym mo) sn))))
           (λ a j z.
           tests_calm (LentAfter S T N L o) h K c ns tests ts pairs a j.1.1

@@ -13,7 +13,6 @@ pub mod LendDead
 pub mod LendEntry
 pub mod LendExample
 pub mod LendSound
-pub mod Levels
 pub mod Lists
 pub mod MainExample
 pub mod MoveArms
@@ -33,7 +32,8 @@ pub mod MoveReturns
 pub mod MoveRuns
 pub mod MoveShares
 pub mod MoveSound
-pub mod Numbers
+pub mod NeededInsts
+pub mod NeededPremises
 pub mod Opens
 pub mod Procedures
 pub mod Scopes

@@ -19,7 +19,7 @@ use Rattle.mc_sound.proofs.Opens.{Loose}
 use Rattle.mc_sound.proofs.MoveShares.{stay_shares, put_shares, known_shares}
 use Rattle.mc_sound.proofs.Lists
 use Rattle.mc_sound.proofs.MoveArms.{Quiet}
-use Rattle.mc_sound.proofs.Typed.{true_not_false}
+use Rattle.mc_sound.proofs.Binds.{true_not_false}
 
 pub quiet_each : {A : Type 0} (P : A → Type 0) (xs : Items A) → Quiet xs → Each P xs → Calm P xs
 quiet_each P Items.End q h = tt

@@ -17,12 +17,11 @@ use Rattle.mc_accepted.specs.Fits.{Fits}
 use Rattle.mc_program.specs.declared.builtin.Builtin.{Builtin}
 use Rattle.mc_program.specs.declared.builtin.Builtin.TheVariants as B
 use Rattle.mc_sound.specs.code.Passes.{Grows, BindsOnly, TypedAt, Reached}
-use Rattle.mc_sound.specs.IoLaws.{FitsIo, NoIo, Advances, LastIs}
+use Rattle.mc_accepted.specs.IoFits.{FitsIo, NoIo, Advances, LastIs}
 use Rattle.mc_sound.specs.code.Moves.{Calm, World, Flow, Live, Holds, HoldsAfter, StateAt, AllowsShared, Shares, SharesAt, ReturnedWith, NoPlace, TakenAt, Made, Moves}
 use Rattle.mc_sound.proofs.Arguments
 use Rattle.mc_sound.proofs.Callings
 use Rattle.mc_sound.proofs.Callings.{woven}
-use Rattle.mc_sound.proofs.Combine.{in_left, in_right, in_split}
 use Rattle.mc_sound.proofs.MoveCalls
 use Rattle.mc_sound.proofs.MoveReturns.{MatchAt, unify_at, returned_holds}
 use Rattle.mc_accepted.specs.Inclusion.{Path}
@@ -34,8 +33,9 @@ use Rattle.mc_sound.proofs.MoveLists
 use Rattle.mc_sound.proofs.MoveGiven.{AnswerShares, after_shares}
 use Rattle.mc_sound.proofs.MoveQuiet.{none_new}
 use Rattle.mc_sound.proofs.MoveShares.{ground_allows}
-use Rattle.mc_sound.proofs.Typed
 use Rattle.mc_sound.proofs.TypeInstances.{also_instance, none_of, is_value}
+use Rattle.mc_laws.proofs.FlatGoals.{in_either, in_left, in_right}
+use Rattle.mc_sound.proofs.Binds.{true_not_false}
 
 -- modes that leave `ground`
 abbrev pub AllGround : List Mode → Type 0
@@ -70,12 +70,12 @@ quiet_ground B.StringToInt e = plain_ground (inputs_of B.StringToInt)
 quiet_ground B.CharToInt e = plain_ground (inputs_of B.CharToInt)
 quiet_ground B.CharFromInt e = plain_ground (inputs_of B.CharFromInt)
 quiet_ground B.CharIsDigit e = plain_ground (inputs_of B.CharIsDigit)
-quiet_ground B.WriteString e = absurd (Typed.true_not_false e)
-quiet_ground B.WriteChar e = absurd (Typed.true_not_false e)
-quiet_ground B.WriteInt e = absurd (Typed.true_not_false e)
-quiet_ground B.Write e = absurd (Typed.true_not_false e)
-quiet_ground B.Nl e = absurd (Typed.true_not_false e)
-quiet_ground B.ReadLine e = absurd (Typed.true_not_false e)
+quiet_ground B.WriteString e = absurd (true_not_false e)
+quiet_ground B.WriteChar e = absurd (true_not_false e)
+quiet_ground B.WriteInt e = absurd (true_not_false e)
+quiet_ground B.Write e = absurd (true_not_false e)
+quiet_ground B.Nl e = absurd (true_not_false e)
+quiet_ground B.ReadLine e = absurd (true_not_false e)
 quiet_ground B.Error e = plain_ground (inputs_of B.Error)
 
 ground_makes_none : (ms : List Mode) → AllGround ms → NoPlace Made ms
@@ -108,32 +108,32 @@ io_form K B.WriteInt e = writer
 io_form K B.Write e = writer
 io_form K B.Nl e = line_end
 io_form K B.ReadLine e = reader
-io_form K B.IntPlus e = absurd (Typed.true_not_false (sym e))
-io_form K B.IntMinus e = absurd (Typed.true_not_false (sym e))
-io_form K B.IntTimes e = absurd (Typed.true_not_false (sym e))
-io_form K B.IntQuotient e = absurd (Typed.true_not_false (sym e))
-io_form K B.IntDiv e = absurd (Typed.true_not_false (sym e))
-io_form K B.IntMod e = absurd (Typed.true_not_false (sym e))
-io_form K B.IntRem e = absurd (Typed.true_not_false (sym e))
-io_form K B.IntNegate e = absurd (Typed.true_not_false (sym e))
-io_form K B.IntLess e = absurd (Typed.true_not_false (sym e))
-io_form K B.IntGreater e = absurd (Typed.true_not_false (sym e))
-io_form K B.IntAtMost e = absurd (Typed.true_not_false (sym e))
-io_form K B.IntAtLeast e = absurd (Typed.true_not_false (sym e))
-io_form K B.StringJoin e = absurd (Typed.true_not_false (sym e))
-io_form K B.StringLength e = absurd (Typed.true_not_false (sym e))
-io_form K B.StringCodePoints e = absurd (Typed.true_not_false (sym e))
-io_form K B.IntToString e = absurd (Typed.true_not_false (sym e))
-io_form K B.CharToString e = absurd (Typed.true_not_false (sym e))
-io_form K B.ToCharList e = absurd (Typed.true_not_false (sym e))
-io_form K B.StringToInt e = absurd (Typed.true_not_false (sym e))
-io_form K B.CharToInt e = absurd (Typed.true_not_false (sym e))
-io_form K B.CharFromInt e = absurd (Typed.true_not_false (sym e))
-io_form K B.CharIsDigit e = absurd (Typed.true_not_false (sym e))
-io_form K B.Error e = absurd (Typed.true_not_false (sym e))
+io_form K B.IntPlus e = absurd (true_not_false (sym e))
+io_form K B.IntMinus e = absurd (true_not_false (sym e))
+io_form K B.IntTimes e = absurd (true_not_false (sym e))
+io_form K B.IntQuotient e = absurd (true_not_false (sym e))
+io_form K B.IntDiv e = absurd (true_not_false (sym e))
+io_form K B.IntMod e = absurd (true_not_false (sym e))
+io_form K B.IntRem e = absurd (true_not_false (sym e))
+io_form K B.IntNegate e = absurd (true_not_false (sym e))
+io_form K B.IntLess e = absurd (true_not_false (sym e))
+io_form K B.IntGreater e = absurd (true_not_false (sym e))
+io_form K B.IntAtMost e = absurd (true_not_false (sym e))
+io_form K B.IntAtLeast e = absurd (true_not_false (sym e))
+io_form K B.StringJoin e = absurd (true_not_false (sym e))
+io_form K B.StringLength e = absurd (true_not_false (sym e))
+io_form K B.StringCodePoints e = absurd (true_not_false (sym e))
+io_form K B.IntToString e = absurd (true_not_false (sym e))
+io_form K B.CharToString e = absurd (true_not_false (sym e))
+io_form K B.ToCharList e = absurd (true_not_false (sym e))
+io_form K B.StringToInt e = absurd (true_not_false (sym e))
+io_form K B.CharToInt e = absurd (true_not_false (sym e))
+io_form K B.CharFromInt e = absurd (true_not_false (sym e))
+io_form K B.CharIsDigit e = absurd (true_not_false (sym e))
+io_form K B.Error e = absurd (true_not_false (sym e))
 
 pub io_most : (op : Builtin) → is_io_builtin op ≡ true → (builtin_most op ≡ One) × ((Rattle.mc_accepted.specs.Determined.builtin_determinism op).most ≡ One)
-io_most op e = ⊎_elim (λ q. absurd (Typed.true_not_false (sym e ∙ ap is_io_builtin q))) (λ m. m) (Callings.builtin_view op)
+io_most op e = ⊎_elim (λ q. absurd (true_not_false (sym e ∙ ap is_io_builtin q))) (λ m. m) (Callings.builtin_view op)
 
 -- the last of these inputs is the state
 both_last : (o : Option Val) (w : List ℕ) (k : ℕ) (vs : List Val) → both o (both (Some (state w k)) (Some [])) ≡ Some vs → LastIs w vs
@@ -249,7 +249,7 @@ module _ (S : System) (D : Parameters) (F : Fits S D) (θ : TypeChoice) (T : ℕ
   module _ (M : List ℕ) (sm : SharesAt S T M b e) (K : Library_types) (io : FitsIo S.world K) (known : Known) (L : List ℕ) (p : ℕ) (op : Builtin) (xs : List ℕ) (c : Insts) (is : (S.world.source.preds p).builtin ≡ Some op) (types : Arguments.TypesAt S D F θ T proper σ xs (S.world.source.preds p).types) (usable : Usable S T (modes_of op) xs b)
       (none : implied_places 0 (modes_of op) xs (λ x. is_bound (b x)) ≡ []) (after : After S T (modes_of op) xs b c) (typed : TypedAt S θ T xs b e) (live : TypedAt S θ T L b e) (lm : Among L M) (xm : Among xs M) where
     both_live : TypedAt S θ T (L ++ xs) b e
-    both_live x i = ⊎_elim (λ j. live x j) (λ j. typed x j) (in_split x L xs i)
+    both_live x i = ⊎_elim (λ j. live x j) (λ j. typed x j) (in_either x L xs i)
 
     -- each answer of these outputs
     output_each : (ws : List Val) → builtin_most op ≡ One → (builtin_determinism op).most ≡ One → EachOf S.world.source (also_instance θ σ) (at_places false (inputs_of op) (S.world.source.preds p).types) ws →
@@ -298,7 +298,7 @@ module _ (S : System) (D : Parameters) (F : Fits S D) (θ : TypeChoice) (T : ℕ
     pub quiet_apply : is_io_builtin op ≡ false → Calm (StillAfter S D F T L b e (unless_never (builtin_most op) c)) (apply_items (S.world.outcome op) (at_outputs (inputs_of op) xs) e (gather (at_inputs (inputs_of op) xs) e))
     quiet_apply t =
         subst (λ o. Calm (StillAfter S D F T L b e (unless_never (builtin_most op) c)) (apply_items (S.world.outcome op) (at_outputs (inputs_of op) xs) e o)) (sym inputs.1)
-        (quiet_after t (S.world.outcome op inputs.0) (io.quiet op inputs.0 t) outputs (λ q. subst (λ k. (S.world.source.preds p).builtin ≡ Some k → EachOf S.world.source (also_instance θ σ) (at_places true (inputs_of k) (S.world.source.preds p).types) inputs.0 → Throws (S.world.outcome k inputs.0)) (sym q) (λ i z. F.builtins.error_throws (also_instance θ σ) p inputs.0 i z) is inputs.2) (Callings.builtin_view op))
+        (quiet_after t (S.world.outcome op inputs.0) (io.quiet p op inputs.0 is t) outputs (λ q. subst (λ k. (S.world.source.preds p).builtin ≡ Some k → EachOf S.world.source (also_instance θ σ) (at_places true (inputs_of k) (S.world.source.preds p).types) inputs.0 → Throws (S.world.outcome k inputs.0)) (sym q) (λ i z. F.builtins.error_throws (also_instance θ σ) p inputs.0 i z) is inputs.2) (Callings.builtin_view op))
 
     -- one that does takes a state
     pub apply_taken : is_io_builtin op ≡ true → (y : ℕ) × In y xs × Live S T b y × TakenAt S y (modes_of op) xs × ((w : List ℕ) (k : ℕ) → e y ≡ Some (state w k) → (vs : List Val) → gather (at_inputs (inputs_of op) xs) e ≡ Some vs → LastIs w vs)
@@ -329,9 +329,8 @@ module _ (S : System) (D : Parameters) (F : Fits S D) (θ : TypeChoice) (T : ℕ
           on : (t : Bool) → is_io_builtin op ≡ t → Moves (HoldsAfter S T L (unless_never (builtin_most op) c)) t one W run
           on false t = MoveLists.calm_map (StillAfter S D F T L b e (unless_never (builtin_most op) c)) (HoldsAfter S T L (unless_never (builtin_most op) c) W) (still_holds S D F T W M L b e (unless_never (builtin_most op) c) lm hw) run (quiet_apply t)
           on true t =
-              let ts = (io.named p op is).1 in
               let y = apply_taken t in
               let w = hw.tells y.0 (xm y.0 y.1) y.2 in
               subst (λ k. Flow (HoldsAfter S T L (unless_never k c)) one W run) (sym (io_most op t).0)
               (subst (λ o. Flow (HoldsAfter S T L (Some c)) one W (apply_items (S.world.outcome op) (at_outputs (inputs_of op) xs) e o)) (sym inputs.1)
-              (io_moves t w.0 w.2 y.0 y.1 y.2 y.3 (S.world.outcome op inputs.0) (io.advances (also_instance θ σ) op w.0 inputs.0 (subst (λ us. EachOf S.world.source (also_instance θ σ) (at_places true (inputs_of op) us) inputs.0) ts inputs.2) t (y.4 w.0 w.1 w.3 inputs.0 inputs.1)) outputs))
+              (io_moves t w.0 w.2 y.0 y.1 y.2 y.3 (S.world.outcome op inputs.0) (io.advances (also_instance θ σ) p op w.0 inputs.0 is inputs.2 t (y.4 w.0 w.1 w.3 inputs.0 inputs.1)) outputs))

@@ -1,5 +1,5 @@
 -- A call moves the world as it should, where its run does.
-use Rattle.std.proofs.Common.{◌≡◌, ℕ, zero, suc, List, [], ◌∷◌, map, Bool, true, false, ◌||◌, Option, Some, None, refl, ap, arith, ⊎_elim}
+use Rattle.std.proofs.Common.{◌≡◌, ℕ, zero, suc, List, [], ◌∷◌, map, Bool, true, false, Option, Some, None, ap, arith, ⊎_elim}
 use Rattle.mc_program.specs.Values.{Val}
 use Rattle.mc_program.specs.Programs.{TypeTerm}
 use Rattle.mc_model.specs.Lists.{In, Among}
@@ -21,6 +21,7 @@ use Rattle.mc_sound.proofs.MoveLists
 use Rattle.mc_sound.proofs.MoveAtoms.{StillAfter}
 use Rattle.mc_sound.proofs.MoveQuiet.{call_lent}
 use Rattle.mc_sound.proofs.MoveReturns.{call_flows}
+use Rattle.std.proofs.lemmas.Bool.{or_left, or_right}
 
 pub calm_moves : {A : Type 0} (Q : World → A → Type 0) (io one : Bool) (W : World) (xs : Items A) → Calm (Q W) xs → Moves Q io one W xs
 calm_moves Q false one W xs h = h
@@ -33,23 +34,12 @@ flow_moves Q false one W xs q h = absurd (no q)
     no : false ≡ true → ⊥
     no e = cc
 
-or_second : (a b : Bool) → b ≡ true → (a || b) ≡ true
-or_second true b q = refl
-or_second false b q = q
-
-or_front : (a b : Bool) → a ≡ true → (a || b) ≡ true
-or_front true b q = refl
-or_front false b q = absurd (no q)
-  where
-    no : false ≡ true → ⊥
-    no e = cc
-
 module _ (S : System) (D : Parameters) (F : Fits S D) (θ : TypeChoice) (T : ℕ → TypeTerm) (proper : (x : ℕ) → ProperType D (T x)) where
   taken_dead : (y : ℕ) (is ls xs : List ℕ) → TakenAt S y (zipped is ls) xs → leaves_dead S T ls ≡ true
   taken_dead y [] ls xs h = absurd h
   taken_dead y (i ∷ is) [] xs h = absurd h
   taken_dead y (i ∷ is) (l ∷ ls) [] h = absurd h
-  taken_dead y (i ∷ is) (l ∷ ls) (x ∷ xs) h = ⊎_elim (λ q. or_front (is_dead (S.insts l)) (leaves_dead S T ls) (ap is_dead q.1)) (λ q. or_second (is_dead (S.insts l)) (leaves_dead S T ls) (taken_dead y is ls xs q)) h
+  taken_dead y (i ∷ is) (l ∷ ls) (x ∷ xs) h = ⊎_elim (λ q. or_left (is_dead (S.insts l)) (leaves_dead S T ls) (ap is_dead q.1)) (λ q. or_right (is_dead (S.insts l)) (leaves_dead S T ls) (taken_dead y is ls xs q)) h
 
   module _ (σ : ℕ → TypeTerm) (b : Insts) (e : Bindings) (p : Procedure) (tidy : TidyModes S (modes_of_procedure p) (types_of S p)) (xs : List ℕ) (c : Insts) (L : List ℕ) (us : Usable S T (modes_of_procedure p) xs b) (after : After S T (modes_of_procedure p) xs b c) (types : Arguments.TypesAt S D F θ T proper σ xs (types_of S p)) (typed : TypedAt S θ T xs b e) where
     unless_after : (m : Most) (zs : Items Bindings) → Each (λ a. Grows e a × (BindsOnly xs e a × Reached S θ T L (unless_never m c) a)) zs → Calm (StillAfter S D F T L b e (Some c)) zs → Calm (StillAfter S D F T L b e (unless_never m c)) zs

@@ -16,7 +16,8 @@ use Rattle.mc_sound.specs.code.Moves.{World, Live, Holds, Tells, TidyModes, OneP
 use Rattle.mc_sound.proofs.Arguments
 use Rattle.mc_sound.proofs.MoveGiven.{PlaceOf, after_inst}
 use Rattle.mc_sound.proofs.MoveHolds.{state_unique}
-use Rattle.mc_sound.proofs.Typed.{true_not_false, bound_is}
+use Rattle.mc_sound.proofs.Typed.{bound_is}
+use Rattle.mc_sound.proofs.Binds.{true_not_false}
 
 in_unique : (N : InstNode) (Q : Type 0) → IncludedNodes N unique Q → Q
 in_unique free Q h = absurd h

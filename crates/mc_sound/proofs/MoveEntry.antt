@@ -18,10 +18,10 @@ use Rattle.mc_accepted.specs.Determined.{nothing_known, is_io}
 use Rattle.mc_accepted.specs.Fits.{FitsProcedure, Fits, goal_of, type_of}
 use Rattle.mc_accepted.specs.Accepted.{entered, Final, FinalAfter, AcceptedProcedure, Accepted}
 use Rattle.mc_sound.specs.code.Passes.{Grows, BindsOnly, TypedAt, Reached, Sound, CallsSound}
-use Rattle.mc_sound.specs.IoLaws.{FitsIo}
+use Rattle.mc_accepted.specs.IoFits.{FitsIo}
 use Rattle.mc_sound.specs.code.Moves.{World, Flow, Live, Holds, HoldsAfter, Shares, SharesAt, Tells, TidyModes, TidyProcedures, OnePlace, NoPlace, Taken, Made, Handed, Returned, ReturnedBy, EachShares, CallsMove, CallsLend}
+use Rattle.mc_laws.proofs.FlatGoals.{in_left, in_right}
 use Rattle.mc_sound.proofs.Binds
-use Rattle.mc_sound.proofs.Combine.{in_split}
 use Rattle.mc_sound.proofs.Entry
 use Rattle.mc_sound.proofs.Entry.{lined, known_none, enter_typed, enter_closed, given_ready, from_distinct, cond_true, calls_sound}
 use Rattle.mc_sound.proofs.MoveGiven.{included_more}
@@ -182,7 +182,7 @@ module _ (S : System) (D : Parameters) (F : Fits S D) (accepted : Accepted S) (t
       } in
       let s : Sound S θ T nothing_known p.head _ e r.after _ (stream S.world.outcome C h p.body e) =
       Sounds.sound_node S D F C called (lined S D F accepted) T fit.types θ r.ordered fit.typed nothing_known h p.head (λ x i. i) e (enter_closed p.head p.first vs) (λ x i. et x) (λ x i. et x) in
-      let m = moves_node S D F C called (lined S D F accepted) T fit.types θ moved lent tidy lib io r.ordered fit.typed nothing_known h p.det.committed r.io p.head (λ x i. i) e (enter_closed p.head p.first vs) (λ x i. et x) (λ x i. et x) (known_none S D F accepted e) W M hw (λ x i. Rattle.mc_sound.proofs.Combine.in_left x p.head (variables_of (goal_of S p).body) i) (λ x i. Rattle.mc_sound.proofs.Combine.in_right x p.head (variables_of (goal_of S p).body) i) in
+      let m = moves_node S D F C called (lined S D F accepted) T fit.types θ moved lent tidy lib io r.ordered fit.typed nothing_known h p.det.committed r.io p.head (λ x i. i) e (enter_closed p.head p.first vs) (λ x i. et x) (λ x i. et x) (known_none S D F accepted e) W M hw (λ x i. in_left x p.head (variables_of (goal_of S p).body) i) (λ x i. in_right x p.head (variables_of (goal_of S p).body) i) in
       let dh : Distinct p.head = subst Distinct (sym r.head) (from_distinct 0 (goal_of S p).arity) in
       cond_true (λ ys. Flow (ReturnedBy S p) false W ys) (ready p.first vs) (pruned_to p.det.committed (bind (stream S.world.outcome C h p.body e) (λ a. Answer (leave p.head p.last a) End))) Stuck (given_ready S θ p.first (types_of S p) vs g)
       (body_flows (HoldsAfter S T p.head r.after) (ReturnedBy S p) (λ a. Grows e a × (BindsOnly (variables_of_node p.body) e a × Reached S θ T p.head r.after a)) (λ a. leave p.head p.last a) p.det.committed W (stream S.world.outcome C h p.body e) s.each

@@ -16,7 +16,7 @@ use Rattle.mc_sound.proofs.Combine.{knows_more}
 use Rattle.mc_sound.proofs.Lists
 use Rattle.mc_sound.proofs.MoveLists
 use Rattle.mc_sound.proofs.MoveLists.{never_of, moves_flow, calm_flow}
-use Rattle.mc_sound.proofs.Typed.{true_not_false}
+use Rattle.mc_sound.proofs.Binds.{true_not_false}
 
 -- an io goal cannot fail; where all answers count it has at most one
 abbrev pub IoFits : (io one : Bool) → Determinism → Type 0

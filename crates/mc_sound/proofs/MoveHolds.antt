@@ -18,7 +18,8 @@ use Rattle.mc_sound.specs.code.Passes.{TypedAt, Reached}
 use Rattle.mc_sound.specs.code.Moves.{World, Holds, HoldsAfter, Shares, SharesAt, Lent, LentAfter}
 use Rattle.mc_sound.proofs.MoveShares.{shares_more}
 use Rattle.mc_sound.proofs.TypeInstances.{of_general}
-use Rattle.mc_sound.proofs.Typed.{true_not_false, View, all_free, one_dead, more, merged_view, only_free, Is, is_at, is_reachable}
+use Rattle.mc_sound.proofs.Typed.{View, all_free, one_dead, more, merged_view, only_free, Is, is_at, is_reachable}
+use Rattle.mc_sound.proofs.Binds.{true_not_false}
 
 module _ (S : System) (D : Parameters) (F : Fits S D) (θ : TypeChoice) where
   -- a state is within no bound inst

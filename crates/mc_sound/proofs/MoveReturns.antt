@@ -18,7 +18,7 @@ use Rattle.mc_sound.proofs.Lists
 use Rattle.mc_sound.proofs.MoveArms.{quiet_option}
 use Rattle.mc_sound.proofs.MoveAtoms.{quiet_each, also_on}
 use Rattle.mc_sound.proofs.MoveLists
-use Rattle.mc_sound.proofs.Typed.{true_not_false}
+use Rattle.mc_sound.proofs.Binds.{true_not_false}
 
 -- the variables have the values that are there
 abbrev pub MatchAt : List ℕ → List (Option Val) → Bindings → Type 0

@@ -5,19 +5,18 @@ use Rattle.mc_program.specs.Programs.{TypeTerm}
 use Rattle.mc_model.specs.EventList.{Items, Each, written}
 use Rattle.mc_model.specs.Stream.{below, calls, run_call}
 use Rattle.mc_accepted.specs.Ordered.{Mode, modes_of_procedure, zipped}
-use Rattle.mc_model.specs.Good.{System, TypeChoice, Shape, Given, Keeps, types_of, WritesAll}
+use Rattle.mc_model.specs.Good.{System, TypeChoice, Shape, Given, Keeps, types_of, WritesAll, TakesState}
 use Rattle.mc_accepted.specs.ProperTypes.{Parameters}
 use Rattle.mc_accepted.specs.Fits.{Fits}
 use Rattle.mc_accepted.specs.Accepted.{Accepted}
 use Rattle.mc_sound.specs.code.Moves.{World, Flow, Tells, OnePlace, Taken, Handed, Returned, CallsMove, ReturnedBy, EachShares, StateAt, AllowsShared, TidyModes, TidyProcedures}
-use Rattle.mc_sound.specs.IoLaws.{MainWritesAll}
 use Rattle.mc_accepted.specs.Tidy.{EachTidy}
 use Rattle.mc_accepted.specs.Inclusion.{Path}
 use Rattle.mc_program.specs.Programs.{TypeTerm, state_type}
 use Rattle.mc_sound.proofs.MoveEntry.{calls_move}
 use Rattle.mc_sound.proofs.Entry.{calls_sound}
 use Rattle.mc_sound.proofs.LendEntry.{calls_lend}
-use Rattle.mc_sound.proofs.Levels.{call_levels}
+use Rattle.mc_laws.proofs.Levels.{call_levels}
 use Rattle.mc_sound.proofs.Lists
 use Rattle.mc_sound.proofs.MoveLists
 
@@ -96,7 +95,9 @@ tidy_modes S D F (i ∷ is) (l ∷ ls) (t ∷ ts) e f y z = (
   tidy_modes S D F is ls ts (omega (arith, e)) (omega (arith, f)) y.1 z.1,
 )
 
-pub main_writes_all : MainWritesAll
-main_writes_all S D K F io A k l first last θ n h vs g =
+pub main_writes : (S : System) (D : Parameters) → Fits S D → Accepted S → (θ : TypeChoice) (n h k : ℕ) (vs : List (Option Val)) → k < S.count → TakesState (S.procs k) → Given S θ (S.procs k).first (types_of S (S.procs k)) vs → WritesAll vs (run_call S.world.outcome S.procs n h k vs)
+main_writes S D F A θ n h k vs l takes g =
     let tidy : TidyProcedures S = λ j m. tidy_modes S D F (S.procs j).first (S.procs j).last (types_of S (S.procs j)) (A j m).lengths.0 (A j m).lengths.1 (F.procedures j m).tidy.0 (F.procedures j m).tidy.1 in
-    run_writes S D F A k l first last n (calls_move S D F A tidy K io (calls_lend S D F A tidy K io) n) θ h vs g
+    let K = F.io.0 in
+    let io = F.io.1 in
+    run_writes S D F A k l takes.first takes.last n (calls_move S D F A tidy K io (calls_lend S D F A tidy K io) n) θ h vs g

@@ -22,6 +22,7 @@ use Rattle.mc_sound.proofs.Opens.{Loose}
 use Rattle.mc_sound.proofs.Lists
 use Rattle.mc_sound.proofs.Typed
 use Rattle.mc_sound.proofs.TypeInstances.{none_of}
+use Rattle.mc_sound.proofs.Binds.{true_not_false}
 
 module _ (P : Source) (G : Graph) where
   map_symbol : (N : InstNode) (i s : ℕ) (Q R : List ℕ → Type 0) → ((is : List ℕ) → Q is → R is) → AllowsSymbol P N i s Q → AllowsSymbol P N i s R
@@ -190,7 +191,7 @@ module _ (S : System) (D : Parameters) (F : Fits S D) (θ : TypeChoice) (T : ℕ
           some_list e = cc
 
           at : (k : ℕ) → ArgumentAt (val_then v (vals us)) k path → (k < length (map b (y ∷ ys))) × AllowsShared S.world.source S.insts path (get_or (map b (y ∷ ys)) k 0)
-          at zero a = (omega arith, ⊎_elim (λ z. absurd (Typed.true_not_false (sym (ap is_state z.1) ∙ ns.0))) (λ z. z) (s y (inl refl) nd.0 v eo path a))
+          at zero a = (omega arith, ⊎_elim (λ z. absurd (true_not_false (sym (ap is_state z.1) ∙ ns.0))) (λ z. z) (s y (inl refl) nd.0 v eo path a))
           at (suc k) a = let r = rest us ep k a in (omega (arith, r.0), r.1)
 
   pub build_shares : (L ys : List ℕ) (b : Insts) (e : Bindings) (x s i : ℕ) → IsSymbolOver S T i s (map b ys) → NoneState S T ys → NoneDead S T ys b → SharesAt S T ys b e → SharesAt S T L b e → (o : Option (List Val)) → gather ys e ≡ o → Loose (SharesAt S T L (also x i b)) (build_items x s e o)
@@ -204,9 +205,9 @@ module _ (S : System) (D : Parameters) (F : Fits S D) (θ : TypeChoice) (T : ℕ
   live_on false i k X q f g = g refl q
 
   not_state : (v : Val) (i : ℕ) → OfType S.world.source v state_type → i ≡ 2 → ((path : Path) → StateAt v path → AllowsShared S.world.source S.insts path i) → ⊥
-  not_state (int n) i o q h = Typed.true_not_false (sym o.1)
-  not_state (char n) i o q h = Typed.true_not_false (sym o.1)
-  not_state (str n) i o q h = Typed.true_not_false (sym o.1)
+  not_state (int n) i o q h = true_not_false (sym o.1)
+  not_state (char n) i o q h = true_not_false (sym o.1)
+  not_state (str n) i o q h = true_not_false (sym o.1)
   not_state (con s vs) i o q h = none_of S.world.source vs o
   not_state (state w k) i o q h = subst (λ N. AllowsMark N shared) (ap S.insts q ∙ F.insts.is_unique) (h [] tt)
 

@@ -9,21 +9,21 @@ use Rattle.mc_model.specs.Stream.{Bindings, Calls, pruned_to, stream, stream_of,
 use Rattle.mc_model.specs.Scheduled.{Label, Node, node, Scheduled, Ite, Not, Assign, Test, Build, Take, Const, TestConst, Call, Apply, Nodes, Arms}
 use Rattle.mc_source.specs.Determinism.{Determinism, disj, ite, pruned, rank, det}
 use Rattle.mc_model.specs.Outcomes.{inputs_of}
-use Rattle.mc_accepted.specs.Ordered.{Insts, IsLabel, AbsentFrom, arm_goal, at_inputs, at_outputs, tested_by, Ordered, OrderedNode, OrderedAll, OrderedAny, OrderedArms, variables_of_node, variables_of_nodes, variables_of_arms}
+use Rattle.mc_accepted.specs.Ordered.{Insts, IsLabel, AbsentFrom, arm_goal, at_inputs, at_outputs, tested_by, Ordered, OrderedNode, OrderedAll, OrderedAny, OrderedArms, variables_of_node, variables_of_nodes}
 use Rattle.mc_accepted.specs.Determined.{Known, learned, insts_after, determined, determined_in, determined_all, determined_any, is_io, is_io_in, one_is_io, arm_is_io, none_fails, no_disjunct_fails, IoHere, IoPlaced, IoPlacedIn, IoAllPlaced, IoEachPlaced, IoArmsPlaced}
 use Rattle.mc_accepted.specs.Typing.{TypedGoal, TypedGoals}
 use Rattle.mc_model.specs.Good.{System, TypeChoice}
 use Rattle.mc_accepted.specs.ProperTypes.{Parameters, ProperType}
 use Rattle.mc_accepted.specs.Fits.{Fits}
 use Rattle.mc_sound.specs.code.Passes.{Grows, BindsOnly, Closed, HasLabel, Knows, TypedAt, Reached, Sound, CallsSound}
-use Rattle.mc_sound.specs.IoLaws.{FitsIo}
+use Rattle.mc_accepted.specs.IoFits.{FitsIo}
 use Rattle.mc_sound.specs.code.Moves.{Calm, World, Moves, Holds, HoldsAfter, CallsMove, CallsLend, TidyProcedures}
 use Rattle.mc_accepted.specs.Ordered as O
 use Rattle.mc_source.specs.declared.det.Most.{Most}
 use Rattle.mc_source.specs.declared.det.Most.TheVariants.{Zero, One, Many}
 use Rattle.mc_sound.proofs.Changes.{node_after, closed_after, closed_more, node_from}
 use Rattle.mc_sound.proofs.Combine
-use Rattle.mc_sound.proofs.Combine.{in_left, in_right, in_split, among_left, among_both, among_two, knows_more}
+use Rattle.mc_sound.proofs.Combine.{among_left, among_both, among_two, knows_more}
 use Rattle.mc_sound.proofs.MoveArms.{opens_calm}
 use Rattle.mc_sound.proofs.MoveGoals.{IoFits, conj_moves, disj_moves, ite_moves, zero_append}
 use Rattle.mc_sound.proofs.MoveHolds.{holds_joined, placed_free}
@@ -42,7 +42,10 @@ use Rattle.mc_accepted.specs.Ordered.{TestsInOrder, implied_places, modes_of, fi
 use Rattle.mc_sound.proofs.Sound as Sounds
 use Rattle.mc_sound.proofs.Sound.{picks_goal, picks_rest, picks_typed, parts_typed, parts_some, parts_others, arm_typed, arm_variables, knows_learned, PairsIn, fresh_split, fresh_pairs, in_inputs, in_outputs}
 use Rattle.mc_sound.proofs.Typed
-use Rattle.mc_sound.proofs.Typed.{true_not_false, Is}
+use Rattle.mc_sound.proofs.Typed.{Is}
+use Rattle.mc_laws.proofs.FlatGoals.{in_either, in_left, in_right}
+use Rattle.std.proofs.lemmas.Bool.{or_right}
+use Rattle.mc_sound.proofs.Binds.{true_not_false}
 
 -- goals without parts
 abbrev pub IsAtom : Scheduled → Type 0
@@ -154,10 +157,6 @@ here_sure S T false one m d q h = absurd (true_not_false (sym q))
 pub io_sure : (S : System) (T : ℕ → TypeTerm) (b : Insts) (known : Known) (one : Bool) (n : Node) → IoPlaced S T b known one n → is_io S T n ≡ true → (determined S T b known n).can_fail ≡ false
 io_sure S T b known one (node s changes d m) h q = here_sure S T (is_io_in S T s) one m (determined S T b known (node s changes d m)) q h.0
 
-or_right : (a b : Bool) → b ≡ true → (a || b) ≡ true
-or_right true b q = refl
-or_right false b q = q
-
 fits_rank : (io one : Bool) (d : Determinism) → IoFits io one d → io ≡ true → one ≡ false → rank d.most ≤ 1
 fits_rank true one d h q r = h.1 r
 fits_rank false one d h q r = absurd (true_not_false (sym q))
@@ -243,7 +242,7 @@ module _ (S : System) (D : Parameters) (F : Fits S D) (C : Calls) (called : Call
           (W : World) (M : List ℕ) → Holds S T W M b e → Among L M → Among (variables_of g) M → Moves (HoldsAfter S T L o) (is_io_in S T s) one W (stream_of S.world.outcome C h s e)
       moves (O.conj r) tg known h one fit pl L u e cl ty li kk W M hw lm gm = moves_all r tg known h one fit pl L u e cl ty li kk W M hw lm gm
       moves (O.implied_alone {xs = xs} r) tg known h one fit pl L u e cl ty li kk W M hw lm gm =
-          moves_all r (tg, tt) known h one fit pl L u e cl (λ x i. ty x (⊎_elim (λ j. j) (λ j. absurd j) (in_split x xs [] i))) li kk W M hw lm (λ x i. gm x (⊎_elim (λ j. j) (λ j. absurd j) (in_split x xs [] i)))
+          moves_all r (tg, tt) known h one fit pl L u e cl (λ x i. ty x (⊎_elim (λ j. j) (λ j. absurd j) (in_either x xs [] i))) li kk W M hw lm (λ x i. gm x (⊎_elim (λ j. j) (λ j. absurd j) (in_either x xs [] i)))
       moves (O.some {vs = vs} {g = g} {n = n} a r) tg known h one fit pl L u e cl ty li kk W M hw lm gm =
           moves_node r tg known h one pl L u e cl (λ x i. ty x (in_right x vs (variables_of g) i)) li kk W M hw lm (λ x i. gm x (in_right x vs (variables_of g) i))
       moves (O.neg {O = O} {Q = Q} {b = b} {g = g} {n = n} {o = o} r m) tg known h one fit pl L u e cl ty li kk W M hw lm gm =
@@ -283,7 +282,7 @@ module _ (S : System) (D : Parameters) (F : Fits S D) (C : Calls) (called : Call
           let tc : TypedAt S θ T (variables_of g) b e = λ x z. ty x (vg x z) in
           let te : TypedAt S θ T (variables_of j) b e = λ x z. ty x (vj x z) in
           let K = L ++ variables_of i in
-          let tk : TypedAt S θ T K b e = λ x z. ⊎_elim (λ y. li x y) (λ y. ty x (vi x y)) (in_split x L (variables_of i) z) in
+          let tk : TypedAt S θ T K b e = λ x z. ⊎_elim (λ y. li x y) (λ y. ty x (vi x y)) (in_either x L (variables_of i) z) in
           let eqc : insts_after n b ≡ c = node_after rc in
           let ko = among_two L O (without (free_in g) vs) (variables_of i) u in
           let clc = closed_more O Q (without (free_in g) vs ++ variables_of i) vt b e cl in
@@ -294,7 +293,7 @@ module _ (S : System) (D : Parameters) (F : Fits S D) (C : Calls) (called : Call
           (Sounds.sound_node S D F C called lined T proper θ rc tg.0 known h K ko e clc tc tk)
           (λ d gr bo m. Combine.sound_more S θ T known L vt Ws d o'' (determined S T (insts_after n b) known t) (stream S.world.outcome C h t d) wt (subst (λ z. Sound S θ T known L vt d o'' (determined S T z known t) (stream S.world.outcome C h t d)) (sym eqc) (Combine.reached_sound S θ T known L vt d o o'' (determined S T c known t) (stream S.world.outcome C h t d) (Typed.joined_reached S D F θ T proper L O b (o ∷ o' ∷ []) o'' u jn o (inl refl)) (St d bo m))))
           (HoldsAfter S T K (Some c)) (HoldsAfter S T L o'') (determined S T b known f) ys W (is_io S T t) (is_io S T f) one
-          (subst (λ io. Moves (HoldsAfter S T K (Some c)) io one W xs) pl.0 (moves_node rc tg.0 known h one (placed_free S T n b known one pl.0) K ko e clc tc tk kk W M hw (λ x z. ⊎_elim (λ y. lm x y) (λ y. gm x (vi x y)) (in_split x L (variables_of i) z)) (λ x z. gm x (vg x z))))
+          (subst (λ io. Moves (HoldsAfter S T K (Some c)) io one W xs) pl.0 (moves_node rc tg.0 known h one (placed_free S T n b known one pl.0) K ko e clc tc tk kk W M hw (λ x z. ⊎_elim (λ y. lm x y) (λ y. gm x (vi x y)) (in_either x L (variables_of i) z)) (λ x z. gm x (vg x z))))
           (subst (λ io. IoFits (io || (is_io S T t || is_io S T f)) one (ite (determined S T b known n) (determined S T (insts_after n b) known t) (determined S T b known f))) pl.0 fit)
           (λ d y z.
           MoveLists.moves_each (λ k. Grows d k × (BindsOnly vt d k × Reached S θ T L o k)) (HoldsAfter S T L o) (HoldsAfter S T L o'') (λ X k w q. holds_joined S D F θ T proper L O b (o ∷ o' ∷ []) o'' u jn o (inl refl) X k w.1.1 q) (is_io S T t) one W (stream S.world.outcome C h t d) (St d y.1.0 y.1.1).each
@@ -349,7 +348,7 @@ module _ (S : System) (D : Parameters) (F : Fits S D) (C : Calls) (called : Call
           let eqc : insts_after n b ≡ c = node_after r in
           let clc = closed_more O Q V (variables_of_nodes ns) b e cl in
           let tc : TypedAt S θ T (variables_of g) b e = λ x i. ty x (picks_goal p x i) in
-          let tl : TypedAt S θ T (L ++ V) b e = λ x i. ⊎_elim (λ j. li x j) (λ j. ty x (picks_rest p x j)) (in_split x L V i) in
+          let tl : TypedAt S θ T (L ++ V) b e = λ x i. ⊎_elim (λ j. li x j) (λ j. ty x (picks_rest p x j)) (in_either x L V i) in
           let lo = among_both L O V u in
           conj_moves S θ T known (L ++ V) L (variables_of_node n) Ws e kk (Some c) o (determined S T b known n) (determined_all S T (insts_after n b) known ns) (stream S.world.outcome C h n e) (λ a. stream_all S.world.outcome C h ns a)
           (Sounds.sound_node S D F C called lined T proper θ r q.0 known h (L ++ V) lo e clc tc tl)
@@ -359,7 +358,7 @@ module _ (S : System) (D : Parameters) (F : Fits S D) (C : Calls) (called : Call
           (Sounds.sound_all S D F C called lined T proper θ t q.1 known h L (among_left L O (variables_of g) u) a (closed_after O Q (variables_of g) (variables_of_node n) b c e a (node_from S D F T r) bo cl) (λ x i. m x (in_right x L V i)) (λ x i. m x (in_left x L V i)))))
           (HoldsAfter S T (L ++ V) (Some c)) (HoldsAfter S T L o)
           (is_io S T n) (one_is_io S T ns) one (one && none_fails S T (insts_after n b) known ns) W (λ z. and_first one (none_fails S T (insts_after n b) known ns) z)
-          (moves_node r q.0 known h (one && none_fails S T (insts_after n b) known ns) pl.0 (L ++ V) lo e clc tc tl kk W M hw (λ x i. ⊎_elim (λ j. lm x j) (λ j. gm x (picks_rest p x j)) (in_split x L V i)) (λ x i. gm x (picks_goal p x i)))
+          (moves_node r q.0 known h (one && none_fails S T (insts_after n b) known ns) pl.0 (L ++ V) lo e clc tc tl kk W M hw (λ x i. ⊎_elim (λ j. lm x j) (λ j. gm x (picks_rest p x j)) (in_either x L V i)) (λ x i. gm x (picks_goal p x i)))
           fit
           (λ f X a i z.
           moves_all t q.1 known h one (subst (λ y. IoFits (one_is_io S T ns) one (determined_all S T y known ns)) eqc f) (subst (λ y. IoAllPlaced S T y known one ns) eqc pl.1) L (among_left L O (variables_of g) u) a
@@ -378,15 +377,15 @@ module _ (S : System) (D : Parameters) (F : Fits S D) (C : Calls) (called : Call
           let split = fresh_split S T 0 places xs zs tests fr in
           let tx : TypedAt S θ T xs b e = λ x z. ty x (picks_goal pk x z) in
           let tz : TypedAt S θ T zs b e = Sounds.typed_fresh S D F C called lined T proper θ O Q xs zs (firsts tests) gs b e cl apt split tx in
-          let tk : TypedAt S θ T K b e = λ x z. ⊎_elim (λ y. li x y) (λ y. ⊎_elim (λ w. ty x (picks_rest pk x w)) (λ w. ⊎_elim (λ r. tx x r) (λ r. tz x r) (in_split x xs zs w)) (in_split x (variables_of_all rest) (xs ++ zs) y)) (in_split x L V z) in
+          let tk : TypedAt S θ T K b e = λ x z. ⊎_elim (λ y. li x y) (λ y. ⊎_elim (λ w. ty x (picks_rest pk x w)) (λ w. ⊎_elim (λ r. tx x r) (λ r. tz x r) (in_either x xs zs w)) (in_either x (variables_of_all rest) (xs ++ zs) y)) (in_either x L V z) in
           let types = Sounds.fresh_types S T D F θ proper c q.0.0 0 places xs zs tests (S.world.source.preds p).types (Sounds.map_types S T D F θ proper q.0.0 xs (S.world.source.preds p).types q.0.1) ts fr in
           let after : insts_after n b ≡ c = Rattle.std.proofs.Math.Path.fun_ext (λ x. sym (kc.0 x)) in
           let pairs = fresh_pairs S T K 0 places xs zs tests (λ y z. in_right y L V (in_right y (variables_of_all rest) (xs ++ zs) (in_left y xs zs z))) (λ y z. in_right y L V (in_right y (variables_of_all rest) (xs ++ zs) (in_right y xs zs z))) fr in
           let oneN = one && none_fails S T (insts_after n b) known rs in
           let closed : (a : Bindings) → BindsOnly vs e a → Closed (O ++ (xs ++ zs)) (Q ++ (xs ++ zs)) c a = λ a bo.
-          Sounds.closed_within (O ++ (xs ++ zs)) (Q ++ vs) (Q ++ (xs ++ zs)) c a (λ x z. ⊎_elim (λ y. in_left x Q (xs ++ zs) y) (λ y. in_right x Q (xs ++ zs) (in_right x xs zs (⊎_elim (λ w. in_inputs (inputs_of op) zs x w) (λ w. in_outputs (inputs_of op) zs x w) (in_split x (at_inputs (inputs_of op) zs) (at_outputs (inputs_of op) zs) y)))) (in_split x Q vs z))
+          Sounds.closed_within (O ++ (xs ++ zs)) (Q ++ vs) (Q ++ (xs ++ zs)) c a (λ x z. ⊎_elim (λ y. in_left x Q (xs ++ zs) y) (λ y. in_right x Q (xs ++ zs) (in_right x xs zs (⊎_elim (λ w. in_inputs (inputs_of op) zs x w) (λ w. in_outputs (inputs_of op) zs x w) (in_either x (at_inputs (inputs_of op) zs) (at_outputs (inputs_of op) zs) y)))) (in_either x Q vs z))
           (closed_after O Q (xs ++ zs) vs b c e a (apply_from S D F T op zs b c af) bo cl) in
-          let old : (x : ℕ) → In x (M ++ zs) → In x M ⊎ ((b x ≡ 0) × (e x ≡ None)) = λ x z. ⊎_elim (λ y. inl y) (λ y. ⊎_elim (λ w. inl (gm x (picks_goal pk x w))) (λ w. ⊎_elim (λ r. absurd (apt x w (⊎_elim (λ k. in_left x O (Q ++ variables_of_all gs) k) (λ k. in_right x O (Q ++ variables_of_all gs) (in_left x Q (variables_of_all gs) k)) r))) (λ r. inr r) (cl x)) (split x y)) (in_split x M zs z) in
+          let old : (x : ℕ) → In x (M ++ zs) → In x M ⊎ ((b x ≡ 0) × (e x ≡ None)) = λ x z. ⊎_elim (λ y. inl y) (λ y. ⊎_elim (λ w. inl (gm x (picks_goal pk x w))) (λ w. ⊎_elim (λ r. absurd (apt x w (⊎_elim (λ k. in_left x O (Q ++ variables_of_all gs) k) (λ k. in_right x O (Q ++ variables_of_all gs) (in_left x Q (variables_of_all gs) k)) r))) (λ r. inr r) (cl x)) (split x y)) (in_either x M zs z) in
           let hz = holds_more W M (M ++ zs) b e old hw in
           conj_moves S θ T known K L vs Ws e kk (Some c) o (determined S T b known n) (determined_all S T (insts_after n b) known rs) (stream S.world.outcome C h n e) (λ a. stream_all S.world.outcome C h rs a)
           (Combine.pruned_sound S θ T known K vs e (Some c) (determined_in S T b known ap) mark (stream_of S.world.outcome C h ap e)
@@ -402,7 +401,7 @@ module _ (S : System) (D : Parameters) (F : Fits S D) (C : Calls) (called : Call
           (pruned_moves S T (HoldsAfter S T K (Some c)) (is_io_in S T ap) oneN mark (determined S T b known n) W (stream_of S.world.outcome C h ap e) pl.0.0
           (subst (λ k. Moves (HoldsAfter S T K (unless_never k c)) (is_io_in S T ap) (oneN || mark) W (stream_of S.world.outcome C h ap e)) mo
           (apply_moves S D F θ T proper q.0.0 b e (M ++ zs) hz.shares lib io known K p op zs c bq types us i af tz tk
-          (λ x z. ⊎_elim (λ y. in_left x M zs (lm x y)) (λ y. ⊎_elim (λ w. in_left x M zs (gm x (picks_rest pk x w))) (λ w. ⊎_elim (λ r. in_left x M zs (gm x (picks_goal pk x r))) (λ r. in_right x M zs r) (in_split x xs zs w)) (in_split x (variables_of_all rest) (xs ++ zs) y)) (in_split x L V z))
+          (λ x z. ⊎_elim (λ y. in_left x M zs (lm x y)) (λ y. ⊎_elim (λ w. in_left x M zs (gm x (picks_rest pk x w))) (λ w. ⊎_elim (λ r. in_left x M zs (gm x (picks_goal pk x r))) (λ r. in_right x M zs r) (in_either x xs zs w)) (in_either x (variables_of_all rest) (xs ++ zs) y)) (in_either x L V z))
           (λ x z. in_right x M zs z) W hz (oneN || mark))))
           fit
           (λ f X a j z.

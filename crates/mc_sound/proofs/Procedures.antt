@@ -1,17 +1,17 @@
 -- Truth at procedures, by induction on the levels of calls; and the theorem.
-use Rattle.std.proofs.Common.{◌≡◌, ◌⊎◌, inl, inr, ℕ, zero, suc, ◌≤◌, List, [], ◌∷◌, map, length, Bool, true, false, cond, nat_eq, Option, Some, None, refl, sym, ap, ap₂, ◌∙◌, subst, arith, ⊎_elim, le_trans}
+use Rattle.std.proofs.Common.{◌≡◌, ◌⊎◌, inl, inr, ℕ, zero, suc, ◌<◌, ◌≤◌, List, [], ◌∷◌, map, length, Bool, true, false, cond, nat_eq, Option, Some, None, refl, sym, ap, ap₂, ◌∙◌, subst, arith, ⊎_elim, le_trans}
 use Rattle.std.proofs.lemmas.Bool.{eqb-true, eq-eqb, ne_eqb}
 use Rattle.mc_program.specs.Values.{Val, char}
 use Rattle.mc_program.specs.Programs.{TypeTerm}
 use Rattle.mc_model.specs.Flat.{Flat_goal, free_in, FlatYes, FlatNo}
 use Rattle.mc_model.specs.Truth.{Assignment, Facts, GivenBy, DeniedBy, builtin_or, SomeClause, NoClause, stage}
 use Rattle.mc_model.specs.Lists.{In, Distinct, from}
-use Rattle.mc_model.specs.EventList.{Items, End, Stuck, Stopped, Answer, Called, Wrote, Read, budget, too_deep, bind, first, cut, Each, EachCall, Succeeds, Ends, answers, AtMost, Covers}
-use Rattle.mc_model.specs.Stream.{Bindings, Calls, is_bound, ready, enter, leave, below, pruned_to, stream, body_items, calls}
+use Rattle.mc_model.specs.EventList.{Items, End, Stuck, Stopped, Answer, Called, Wrote, Read, too_deep, bind, first, cut, Each, EachCall, Succeeds, Ends, answers, Covers}
+use Rattle.mc_model.specs.Stream.{Bindings, Calls, is_bound, ready, enter, leave, below, pruned_to, stream, body_items, calls, run_call}
 use Rattle.mc_model.specs.Scheduled.{Procedure}
 use Rattle.mc_accepted.specs.Ordered.{Insts, variables_of_node}
 use Rattle.mc_accepted.specs.Determined.{nothing_known, determined}
-use Rattle.mc_model.specs.Good.{System, TypeChoice, BoundAs, Shape, Given, Keeps, Extends, GivenCall, types_of, GoodRun, GoodProcedures, GoodQuery}
+use Rattle.mc_model.specs.Good.{System, TypeChoice, BoundAs, Shape, Given, Keeps, Extends, GivenCall, types_of, GoodRun}
 use Rattle.mc_accepted.specs.ProperTypes.{Parameters}
 use Rattle.mc_accepted.specs.Fits.{Fits, type_of, goal_of, FitsProcedure}
 use Rattle.mc_accepted.specs.Accepted.{entered, Final, FinalAfter, AcceptedProcedure, Accepted}
@@ -21,15 +21,16 @@ use Rattle.mc_sound.specs.Soundness.{AcceptedAreGood, NoInputs, AcceptedQueriesA
 use Rattle.mc_model.specs.Good as Good
 use Rattle.mc_sound.proofs.Atoms.{none_at_most}
 use Rattle.mc_sound.proofs.Binds
-use Rattle.mc_sound.proofs.Binds.{some_inj}
+use Rattle.mc_sound.proofs.Binds.{some_inj, true_not_false}
 use Rattle.mc_sound.proofs.Entry
-use Rattle.mc_sound.proofs.Entry.{calls_sound, lined, given_ready, enter_typed, enter_closed, known_none}
-use Rattle.mc_sound.proofs.Levels.{call_levels, body_levels}
+use Rattle.mc_sound.proofs.Entry.{calls_sound, lined, given_ready, enter_typed, enter_closed, known_none, cond_here, cond_there}
+use Rattle.mc_laws.proofs.Levels.{call_levels, body_levels}
+use Rattle.mc_sound.proofs.MoveRuns.{main_writes}
 use Rattle.mc_sound.proofs.Lists
 use Rattle.mc_sound.proofs.Sound
 use Rattle.mc_sound.proofs.TellLists.{value_cases, or_else}
 use Rattle.mc_sound.proofs.Told
-use Rattle.mc_sound.proofs.Typed.{true_not_false, free_is}
+use Rattle.mc_sound.proofs.Typed.{free_is}
 
 -- builtins are the same at every stage
 pub stage_says : (S : System) (n : ℕ) → SaysBuiltins S (stage S.world n)
@@ -97,14 +98,6 @@ fill_on false w u v f e = e
 map_ext : (f g : Assignment) (ys : List ℕ) → ((x : ℕ) → In x ys → f x ≡ g x) → map f ys ≡ map g ys
 map_ext f g [] h = refl
 map_ext f g (y ∷ ys) h = ap₂ (λ v vs. v ∷ vs) (h y (inl refl)) (map_ext f g ys (λ x i. h x (inr i)))
-
-cond_here : (b : Bool) (w u : Val) → b ≡ true → cond b w u ≡ w
-cond_here true w u e = refl
-cond_here false w u e = absurd (true_not_false (sym e))
-
-cond_there : (b : Bool) (w u : Val) → b ≡ false → cond b w u ≡ u
-cond_there true w u e = absurd (true_not_false e)
-cond_there false w u e = refl
 
 map_fill : (ys ls : List ℕ) (ws : List Val) (a : Bindings) (t : Assignment) → length ys ≡ length ls → Distinct ys → Extends (leave ys ls a) ws → map (fill_in ys ws t) ys ≡ ws
 map_fill [] ls [] a t l d h = refl
@@ -369,13 +362,20 @@ module _ (S : System) (θ : TypeChoice) (C : Facts) (p : Procedure) (vs : List (
   below_told zero f t = record { yes = tt; no = λ ws x. tt }
   below_told (suc h) f t = t h
 
-pub soundness : PredicatesCarry → AcceptedAreGood
-soundness carry S D F A θ n h k vs l g =
+runs_good : PredicatesCarry → (S : System) (D : Parameters) → Fits S D → Accepted S → (θ : TypeChoice) (n h k : ℕ) (vs : List (Option Val)) → k < S.count → Given S θ (S.procs k).first (types_of S (S.procs k)) vs → GoodRun S θ (stage S.world n) (S.procs k).det.committed (S.procs k) vs (run_call S.world.outcome S.procs n h k vs)
+runs_good carry S D F A θ n h k vs l g =
     let p = S.procs k in
     let f : ℕ → Items (List (Option Val)) = λ j. calls S.world.outcome S.procs n j k vs in
     subst (λ ys. GoodRun S θ (stage S.world n) p.det.committed p vs ys) (call_levels S.world.outcome S.procs n (suc n) h (omega arith) k vs)
     (good_cut S θ (stage S.world n) p vs n (below h f) (below_sound S θ (stage S.world n) p vs h f (λ j. calls_sound S D F A n θ j k vs l g)) (below_told S θ (stage S.world n) p vs h f (λ j. calls_tell carry S D F A n θ j k vs l g))
     (λ e. below_holds (λ ys. answers ys ≤ 1) h f (omega arith) (λ j. calls_one S n j k vs (given_ready S θ p.first (types_of S p) vs g) e)))
+
+pub soundness : PredicatesCarry → AcceptedAreGood
+soundness carry S D F A =
+    record {
+      runs = λ θ n h k vs l g. runs_good carry S D F A θ n h k vs l g;
+      writes = λ θ n h k vs l takes g. main_writes S D F A θ n h k vs l takes g;
+    }
 
 -- queries
 no_inputs_given : (S : System) (θ : TypeChoice) (is : List ℕ) (ts : List TypeTerm) (ys : List ℕ) → NoInputs is → length is ≡ length ts → length ys ≡ length ts → Given S θ is ts (map (λ y. None) ys)

@@ -7,18 +7,20 @@ use Rattle.mc_model.specs.Flat.{Flat_goal, Flat_goals, no_flat, flat_then, varia
 use Rattle.mc_model.specs.Lists.{is_in, without, In, Apart}
 use Rattle.mc_model.specs.Stream.{Bindings, is_bound}
 use Rattle.mc_model.specs.Outcomes.{inputs_of}
-use Rattle.mc_model.specs.Scheduled.{Node, node, Scheduled, Nodes, no_nodes, node_then, Arms, no_arms, arm_then}
-use Rattle.mc_accepted.specs.Ordered.{Insts, Picks, here, there, Parts, no_part, to_part, to_rest, arm_goal, binds_one, BindsNone, tested_by, at_inputs, at_outputs, implied_places, modes_of, Ordered, OrderedNode, OrderedAll, OrderedAny, OrderedArms, variables_of_node, variables_of_scheduled, variables_of_nodes, variables_of_arms}
+use Rattle.mc_model.specs.Scheduled.{Node, node, Scheduled, Nodes, no_nodes, node_then, Arms}
+use Rattle.mc_accepted.specs.Ordered.{Insts, Picks, here, there, Parts, no_part, to_part, to_rest, arm_goal, binds_one, tested_by, at_inputs, at_outputs, implied_places, modes_of, Ordered, OrderedNode, OrderedAll, OrderedAny, OrderedArms, variables_of_node, variables_of_scheduled, variables_of_nodes, variables_of_arms}
 use Rattle.mc_model.specs.Good.{System, TypeChoice, BoundAs}
 use Rattle.mc_sound.specs.code.Passes.{Closed, Scoped}
 use Rattle.mc_model.specs.Scheduled as C
 use Rattle.mc_accepted.specs.Ordered as O
 use Rattle.mc_sound.proofs.Binds
-use Rattle.mc_sound.proofs.Combine.{in_left, in_right, in_split}
-use Rattle.mc_sound.proofs.Numbers.{is_in_true}
 use Rattle.mc_sound.proofs.TellLists.{is_in_false}
-use Rattle.mc_sound.proofs.Sound.{in_without, in_inputs, in_outputs, fresh_pairs, fresh_split, PairsIn}
-use Rattle.mc_sound.proofs.Typed.{true_not_false, free_is, is_free_of}
+use Rattle.mc_sound.proofs.Sound.{in_inputs, in_outputs, fresh_pairs, fresh_split, PairsIn}
+use Rattle.mc_sound.proofs.Typed.{free_is, is_free_of}
+use Rattle.mc_laws.proofs.FlatGoals.{in_either, in_left, in_right}
+use Rattle.mc_laws.proofs.FlatWhole.{is_in_true}
+use Rattle.mc_laws.proofs.ClauseNumbers.{in_without}
+use Rattle.mc_sound.proofs.Binds.{true_not_false}
 
 -- free variables of goals that are picked or share an arm
 pub picks_free : {gs rest : Flat_goals} {g : Flat_goal} → Picks gs g rest → (x : ℕ) → In x (free_in g) → In x (free_in_all gs)
@@ -27,17 +29,17 @@ picks_free (there {k = k} {gs = gs} p) x i = in_right x (free_in k) (free_in_all
 
 pub rest_free : {gs rest : Flat_goals} {g : Flat_goal} → Picks gs g rest → (x : ℕ) → In x (free_in_all rest) → In x (free_in_all gs)
 rest_free (here {g = g} {gs = gs}) x i = in_right x (free_in g) (free_in_all gs) i
-rest_free (there {k = k} {gs = gs} {rest = rest} p) x i = ⊎_elim (λ j. in_left x (free_in k) (free_in_all gs) j) (λ j. in_right x (free_in k) (free_in_all gs) (rest_free p x j)) (in_split x (free_in k) (free_in_all rest) i)
+rest_free (there {k = k} {gs = gs} {rest = rest} p) x i = ⊎_elim (λ j. in_left x (free_in k) (free_in_all gs) j) (λ j. in_right x (free_in k) (free_in_all gs) (rest_free p x j)) (in_either x (free_in k) (free_in_all rest) i)
 
 pub some_free : {gs hs ks : Flat_goals} → Parts gs hs ks → (x : ℕ) → In x (free_in_all hs) → In x (free_in_all gs)
 some_free no_part x i = i
-some_free (to_part {g = g} {gs = gs} {hs = hs} p) x i = ⊎_elim (λ j. in_left x (free_in g) (free_in_all gs) j) (λ j. in_right x (free_in g) (free_in_all gs) (some_free p x j)) (in_split x (free_in g) (free_in_all hs) i)
+some_free (to_part {g = g} {gs = gs} {hs = hs} p) x i = ⊎_elim (λ j. in_left x (free_in g) (free_in_all gs) j) (λ j. in_right x (free_in g) (free_in_all gs) (some_free p x j)) (in_either x (free_in g) (free_in_all hs) i)
 some_free (to_rest {g = g} {gs = gs} p) x i = in_right x (free_in g) (free_in_all gs) (some_free p x i)
 
 pub others_free : {gs hs ks : Flat_goals} → Parts gs hs ks → (x : ℕ) → In x (free_in_all ks) → In x (free_in_all gs)
 others_free no_part x i = i
 others_free (to_part {g = g} {gs = gs} p) x i = in_right x (free_in g) (free_in_all gs) (others_free p x i)
-others_free (to_rest {g = g} {gs = gs} {ks = ks} p) x i = ⊎_elim (λ j. in_left x (free_in g) (free_in_all gs) j) (λ j. in_right x (free_in g) (free_in_all gs) (others_free p x j)) (in_split x (free_in g) (free_in_all ks) i)
+others_free (to_rest {g = g} {gs = gs} {ks = ks} p) x i = ⊎_elim (λ j. in_left x (free_in g) (free_in_all gs) j) (λ j. in_right x (free_in g) (free_in_all gs) (others_free p x j)) (in_either x (free_in g) (free_in_all ks) i)
 
 pub arm_free : (hs : Flat_goals) (x : ℕ) → In x (free_in (arm_goal hs)) → In x (free_in_all hs)
 arm_free no_flat x i = i
@@ -80,8 +82,8 @@ module _ (S : System) (T : ℕ → TypeTerm) where
     outside_free (O.test_constant n d a) x i w = i
     outside_free (O.test_never n d a) x i w = i
     outside_free (O.call l u d a) x i w = i
-    outside_free (O.apply {op = op} {xs = xs} q u d n a) x i w = ⊎_elim (λ j. in_inputs (inputs_of op) xs x j) (λ j. in_outputs (inputs_of op) xs x j) (in_split x (at_inputs (inputs_of op) xs) (at_outputs (inputs_of op) xs) i)
-    outside_free (O.implied_alone {xs = xs} r) x i w = ⊎_elim (λ j. j) (λ j. absurd j) (in_split x xs [] (all_free r x i w))
+    outside_free (O.apply {op = op} {xs = xs} q u d n a) x i w = ⊎_elim (λ j. in_inputs (inputs_of op) xs x j) (λ j. in_outputs (inputs_of op) xs x j) (in_either x (at_inputs (inputs_of op) xs) (at_outputs (inputs_of op) xs) i)
+    outside_free (O.implied_alone {xs = xs} r) x i w = ⊎_elim (λ j. j) (λ j. absurd j) (in_either x xs [] (all_free r x i w))
     outside_free (O.conj r) x i w = all_free r x i w
     outside_free (O.disj r jn) x i w = any_free r x i w
     outside_free (O.switch {x = y} {gs = gs} n j r jn) x i w = ⊎_elim (λ q. subst (λ z. In z (free_in_all gs)) (sym q) j) (λ k. arms_free r x k w) i
@@ -91,42 +93,42 @@ module _ (S : System) (T : ℕ → TypeTerm) where
         (λ y. in_left x (without (free_in g ++ free_in h) vs) (free_in k) (in_without x (free_in g ++ free_in h) vs (in_left x (free_in g) (free_in h) (node_free rc x y (in_left x O (without (free_in g) vs ++ variables_of h) w))) (λ z. a x z w)))
         (λ y. ⊎_elim
         (λ z. in_left x (without (free_in g ++ free_in h) vs) (free_in k) (in_without x (free_in g ++ free_in h) vs (in_right x (free_in g) (free_in h) (node_free rt x z (in_left x O (variables_of g) w))) (λ z. a x z w)))
-        (λ z. in_right x (without (free_in g ++ free_in h) vs) (free_in k) (node_free re x z w)) (in_split x (variables_of_node t) (variables_of_node u) y))
-        (in_split x (variables_of_node n) (variables_of_node t ++ variables_of_node u) j))
-        (in_split x vs (variables_of_node n ++ (variables_of_node t ++ variables_of_node u)) i)
+        (λ z. in_right x (without (free_in g ++ free_in h) vs) (free_in k) (node_free re x z w)) (in_either x (variables_of_node t) (variables_of_node u) y))
+        (in_either x (variables_of_node n) (variables_of_node t ++ variables_of_node u) j))
+        (in_either x vs (variables_of_node n ++ (variables_of_node t ++ variables_of_node u)) i)
     outside_free (O.ite_never {O = O} {vs = vs} {g = g} {h = h} {k = k} {n = n} {t = t} {u = u} a rc m re jn) x i w =
         ⊎_elim (λ j. absurd (a x j w))
         (λ j. ⊎_elim
         (λ y. in_left x (without (free_in g ++ free_in h) vs) (free_in k) (in_without x (free_in g ++ free_in h) vs (in_left x (free_in g) (free_in h) (node_free rc x y (in_left x O (without (free_in g) vs ++ variables_of h) w))) (λ z. a x z w)))
-        (λ y. ⊎_elim (λ z. absurd (empty_none t m x z)) (λ z. in_right x (without (free_in g ++ free_in h) vs) (free_in k) (node_free re x z w)) (in_split x (variables_of_node t) (variables_of_node u) y))
-        (in_split x (variables_of_node n) (variables_of_node t ++ variables_of_node u) j))
-        (in_split x vs (variables_of_node n ++ (variables_of_node t ++ variables_of_node u)) i)
+        (λ y. ⊎_elim (λ z. absurd (empty_none t m x z)) (λ z. in_right x (without (free_in g ++ free_in h) vs) (free_in k) (node_free re x z w)) (in_either x (variables_of_node t) (variables_of_node u) y))
+        (in_either x (variables_of_node n) (variables_of_node t ++ variables_of_node u) j))
+        (in_either x vs (variables_of_node n ++ (variables_of_node t ++ variables_of_node u)) i)
     outside_free (O.neg {O = O} {g = g} r m) x i w = node_free r x i (in_left x O (free_in g) w)
-    outside_free (O.some {vs = vs} {g = g} {n = n} a r) x i w = ⊎_elim (λ j. absurd (a x j w)) (λ j. in_without x (free_in g) vs (node_free r x j w) (λ z. a x z w)) (in_split x vs (variables_of_node n) i)
+    outside_free (O.some {vs = vs} {g = g} {n = n} a r) x i w = ⊎_elim (λ j. absurd (a x j w)) (λ j. in_without x (free_in g) vs (node_free r x j w) (λ z. a x z w)) (in_either x vs (variables_of_node n) i)
 
     pub node_free : {O Q : List ℕ} {b : Insts} {g : Flat_goal} {n : Node} {o : Option Insts} → OrderedNode S T O Q b g n o → (x : ℕ) → In x (variables_of_node n) → In x O → In x (free_in g)
     node_free (O.kept r k) x i w = outside_free r x i w
 
     pub all_free : {O Q : List ℕ} {b : Insts} {gs : Flat_goals} {ns : Nodes} {o : Option Insts} → OrderedAll S T O Q b gs ns o → (x : ℕ) → In x (variables_of_nodes ns) → In x O → In x (free_in_all gs)
     all_free O.done x i w = absurd i
-    all_free (O.dropped {O = O} {rest = rest} {n = n} p r) x i w = ⊎_elim (λ j. picks_free p x (node_free r x j (in_left x O (variables_of_all rest) w))) (λ j. absurd j) (in_split x (variables_of_node n) [] i)
+    all_free (O.dropped {O = O} {rest = rest} {n = n} p r) x i w = ⊎_elim (λ j. picks_free p x (node_free r x j (in_left x O (variables_of_all rest) w))) (λ j. absurd j) (in_either x (variables_of_node n) [] i)
     all_free (O.next {O = O} {g = g} {rest = rest} {n = n} {ns = ns} p r t) x i w =
-        ⊎_elim (λ j. picks_free p x (node_free r x j (in_left x O (variables_of_all rest) w))) (λ j. rest_free p x (all_free t x j (in_left x O (variables_of g) w))) (in_split x (variables_of_node n) (variables_of_nodes ns) i)
+        ⊎_elim (λ j. picks_free p x (node_free r x j (in_left x O (variables_of_all rest) w))) (λ j. rest_free p x (all_free t x j (in_left x O (variables_of g) w))) (in_either x (variables_of_node n) (variables_of_nodes ns) i)
     all_free (O.implied_outputs {O = O} {Q = Q} {b = b} {op = op} {xs = xs} {zs = zs} {gs = gs} {ns = ns} tests p q m f d e a y u k af kc t) x i w =
-        let given : In x (xs ++ zs) → In x (free_in_all gs) = λ z. ⊎_elim (λ j. picks_free p x j) (λ j. ⊎_elim (λ l. picks_free p x l) (λ n. absurd (a x n (in_left x O (Q ++ variables_of_all gs) w))) (fresh_split S T 0 (implied_places 0 (modes_of op) xs (λ x. is_bound (b x))) xs zs tests f x j)) (in_split x xs zs z) in
+        let given : In x (xs ++ zs) → In x (free_in_all gs) = λ z. ⊎_elim (λ j. picks_free p x j) (λ j. ⊎_elim (λ l. picks_free p x l) (λ n. absurd (a x n (in_left x O (Q ++ variables_of_all gs) w))) (fresh_split S T 0 (implied_places 0 (modes_of op) xs (λ x. is_bound (b x))) xs zs tests f x j)) (in_either x xs zs z) in
         ⊎_elim
-        (λ j. given (in_right x xs zs (⊎_elim (λ l. in_inputs (inputs_of op) zs x l) (λ l. in_outputs (inputs_of op) zs x l) (in_split x (at_inputs (inputs_of op) zs) (at_outputs (inputs_of op) zs) j))))
+        (λ j. given (in_right x xs zs (⊎_elim (λ l. in_inputs (inputs_of op) zs x l) (λ l. in_outputs (inputs_of op) zs x l) (in_either x (at_inputs (inputs_of op) zs) (at_outputs (inputs_of op) zs) j))))
         (λ j. ⊎_elim given (λ l. rest_free p x (all_free t x l (in_left x O (xs ++ zs) w)))
         (tested_split (xs ++ zs) tests ns (fresh_pairs S T (xs ++ zs) 0 (implied_places 0 (modes_of op) xs (λ x. is_bound (b x))) xs zs tests (λ z l. in_left z xs zs l) (λ z l. in_right z xs zs l) f) x j))
-        (in_split x (at_inputs (inputs_of op) zs ++ at_outputs (inputs_of op) zs) (variables_of_nodes (tested_by tests ns)) i)
+        (in_either x (at_inputs (inputs_of op) zs ++ at_outputs (inputs_of op) zs) (variables_of_nodes (tested_by tests ns)) i)
 
     pub any_free : {O Q : List ℕ} {b : Insts} {gs : Flat_goals} {ns : Nodes} {os : List (Option Insts)} → OrderedAny S T O Q b gs ns os → (x : ℕ) → In x (variables_of_nodes ns) → In x O → In x (free_in_all gs)
     any_free O.no_other x i w = absurd i
-    any_free (O.either {g = g} {gs = gs} {n = n} {ns = ns} r t) x i w = ⊎_elim (λ k. in_left x (free_in g) (free_in_all gs) (node_free r x k w)) (λ k. in_right x (free_in g) (free_in_all gs) (any_free t x k w)) (in_split x (variables_of_node n) (variables_of_nodes ns) i)
+    any_free (O.either {g = g} {gs = gs} {n = n} {ns = ns} r t) x i w = ⊎_elim (λ k. in_left x (free_in g) (free_in_all gs) (node_free r x k w)) (λ k. in_right x (free_in g) (free_in_all gs) (any_free t x k w)) (in_either x (variables_of_node n) (variables_of_nodes ns) i)
 
     pub arms_free : {O Q : List ℕ} {b : Insts} {y : ℕ} {gs : Flat_goals} {arms : Arms} {os : List (Option Insts)} → OrderedArms S T O Q b y gs arms os → (x : ℕ) → In x (variables_of_arms arms) → In x O → In x (free_in_all gs)
     arms_free O.no_arm x i w = absurd i
-    arms_free (O.arm {hs = hs} {n = n} {arms = arms} p il op ab r t) x i w = ⊎_elim (λ k. some_free p x (arm_free hs x (node_free r x k w))) (λ k. others_free p x (arms_free t x k w)) (in_split x (variables_of_node n) (variables_of_arms arms) i)
+    arms_free (O.arm {hs = hs} {n = n} {arms = arms} p il op ab r t) x i w = ⊎_elim (λ k. some_free p x (arm_free hs x (node_free r x k w))) (λ k. others_free p x (arms_free t x k w)) (in_either x (variables_of_node n) (variables_of_arms arms) i)
 
 -- nothing that is told apart is newly bound
 pub binds_stay : (xs : List ℕ) (b c : Insts) (x : ℕ) → binds_one xs b c ≡ false → In x xs → b x ≡ 0 → c x ≡ 0

@@ -12,7 +12,7 @@ use Rattle.mc_model.specs.Stream.{Bindings, Calls, is_bound, stream, stream_of, 
 use Rattle.mc_model.specs.Outcomes.{inputs_of}
 use Rattle.mc_model.specs.Scheduled.{Label, for_symbol, for_constant, Node, node, Scheduled, Switch, Test, Apply, Nodes, Arms, no_arms, arm_then}
 use Rattle.mc_source.specs.Determinism.{Determinism, det, greater, inferred, semidet}
-use Rattle.mc_accepted.specs.Ordered.{Insts, IsLabel, Opens, AbsentFrom, Picks, here, there, Parts, no_part, to_part, to_rest, arm_goal, also, is_state, modes_of, modes_of_procedure, implied_places, at_inputs, at_outputs, After, Freshened, FreshenedHere, TestsInOrder, firsts, tested_by, unless_never, builtin_most, Ordered, OrderedNode, OrderedAll, OrderedAny, OrderedArms, variables_of_node, variables_of_scheduled, variables_of_nodes, variables_of_arms}
+use Rattle.mc_accepted.specs.Ordered.{Insts, IsLabel, AbsentFrom, Picks, here, there, Parts, no_part, to_part, to_rest, arm_goal, modes_of, implied_places, at_inputs, at_outputs, Freshened, FreshenedHere, TestsInOrder, firsts, tested_by, unless_never, Ordered, OrderedNode, OrderedAll, OrderedAny, OrderedArms, variables_of_node, variables_of_scheduled, variables_of_nodes, variables_of_arms}
 use Rattle.mc_accepted.specs.Determined.{Known, learned, insts_after, allowed_of, allowed_in, has_arm, misses, determined, determined_in, determined_all, determined_any, determined_arms}
 use Rattle.mc_accepted.specs.Typing.{TypedGoal, TypedGoals}
 use Rattle.mc_model.specs.Good.{System, TypeChoice, BoundAs, GivenCall, types_of}
@@ -26,21 +26,23 @@ use Rattle.mc_source.specs.declared.det.Most.TheVariants.{Zero, One, Many}
 use Rattle.mc_sound.proofs.Arguments
 use Rattle.mc_sound.proofs.Atoms
 use Rattle.mc_sound.proofs.Binds
-use Rattle.mc_sound.proofs.Binds.{some_inj}
+use Rattle.mc_sound.proofs.Binds.{none_some, true_not_false}
 use Rattle.mc_sound.proofs.CallLists
 use Rattle.mc_sound.proofs.Callings
 use Rattle.mc_sound.proofs.Changes
 use Rattle.mc_sound.proofs.Changes.{node_after, closed_after, closed_more, tests_in, node_from, apply_from}
-use Rattle.mc_sound.proofs.Numbers.{is_in_true}
 use Rattle.mc_sound.proofs.Combine
-use Rattle.mc_sound.proofs.Combine.{in_left, in_right, in_split, in_cases, among_both, among_left, among_two, greater_either}
+use Rattle.mc_sound.proofs.Combine.{among_both, among_left, among_two, greater_either}
 use Rattle.mc_laws.proofs.Equality.{value_same, same_of}
 use Rattle.mc_sound.proofs.Lists
 use Rattle.mc_sound.proofs.Opens.{opens_none}
 use Rattle.mc_sound.proofs.Takes
 use Rattle.mc_sound.proofs.TypeInstances.{also_instance}
 use Rattle.mc_sound.proofs.Typed
-use Rattle.mc_sound.proofs.Typed.{true_not_false, is_bound_of, Is}
+use Rattle.mc_sound.proofs.Typed.{Is}
+use Rattle.mc_laws.proofs.FlatGoals.{in_either, in_left, in_right}
+use Rattle.mc_laws.proofs.ClauseNumbers.{from_without}
+use Rattle.mc_sound.proofs.Takes.{con_symbol}
 
 -- parts of goals
 pub picks_goal : {gs rest : Flat_goals} {g : Flat_goal} → Picks gs g rest → (x : ℕ) → In x (variables_of g) → In x (variables_of_all gs)
@@ -49,17 +51,17 @@ picks_goal (there {k = k} {gs = gs} p) x i = in_right x (variables_of k) (variab
 
 pub picks_rest : {gs rest : Flat_goals} {g : Flat_goal} → Picks gs g rest → (x : ℕ) → In x (variables_of_all rest) → In x (variables_of_all gs)
 picks_rest (here {g = g} {gs = gs}) x i = in_right x (variables_of g) (variables_of_all gs) i
-picks_rest (there {k = k} {gs = gs} {rest = rest} p) x i = ⊎_elim (λ j. in_left x (variables_of k) (variables_of_all gs) j) (λ j. in_right x (variables_of k) (variables_of_all gs) (picks_rest p x j)) (in_split x (variables_of k) (variables_of_all rest) i)
+picks_rest (there {k = k} {gs = gs} {rest = rest} p) x i = ⊎_elim (λ j. in_left x (variables_of k) (variables_of_all gs) j) (λ j. in_right x (variables_of k) (variables_of_all gs) (picks_rest p x j)) (in_either x (variables_of k) (variables_of_all rest) i)
 
 pub parts_some : {gs hs ks : Flat_goals} → Parts gs hs ks → (x : ℕ) → In x (variables_of_all hs) → In x (variables_of_all gs)
 parts_some no_part x i = i
-parts_some (to_part {g = g} {gs = gs} {hs = hs} p) x i = ⊎_elim (λ j. in_left x (variables_of g) (variables_of_all gs) j) (λ j. in_right x (variables_of g) (variables_of_all gs) (parts_some p x j)) (in_split x (variables_of g) (variables_of_all hs) i)
+parts_some (to_part {g = g} {gs = gs} {hs = hs} p) x i = ⊎_elim (λ j. in_left x (variables_of g) (variables_of_all gs) j) (λ j. in_right x (variables_of g) (variables_of_all gs) (parts_some p x j)) (in_either x (variables_of g) (variables_of_all hs) i)
 parts_some (to_rest {g = g} {gs = gs} p) x i = in_right x (variables_of g) (variables_of_all gs) (parts_some p x i)
 
 pub parts_others : {gs hs ks : Flat_goals} → Parts gs hs ks → (x : ℕ) → In x (variables_of_all ks) → In x (variables_of_all gs)
 parts_others no_part x i = i
 parts_others (to_part {g = g} {gs = gs} p) x i = in_right x (variables_of g) (variables_of_all gs) (parts_others p x i)
-parts_others (to_rest {g = g} {gs = gs} {ks = ks} p) x i = ⊎_elim (λ j. in_left x (variables_of g) (variables_of_all gs) j) (λ j. in_right x (variables_of g) (variables_of_all gs) (parts_others p x j)) (in_split x (variables_of g) (variables_of_all ks) i)
+parts_others (to_rest {g = g} {gs = gs} {ks = ks} p) x i = ⊎_elim (λ j. in_left x (variables_of g) (variables_of_all gs) j) (λ j. in_right x (variables_of g) (variables_of_all gs) (parts_others p x j)) (in_either x (variables_of g) (variables_of_all ks) i)
 
 pub arm_variables : (hs : Flat_goals) (x : ℕ) → In x (variables_of (arm_goal hs)) → In x (variables_of_all hs)
 arm_variables no_flat x i = i
@@ -67,14 +69,6 @@ arm_variables (flat_then g no_flat) x i = in_left x (variables_of g) [] i
 arm_variables (flat_then g (flat_then k hs)) x i = i
 
 -- free variables are variables
-left_of : (x y : ℕ) (t : Bool) (zs : List ℕ) (X : Type 0) → (x ≡ y → X) → (In x zs → X) → In x (cond t zs (y ∷ zs)) → X
-left_of x y true zs X f g i = g i
-left_of x y false zs X f g i = ⊎_elim f g i
-
-pub from_without : (x : ℕ) (xs vs : List ℕ) → In x (without xs vs) → In x xs
-from_without x [] vs i = i
-from_without x (y ∷ ys) vs i = left_of x y (is_in y vs) (without ys vs) (In x (y ∷ ys)) (λ q. inl q) (λ j. inr (from_without x ys vs j)) i
-
 mutual
   pub free_in_goal : (g : Flat_goal) (x : ℕ) → In x (free_in g) → In x (variables_of g)
   free_in_goal (G.Same y z) x i = i
@@ -86,15 +80,15 @@ mutual
   free_in_goal (G.If vs c t e) x i =
       in_right x vs (variables_of c ++ (variables_of t ++ variables_of e))
       (⊎_elim
-      (λ j. ⊎_elim (λ k. in_left x (variables_of c) (variables_of t ++ variables_of e) (free_in_goal c x k)) (λ k. in_right x (variables_of c) (variables_of t ++ variables_of e) (in_left x (variables_of t) (variables_of e) (free_in_goal t x k))) (in_split x (free_in c) (free_in t) (from_without x (free_in c ++ free_in t) vs j)))
+      (λ j. ⊎_elim (λ k. in_left x (variables_of c) (variables_of t ++ variables_of e) (free_in_goal c x k)) (λ k. in_right x (variables_of c) (variables_of t ++ variables_of e) (in_left x (variables_of t) (variables_of e) (free_in_goal t x k))) (in_either x (free_in c) (free_in t) (from_without x (free_in c ++ free_in t) vs j)))
       (λ j. in_right x (variables_of c) (variables_of t ++ variables_of e) (in_right x (variables_of t) (variables_of e) (free_in_goal e x j)))
-      (in_split x (without (free_in c ++ free_in t) vs) (free_in e) i))
+      (in_either x (without (free_in c ++ free_in t) vs) (free_in e) i))
   free_in_goal (G.Not g) x i = free_in_goal g x i
   free_in_goal (G.Exists vs g) x i = in_right x vs (variables_of g) (free_in_goal g x (from_without x (free_in g) vs i))
 
   pub frees_in : (gs : Flat_goals) (x : ℕ) → In x (free_in_all gs) → In x (variables_of_all gs)
   frees_in no_flat x i = i
-  frees_in (flat_then g gs) x i = ⊎_elim (λ j. in_left x (variables_of g) (variables_of_all gs) (free_in_goal g x j)) (λ j. in_right x (variables_of g) (variables_of_all gs) (frees_in gs x j)) (in_split x (free_in g) (free_in_all gs) i)
+  frees_in (flat_then g gs) x i = ⊎_elim (λ j. in_left x (variables_of g) (variables_of_all gs) (free_in_goal g x j)) (λ j. in_right x (variables_of g) (variables_of_all gs) (frees_in gs x j)) (in_either x (free_in g) (free_in_all gs) i)
 
 module _ (P : Source) (T : ℕ → TypeTerm) where
   pub picks_typed : {gs rest : Flat_goals} {g : Flat_goal} → Picks gs g rest → TypedGoals P T gs → TypedGoal P T g × TypedGoals P T rest
@@ -140,14 +134,14 @@ label_cases (for_symbol s) (state n k) = inr (λ h. no n k s h.0 h.1)
   where
     no : (n : List ℕ) (k s : ℕ) (vs : Vals) → state n k ≡ con s vs → ⊥
     no n k s vs e = cc
-label_cases (for_symbol s) (con g vs) = ⊎_elim (λ e. inl (vs, ap (λ k. con k vs) e)) (λ n. inr (λ h. n (Takes.con_symbol g s vs h.0 h.1))) (cases_eq g s)
+label_cases (for_symbol s) (con g vs) = ⊎_elim (λ e. inl (vs, ap (λ k. con k vs) e)) (λ n. inr (λ h. n (con_symbol g s vs h.0 h.1))) (cases_eq g s)
 label_cases (for_constant w) v = ⊎_elim (λ e. inl (value_same v w e)) (λ e. inr (λ q. true_not_false (sym (same_of v w q) ∙ e))) (cases_Bool (same_value v w))
 
 not_label : (w : Val) (s : ℕ) (vs : Vals) → IsLabel (for_constant w) → w ≡ con s vs → ⊥
 not_label w s vs i q = subst (λ k. IsLabel (for_constant k)) q i
 
 pub label_unique : (l k : Label) (v : Val) → IsLabel l → IsLabel k → HasLabel l v → HasLabel k v → l ≡ k
-label_unique (for_symbol s) (for_symbol t) v i j h g = ap for_symbol (Takes.con_symbol s t h.0 g.0 (sym h.1 ∙ g.1))
+label_unique (for_symbol s) (for_symbol t) v i j h g = ap for_symbol (con_symbol s t h.0 g.0 (sym h.1 ∙ g.1))
 label_unique (for_symbol s) (for_constant w) v i j h g = absurd (not_label w s h.0 j (sym g ∙ h.1))
 label_unique (for_constant w) (for_symbol t) v i j h g = absurd (not_label w t g.0 i (sym h ∙ g.1))
 label_unique (for_constant w) (for_constant u) v i j h g = ap for_constant (sym h ∙ g)
@@ -201,23 +195,6 @@ in_outputs [] xs z i = absurd i
 in_outputs (b ∷ bs) [] z i = absurd i
 in_outputs (true ∷ bs) (x ∷ xs) z i = inr (in_outputs bs xs z i)
 in_outputs (false ∷ bs) (x ∷ xs) z i = ⊎_elim (λ q. inl q) (λ j. inr (in_outputs bs xs z j)) i
-
--- what stays without vs
-stays_here : (x y : ℕ) (t : Bool) (zs : List ℕ) → t ≡ false → x ≡ y → In x (cond t zs (y ∷ zs))
-stays_here x y true zs e p = absurd (true_not_false e)
-stays_here x y false zs e p = inl p
-
-stays_there : (x y : ℕ) (t : Bool) (zs : List ℕ) → In x zs → In x (cond t zs (y ∷ zs))
-stays_there x y true zs i = i
-stays_there x y false zs i = inr i
-
-pub in_without : (x : ℕ) (xs vs : List ℕ) → In x xs → (In x vs → ⊥) → In x (without xs vs)
-in_without x [] vs i n = i
-in_without x (y ∷ ys) vs i n =
-    ⊎_elim (λ p. stays_here x y (is_in y vs) (without ys vs) (out p) p) (λ j. stays_there x y (is_in y vs) (without ys vs) (in_without x ys vs j n)) i
-  where
-    out : x ≡ y → is_in y vs ≡ false
-    out p = ⊎_elim (λ t. absurd (n (subst (λ z. In z vs) (sym p) (is_in_true y vs t)))) (λ f. f) (cases_Bool (is_in y vs))
 
 -- fresh variables and their tests
 abbrev pub PairsIn : List ℕ → List (ℕ × ℕ) → Type 0
@@ -298,7 +275,7 @@ module _ (S : System) (T : ℕ → TypeTerm) where
 
 -- bindings that are the same where nothing was bound
 pub closed_same : (O Q : List ℕ) (c : Insts) (a a' : Bindings) → BindsOnly [] a a' → Closed O Q c a → Closed O Q c a'
-closed_same O Q c a a' f h x = ⊎_elim (λ i. inl i) (λ n. inr (n.0, Changes.none_on (a' x) (Unit {0}) (λ v q. ⊎_elim (λ z. Changes.no_both (a x) v n.1 z) (λ z. absurd z) (f x v q)))) (h x)
+closed_same O Q c a a' f h x = ⊎_elim (λ i. inl i) (λ n. inr (n.0, Changes.none_on (a' x) (Unit {0}) (λ v q. ⊎_elim (λ z. none_some (a x) v n.1 z) (λ z. absurd z) (f x v q)))) (h x)
 
 pub closed_within : (O Q R : List ℕ) (c : Insts) (a : Bindings) → ((x : ℕ) → In x Q → In x R) → Closed O Q c a → Closed O R c a
 closed_within O Q R c a f h x = ⊎_elim (λ i. inl (⊎_elim (λ j. inl j) (λ j. inr (f x j)) i)) (λ n. inr n) (h x)
@@ -311,7 +288,7 @@ module _ (S : System) (D : Parameters) (F : Fits S D) (C : Calls) (called : Call
   typed_in xs ys b e f h x i = h x (f x i)
 
   pub typed_both : (xs ys : List ℕ) (b : Insts) (e : Bindings) → TypedAt S θ T xs b e → TypedAt S θ T ys b e → TypedAt S θ T (xs ++ ys) b e
-  typed_both xs ys b e h k x i = ⊎_elim (λ j. h x j) (λ j. k x j) (in_split x xs ys i)
+  typed_both xs ys b e h k x i = ⊎_elim (λ j. h x j) (λ j. k x j) (in_either x xs ys i)
 
   pub typed_fresh : (O Q xs zs fr : List ℕ) (gs : Flat_goals) (b : Insts) (e : Bindings) → Closed O Q b e → Apart fr (O ++ (Q ++ variables_of_all gs)) → ((z : ℕ) → In z zs → In z xs ⊎ In z fr) → TypedAt S θ T xs b e → TypedAt S θ T zs b e
   typed_fresh O Q xs zs fr gs b e c ap f h z i =
@@ -353,7 +330,7 @@ module _ (S : System) (D : Parameters) (F : Fits S D) (C : Calls) (called : Call
     sound (O.apply {b = b} {c = c} {p = p} {op = op} {xs = xs} q us d i a) tg known h L u e cl ty li =
         Callings.apply_sound S D F θ T proper known L p op tg.0 xs b c e q (map_types S T D F θ proper tg.0 xs (S.world.source.preds p).types tg.1) us i a ty li
     sound (O.implied_alone {xs = xs} r) tg known h L u e cl ty li =
-        sound_all r (tg, tt) known h L u e cl (λ x i. ty x (⊎_elim (λ j. j) (λ j. absurd j) (in_split x xs [] i))) li
+        sound_all r (tg, tt) known h L u e cl (λ x i. ty x (⊎_elim (λ j. j) (λ j. absurd j) (in_either x xs [] i))) li
     sound (O.conj r) tg known h L u e cl ty li = sound_all r tg known h L u e cl ty li
     sound (O.disj {O = O} {b = b} {os = os} {o = o} r jn) tg known h L u e cl ty li = sound_any r tg known h L u e cl ty li o (Typed.joined_reached S D F θ T proper L O b os o u jn)
     sound (O.switch {O = O} {b = b} {x = x} {gs = gs} {arms = arms} {os = os} {o = o} n i r jn) tg known h L u e cl ty li =
@@ -450,7 +427,7 @@ module _ (S : System) (D : Parameters) (F : Fits S D) (C : Calls) (called : Call
         Combine.sound_more S θ T known L (variables_of_nodes ns) W a' o (determined_all S T c known ns) (stream_all S.world.outcome C h ns a') (λ x z. in_right x vs (variables_of_nodes (tested_by tests ns)) (tests_in tests ns x z))
         (sound_all t q.1 known h L (among_left L O (xs ++ zs) u) a'
         (closed_same (O ++ (xs ++ zs)) (Q ++ (xs ++ zs)) c a a' b'
-        (closed_within (O ++ (xs ++ zs)) (Q ++ vs) (Q ++ (xs ++ zs)) c a (λ x z. ⊎_elim (λ y. in_left x Q (xs ++ zs) y) (λ y. in_right x Q (xs ++ zs) (in_right x xs zs (⊎_elim (λ w. in_inputs (inputs_of op) zs x w) (λ w. in_outputs (inputs_of op) zs x w) (in_split x (at_inputs (inputs_of op) zs) (at_outputs (inputs_of op) zs) y)))) (in_split x Q vs z))
+        (closed_within (O ++ (xs ++ zs)) (Q ++ vs) (Q ++ (xs ++ zs)) c a (λ x z. ⊎_elim (λ y. in_left x Q (xs ++ zs) y) (λ y. in_right x Q (xs ++ zs) (in_right x xs zs (⊎_elim (λ w. in_inputs (inputs_of op) zs x w) (λ w. in_outputs (inputs_of op) zs x w) (in_either x (at_inputs (inputs_of op) zs) (at_outputs (inputs_of op) zs) y)))) (in_either x Q vs z))
         (closed_after O Q (xs ++ zs) vs b c e a (apply_from S D F T op zs b c af) bo cl)))
         (λ x z. m' x (in_right x L (variables_of_all rest ++ (xs ++ zs)) (in_left x (variables_of_all rest) (xs ++ zs) z))) (λ x z. m' x (in_left x L (variables_of_all rest ++ (xs ++ zs)) z))))))
 

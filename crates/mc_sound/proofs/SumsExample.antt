@@ -1,7 +1,7 @@
 -- A system meets all that the theorem asks.
 use Rattle.std.proofs.Common.{◌≡◌, ◌≢◌, ◌⊎◌, ℕ, zero, suc, ◌<◌, List, [], ◌∷◌, ◌∙◌, Some, None, Bool, true, false, cond, nat_eq, refl, sym, ap, subst, arith, ⊎_elim}
 use Rattle.std.proofs.lemmas.Bool.{eqb-false}
-use Rattle.mc_program.specs.Programs.{TypeTerm, int_type}
+use Rattle.mc_program.specs.Programs.{TypeTerm, int_type, Source}
 use Rattle.mc_model.specs.Lists.{In, is_in, Apart}
 use Rattle.mc_model.specs.Insts.{ground, unique, dead}
 use Rattle.mc_accepted.specs.Inclusion.{Included}
@@ -15,6 +15,7 @@ use Rattle.mc_accepted.specs.BuiltinTypes.{Has_types, HasBuiltins, builtin_name,
 use Rattle.mc_sound.specs.code.Examples.{symbols, parameters, library, library_types, sum_pred, plus_pred, source, graph, sum_procedure, sums, SumsFit}
 use Rattle.mc_program.specs.declared.builtin.Builtin.{Builtin}
 use Rattle.mc_program.specs.declared.builtin.Builtin.TheVariants as B
+use Rattle.mc_sound.proofs.BuiltinIo.{builtins_do_io}
 use Rattle.mc_sound.proofs.BuiltinTypings.{builtins_fit}
 
 apart : (a b : ℕ) → nat_eq a b ≡ false → a ≢ b
@@ -87,7 +88,7 @@ has_builtins p op e = named (nat_eq p 9) op e
 abbrev T : ℕ → TypeTerm
 T = type_of sums sum_procedure
 
-types : (x : ℕ) → ProperType parameters (T x)
+pub types : (x : ℕ) → ProperType parameters (T x)
 types zero = tt
 types (suc zero) = tt
 types (suc (suc zero)) = tt
@@ -97,15 +98,15 @@ types (suc (suc (suc (suc x)))) = on (T (suc (suc (suc (suc x))))) refl
     on : (t : TypeTerm) → T (suc (suc (suc (suc x)))) ≡ t → ProperType parameters t
     on t e = subst (λ k. ProperType parameters k) e tt
 
-tidy : Tidy source graph 1 int_type
-tidy [] j u l c = absurd (⊎_elim (λ e. not_unique (ap graph l.0 ∙ e)) (λ e. not_dead (ap graph l.0 ∙ e)) c)
+pub tidy : (P : Source) → Tidy P graph 1 int_type
+tidy P [] j u l c = absurd (⊎_elim (λ e. not_unique (ap graph l.0 ∙ e)) (λ e. not_dead (ap graph l.0 ∙ e)) c)
   where
     not_unique : ground ≡ unique → ⊥
     not_unique e = cc
 
     not_dead : ground ≡ dead → ⊥
     not_dead e = cc
-tidy (step ∷ path) j u l c = absurd l
+tidy P (step ∷ path) j u l c = absurd l
 
 procedure_fits : FitsProcedure sums parameters sum_procedure
 procedure_fits =
@@ -115,7 +116,7 @@ procedure_fits =
       types = types;
       head_types = refl;
       typed = ((λ v. int_type), refl);
-      tidy = ((tidy, (tidy, (tidy, tt))), (tidy, (tidy, (tidy, tt))));
+      tidy = ((tidy source, (tidy source, (tidy source, tt))), (tidy source, (tidy source, (tidy source, tt))));
       no_builtin = refl;
     }
 
@@ -154,4 +155,4 @@ accepted =
     }
 
 pub sums_fit : SumsFit
-sums_fit = (record { insts = insts_fit; types = types_fit; builtins = builtins_fit source library library_types [] has_types has_builtins (omega arith); procedures = λ k l. procedure_fits }, (λ k l. accepted))
+sums_fit = (record { insts = insts_fit; types = types_fit; builtins = builtins_fit source library library_types [] has_types has_builtins (omega arith); io = (library_types, builtins_do_io source library library_types [] has_builtins); procedures = λ k l. procedure_fits }, (λ k l. accepted))

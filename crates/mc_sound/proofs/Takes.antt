@@ -2,7 +2,7 @@
 use Rattle.std.proofs.Common.{◌≡◌, ◌≢◌, ◌⊎◌, inl, inr, ℕ, List, [], ◌∷◌, map, Bool, true, false, cond, not, nat_eq, ◌||◌, ◌&&◌, Some, None, refl, sym, ap, ◌∙◌, subst, ⊎_elim}
 use Rattle.std.specs.Cmp.Lexicographic.{pointwise, bytes_decides}
 use Rattle.std.specs.List.{list_all}
-use Rattle.std.proofs.lemmas.Bool.{eqb-true, eq-eqb, or_parts, not-false, and_parts}
+use Rattle.std.proofs.lemmas.Bool.{eqb-true, eq-eqb, or_parts, not-false, and_parts, and_from, or_left, or_right}
 use Rattle.mc_program.specs.Values.{Val, int, char, str, con, state, Vals, no_vals, listed}
 use Rattle.mc_program.specs.Programs.{TypeTerm, union_type, TypeTerms, Source}
 use Rattle.mc_model.specs.Types.{instance_of, instances_of, OfType}
@@ -12,7 +12,7 @@ use Rattle.mc_model.specs.EventList.{End, of_option}
 use Rattle.mc_model.specs.Stream.{Bindings, unify, is_bound, made_items}
 use Rattle.mc_source.specs.Determinism.{Determinism}
 use Rattle.mc_accepted.specs.Ordered.{Insts, also, take_all, IsSymbolOver}
-use Rattle.mc_accepted.specs.Determined.{Known, tested, knows_symbol, lists_name, allows_name, allowed_in, is_alone, excludes, take_determinism}
+use Rattle.mc_accepted.specs.Determined.{Known, tested, knows_symbol, lists_name, allows_name, allowed_in, is_alone, take_determinism}
 use Rattle.mc_accepted.specs.Typing.{constructor_types}
 use Rattle.mc_model.specs.Good.{System, TypeChoice, BoundAs}
 use Rattle.mc_accepted.specs.ProperTypes.{Parameters, ProperType}
@@ -20,33 +20,20 @@ use Rattle.mc_accepted.specs.Fits.{Fits}
 use Rattle.mc_sound.specs.code.Passes.{BindsOnly, TypedAt, Sound, Knows}
 use Rattle.mc_source.specs.declared.det.Most.TheVariants.{Zero, One}
 use Rattle.mc_sound.proofs.Binds
-use Rattle.mc_sound.proofs.Binds.{Matches, some_inj}
+use Rattle.mc_sound.proofs.Binds.{true_not_false}
 use Rattle.mc_sound.proofs.Typed
-use Rattle.mc_sound.proofs.Typed.{true_not_false}
 use Rattle.mc_sound.proofs.Atoms
 use Rattle.mc_sound.proofs.Atoms.{union_view, unify_binds, binds_more}
 use Rattle.mc_laws.proofs.Inclusions.{over_allows, allows_over, over_one}
 use Rattle.mc_sound.proofs.TypeInstances.{con_arguments}
 
 -- a node that allows a constructor allows it by its name
-or_left : (p q : Bool) → p ≡ true → (p || q) ≡ true
-or_left true q e = refl
-or_left false q e = absurd (true_not_false (sym e))
-
-or_right : (p q : Bool) → q ≡ true → (p || q) ≡ true
-or_right true q e = refl
-or_right false q e = e
-
-both_true : (p q : Bool) → p ≡ true → q ≡ true → (p && q) ≡ true
-both_true true q e f = f
-both_true false q e f = absurd (true_not_false (sym e))
-
 lists_named : (P : Source) (ls : List Listed) (s : ℕ) (Q : List ℕ → Type 0) → Lists P ls s Q → lists_name ls (P.symbols s).name ≡ true
 lists_named P [] s Q h = absurd h
 lists_named P (l ∷ ls) s Q h =
     ⊎_elim
     (λ a. or_left (pointwise nat_eq l.name (P.symbols s).name.bytes && nat_eq l.arity (P.symbols s).name.arity) (lists_name ls (P.symbols s).name)
-    (both_true (pointwise nat_eq l.name (P.symbols s).name.bytes) (nat_eq l.arity (P.symbols s).name.arity) ((bytes_decides l.name (P.symbols s).name.bytes).1 a.0) (eq-eqb l.arity (P.symbols s).name.arity a.1)))
+    (and_from (pointwise nat_eq l.name (P.symbols s).name.bytes) (nat_eq l.arity (P.symbols s).name.arity) ((bytes_decides l.name (P.symbols s).name.bytes).1 a.0) (eq-eqb l.arity (P.symbols s).name.arity a.1)))
     (λ a. or_right (pointwise nat_eq l.name (P.symbols s).name.bytes && nat_eq l.arity (P.symbols s).name.arity) (lists_name ls (P.symbols s).name) (lists_named P ls s Q a)) h
 
 pub allows_named : (P : Source) (N : InstNode) (i s : ℕ) (Q : List ℕ → Type 0) → AllowsSymbol P N i s Q → allows_name N (P.symbols s).name ≡ true

@@ -13,7 +13,8 @@ use Rattle.mc_sound.proofs.Binds
 use Rattle.mc_sound.proofs.Lists
 use Rattle.mc_laws.proofs.Equality.{value_same, same_of}
 use Rattle.mc_sound.proofs.TellLists.{value_cases, hit_covers}
-use Rattle.mc_sound.proofs.Typed.{true_not_false}
+use Rattle.mc_sound.proofs.Binds.{true_not_false}
+use Rattle.mc_sound.proofs.Takes.{con_symbol}
 
 int_con : (n : ℤ) (f : ℕ) (vs : Vals) → int n ≡ con f vs → ⊥
 int_con n f vs e = cc
@@ -26,9 +27,6 @@ str_con n f vs e = cc
 
 state_con : (n : List ℕ) (k f : ℕ) (vs : Vals) → state n k ≡ con f vs → ⊥
 state_con n k f vs e = cc
-
-con_symbol : (f g : ℕ) (vs ws : Vals) → con f vs ≡ con g ws → f ≡ g
-con_symbol f g vs ws e = cc
 
 con_parts : (f g : ℕ) (vs ws : Vals) → con f vs ≡ con g ws → vs ≡ ws
 con_parts f g vs ws e = cc

@@ -1,7 +1,7 @@
 -- Truth and falsity at builtins with implied outputs: fresh variables and their tests.
-use Rattle.std.proofs.Common.{◌≡◌, ◌≢◌, ◌⊎◌, inl, inr, ℕ, suc, List, [], ◌∷◌, ◌++◌, ◌||◌, ◌<◌, map, length, is_some, Bool, true, false, cond, nat_eq, Option, Some, None, refl, sym, ap, ap₂, ◌∙◌, subst, ⊎_elim}
+use Rattle.std.proofs.Common.{◌≡◌, ◌≢◌, ◌⊎◌, inl, inr, ℕ, suc, List, [], ◌∷◌, ◌++◌, ◌<◌, map, length, is_some, Bool, true, false, cond, nat_eq, Option, Some, None, refl, sym, ap, ap₂, ◌∙◌, subst, ⊎_elim}
 use Rattle.std.proofs.Math.Path.{fun_ext}
-use Rattle.std.proofs.lemmas.Bool.{eq-eqb, ne_eqb}
+use Rattle.std.proofs.lemmas.Bool.{eq-eqb, ne_eqb, or_left}
 use Rattle.mc_program.specs.Values.{Val, same_value}
 use Rattle.mc_program.specs.Programs.{TypeTerm}
 use Rattle.mc_model.specs.Lists.{is_in, In, Distinct}
@@ -19,15 +19,15 @@ use Rattle.mc_sound.specs.code.Passes.{Grows, BindsOnly, Agrees, AgreesFor, Hit,
 use Rattle.mc_sound.proofs.Atoms
 use Rattle.mc_sound.proofs.Binds
 use Rattle.mc_sound.proofs.Combine
-use Rattle.mc_sound.proofs.Combine.{in_left, in_right, in_split, in_cases}
 use Rattle.mc_sound.proofs.Lists
 use Rattle.mc_sound.proofs.Sound
 use Rattle.mc_sound.proofs.Sound.{PairsIn, fresh_split}
 use Rattle.mc_sound.proofs.TellAtoms
 use Rattle.mc_sound.proofs.TellLists
-use Rattle.mc_sound.proofs.TellLists.{agrees_off, agrees_apart, with_bound, with_bound_off, with_bound_agrees, hit_more}
+use Rattle.mc_sound.proofs.TellLists.{agrees_off, agrees_apart, with_bound, with_bound_off, with_bound_agrees}
 use Rattle.mc_sound.proofs.Typed
-use Rattle.mc_sound.proofs.Typed.{true_not_false}
+use Rattle.mc_laws.proofs.FlatGoals.{in_either, in_left, in_right}
+use Rattle.mc_sound.proofs.Binds.{true_not_false}
 
 -- lists one after another
 pub append_end : {A : Type 0} (xs : Items A) → append xs End ≡ xs
@@ -190,10 +190,6 @@ tests_assoc outcome C h (t ∷ ts) ns a =
     ap (λ f. bind (stream outcome C h (node (Test t.0 t.1) [] (inferred semidet) true) a) f) (fun_ext (λ c. tests_assoc outcome C h ts ns c))
     ∙ sym (bind_bind (stream outcome C h (node (Test t.0 t.1) [] (inferred semidet) true) a) (λ c. stream_all outcome C h (tested_by ts no_nodes) c) (λ c. stream_all outcome C h ns c))
 
-or_true : (p q : Bool) → p ≡ true → (p || q) ≡ true
-or_true true q e = refl
-or_true false q e = absurd (true_not_false (sym e))
-
 module _ (S : System) (D : Parameters) (F : Fits S D) (C : Calls) (called : CallsSound S C) (lined : (k : ℕ) → k < S.count → length (S.procs k).first ≡ length (S.procs k).last) (T : ℕ → TypeTerm) (proper : (x : ℕ) → ProperType D (T x)) (θ : TypeChoice) (h : ℕ) (M : List ℕ) (c : Insts) where
   abbrev pub tests_of : List (ℕ × ℕ) → Bindings → Items Bindings
   tests_of ts a = stream_all S.world.outcome C h (tested_by ts no_nodes) a
@@ -217,7 +213,7 @@ module _ (S : System) (D : Parameters) (F : Fits S D) (C : Calls) (called : Call
       let w = Typed.bound_at S D F θ (c t.1) (T t.1) (a t.1) k (m t.1 j) in
       let same = first_same t.0 t.1 a (a t.0) (a t.1) (v.0, v.1) (w.0, w.1) in
       record {
-        yes = subst (λ z. Each (λ a'. (s : Assignment) → Agrees (t.0 ∷ t.1 ∷ []) a' s → s t.0 ≡ s t.1) z) (sym same) (TellAtoms.same_yes t.0 t.1 a (a t.0) (a t.1) refl refl (or_true (is_some (a t.0)) (is_some (a t.1)) (ap is_some v.1)));
+        yes = subst (λ z. Each (λ a'. (s : Assignment) → Agrees (t.0 ∷ t.1 ∷ []) a' s → s t.0 ≡ s t.1) z) (sym same) (TellAtoms.same_yes t.0 t.1 a (a t.0) (a t.1) refl refl (or_left (is_some (a t.0)) (is_some (a t.1)) (ap is_some v.1)));
         no = λ s g l. subst (λ z. Covers (Hit false K s) (s t.0 ≢ s t.1) z) (sym same) (TellAtoms.same_no t.0 t.1 a false K s g l);
       }
 
@@ -225,7 +221,7 @@ module _ (S : System) (D : Parameters) (F : Fits S D) (C : Calls) (called : Call
   tests_tell [] a K q p m = record { yes = (λ s g. tt, tt); no = λ s g l. inl l }
   tests_tell (t ∷ ts) a K q p m =
       TellLists.next_tells (λ x. In x (t.0 ∷ t.1 ∷ [])) (λ x. In x (pair_list ts)) (λ x. In x (t.0 ∷ t.1 ∷ pair_list ts)) (λ s. s t.0 ≡ s t.1) (λ s. s t.0 ≢ s t.1) (AllSame ts) (OneDiffers ts) (AllSame (t ∷ ts)) (OneDiffers (t ∷ ts)) false false (K ++ pair_list ts) K a (λ a'. BindsOnly [] a a' × TypedAt S θ T M c a') (test_of t a) (λ a'. tests_of ts a')
-      (λ x i. ⊎_elim (λ e. inl e) (λ j. ⊎_elim (λ e. inr (inl e)) (λ z. absurd z) j) i) (λ x i. inr (inr i)) (λ x i. in_left x K (pair_list ts) i) (λ x i. in_right x K (pair_list ts) i) (λ x i. ⊎_elim (λ j. inl j) (λ j. inr (inr (inr j))) (in_split x K (pair_list ts) i))
+      (λ x i. ⊎_elim (λ e. inl e) (λ j. ⊎_elim (λ e. inr (inl e)) (λ z. absurd z) j) i) (λ x i. inr (inr i)) (λ x i. in_left x K (pair_list ts) i) (λ x i. in_right x K (pair_list ts) i) (λ x i. ⊎_elim (λ j. inl j) (λ j. inr (inr (inr j))) (in_either x K (pair_list ts) i))
       (λ s y z. (y, z)) (λ s n. inl n) (λ s n. inr n)
       (test_each t a q.1 q.2 p.0 p.1 m)
       (test_tells t a (K ++ pair_list ts) q.1 q.2 p.0 p.1 m)
@@ -243,7 +239,7 @@ module _ (S : System) (D : Parameters) (F : Fits S D) (C : Calls) (called : Call
     whole_tells : Tells Whole (λ s. Y (map s zs) × AllSame tests s) (λ s. N (map s zs) ⊎ OneDiffers tests s) false K e (bind xs' (λ a. tests_of tests a))
     whole_tells =
         TellLists.next_tells (λ x. In x zs) (λ x. In x (pair_list tests)) Whole (λ s. Y (map s zs)) (λ s. N (map s zs)) (AllSame tests) (OneDiffers tests) (λ s. Y (map s zs) × AllSame tests s) (λ s. N (map s zs) ⊎ OneDiffers tests s) false false (K ++ pair_list tests) K e (λ a. BindsOnly vs e a × TypedAt S θ T M c a) xs' (λ a. tests_of tests a)
-        (λ x i. inl i) (λ x i. inr i) (λ x i. in_left x K (pair_list tests) i) (λ x i. in_right x K (pair_list tests) i) (λ x i. ⊎_elim (λ j. inl j) (λ j. inr (inr j)) (in_split x K (pair_list tests) i))
+        (λ x i. inl i) (λ x i. inr i) (λ x i. in_left x K (pair_list tests) i) (λ x i. in_right x K (pair_list tests) i) (λ x i. ⊎_elim (λ j. inl j) (λ j. inr (inr j)) (in_either x K (pair_list tests) i))
         (λ s y z. (y, z)) (λ s n. inl n) (λ s n. inr n)
         each told
         (λ a g r. Lists.each_map (λ d. Grows a d × (BindsOnly [] a d × TypedAt S θ T M c d)) (λ d. Grows a d) (λ d z. z.0) (tests_of tests a) (tests_each tests a ok pairs r.1))

@@ -8,12 +8,10 @@ use Rattle.mc_model.specs.EventList.{Items, End, Stuck, Stopped, Answer, Called,
 use Rattle.mc_model.specs.Stream.{Bindings, at_height, below}
 use Rattle.mc_sound.specs.code.Passes.{Grows, Agrees, AgreesFor, Hit, Tells}
 use Rattle.mc_sound.proofs.Binds
-use Rattle.mc_sound.proofs.Binds.{Matches, some_inj}
-use Rattle.mc_sound.proofs.Combine.{in_cases}
+use Rattle.mc_sound.proofs.Binds.{some_inj, true_not_false}
 use Rattle.mc_laws.proofs.Equality.{value_same, same_of}
 use Rattle.mc_sound.proofs.Lists
-use Rattle.mc_sound.proofs.Numbers.{is_in_true}
-use Rattle.mc_sound.proofs.Typed.{true_not_false}
+use Rattle.mc_laws.proofs.FlatWhole.{in_or_not, is_in_true}
 
 pub value_cases : (v w : Val) → (v ≡ w) ⊎ (v ≡ w → ⊥)
 value_cases v w = ⊎_elim (λ e. inl (value_same v w e)) (λ e. inr (λ p. true_not_false (sym (same_of v w p) ∙ e))) (cases_Bool (same_value v w))
@@ -70,7 +68,7 @@ with_bound_off vs a s x n = over_same (is_in x vs) (a x) (s x) (⊎_elim (λ t. 
 
 -- assignments that differ on unbound variables at most agree with the same bindings
 pub agrees_off : (P : ℕ → Type 0) (vs : List ℕ) (e : Bindings) (s u : Assignment) → ((x : ℕ) → In x vs → e x ≡ None) → SameOff vs s u → ((x : ℕ) → P x → (In x vs → ⊥) → (v : Val) → e x ≡ Some v → s x ≡ v) → AgreesFor P e u
-agrees_off P vs e s u n o h x i v p = ⊎_elim (λ j. absurd (Binds.none_some (e x) v (n x j) p)) (λ m. o x m ∙ h x i m v p) (in_cases x vs)
+agrees_off P vs e s u n o h x i v p = ⊎_elim (λ j. absurd (Binds.none_some (e x) v (n x j) p)) (λ m. o x m ∙ h x i m v p) (in_or_not x vs)
 
 pub agrees_apart : (L vs : List ℕ) (e : Bindings) (s u : Assignment) → ((x : ℕ) → In x vs → In x L → ⊥) → SameOff vs s u → Agrees L e u → Agrees L e s
 agrees_apart L vs e s u d o h x i v p = sym (o x (λ j. d x j i)) ∙ h x i v p

@@ -1,7 +1,7 @@
 -- The second pass: what is answered is true, and what is not answered is false.
 use Rattle.std.proofs.Common.{◌≡◌, ◌≢◌, ◌⊎◌, inl, inr, ℕ, ◌<◌, List, [], ◌∷◌, ◌++◌, map, length, is_some, Bool, true, false, not, ◌||◌, ◌&&◌, Option, Some, None, refl, sym, ap, ◌∙◌, subst, ⊎_elim}
 use Rattle.std.proofs.Math.Path.{fun_ext}
-use Rattle.std.proofs.lemmas.Bool.{and_parts, not-true}
+use Rattle.std.proofs.lemmas.Bool.{and_parts, not-true, or_right}
 use Rattle.mc_program.specs.Values.{Val, con, vals}
 use Rattle.mc_program.specs.Programs.{TypeTerm}
 use Rattle.mc_model.specs.Flat.{Flat_goal, Flat_goals, no_flat, flat_then, variables_of, variables_of_all, free_in, free_in_all, FlatYes, FlatNo, FlatAllYes, FlatOneYes, FlatAllNo, FlatOneNo}
@@ -12,7 +12,7 @@ use Rattle.mc_model.specs.Stream.{Bindings, Calls, is_bound, gather, made_items,
 use Rattle.mc_model.specs.Outcomes.{inputs_of}
 use Rattle.mc_model.specs.Scheduled.{Label, Node, node, Scheduled, Assign, Test, Apply, Nodes, no_nodes, node_then, Arms}
 use Rattle.mc_source.specs.Determinism.{Determinism}
-use Rattle.mc_accepted.specs.Ordered.{Insts, IsLabel, Opens, OpensScheduled, OneOpens, EachOpens, EachArmOpens, Picks, here, there, Parts, no_part, to_part, to_rest, arm_goal, modes_of, modes_of_procedure, implied_places, at_inputs, at_outputs, firsts, tested_by, unless_never, Ordered, OrderedNode, OrderedAll, OrderedAny, OrderedArms, variables_of_node, variables_of_scheduled, variables_of_nodes, variables_of_arms, binds_one, BindsNone}
+use Rattle.mc_accepted.specs.Ordered.{Insts, Opens, OpensScheduled, OneOpens, EachOpens, EachArmOpens, Picks, here, there, Parts, no_part, to_part, to_rest, arm_goal, modes_of, modes_of_procedure, implied_places, at_inputs, at_outputs, firsts, tested_by, unless_never, Ordered, OrderedNode, OrderedAll, OrderedAny, OrderedArms, variables_of_node, variables_of_scheduled, variables_of_nodes, variables_of_arms, binds_one, BindsNone}
 use Rattle.mc_accepted.specs.Determined.{Known, learned, insts_after, determined, determined_all, determined_in, none_fails, Placed, PlacedIn, AllPlaced, EachPlaced, ArmsPlaced}
 use Rattle.mc_accepted.specs.Typing.{TypedGoal, TypedGoals}
 use Rattle.mc_model.specs.Good.{System, TypeChoice, types_of}
@@ -23,30 +23,28 @@ use Rattle.mc_accepted.specs.Ordered as O
 use Rattle.mc_sound.proofs.Arguments
 use Rattle.mc_sound.proofs.Atoms
 use Rattle.mc_sound.proofs.Binds
-use Rattle.mc_sound.proofs.Binds.{some_inj}
+use Rattle.mc_sound.proofs.Binds.{true_not_false}
 use Rattle.mc_sound.proofs.Callings
 use Rattle.mc_sound.proofs.Changes.{node_after, closed_after, closed_more, node_from, apply_from, apply_variables, tests_in}
 use Rattle.mc_sound.proofs.Combine
-use Rattle.mc_sound.proofs.Combine.{in_left, in_right, in_split, in_cases, among_both, among_left, among_two, knows_more}
+use Rattle.mc_sound.proofs.Combine.{among_both, among_left, among_two, knows_more}
 use Rattle.mc_sound.proofs.Lists
 use Rattle.mc_sound.proofs.Opens.{opens_none}
 use Rattle.mc_sound.proofs.Scopes
 use Rattle.mc_sound.proofs.Scopes.{within, within_first, within_second, within_both, not_new, binds_stay, scope_none, node_free, all_free}
 use Rattle.mc_sound.proofs.Sound
-use Rattle.mc_sound.proofs.Sound.{map_types, picks_goal, picks_rest, picks_typed, parts_typed, arm_typed, arm_variables, free_in_goal, frees_in, in_without, from_without, label_cases, knows_learned}
+use Rattle.mc_sound.proofs.Sound.{map_types, picks_goal, picks_rest, picks_typed, parts_typed, arm_typed, arm_variables, free_in_goal, frees_in, label_cases, knows_learned}
 use Rattle.mc_sound.proofs.TellAtoms
 use Rattle.mc_sound.proofs.TellAtoms.{atom_tells}
 use Rattle.mc_sound.proofs.TellCalls
 use Rattle.mc_sound.proofs.TellFresh
 use Rattle.mc_sound.proofs.TellLists
-use Rattle.mc_sound.proofs.TellLists.{agrees_stay, agrees_off, with_bound, with_bound_off, with_bound_agrees, hit_more, hit_any, covers_succeeds, scope_no}
+use Rattle.mc_sound.proofs.TellLists.{agrees_stay, agrees_off, with_bound, with_bound_off, with_bound_agrees, hit_more, hit_any, scope_no}
 use Rattle.mc_sound.proofs.TypeInstances.{also_instance}
 use Rattle.mc_sound.proofs.Typed
-use Rattle.mc_sound.proofs.Typed.{true_not_false}
-
-or_second : (p q : Bool) → q ≡ true → (p || q) ≡ true
-or_second true q e = refl
-or_second false q e = e
+use Rattle.mc_laws.proofs.FlatGoals.{in_either, in_left, in_right}
+use Rattle.mc_laws.proofs.FlatWhole.{in_or_not}
+use Rattle.mc_laws.proofs.ClauseNumbers.{from_without, in_without}
 
 or_false : (p : Bool) → (p || false) ≡ p
 or_false true = refl
@@ -225,17 +223,17 @@ module _ (S : System) (D : Parameters) (F : Fits S D) (R : Calls) (called : Call
         Tells (Shared (free_in g) (variables_of_scheduled s)) (FlatYes X g) (FlatNo X g) one L e (stream_of S.world.outcome R h s e)
     tells (O.assign {b = b} {x = x} {y = y} n m a) tg sc known h one pl L u w e cl ty li kk =
         atom_tells (x ∷ y ∷ []) (Shared (x ∷ y ∷ []) (x ∷ y ∷ [])) (λ s. s x ≡ s y) (λ s. s x ≢ s y) one L e (stream_of S.world.outcome R h (Assign x y) e) (λ z i. (i, i))
-        (TellAtoms.same_yes x y e (e x) (e y) refl refl (or_second (is_some (e x)) (is_some (e y)) (ap is_some (Typed.bound_at S D F θ (b y) (T y) (e y) m (ty y (inr (inl refl)))).1)))
+        (TellAtoms.same_yes x y e (e x) (e y) refl refl (or_right (is_some (e x)) (is_some (e y)) (ap is_some (Typed.bound_at S D F θ (b y) (T y) (e y) m (ty y (inr (inl refl)))).1)))
         (λ s g k. TellAtoms.same_no x y e one L s g k)
     tells (O.assign_back {b = b} {x = x} {y = y} n m a) tg sc known h one pl L u w e cl ty li kk =
         let xs = stream_of S.world.outcome R h (Assign x y) e in
         atom_tells (x ∷ y ∷ []) (Shared (y ∷ x ∷ []) (x ∷ y ∷ [])) (λ s. s y ≡ s x) (λ s. s y ≢ s x) one L e xs (λ z i. (⊎_elim (λ q. inr (inl q)) (λ j. ⊎_elim (λ q. inl q) (λ k. absurd k) j) i, i))
         (Lists.each_map (λ a. (s : Assignment) → Agrees (x ∷ y ∷ []) a s → s x ≡ s y) (λ a. (s : Assignment) → Agrees (x ∷ y ∷ []) a s → s y ≡ s x) (λ a f s g. sym (f s g)) xs
-        (TellAtoms.same_yes x y e (e x) (e y) refl refl (or_second (is_some (e x)) (is_some (e y)) (ap is_some (Typed.bound_at S D F θ (b y) (T y) (e y) m (ty y (inl refl))).1))))
+        (TellAtoms.same_yes x y e (e x) (e y) refl refl (or_right (is_some (e x)) (is_some (e y)) (ap is_some (Typed.bound_at S D F θ (b y) (T y) (e y) m (ty y (inl refl))).1))))
         (λ s g k. Lists.covers_map (Hit one L s) (Hit one L s) (s x ≢ s y) (s y ≢ s x) (λ a h. h) (λ f q. f (sym q)) xs (TellAtoms.same_no x y e one L s g k))
     tells (O.test {b = b} {x = x} {y = y} n m t a) tg sc known h one pl L u w e cl ty li kk =
         atom_tells (x ∷ y ∷ []) (Shared (x ∷ y ∷ []) (x ∷ y ∷ [])) (λ s. s x ≡ s y) (λ s. s x ≢ s y) one L e (stream_of S.world.outcome R h (Test x y) e) (λ z i. (i, i))
-        (TellAtoms.same_yes x y e (e x) (e y) refl refl (or_second (is_some (e x)) (is_some (e y)) (ap is_some (Typed.bound_at S D F θ (b y) (T y) (e y) m (ty y (inr (inl refl)))).1)))
+        (TellAtoms.same_yes x y e (e x) (e y) refl refl (or_right (is_some (e x)) (is_some (e y)) (ap is_some (Typed.bound_at S D F θ (b y) (T y) (e y) m (ty y (inr (inl refl)))).1)))
         (λ s g k. TellAtoms.same_no x y e one L s g k)
     tells (O.build {b = b} {x = x} {s = f} {ys = ys} n a m d k) tg sc known h one pl L u w e cl ty li kk =
         let r = Atoms.gather_typed S D F θ T proper known L ys b e a (λ z i. ty z (inr i)) in
@@ -276,7 +274,7 @@ module _ (S : System) (D : Parameters) (F : Fits S D) (R : Calls) (called : Call
         atom_tells xs (Shared xs (at_inputs (inputs_of op) xs ++ at_outputs (inputs_of op) xs)) (λ s. X.yes p (map s xs)) (λ s. X.no p (map s xs)) one L e _ (λ z j. (j, apply_variables S D F T op xs b c a z j))
         (TellCalls.apply_yes S X says p op xs e q r.0 r.1) (λ s g k. TellCalls.apply_no S X says p op xs e q r.0 r.1 one L s g k)
     tells (O.implied_alone {O = O} {Q = Q} {p = p} {xs = xs} {n = n} {m = m} {ns = ns} r) tg sc known h one pl L u w e cl ty li kk =
-        let back : (x : ℕ) → In x (xs ++ []) → In x xs = λ x i. ⊎_elim (λ j. j) (λ j. absurd j) (in_split x xs [] i) in
+        let back : (x : ℕ) → In x (xs ++ []) → In x xs = λ x i. ⊎_elim (λ j. j) (λ j. absurd j) (in_either x xs [] i) in
         let t = tells_all r (tg, tt) (λ x i j. sc x (back x i) j) known h one pl L u w e cl (λ x i. ty x (back x i)) li kk in
         let ys = stream_all S.world.outcome R h (node_then n (node_then m ns)) e in
         record {
@@ -340,15 +338,15 @@ module _ (S : System) (D : Parameters) (F : Fits S D) (R : Calls) (called : Call
         let oc : (x : ℕ) → In x O → In x Oc = λ x z. in_left x O (without (free_in g) vs ++ variables_of i) z in
         let clc : Closed Oc Qc b e = closed_more O Q (without (free_in g) vs ++ variables_of i) vt b e cl in
         let clt : (d : Bindings) → BindsOnly vn e d → Closed (O ++ variables_of g) (Q ++ vn) c d = λ d bo. closed_after O Q (variables_of g) vn b c e d (node_from S D F T rc) bo cl in
-        let scc : Scoped Oc Qc (variables_of g) = λ x z y. ⊎_elim (λ q. oc x (sc x (vg x z) q)) (λ q. in_right x O (without (free_in g) vs ++ variables_of i) (in_right x (without (free_in g) vs) (variables_of i) (free_in_goal i x (node_free S T rt x q (in_right x O (variables_of g) z))))) (in_split x Q vt y) in
-        let sct : Scoped (O ++ variables_of g) (Q ++ vn) (variables_of i) = λ x z y. ⊎_elim (λ q. in_left x O (variables_of g) (sc x (vi x z) q)) (λ q. in_right x O (variables_of g) (free_in_goal g x (node_free S T rc x q (in_right x O (without (free_in g) vs ++ variables_of i) (in_right x (without (free_in g) vs) (variables_of i) z))))) (in_split x Q vn y) in
+        let scc : Scoped Oc Qc (variables_of g) = λ x z y. ⊎_elim (λ q. oc x (sc x (vg x z) q)) (λ q. in_right x O (without (free_in g) vs ++ variables_of i) (in_right x (without (free_in g) vs) (variables_of i) (free_in_goal i x (node_free S T rt x q (in_right x O (variables_of g) z))))) (in_either x Q vt y) in
+        let sct : Scoped (O ++ variables_of g) (Q ++ vn) (variables_of i) = λ x z y. ⊎_elim (λ q. in_left x O (variables_of g) (sc x (vi x z) q)) (λ q. in_right x O (variables_of g) (free_in_goal g x (node_free S T rc x q (in_right x O (without (free_in g) vs ++ variables_of i) (in_right x (without (free_in g) vs) (variables_of i) z))))) (in_either x Q vn y) in
         let scf : Scoped O Q (variables_of j) = λ x z y. sc x (vj x z) y in
         let K = L ++ within (free_in i) vt in
-        let ko : Among K Oc = λ x z. ⊎_elim (λ y. oc x (u x y)) (λ y. in_right x O (without (free_in g) vs ++ variables_of i) (in_right x (without (free_in g) vs) (variables_of i) (free_in_goal i x (within_first (free_in i) vt x y)))) (in_split x L (within (free_in i) vt) z) in
-        let kq : Among K Qc = λ x z. ⊎_elim (λ y. in_left x Q vt (w x y)) (λ y. in_right x Q vt (within_second (free_in i) vt x y)) (in_split x L (within (free_in i) vt) z) in
+        let ko : Among K Oc = λ x z. ⊎_elim (λ y. oc x (u x y)) (λ y. in_right x O (without (free_in g) vs ++ variables_of i) (in_right x (without (free_in g) vs) (variables_of i) (free_in_goal i x (within_first (free_in i) vt x y)))) (in_either x L (within (free_in i) vt) z) in
+        let kq : Among K Qc = λ x z. ⊎_elim (λ y. in_left x Q vt (w x y)) (λ y. in_right x Q vt (within_second (free_in i) vt x y)) (in_either x L (within (free_in i) vt) z) in
         let Lv = L ++ variables_of i in
-        let klv : (x : ℕ) → In x K → In x Lv = λ x z. ⊎_elim (λ y. in_left x L (variables_of i) y) (λ y. in_right x L (variables_of i) (free_in_goal i x (within_first (free_in i) vt x y))) (in_split x L (within (free_in i) vt) z) in
-        let lb : TypedAt S θ T Lv b e = λ x z. ⊎_elim (λ y. li x y) (λ y. ti x y) (in_split x L (variables_of i) z) in
+        let klv : (x : ℕ) → In x K → In x Lv = λ x z. ⊎_elim (λ y. in_left x L (variables_of i) y) (λ y. in_right x L (variables_of i) (free_in_goal i x (within_first (free_in i) vt x y))) (in_either x L (within (free_in i) vt) z) in
+        let lb : TypedAt S θ T Lv b e = λ x z. ⊎_elim (λ y. li x y) (λ y. ti x y) (in_either x L (variables_of i) z) in
         let kb : TypedAt S θ T K b e = λ x z. lb x (klv x z) in
         let eqc : insts_after n b ≡ c = node_after rc in
         let can = (determined S T (insts_after n b) known t).can_fail in
@@ -375,8 +373,8 @@ module _ (S : System) (D : Parameters) (F : Fits S D) (R : Calls) (called : Call
         let apart : (x : ℕ) → In x vs → In x L → ⊥ = λ x z y. a x z (u x y) in
         let grown : (d : Bindings) → Rr d → Each (λ k. Grows d k) (stream S.world.outcome R h t d) = λ d m. flat_each (λ k. Grows d k) (λ k. BindsOnly vt d k) (λ k. Reached S θ T L o k) (stream S.world.outcome R h t d) (st d m.0 m.1).each in
         let bn' : (x : ℕ) → In x wo → b x ≡ 0 → c x ≡ 0 = λ x z y. binds_stay wo b c x bn z y in
-        let same_out : (x : ℕ) → In x O → b x ≡ 0 → c x ≡ 0 = λ x z y. ⊎_elim (λ q. bn' x (in_without x (free_in g) vs (node_free S T rc x q (oc x z)) (λ v. a x v z)) y) (λ q. node_from S D F T rc x q y) (in_cases x vn) in
-        let stays : none_new ≡ true → (x : ℕ) → In x K → b x ≡ 0 → c x ≡ 0 = λ q x z y. ⊎_elim (λ v. same_out x (u x v) y) (λ v. binds_stay vt b c x (subst (λ d. binds_one vt b d ≡ false) eqc (not-true (binds_one vt b (insts_after n b)) q)) (within_second (free_in i) vt x v) y) (in_split x L (within (free_in i) vt) z) in
+        let same_out : (x : ℕ) → In x O → b x ≡ 0 → c x ≡ 0 = λ x z y. ⊎_elim (λ q. bn' x (in_without x (free_in g) vs (node_free S T rc x q (oc x z)) (λ v. a x v z)) y) (λ q. node_from S D F T rc x q y) (in_or_not x vn) in
+        let stays : none_new ≡ true → (x : ℕ) → In x K → b x ≡ 0 → c x ≡ 0 = λ q x z y. ⊎_elim (λ v. same_out x (u x v) y) (λ v. binds_stay vt b c x (subst (λ d. binds_one vt b d ≡ false) eqc (not-true (binds_one vt b (insts_after n b)) q)) (within_second (free_in i) vt x v) y) (in_either x L (within (free_in i) vt) z) in
         let sure : (d : Bindings) → Grows e d → Rr d → can ≡ false → Succeeds (stream S.world.outcome R h t d) = λ d gr m q. (st d m.0 m.1).sure (knows_more known e d gr kk) (subst (λ z. (determined S T z known t).can_fail ≡ false) eqc q) in
         let hit : (v : Assignment) (d : Bindings) → Agrees K e v → Grows e d → Rr d → Hit go K v d → Agrees K d v ⊎ ((one ≡ true) × Succeeds (stream S.world.outcome R h t d)) = λ v d ku gr m z.
         hit_either none_new one can K v d (Succeeds (stream S.world.outcome R h t d)) (λ q. agrees_stay (λ x. In x K) e d v (stay_new S θ T K b c e d kb (λ x y. m.1 x (klv x y)) (stays q)) gr ku) (λ q. sure d gr m q) z in
@@ -386,7 +384,7 @@ module _ (S : System) (D : Parameters) (F : Fits S D) (R : Calls) (called : Call
               (flat_each (λ k. Grows e k) (λ k. BindsOnly vf e k) (λ k. Reached S θ T L o' k) ys sk.each) tf.yes;
           no = λ s q r.
               TellLists.ite_no (Shared (free_in g) vn) (Shared (free_in i) vt) (Shared (free_in j) vf) Fa vs (FlatYes X g) (FlatNo X g) (FlatYes X i) (FlatNo X i) (FlatYes X j) (FlatNo X j) one K L e Rr xs ys (λ d. stream S.world.outcome R h t d) fg ft ff none apart
-              go (λ x z. in_left x L (within (free_in i) vt) z) (λ x z. in_right x L (within (free_in i) vt) (within_both (free_in i) vt x z.0 z.1)) (λ x z. ⊎_elim (λ y. inl y) (λ y. inr (within_first (free_in i) vt x y, within_second (free_in i) vt x y)) (in_split x L (within (free_in i) vt) z))
+              go (λ x z. in_left x L (within (free_in i) vt) z) (λ x z. in_right x L (within (free_in i) vt) (within_both (free_in i) vt x z.0 z.1)) (λ x z. ⊎_elim (λ y. inl y) (λ y. inr (within_first (free_in i) vt x y, within_second (free_in i) vt x y)) (in_either x L (within (free_in i) vt) z))
               s q r sd.each (λ v p y. t1.no v p y)
               (Lists.each_map (λ d. (Grows e d × (BindsOnly vn e d × TypedAt S θ T wo c d)) × ((v : Assignment) → AgreesFor (Shared (free_in g) vn) d v → FlatYes X g v)) (λ d. FlatYes X g (with_bound vs d s))
               (λ d z. z.1 (with_bound vs d s) (with_bound_agrees (Shared (free_in g) vn) vs d s (λ x p y v l. agrees_stay (λ x. In x wo × In x vn) e d s (λ x i. stay_new S θ T wo b c e d twb z.0.1.1 bn' x i.0) z.0.0 (λ x i. q x (fg x (from_without x (free_in g) vs i.0, i.1) (Scopes.without_out x (free_in g) vs i.0))) x (in_without x (free_in g) vs p.0 y, p.1) v l)))
@@ -476,7 +474,7 @@ module _ (S : System) (D : Parameters) (F : Fits S D) (R : Calls) (called : Call
         let Vr = variables_of_all rest in
         let xs = stream S.world.outcome R h n e in
         let tc : TypedAt S θ T (variables_of g) b e = λ x i. ty x (picks_goal p x i) in
-        let lb : TypedAt S θ T (L ++ Vr) b e = λ x i. ⊎_elim (λ j. li x j) (λ j. ty x (picks_rest p x j)) (in_split x L Vr i) in
+        let lb : TypedAt S θ T (L ++ Vr) b e = λ x i. ⊎_elim (λ j. li x j) (λ j. ty x (picks_rest p x j)) (in_either x L Vr i) in
         let clc = closed_more O Q Vr vr b e cl in
         let clr : (a : Bindings) → BindsOnly vn e a → Closed (O ++ variables_of g) (Q ++ vn) c a = λ a bo. closed_after O Q (variables_of g) vn b c e a (node_from S D F T r) bo cl in
         let sd = Sound.sound_node S D F R called lined T proper θ r q.0 known h (L ++ Vr) (among_both L O Vr u) e clc tc lb in
@@ -484,16 +482,16 @@ module _ (S : System) (D : Parameters) (F : Fits S D) (R : Calls) (called : Call
         let eqc : insts_after n b ≡ c = node_after r in
         let nf = none_fails S T (insts_after n b) known ns in
         let K = L ++ within (free_in_all rest) vr in
-        let klv : (x : ℕ) → In x K → In x (L ++ Vr) = λ x z. ⊎_elim (λ y. in_left x L Vr y) (λ y. in_right x L Vr (frees_in rest x (within_first (free_in_all rest) vr x y))) (in_split x L (within (free_in_all rest) vr) z) in
-        let ko : Among K (O ++ Vr) = λ x z. ⊎_elim (λ y. in_left x O Vr (u x y)) (λ y. in_right x O Vr y) (in_split x L Vr (klv x z)) in
-        let kq : Among K (Q ++ vr) = λ x z. ⊎_elim (λ y. in_left x Q vr (w x y)) (λ y. in_right x Q vr (within_second (free_in_all rest) vr x y)) (in_split x L (within (free_in_all rest) vr) z) in
-        let scn : Scoped (O ++ Vr) (Q ++ vr) (variables_of g) = λ x z y. ⊎_elim (λ k. in_left x O Vr (sc x (picks_goal p x z) k)) (λ k. in_right x O Vr (frees_in rest x (all_free S T t x k (in_right x O (variables_of g) z)))) (in_split x Q vr y) in
-        let scr : Scoped (O ++ variables_of g) (Q ++ vn) Vr = λ x z y. ⊎_elim (λ k. in_left x O (variables_of g) (sc x (picks_rest p x z) k)) (λ k. in_right x O (variables_of g) (free_in_goal g x (node_free S T r x k (in_right x O Vr z)))) (in_split x Q vn y) in
+        let klv : (x : ℕ) → In x K → In x (L ++ Vr) = λ x z. ⊎_elim (λ y. in_left x L Vr y) (λ y. in_right x L Vr (frees_in rest x (within_first (free_in_all rest) vr x y))) (in_either x L (within (free_in_all rest) vr) z) in
+        let ko : Among K (O ++ Vr) = λ x z. ⊎_elim (λ y. in_left x O Vr (u x y)) (λ y. in_right x O Vr y) (in_either x L Vr (klv x z)) in
+        let kq : Among K (Q ++ vr) = λ x z. ⊎_elim (λ y. in_left x Q vr (w x y)) (λ y. in_right x Q vr (within_second (free_in_all rest) vr x y)) (in_either x L (within (free_in_all rest) vr) z) in
+        let scn : Scoped (O ++ Vr) (Q ++ vr) (variables_of g) = λ x z y. ⊎_elim (λ k. in_left x O Vr (sc x (picks_goal p x z) k)) (λ k. in_right x O Vr (frees_in rest x (all_free S T t x k (in_right x O (variables_of g) z)))) (in_either x Q vr y) in
+        let scr : Scoped (O ++ variables_of g) (Q ++ vn) Vr = λ x z y. ⊎_elim (λ k. in_left x O (variables_of g) (sc x (picks_rest p x z) k)) (λ k. in_right x O (variables_of g) (free_in_goal g x (node_free S T r x k (in_right x O Vr z)))) (in_either x Q vn y) in
         let plr : AllPlaced S T c known one ns = subst (λ z. AllPlaced S T z known one ns) eqc pl.1 in
         TellLists.next_tells (Shared (free_in g) vn) (Shared (free_in_all rest) vr) (Shared (free_in_all gs) (vn ++ vr)) (FlatYes X g) (FlatNo X g) (FlatAllYes X rest) (FlatOneNo X rest) (FlatAllYes X gs) (FlatOneNo X gs) one (one && nf) K L e (λ a. BindsOnly vn e a × TypedAt S θ T (L ++ Vr) c a) xs (λ a. stream_all S.world.outcome R h ns a)
         (λ x i. (Scopes.picks_free p x i.0, in_left x vn vr i.1)) (λ x i. (Scopes.rest_free p x i.0, in_right x vn vr i.1))
         (λ x i. in_left x L (within (free_in_all rest) vr) i) (λ x i. in_right x L (within (free_in_all rest) vr) (within_both (free_in_all rest) vr x i.0 i.1))
-        (λ x z. ⊎_elim (λ y. inl y) (λ y. inr (Scopes.rest_free p x (within_first (free_in_all rest) vr x y), in_right x vn vr (within_second (free_in_all rest) vr x y))) (in_split x L (within (free_in_all rest) vr) z))
+        (λ x z. ⊎_elim (λ y. inl y) (λ y. inr (Scopes.rest_free p x (within_first (free_in_all rest) vr x y), in_right x vn vr (within_second (free_in_all rest) vr x y))) (in_either x L (within (free_in_all rest) vr) z))
         (λ s y z. picks_yes X p s y z) (λ s f. picks_no X p s f) (λ s f. rest_no X p s f)
         sd.each
         (tells_node r q.0 scn known h (one && nf) pl.0 K ko kq e clc tc (λ x z. lb x (klv x z)) kk)
@@ -514,7 +512,7 @@ module _ (S : System) (D : Parameters) (F : Fits S D) (R : Calls) (called : Call
         let xa = pruned_to mark A in
         let tx : TypedAt S θ T xs b e = λ x z. ty x (picks_goal pk x z) in
         let tz = Sound.typed_fresh S D F R called lined T proper θ O Q xs zs (firsts tests) gs b e cl apt (Sound.fresh_split S T 0 is xs zs tests fr) tx in
-        let lm : TypedAt S θ T M b e = λ x z. ⊎_elim (λ y. li x y) (λ y. ⊎_elim (λ k. ty x (picks_rest pk x k)) (λ k. ⊎_elim (λ l. tx x l) (λ l. tz x l) (in_split x xs zs k)) (in_split x Vr (xs ++ zs) y)) (in_split x L (Vr ++ (xs ++ zs)) z) in
+        let lm : TypedAt S θ T M b e = λ x z. ⊎_elim (λ y. li x y) (λ y. ⊎_elim (λ k. ty x (picks_rest pk x k)) (λ k. ⊎_elim (λ l. tx x l) (λ l. tz x l) (in_either x xs zs k)) (in_either x Vr (xs ++ zs) y)) (in_either x L (Vr ++ (xs ++ zs)) z) in
         let pairs = Sound.fresh_pairs S T M 0 is xs zs tests (λ y z. in_right y L (Vr ++ (xs ++ zs)) (in_right y Vr (xs ++ zs) (in_left y xs zs z))) (λ y z. in_right y L (Vr ++ (xs ++ zs)) (in_right y Vr (xs ++ zs) (in_right y xs zs z))) fr in
         let types = Sound.fresh_types S T D F θ proper c q.0.0 0 is xs zs tests (S.world.source.preds p).types (map_types S T D F θ proper q.0.0 xs (S.world.source.preds p).types q.0.1) ts fr in
         let inp = Callings.inputs_there S D F θ T proper known L (inputs_of op) (modes_of op) zs zs (S.world.source.preds p).types q.0.0 b e (Callings.modes_fit S D F θ T proper known L op) us types tz in
@@ -523,10 +521,10 @@ module _ (S : System) (D : Parameters) (F : Fits S D) (R : Calls) (called : Call
         let sp = Combine.pruned_sound S θ T known M vs e (Some c) (determined_in S T b known (Apply op (at_inputs (inputs_of op) zs) (at_outputs (inputs_of op) zs))) mark A sa in
         let K = L ++ within (free_in_all rest) vr in
         let Kp = K ++ TellFresh.pair_list tests in
-        let klv : (x : ℕ) → In x K → In x L ⊎ In x Vr = λ x z. ⊎_elim (λ y. inl y) (λ y. inr (frees_in rest x (within_first (free_in_all rest) vr x y))) (in_split x L (within (free_in_all rest) vr) z) in
+        let klv : (x : ℕ) → In x K → In x L ⊎ In x Vr = λ x z. ⊎_elim (λ y. inl y) (λ y. inr (frees_in rest x (within_first (free_in_all rest) vr x y))) (in_either x L (within (free_in_all rest) vr) z) in
         let km : (x : ℕ) → In x K → In x M = λ x z. ⊎_elim (λ y. in_left x L (Vr ++ (xs ++ zs)) y) (λ y. in_right x L (Vr ++ (xs ++ zs)) (in_left x Vr (xs ++ zs) y)) (klv x z) in
-        let kpm : (x : ℕ) → In x Kp → In x M = λ x z. ⊎_elim (λ y. km x y) (λ y. TellFresh.pairs_among M tests pairs x y) (in_split x K (TellFresh.pair_list tests) z) in
-        let kpq : Among Kp (Q ++ vt) = λ x z. ⊎_elim (λ y. ⊎_elim (λ k. in_left x Q vt (w x k)) (λ k. in_right x Q vt (tests_in tests ns x (within_second (free_in_all rest) vr x k))) (in_split x L (within (free_in_all rest) vr) y)) (λ y. in_right x Q vt (TellFresh.pairs_tested tests ns x y)) (in_split x K (TellFresh.pair_list tests) z) in
+        let kpm : (x : ℕ) → In x Kp → In x M = λ x z. ⊎_elim (λ y. km x y) (λ y. TellFresh.pairs_among M tests pairs x y) (in_either x K (TellFresh.pair_list tests) z) in
+        let kpq : Among Kp (Q ++ vt) = λ x z. ⊎_elim (λ y. ⊎_elim (λ k. in_left x Q vt (w x k)) (λ k. in_right x Q vt (tests_in tests ns x (within_second (free_in_all rest) vr x k))) (in_either x L (within (free_in_all rest) vr) y)) (λ y. in_right x Q vt (TellFresh.pairs_tested tests ns x y)) (in_either x K (TellFresh.pair_list tests) z) in
         let away : (x : ℕ) → In x (firsts tests) → In x (O ++ (Q ++ variables_of_all gs)) → ⊥ = apt in
         let off : (x : ℕ) → In x K → In x (firsts tests) → ⊥ = λ x z y. away x y (⊎_elim (λ k. in_left x O (Q ++ variables_of_all gs) (u x k)) (λ k. in_right x O (Q ++ variables_of_all gs) (in_right x Q (variables_of_all gs) (picks_rest pk x k))) (klv x z)) in
         let none : (x : ℕ) → In x (firsts tests) → e x ≡ None = λ x z. ⊎_elim (λ y. absurd (away x z (⊎_elim (λ k. in_left x O (Q ++ variables_of_all gs) k) (λ k. in_right x O (Q ++ variables_of_all gs) (in_left x Q (variables_of_all gs) k)) y))) (λ y. y.1) (cl x) in
@@ -544,17 +542,17 @@ module _ (S : System) (D : Parameters) (F : Fits S D) (R : Calls) (called : Call
         Lists.each_bind (λ a. Grows e a × (BindsOnly vs e a × TypedAt S θ T M c a)) (λ a. Grows e a × (BindsOnly vs e a × TypedAt S θ T M c a)) tests_of xa sp.each
         (λ a z. Lists.each_map (λ a'. Grows a a' × (BindsOnly [] a a' × TypedAt S θ T M c a')) (λ a'. Grows e a' × (BindsOnly vs e a' × TypedAt S θ T M c a'))
         (λ a' y. (Binds.extends_trans e a a' z.0 y.0, (Atoms.binds_then vs e a a' z.1.0 (Atoms.binds_more [] vs a a' (λ x k. absurd k) y.1.0), y.1.1))) (tests_of a) (TellFresh.tests_each S D F R called lined T proper θ h M c tests a ts pairs z.1.1)) in
-        let vsz : (x : ℕ) → In x vs → In x zs = λ x y. ⊎_elim (λ k. Sound.in_inputs (inputs_of op) zs x k) (λ k. Sound.in_outputs (inputs_of op) zs x k) (in_split x (at_inputs (inputs_of op) zs) (at_outputs (inputs_of op) zs) y) in
+        let vsz : (x : ℕ) → In x vs → In x zs = λ x y. ⊎_elim (λ k. Sound.in_inputs (inputs_of op) zs x k) (λ k. Sound.in_outputs (inputs_of op) zs x k) (in_either x (at_inputs (inputs_of op) zs) (at_outputs (inputs_of op) zs) y) in
         let Or = O ++ (xs ++ zs) in
         let Qr = Q ++ (xs ++ zs) in
-        let clr : (a : Bindings) → BindsOnly vs e a → Closed Or Qr c a = λ a bo. Sound.closed_within Or (Q ++ vs) Qr c a (λ x z. ⊎_elim (λ y. in_left x Q (xs ++ zs) y) (λ y. in_right x Q (xs ++ zs) (in_right x xs zs (vsz x y))) (in_split x Q vs z)) (closed_after O Q (xs ++ zs) vs b c e a (apply_from S D F T op zs b c af) bo cl) in
+        let clr : (a : Bindings) → BindsOnly vs e a → Closed Or Qr c a = λ a bo. Sound.closed_within Or (Q ++ vs) Qr c a (λ x z. ⊎_elim (λ y. in_left x Q (xs ++ zs) y) (λ y. in_right x Q (xs ++ zs) (in_right x xs zs (vsz x y))) (in_either x Q vs z)) (closed_after O Q (xs ++ zs) vs b c e a (apply_from S D F T op zs b c af) bo cl) in
         let ur : Among L Or = among_left L O (xs ++ zs) u in
         let tr : (a : Bindings) → TypedAt S θ T M c a → TypedAt S θ T Vr c a = λ a m x z. m x (in_right x L (Vr ++ (xs ++ zs)) (in_left x Vr (xs ++ zs) z)) in
         let tl : (a : Bindings) → TypedAt S θ T M c a → TypedAt S θ T L c a = λ a m x z. m x (in_left x L (Vr ++ (xs ++ zs)) z) in
         let sr : (a : Bindings) → BindsOnly vs e a → TypedAt S θ T M c a → Sound S θ T known L vr a o (determined_all S T c known ns) (rest_of a) = λ a bo m. Sound.sound_all S D F R called lined T proper θ t q.1 known h L ur a (clr a bo) (tr a m) (tl a m) in
         let after : insts_after n b ≡ c = fun_ext (λ x. sym (kc.0 x)) in
         let plr : AllPlaced S T c known one ns = tests_placed S T c known one tests ns (subst (λ z. AllPlaced S T z known one (tested_by tests ns)) after pl.1) in
-        let scr : Scoped Or Qr Vr = λ x z y. ⊎_elim (λ k. in_left x O (xs ++ zs) (sc x (picks_rest pk x z) k)) (λ k. in_right x O (xs ++ zs) k) (in_split x Q (xs ++ zs) y) in
+        let scr : Scoped Or Qr Vr = λ x z y. ⊎_elim (λ k. in_left x O (xs ++ zs) (sc x (picks_rest pk x z) k)) (λ k. in_right x O (xs ++ zs) k) (in_either x Q (xs ++ zs) y) in
         let H = Shared (free_in_all gs) (vs ++ vt) in
         let whole = bind U rest_of in
         let same : whole ≡ stream_all S.world.outcome R h (node_then n (tested_by tests ns)) e =
@@ -564,7 +562,7 @@ module _ (S : System) (D : Parameters) (F : Fits S D) (R : Calls) (called : Call
         (λ x z. (Scopes.picks_free pk x z, ⊎_elim (λ y. in_left x vs vt (apply_variables S D F T op zs b c af x y)) (λ y. in_right x vs vt (TellFresh.pairs_tested tests ns x (TellFresh.second_pair tests x y))) (TellFresh.given_split 0 is xs zs tests fr x z)))
         (λ x z. (Scopes.rest_free pk x z.0, in_right x vs vt (tests_in tests ns x z.1)))
         (λ x z. in_left x L (within (free_in_all rest) vr) z) (λ x z. in_right x L (within (free_in_all rest) vr) (within_both (free_in_all rest) vr x z.0 z.1))
-        (λ x z. ⊎_elim (λ y. inl y) (λ y. inr (Scopes.rest_free pk x (within_first (free_in_all rest) vr x y), in_right x vs vt (tests_in tests ns x (within_second (free_in_all rest) vr x y)))) (in_split x L (within (free_in_all rest) vr) z))
+        (λ x z. ⊎_elim (λ y. inl y) (λ y. inr (Scopes.rest_free pk x (within_first (free_in_all rest) vr x y), in_right x vs vt (tests_in tests ns x (within_second (free_in_all rest) vr x y)))) (in_either x L (within (free_in_all rest) vr) z))
         (λ s y z. picks_yes X pk s y z) (λ s f. picks_no X pk s f) (λ s f. rest_no X pk s f)
         su tu
         (λ a gr m. flat_each (λ k. Grows a k) (λ k. BindsOnly vr a k) (λ k. Reached S θ T L o k) (rest_of a) (sr a m.0 m.1).each)

@@ -1,20 +1,27 @@
 -- What the premises turn away.
-use Rattle.std.proofs.Common.{◌≡◌, inl, arith, ℕ, List, [], ◌∷◌, Option, Some, None, Bool, true, false, refl, sym, ap, ◌∙◌, subst}
+use Rattle.std.proofs.Common.{◌≡◌, inl, arith, ℕ, List, [], ◌∷◌, Option, Some, None, Bool, true, false, cond, nat_eq, refl, sym, ap, ◌∙◌, subst}
 use Rattle.std.specs.Int.{int_wrap}
-use Rattle.mc_program.specs.Programs.{TypeTerm}
+use Rattle.mc_program.specs.Values.{Val, state}
+use Rattle.mc_program.specs.Programs.{TypeTerm, int_type}
 use Rattle.mc_model.specs.Insts.{ground, unique}
 use Rattle.mc_model.specs.Flat as F
 use Rattle.mc_model.specs.Flat.{Flat_goal, Flat_goals, no_flat, flat_then}
 use Rattle.mc_model.specs.Scheduled.{Node, node, Scheduled, Nodes}
-use Rattle.mc_model.specs.Good.{System}
+use Rattle.mc_model.specs.Outcomes.{fails, gives, inputs_of}
+use Rattle.mc_model.specs.Good.{System, TypeChoice, GoodProcedures}
 use Rattle.mc_accepted.specs.Ordered as O
 use Rattle.mc_accepted.specs.Ordered.{Insts, Picks, here, there, Ordered, OrderedNode, OrderedAll, is_pruned, unless_never}
+use Rattle.mc_accepted.specs.BuiltinFits.{at_places, EachOf, FitsBuiltins}
+use Rattle.mc_accepted.specs.BuiltinTypes.{Library_types}
+use Rattle.mc_accepted.specs.IoFits.{FitsIo}
 use Rattle.mc_accepted.specs.Fits.{type_of}
 use Rattle.mc_accepted.specs.Accepted.{entered}
 use Rattle.mc_program.specs.declared.builtin.Builtin.{Builtin}
 use Rattle.mc_program.specs.declared.builtin.Builtin.TheVariants as B
 use Rattle.mc_sound.specs.code.Examples.{semidet, sums}
-use Rattle.mc_sound.specs.code.Premises.{turned, InstsAreAsked, SymbolsAreAsked, BuiltinsAreAsked, DeterminismsAreAsked, SumsFail, MarksAreAsked, ArmsAreAsked}
+use Rattle.mc_sound.specs.code.MainExamples.{main_pred, line_pred, line_source}
+use Rattle.mc_sound.specs.code.Premises.{turned, silent, silent_lines, InstsAreAsked, SymbolsAreAsked, BuiltinsAreAsked, DeterminismsAreAsked, SumsFail, MarksAreAsked, ArmsAreAsked, IoIsAsked}
+use Rattle.mc_sound.proofs.MainExample as M
 use Rattle.mc_sound.proofs.SumsExample.{insts_fit, has_types, has_builtins, accepted}
 
 pub insts_asked : InstsAreAsked
@@ -133,3 +140,58 @@ marks_asked = (accepted, (λ r. no (kept_mark r.ordered ∙ unmarked r.after (no
   where
     no : false ≡ true → ⊥
     no e = cc
+
+-- the one builtin is that of a line's end
+no_builtin : (op : Builtin) → None ≡ Some op → ⊥
+no_builtin op e = cc
+
+one_builtin : (t : Bool) (op : Builtin) → (cond t line_pred main_pred).builtin ≡ Some op → op ≡ B.Nl
+one_builtin true op e = some_is B.Nl op e
+  where
+    some_is : (a b : Builtin) → Some a ≡ Some b → b ≡ a
+    some_is a b e = cc
+one_builtin false op e = absurd (no_builtin op e)
+
+silent_gives : (θ : TypeChoice) (t : Bool) (op : Builtin) → (cond t line_pred main_pred).builtin ≡ Some op → EachOf line_source θ (at_places false (inputs_of op) (cond t line_pred main_pred).types) (state (10 ∷ []) 0 ∷ [])
+silent_gives θ true op e = subst (λ o. EachOf line_source θ (at_places false (inputs_of o) line_pred.types) (state (10 ∷ []) 0 ∷ [])) (sym (one_builtin true op e)) ((omega arith, refl), tt)
+silent_gives θ false op e = absurd (no_builtin op e)
+
+silent_fit : FitsBuiltins silent_lines.world
+silent_fit =
+    record {
+      outputs = λ θ p op vs e i. silent_gives θ (nat_eq p 9) op e;
+      succeeds = λ θ p op vs e i f q. gives_no q;
+      error_throws = λ θ p vs e i. absurd (no_error (one_builtin (nat_eq p 9) B.Error e));
+    }
+  where
+    gives_no : gives (state (10 ∷ []) 0 ∷ []) ≡ fails → ⊥
+    gives_no e = cc
+
+    no_error : B.Error ≡ B.Nl → ⊥
+    no_error e = cc
+
+-- it gives a line more, and writes none
+line_more : (b : List ℕ) (taken : ℕ) → state (10 ∷ []) 0 ≡ state b taken → b ≡ [] → ⊥
+line_more b taken e n = no (of_bytes b taken e ∙ n)
+  where
+    of_bytes : (b : List ℕ) (taken : ℕ) → state (10 ∷ []) 0 ≡ state b taken → ◌≡◌ {A = List ℕ} (10 ∷ []) b
+    of_bytes b taken e = cc
+
+    no : ◌≡◌ {A = List ℕ} (10 ∷ []) [] → ⊥
+    no e = cc
+
+silent_advances_not : (K : Library_types) → FitsIo silent_lines.world K → ⊥
+silent_advances_not K io =
+    let gained = io.advances (λ v. int_type) 9 B.Nl [] (state [] 0 ∷ []) refl ((omega arith, refl), tt) refl (0, refl) in
+    line_more [] gained.0 gained.1 refl
+
+silent_writes_not : GoodProcedures silent_lines → ⊥
+silent_writes_not good =
+    let said = good.writes (λ v. int_type) 9 9 0 (Some (state [] 0) ∷ None ∷ []) (omega arith) (record { first = refl; last = refl }) ((λ n. (n, (omega arith, refl), tt)), ((λ n. absurd (n refl)), tt)) [] 0 refl tt in
+    line_more [] said.0.0 (second said.0.0 said.0.1) refl
+  where
+    second : (after : ℕ) → ◌≡◌ {A = List (Option Val)} (Some (state [] 0) ∷ Some (state (10 ∷ []) 0) ∷ []) (Some (state [] 0) ∷ Some (state [] after) ∷ []) → state (10 ∷ []) 0 ≡ state [] after
+    second after e = cc
+
+pub io_asked : IoIsAsked
+io_asked = (insts_fit, M.types_of_lines, silent_fit, M.procedure_fits silent, (λ k l. M.accepted silent), silent_advances_not, silent_writes_not)

@@ -9,7 +9,7 @@ use Rattle.mc_model.specs.Good.{System, TypeChoice}
 use Rattle.mc_accepted.specs.ProperTypes.{Parameters, count_types, ProperType, ProperTypes, EachProper, Below, AllBelow, EachBelow}
 use Rattle.mc_accepted.specs.Fits.{Fits}
 use Rattle.std.proofs.lemmas.Bool.{eqb-true, and_parts}
-use Rattle.mc_sound.proofs.Numbers.{is_in_true}
+use Rattle.mc_laws.proofs.FlatWhole.{is_in_true}
 
 -- an instance of an instance
 abbrev pub also_instance : TypeChoice → (ℕ → TypeTerm) → TypeChoice

@@ -16,14 +16,11 @@ use Rattle.mc_accepted.specs.ProperTypes.{Parameters, ProperType}
 use Rattle.mc_accepted.specs.Fits.{NoneFree, NoArgumentFree, Fits}
 use Rattle.mc_sound.specs.code.Passes.{TypedAt, Reached}
 use Rattle.mc_sound.proofs.Binds
-use Rattle.mc_sound.proofs.Binds.{Matches, and_also}
+use Rattle.mc_sound.proofs.Binds.{Matches, and_also, true_not_false}
 use Rattle.mc_sound.proofs.Lists
 use Rattle.mc_laws.proofs.Inclusions.{included_sets, within_dead, within_more}
 use Rattle.mc_sound.proofs.TypeInstances.{IsPlain, within_plain, is_value, of_general}
 use Rattle.mc_laws.proofs.Equality.{value_same}
-
-pub true_not_false : true ≡ false → ⊥
-true_not_false e = cc
 
 pub bound_is : (i : ℕ) → is_bound i ≡ true → i ≢ 0
 bound_is i e z = true_not_false (sym e ∙ ap is_bound z)

@@ -1,7 +1,7 @@
 //! A system that meets all that the theorem asks, and what is turned away.
 ghost use Rattle.mc_sound.specs.code.Examples.{SumsFit};
 ghost use Rattle.mc_sound.specs.code.MainExamples.{LineIsWritten, LinesFit, OneLineIsWritten, PeeksFit};
-ghost use Rattle.mc_sound.specs.code.Premises.{ArmsAreAsked, BuiltinsAreAsked, DeterminismsAreAsked, InstsAreAsked, MarksAreAsked, SumsFail, SymbolsAreAsked};
+ghost use Rattle.mc_sound.specs.code.Premises.{ArmsAreAsked, AtomsAreAsked, BuiltinsAreAsked, DeterminismsAreAsked, HeadTypesAreAsked, HeadsAreAsked, InstsAreAsked, IoIsAsked, MarksAreAsked, PredicatesAreAsked, SumsFail, SymbolsAreAsked, UniqueInstsAreAsked};
 
 /// `p(X, Y, Z) :- X + Y = Z.`, over the real builtins.
 pub fn sums()
@@ -29,4 +29,10 @@ pub fn premises()
     ensures sums { SumsFail }
     ensures marks { MarksAreAsked }
     ensures arms { ArmsAreAsked }
+    ensures io { IoIsAsked }
+    ensures head_types { HeadTypesAreAsked }
+    ensures atoms { AtomsAreAsked }
+    ensures heads { HeadsAreAsked }
+    ensures predicates { PredicatesAreAsked }
+    ensures unique_insts { UniqueInstsAreAsked }
 {}

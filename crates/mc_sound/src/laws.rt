@@ -1,11 +1,12 @@
 //! The theorem and its parts. Each is the contract of a function that does nothing but call others of the kind.
 ghost use Rattle.mc_sound.specs.BuiltinLaws.{BuiltinsFit};
-ghost use Rattle.mc_sound.specs.IoLaws.{BuiltinsDoIo, MainWritesAll};
+ghost use Rattle.mc_sound.specs.IoLaws.{BuiltinsDoIo};
 ghost use Rattle.mc_sound.specs.Soundness.{AcceptedAreGood, AcceptedQueriesAreGood};
 
 use mc_laws::laws::predicates_carry_over;
 
-/// Accepted procedures are good, and so are accepted queries.
+/// Accepted procedures are good, and what `main` writes is what its last state has gained, also where procedures lend
+/// the state. Accepted queries are good.
 pub fn accepted_are_good()
     ensures procedures { AcceptedAreGood }
     ensures queries { AcceptedQueriesAreGood }
@@ -21,9 +22,4 @@ pub fn builtins_fit()
 /// Io's builtins append to the state what they write, and no other builtin does io.
 pub fn builtins_do_io()
     ensures { BuiltinsDoIo }
-{}
-
-/// A run of main's form writes what its last state has gained, also where procedures lend the state.
-pub fn main_writes_all()
-    ensures { MainWritesAll }
 {}

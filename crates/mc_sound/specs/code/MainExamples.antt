@@ -1,9 +1,10 @@
--- Programs with io that meet what is asked: `main(!IO) :- io.nl(!IO).`, and one whose main lends its
--- state.
-use Rattle.std.specs.Prelude.{◌≡◌, ℕ, [], ◌∷◌, if◌then◌else◌, nat_eq, Some, None, true, false, codes}
-use Rattle.mc_program.specs.Values.{state}
+-- Programs with io that meet what is asked: `main(!IO) :- io.nl(!IO).`, and one whose main lends
+-- its state.
+use Rattle.std.specs.Prelude.{◌≡◌, ℕ, List, [], ◌∷◌, if◌then◌else◌, nat_eq, Some, None, true, false, codes}
+use Rattle.mc_program.specs.Values.{Val, state}
 use Rattle.mc_program.specs.Programs.{state_type, variable, expressions, Call, And, no_formulas, formula_then, Predicate, Source}
 use Rattle.mc_model.specs.EventList.{End, Answer, Called, Wrote}
+use Rattle.mc_model.specs.Outcomes.{Outcome}
 use Rattle.mc_model.specs.Builtins.{outcome}
 use Rattle.mc_model.specs.Worlds.{library_name}
 use Rattle.mc_model.specs.Scheduled as S
@@ -13,9 +14,9 @@ use Rattle.mc_model.specs.Good.{System}
 use Rattle.mc_accepted.specs.BuiltinTypes.{builtin_name}
 use Rattle.mc_accepted.specs.Fits.{Fits}
 use Rattle.mc_accepted.specs.Accepted.{Accepted}
+use Rattle.mc_program.specs.declared.builtin.Builtin.{Builtin}
 use Rattle.mc_program.specs.declared.builtin.Builtin.TheVariants as B
-use Rattle.mc_sound.specs.IoLaws.{FitsIo}
-use Rattle.mc_sound.specs.code.Examples.{det, symbols, symbols_of, parameters, library, library_types, graph}
+use Rattle.mc_sound.specs.code.Examples.{det, symbols, symbols_of, parameters, library, graph}
 
 abbrev pub main_pred : Predicate
 main_pred =
@@ -60,19 +61,22 @@ main_procedure =
       var_types = state_type ∷ state_type ∷ [];
     }
 
-abbrev pub lines : System
-lines =
+-- the program, over what its builtins do
+abbrev pub lines_over : (Builtin → List Val → Outcome) → System
+lines_over o =
     record {
-      world = record { source = line_source; outcome = outcome library [] };
+      world = record { source = line_source; outcome = o };
       count = 1;
       procs = λ k. main_procedure;
       insts = graph;
     }
 
--- it fits and is accepted, and its builtins do io as they should
+abbrev pub lines : System
+lines = lines_over (outcome library [])
+
+-- it fits and is accepted
 abbrev pub LinesFit : Type 0
-LinesFit =
-    Fits lines parameters × Accepted lines × FitsIo lines.world library_types
+LinesFit = Fits lines parameters × Accepted lines
 
 -- its run writes the end of a line, which its last state has
 abbrev pub LineIsWritten : Type 0
@@ -160,10 +164,9 @@ peeks =
       insts = graph;
     }
 
--- it fits and is accepted, and its builtins do io as they should
+-- it fits and is accepted
 abbrev pub PeeksFit : Type 0
-PeeksFit =
-    Fits peeks parameters × Accepted peeks × FitsIo peeks.world library_types
+PeeksFit = Fits peeks parameters × Accepted peeks
 
 -- what is lent writes nothing
 abbrev pub OneLineIsWritten : Type 0

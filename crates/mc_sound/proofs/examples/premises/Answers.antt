@@ -1,4 +1,6 @@
-use Rattle.mc_sound.proofs.TurnedPremises.{insts_asked, symbols_asked, builtins_asked, determinisms_asked, sums_fail, marks_asked, arms_asked}
+use Rattle.mc_sound.proofs.TurnedPremises.{insts_asked, symbols_asked, builtins_asked, determinisms_asked, sums_fail, marks_asked, arms_asked, io_asked}
+use Rattle.mc_sound.proofs.NeededInsts.{unique_insts_asked}
+use Rattle.mc_sound.proofs.NeededPremises.{head_types_asked, atoms_asked, heads_asked, predicates_asked}
 use Rattle.mc_sound.proofs.examples.premises.Goals as goal
 
 pub returns-clause-insts : goal.returns-clause-insts
@@ -21,3 +23,21 @@ returns-clause-arms c = arms_asked
 
 pub returns-clause-marks : goal.returns-clause-marks
 returns-clause-marks c = marks_asked
+
+pub returns-clause-io : goal.returns-clause-io
+returns-clause-io c = io_asked
+
+pub returns-clause-head_types : goal.returns-clause-head_types
+returns-clause-head_types c = head_types_asked
+
+pub returns-clause-heads : goal.returns-clause-heads
+returns-clause-heads c = heads_asked
+
+pub returns-clause-predicates : goal.returns-clause-predicates
+returns-clause-predicates c = predicates_asked
+
+pub returns-clause-atoms : goal.returns-clause-atoms
+returns-clause-atoms c = atoms_asked
+
+pub returns-clause-unique_insts : goal.returns-clause-unique_insts
+returns-clause-unique_insts c = unique_insts_asked
