@@ -15,18 +15,18 @@ use Rattle.mc_accepted.specs.Inclusion.{Merged}
 use Rattle.mc_accepted.specs.Ordered.{Insts, Mode, is_state, also, modes_of, modes_of_procedure, at_inputs, at_outputs, reachable, implied_places, builtin_most, unless_never, NoneDead, Usable, After, Picks, here, there}
 use Rattle.mc_accepted.specs.Unmarked.{unmarked}
 use Rattle.mc_accepted.specs.Least.{least}
-use Rattle.mc_accepted.specs.Arranged.{Declared, Arranged, runs, breaks, Fault, waits, negated_binds, branches_differ, lacks, Waiting, Picked, takes, none_runs, Branches, all_run, one_breaks, alone, nodes_before, two_goals, fresh_at, tests_at, test_nodes, with_fresh, is_there, count_flat, those_in, one, wait, stuck, or_first, variables_of_waiting, picked, pick, behind, goes_on, in_turn, with_end, with_branch, and_branches, each_branch, no_branch, unless, wrapped, atom, same, made, constant, binds, differs, built, took, take, usable, implied_in, better, best, called, applied_with, call_of, joined_at, or_free, merged, merges, branched, conditional, negation, trial, trials}
+use Rattle.mc_accepted.specs.Arranged.{Declared, Arranged, runs, breaks, Fault, waits, negated_binds, branches_differ, lacks, Waiting, Picked, takes, none_runs, Branches, all_run, one_breaks, alone, nodes_before, two_goals, fresh_at, tests_at, test_nodes, with_fresh, is_there, count_flat, those_in, one, wait, stuck, or_first, variables_of_waiting, picked, pick, behind, goes_on, in_turn, with_end, with_branch, and_branches, each_branch, no_branch, unless, wrapped, atom, same, made, constant, differs, built, took, take, usable, implied_in, better, best, called, applied_with, call_of, joined_at, or_free, merged, merges, branched, conditional, negation, trial, trials}
 use Rattle.mc_accepted.specs.Arranged as G
 use Rattle.mc_accepted.specs.Chosen.{Chosen, of_nodes}
 use Rattle.mc_accepted.specs.code.Truthful.{AllAre, Truthful, IsNarrowed, IsDeclared, AllDeclared}
 use Rattle.mc_accepted.specs.code.Standing as S
-use Rattle.mc_accepted.specs.code.Standing.{implied_of, freshened, fresh_tests, TestsTyped, Freshly, fresh_nodes, JoinedOwn, Standing, StandingAll, StandingAny}
+use Rattle.mc_accepted.specs.code.Standing.{implied_of, freshened, fresh_tests, Freshly, fresh_nodes, JoinedOwn, Standing, StandingAll, StandingAny}
 use Rattle.mc_program.specs.declared.builtin.Builtin.{Builtin}
 use Rattle.mc_source.specs.declared.det.Most.{Most}
 use Rattle.mc_source.specs.declared.det.Most.TheVariants.{Zero, One, Many}
-use Rattle.mc_order_laws.proofs.OthersStay.{in-is}
 use Rattle.mc_order_laws.proofs.Arranging as A
-use Rattle.mc_order_laws.proofs.Arranging.{not-both, or-first, or-second, and-first, and-second, not-false, not-true, is-set, is-unset, is-in, none-passes, with-fresh, length-fresh, has-tests, those-in}
+use Rattle.mc_order_laws.proofs.Arranging.{not-both, or-first, or-second, not-false, is-set, is-unset, none-passes, with-fresh, length-fresh, has-tests, those-in, and-first, and-second}
+use Rattle.mc_laws.proofs.FlatWhole.{in_list, is_in_true}
 
 never-is : (m : Most) (c : Insts) → cond (is_zero m) None (Some c) ≡ unless_never m c
 never-is Zero c = refl
@@ -357,7 +357,7 @@ module _ (Y : System) (T : ℕ → TypeTerm) (C : Chosen) (declared : ℕ → Li
   joined_here ends x = joined_at (of_nodes C) P declared T ends x
 
   is-nothing : (x : ℕ) (xs : List ℕ) → is_in x xs ≡ false → In x xs → ⊥
-  is-nothing x xs e i = not-both (is_in x xs) (is-in x xs i) e
+  is-nothing x xs e i = not-both (is_in x xs) (in_list x xs i) e
 
   abbrev inst_after : List Insts → Insts → ℕ → Bool → Bool → ℕ
   inst_after ends b x t u = cond t (cond u (or_free (of_nodes C) P declared T (joined_here ends x)) 0) (b x)
@@ -371,10 +371,10 @@ module _ (Y : System) (T : ℕ → TypeTerm) (C : Chosen) (declared : ℕ → Li
       at x true p true q = (
         (λ i j. merged-there (T x) (insts_at (c ∷ cs) x) (is_bound (c x)) (all-are c cs x (agree x (those-in own O x i j))) (λ e. cc) (joined_here (c ∷ cs) x) refl
             (each-passes (λ y. is_there (joined_here (c ∷ cs) y)) (those_in own O) there_all x (those-in own O x i j))),
-        (λ i off. absurd (off (in-is x O q))),
-        (λ off. absurd (off (in-is x own p))),
+        (λ i off. absurd (off (is_in_true x O q))),
+        (λ off. absurd (off (is_in_true x own p))),
       )
-      at x true p false q = ((λ i j. absurd (is-nothing x O q j)), (λ i off. refl), (λ off. absurd (off (in-is x own p))))
+      at x true p false q = ((λ i j. absurd (is-nothing x O q j)), (λ i off. refl), (λ off. absurd (off (is_in_true x own p))))
       at x false p u q = ((λ i. absurd (is-nothing x own p i)), (λ i. absurd (is-nothing x own p i)), (λ off. refl))
 
   -- the branches of a disjunction

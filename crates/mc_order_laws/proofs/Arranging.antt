@@ -18,7 +18,9 @@ use Rattle.mc_accepted.specs.Chosen.{Chosen, of_nodes}
 use Rattle.mc_accepted.specs.code.Truthful.{Truthful}
 use Rattle.mc_accepted.specs.code.Standing.{TestsTyped}
 use Rattle.mc_order_laws.specs.OrderLaws.{Below}
-use Rattle.mc_order_laws.proofs.OthersStay.{in-left, in-right, in-either}
+use Rattle.mc_laws.proofs.FlatGoals.{in_either, in_left, in_right}
+use Rattle.mc_laws.proofs.FlatWhole.{in_list}
+use Rattle.mc_laws.proofs.ClauseNumbers.{from_without}
 
 pub not-both : (t : Bool) → t ≡ true → t ≡ false → ⊥
 not-both true e f = cc
@@ -54,34 +56,18 @@ is-set i e = eqb-false i 0 (not-true (nat_eq i 0) e)
 pub is-unset : (i : ℕ) → is_bound i ≡ false → i ≡ 0
 is-unset i e = eqb-true i 0 (not-false (nat_eq i 0) e)
 
-pub is-in : (x : ℕ) (xs : List ℕ) → In x xs → is_in x xs ≡ true
-is-in x [] i = absurd i
-is-in x (y ∷ ys) i = ⊎_elim (λ e. ap (λ t. cond t true (is_in x ys)) (eq-eqb x y e)) (λ j. at (nat_eq x y) (is-in x ys j)) i
-  where
-    at : (t : Bool) → is_in x ys ≡ true → cond t true (is_in x ys) ≡ true
-    at true e = refl
-    at false e = e
-
 -- ---- variables below the next number
 pub below-both : (n : ℕ) (xs ys : List ℕ) → Below n xs → Below n ys → Below n (xs ++ ys)
-below-both n xs ys p q x i = ⊎_elim (λ j. p x j) (λ j. q x j) (in-either x xs ys i)
+below-both n xs ys p q x i = ⊎_elim (λ j. p x j) (λ j. q x j) (in_either x xs ys i)
 
 pub below-left : (n : ℕ) (xs ys : List ℕ) → Below n (xs ++ ys) → Below n xs
-below-left n xs ys p x i = p x (in-left x xs ys i)
+below-left n xs ys p x i = p x (in_left x xs ys i)
 
 pub below-right : (n : ℕ) (xs ys : List ℕ) → Below n (xs ++ ys) → Below n ys
-below-right n xs ys p x i = p x (in-right x xs ys i)
+below-right n xs ys p x i = p x (in_right x xs ys i)
 
 pub below-more : (n m : ℕ) (xs : List ℕ) → n ≤ m → Below n xs → Below m xs
 below-more n m xs le p x i = lt_of_lt_of_le (p x i) le
-
-pub in-without : (x : ℕ) (xs vs : List ℕ) → In x (without xs vs) → In x xs
-in-without x [] vs i = absurd i
-in-without x (y ∷ xs) vs i = at (is_in y vs) i (in-without x xs vs)
-  where
-    at : (t : Bool) → In x (cond t (without xs vs) (y ∷ without xs vs)) → (In x (without xs vs) → In x xs) → (x ≡ y) ⊎ In x xs
-    at true j f = inr (f j)
-    at false j f = ⊎_elim (λ e. inl e) (λ k. inr (f k)) j
 
 -- a goal's free variables are its variables
 mutual
@@ -93,17 +79,17 @@ mutual
   free-is-own (F.And gs) x i = free-are-own gs x i
   free-is-own (F.Or gs) x i = free-are-own gs x i
   free-is-own (F.If vs g h k) x i =
-      in-right x vs (variables_of g ++ (variables_of h ++ variables_of k))
-      (⊎_elim (λ j. ⊎_elim (λ l. in-left x (variables_of g) (variables_of h ++ variables_of k) (free-is-own g x l)) (λ l. in-right x (variables_of g) (variables_of h ++ variables_of k) (in-left x (variables_of h) (variables_of k) (free-is-own h x l)))
-      (in-either x (free_in g) (free_in h) (in-without x (free_in g ++ free_in h) vs j)))
-      (λ j. in-right x (variables_of g) (variables_of h ++ variables_of k) (in-right x (variables_of h) (variables_of k) (free-is-own k x j)))
-      (in-either x (without (free_in g ++ free_in h) vs) (free_in k) i))
+      in_right x vs (variables_of g ++ (variables_of h ++ variables_of k))
+      (⊎_elim (λ j. ⊎_elim (λ l. in_left x (variables_of g) (variables_of h ++ variables_of k) (free-is-own g x l)) (λ l. in_right x (variables_of g) (variables_of h ++ variables_of k) (in_left x (variables_of h) (variables_of k) (free-is-own h x l)))
+      (in_either x (free_in g) (free_in h) (from_without x (free_in g ++ free_in h) vs j)))
+      (λ j. in_right x (variables_of g) (variables_of h ++ variables_of k) (in_right x (variables_of h) (variables_of k) (free-is-own k x j)))
+      (in_either x (without (free_in g ++ free_in h) vs) (free_in k) i))
   free-is-own (F.Not g) x i = free-is-own g x i
-  free-is-own (F.Exists vs g) x i = in-right x vs (variables_of g) (free-is-own g x (in-without x (free_in g) vs i))
+  free-is-own (F.Exists vs g) x i = in_right x vs (variables_of g) (free-is-own g x (from_without x (free_in g) vs i))
 
   pub free-are-own : (gs : Flat_goals) (x : ℕ) → In x (free_in_all gs) → In x (variables_of_all gs)
   free-are-own no_flat x i = i
-  free-are-own (flat_then g gs) x i = ⊎_elim (λ j. in-left x (variables_of g) (variables_of_all gs) (free-is-own g x j)) (λ j. in-right x (variables_of g) (variables_of_all gs) (free-are-own gs x j)) (in-either x (free_in g) (free_in_all gs) i)
+  free-are-own (flat_then g gs) x i = ⊎_elim (λ j. in_left x (variables_of g) (variables_of_all gs) (free-is-own g x j)) (λ j. in_right x (variables_of g) (variables_of_all gs) (free-are-own gs x j)) (in_either x (free_in g) (free_in_all gs) i)
 
 pub fresh-below : (k : ℕ) (is xs : List ℕ) (n x : ℕ) → In x (fresh_at k is xs n) → In x xs ⊎ (x < n + length (tests_at k is xs n))
 fresh-below k is [] n x i = absurd i
@@ -121,7 +107,7 @@ those-in (z ∷ xs) ys x i j = at (is_in z ys) refl (⊎_elim (λ e. inl e) (λ 
   where
     at : (t : Bool) → is_in z ys ≡ t → (x ≡ z) ⊎ In x (those_in xs ys) → In x (cond t (z ∷ those_in xs ys) (those_in xs ys))
     at true e k = k
-    at false e k = ⊎_elim (λ q. absurd (not-both (is_in z ys) (is-in z ys (subst (λ y. In y ys) q j)) e)) (λ l. l) k
+    at false e k = ⊎_elim (λ q. absurd (not-both (is_in z ys) (in_list z ys (subst (λ y. In y ys) q j)) e)) (λ l. l) k
 
 -- where there is no least one, none passes
 pub none-passes : (f : ℕ → Bool) (xs : List ℕ) (x : ℕ) → least f xs ≡ None → In x xs → f x ≡ false

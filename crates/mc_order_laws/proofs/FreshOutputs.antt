@@ -16,7 +16,7 @@ use Rattle.mc_source.specs.declared.det.Most.TheVariants.{One}
 use Rattle.mc_order_laws.specs.OrderLaws.{Below}
 use Rattle.mc_order_laws.proofs.Arranging.{not-both, or-first, is-unset}
 
-is-other : (x y : ℕ) → (x ≡ y → ⊥) → nat_eq x y ≡ false
+pub is-other : (x y : ℕ) → (x ≡ y → ⊥) → nat_eq x y ≡ false
 is-other x y off = at (nat_eq x y) (eqb-true x y)
   where
     at : (t : Bool) → (t ≡ true → x ≡ y) → t ≡ false

@@ -18,15 +18,18 @@ use Rattle.mc_accepted.specs.Ordered.{Insts, Mode, modes_of, modes_of_procedure,
 use Rattle.mc_accepted.specs.Unmarked.{unmarked, unmarked_node, unmarked_scheduled, unmarked_nodes, unmarked_arms}
 use Rattle.mc_accepted.specs.Arranged.{test_nodes, nodes_before}
 use Rattle.mc_accepted.specs.code.Standing as S
-use Rattle.mc_accepted.specs.code.Standing.{implied_of, freshened, fresh_tests, Freshly, fresh_nodes, JoinedOwn, Standing, StandingAll, StandingAny}
+use Rattle.mc_accepted.specs.code.Standing.{implied_of, freshened, fresh_tests, Freshly, JoinedOwn, Standing, StandingAll, StandingAny}
 use Rattle.mc_program.specs.declared.builtin.Builtin.{Builtin}
 use Rattle.mc_order_laws.specs.OrderLaws.{Below, Clear, FlatScopes, PartsScoped, DisjunctsScoped, StandingIsOrdered}
-use Rattle.mc_order_laws.proofs.OthersStay.{in-left, in-right, in-either, in-is, in-condition, in-then, in-else}
-use Rattle.mc_order_laws.proofs.Arranging.{not-both, is-set, is-in, below-both, below-left, below-right, below-more, in-without, free-is-own, has-tests}
+use Rattle.mc_order_laws.proofs.OthersStay.{in-condition, in-then, in-else}
+use Rattle.mc_order_laws.proofs.Arranging.{not-both, is-set, below-both, below-left, below-right, below-more, free-is-own, has-tests}
 use Rattle.mc_order_laws.proofs.StandingFacts as W
-use Rattle.mc_order_laws.proofs.StandingFacts.{Stays, EndStays, EachStays, Placed, Ranged, widened, chained, with-each, picks-goal, picks-rest, fresh-range}
+use Rattle.mc_order_laws.proofs.StandingFacts.{Stays, EndStays, EachStays, Placed, widened, chained, with-each, picks-goal, picks-rest, fresh-range}
 use Rattle.mc_order_laws.proofs.FreshOutputs as N
-use Rattle.mc_order_laws.proofs.FreshOutputs.{Fresh, Alike, FreeOn, Known}
+use Rattle.mc_order_laws.proofs.FreshOutputs.{Fresh, Alike, FreeOn, Known, is-other}
+use Rattle.mc_laws.proofs.FlatGoals.{in_either, in_left, in_right}
+use Rattle.mc_laws.proofs.FlatWhole.{in_list, is_in_true}
+use Rattle.mc_laws.proofs.ClauseNumbers.{from_without}
 
 -- ---- kept changes
 abbrev changes_from : ℕ → ℕ → Insts → Insts → List (ℕ × ℕ)
@@ -52,13 +55,6 @@ each-changes (suc j) k b c = at (nat_eq (b k) (c k)) refl (each-changes j (suc k
     at : (t : Bool) → nat_eq (b k) (c k) ≡ t → EachChanges b (changes_from (suc k) j b c) → EachChanges b (cond t (changes_from (suc k) j b c) ((k, c k) ∷ changes_from (suc k) j b c))
     at true e h = h
     at false e h = (eqb-false (b k) (c k) e, h)
-
-is-other : (x y : ℕ) → (x ≡ y → ⊥) → nat_eq x y ≡ false
-is-other x y off = at (nat_eq x y) (eqb-true x y)
-  where
-    at : (t : Bool) → (t ≡ true → x ≡ y) → t ≡ false
-    at true e = absurd (off (e refl))
-    at false e = refl
 
 change-before : (j k : ℕ) (b c : Insts) (x i : ℕ) → x < k → change_at x (changes_from k j b c) i ≡ i
 change-before zero k b c x i lt = refl
@@ -138,7 +134,7 @@ tested-order (t ∷ ts) ns = ap (λ ms. node_then (unmarked (Test t.0 t.1)) ms) 
 
 -- ---- scopes, where less occurs outside
 fewer-more : (x : ℕ) (O U vs : List ℕ) → (In x U → In x O) → In x (U ++ vs) → In x (O ++ vs)
-fewer-more x O U vs f i = ⊎_elim (λ j. in-left x O vs (f j)) (λ j. in-right x O vs j) (in-either x U vs i)
+fewer-more x O U vs f i = ⊎_elim (λ j. in_left x O vs (f j)) (λ j. in_right x O vs j) (in_either x U vs i)
 
 mutual
   scopes-fewer : (g : Flat_goal) (O U : List ℕ) → ((x : ℕ) → In x (variables_of g) → In x U → In x O) → FlatScopes O g → FlatScopes U g
@@ -149,45 +145,45 @@ mutual
   scopes-fewer (F.And gs) O U w h = parts-fewer gs O U w h
   scopes-fewer (F.Or gs) O U w h = disjuncts-fewer gs O U w h
   scopes-fewer (F.If vs c t e) O U w h = (
-    (λ x i j. h.0 x i (w x (in-left x vs (variables_of c ++ (variables_of t ++ variables_of e)) i) j)),
+    (λ x i j. h.0 x i (w x (in_left x vs (variables_of c ++ (variables_of t ++ variables_of e)) i) j)),
     scopes-fewer c (O ++ (without (free_in c) vs ++ variables_of t)) (U ++ (without (free_in c) vs ++ variables_of t)) (λ x i j. fewer-more x O U (without (free_in c) vs ++ variables_of t) (λ k. w x (in-condition vs c t e x i) k) j) h.1,
     scopes-fewer t (O ++ variables_of c) (U ++ variables_of c) (λ x i j. fewer-more x O U (variables_of c) (λ k. w x (in-then vs c t e x i) k) j) h.2,
     scopes-fewer e O U (λ x i j. w x (in-else vs c t e x i) j) h.3,
   )
   scopes-fewer (F.Not g) O U w h = scopes-fewer g (O ++ free_in g) (U ++ free_in g) (λ x i j. fewer-more x O U (free_in g) (λ k. w x i k) j) h
-  scopes-fewer (F.Exists vs g) O U w h = ((λ x i j. h.0 x i (w x (in-left x vs (variables_of g) i) j)), scopes-fewer g O U (λ x i j. w x (in-right x vs (variables_of g) i) j) h.1)
+  scopes-fewer (F.Exists vs g) O U w h = ((λ x i j. h.0 x i (w x (in_left x vs (variables_of g) i) j)), scopes-fewer g O U (λ x i j. w x (in_right x vs (variables_of g) i) j) h.1)
 
   parts-fewer : (gs : Flat_goals) (O U : List ℕ) → ((x : ℕ) → In x (variables_of_all gs) → In x U → In x O) → PartsScoped O gs → PartsScoped U gs
   parts-fewer no_flat O U w h = tt
   parts-fewer (flat_then g gs) O U w h = (
-    scopes-fewer g (O ++ variables_of_all gs) (U ++ variables_of_all gs) (λ x i j. fewer-more x O U (variables_of_all gs) (λ k. w x (in-left x (variables_of g) (variables_of_all gs) i) k) j) h.0,
-    parts-fewer gs (O ++ variables_of g) (U ++ variables_of g) (λ x i j. fewer-more x O U (variables_of g) (λ k. w x (in-right x (variables_of g) (variables_of_all gs) i) k) j) h.1,
+    scopes-fewer g (O ++ variables_of_all gs) (U ++ variables_of_all gs) (λ x i j. fewer-more x O U (variables_of_all gs) (λ k. w x (in_left x (variables_of g) (variables_of_all gs) i) k) j) h.0,
+    parts-fewer gs (O ++ variables_of g) (U ++ variables_of g) (λ x i j. fewer-more x O U (variables_of g) (λ k. w x (in_right x (variables_of g) (variables_of_all gs) i) k) j) h.1,
   )
 
   disjuncts-fewer : (gs : Flat_goals) (O U : List ℕ) → ((x : ℕ) → In x (variables_of_all gs) → In x U → In x O) → DisjunctsScoped O gs → DisjunctsScoped U gs
   disjuncts-fewer no_flat O U w h = tt
   disjuncts-fewer (flat_then g gs) O U w h =
-      (scopes-fewer g O U (λ x i j. w x (in-left x (variables_of g) (variables_of_all gs) i) j) h.0, disjuncts-fewer gs O U (λ x i j. w x (in-right x (variables_of g) (variables_of_all gs) i) j) h.1)
+      (scopes-fewer g O U (λ x i j. w x (in_left x (variables_of g) (variables_of_all gs) i) j) h.0, disjuncts-fewer gs O U (λ x i j. w x (in_right x (variables_of g) (variables_of_all gs) i) j) h.1)
 
 parts-goal : {gs rest : Flat_goals} {g : Flat_goal} → Picks gs g rest → (O : List ℕ) → PartsScoped O gs → FlatScopes (O ++ variables_of_all rest) g
 parts-goal here O h = h.0
 parts-goal (there {k = k} {g = g} {rest = rest} p) O h =
     scopes-fewer g ((O ++ variables_of k) ++ variables_of_all rest) (O ++ (variables_of k ++ variables_of_all rest))
-    (λ x i j. ⊎_elim (λ l. in-left x (O ++ variables_of k) (variables_of_all rest) (in-left x O (variables_of k) l))
-    (λ l. ⊎_elim (λ q. in-left x (O ++ variables_of k) (variables_of_all rest) (in-right x O (variables_of k) q)) (λ q. in-right x (O ++ variables_of k) (variables_of_all rest) q) (in-either x (variables_of k) (variables_of_all rest) l))
-    (in-either x O (variables_of k ++ variables_of_all rest) j))
+    (λ x i j. ⊎_elim (λ l. in_left x (O ++ variables_of k) (variables_of_all rest) (in_left x O (variables_of k) l))
+    (λ l. ⊎_elim (λ q. in_left x (O ++ variables_of k) (variables_of_all rest) (in_right x O (variables_of k) q)) (λ q. in_right x (O ++ variables_of k) (variables_of_all rest) q) (in_either x (variables_of k) (variables_of_all rest) l))
+    (in_either x O (variables_of k ++ variables_of_all rest) j))
     (parts-goal p (O ++ variables_of k) h.1)
 
 parts-rest : {gs rest : Flat_goals} {g : Flat_goal} → Picks gs g rest → (O : List ℕ) → PartsScoped O gs → PartsScoped (O ++ variables_of g) rest
 parts-rest here O h = h.1
 parts-rest (there {k = k} {g = g} {gs = gs} {rest = rest} p) O h = (
   scopes-fewer k (O ++ variables_of_all gs) ((O ++ variables_of g) ++ variables_of_all rest)
-      (λ x i j. ⊎_elim (λ l. ⊎_elim (λ q. in-left x O (variables_of_all gs) q) (λ q. in-right x O (variables_of_all gs) (picks-goal p x q)) (in-either x O (variables_of g) l)) (λ l. in-right x O (variables_of_all gs) (picks-rest p x l))
-      (in-either x (O ++ variables_of g) (variables_of_all rest) j))
+      (λ x i j. ⊎_elim (λ l. ⊎_elim (λ q. in_left x O (variables_of_all gs) q) (λ q. in_right x O (variables_of_all gs) (picks-goal p x q)) (in_either x O (variables_of g) l)) (λ l. in_right x O (variables_of_all gs) (picks-rest p x l))
+      (in_either x (O ++ variables_of g) (variables_of_all rest) j))
       h.0,
   parts-fewer rest ((O ++ variables_of k) ++ variables_of g) ((O ++ variables_of g) ++ variables_of k)
-      (λ x i j. ⊎_elim (λ l. ⊎_elim (λ q. in-left x (O ++ variables_of k) (variables_of g) (in-left x O (variables_of k) q)) (λ q. in-right x (O ++ variables_of k) (variables_of g) q) (in-either x O (variables_of g) l))
-      (λ l. in-left x (O ++ variables_of k) (variables_of g) (in-right x O (variables_of k) l)) (in-either x (O ++ variables_of g) (variables_of k) j))
+      (λ x i j. ⊎_elim (λ l. ⊎_elim (λ q. in_left x (O ++ variables_of k) (variables_of g) (in_left x O (variables_of k) q)) (λ q. in_right x (O ++ variables_of k) (variables_of g) q) (in_either x O (variables_of g) l))
+      (λ l. in_left x (O ++ variables_of k) (variables_of g) (in_right x O (variables_of k) l)) (in_either x (O ++ variables_of g) (variables_of k) j))
       (parts-rest p (O ++ variables_of k) h.1),
 )
 
@@ -239,7 +235,7 @@ module _ (Y : System) (T : ℕ → TypeTerm) where
   each-end own n m b (c ∷ cs) x h off lt = (h.0 x off (inl lt), each-end own n m b cs x h.1 off lt)
 
   is-nothing : (x : ℕ) (xs : List ℕ) → is_in x xs ≡ false → In x xs → ⊥
-  is-nothing x xs e i = not-both (is_in x xs) (is-in x xs i) e
+  is-nothing x xs e i = not-both (is_in x xs) (in_list x xs i) e
 
   joined : (own O : List ℕ) (n m : ℕ) (b : Insts) (ends : List Insts) (o : Option Insts) → Below n O → EachStays own n m b ends → JoinedOwn Y T own O b ends o → Joined Y T O b ends o
   joined own O n m b [] o bo s h = h
@@ -247,7 +243,7 @@ module _ (Y : System) (T : ℕ → TypeTerm) where
   joined own O n m b (c ∷ cs) (Some e) bo s h = λ x. at x (is_in x own) refl
     where
       at : (x : ℕ) (t : Bool) → is_in x own ≡ t → (In x O → Merged P Y.insts (insts_at (c ∷ cs) x) (e x) (T x)) × ((In x O → ⊥) → (e x ≡ 0) ⊎ (e x ≡ b x))
-      at x true p = ((λ i. (h x).0 (in-is x own p) i), (λ off. inl ((h x).1 (in-is x own p) off)))
+      at x true p = ((λ i. (h x).0 (is_in_true x own p) i), (λ off. inl ((h x).1 (is_in_true x own p) off)))
       at x false p = (
         (λ i. subst (λ k. Merged P Y.insts (insts_at (c ∷ cs) x) k (T x)) (sym ((h x).2 (is-nothing x own p))) (merged-one (b x) (c x) (insts_at cs x) (T x) (each-end own n m b (c ∷ cs) x s (is-nothing x own p) (bo x i)))),
         (λ off. inr ((h x).2 (is-nothing x own p))),
@@ -318,8 +314,8 @@ module _ (Y : System) (T : ℕ → TypeTerm) where
     fresh_apart x i j =
         (let r = N.firsts-range 0 (implied_of Y T op xs b) xs n x i in
         ⊎_elim (λ l. not-le_of_lt (bo x l) r.0)
-        (λ l. ⊎_elim (λ q. ⊎_elim (λ lt. not-le_of_lt lt r.0) (λ lx. not-le_of_lt (lt_of_lt_of_le r.1 le) lx) (cl x q)) (λ q. not-le_of_lt (bg x q) r.0) (in-either x Q (variables_of_all gs) l))
-        (in-either x O (Q ++ variables_of_all gs) j))
+        (λ l. ⊎_elim (λ q. ⊎_elim (λ lt. not-le_of_lt lt r.0) (λ lx. not-le_of_lt (lt_of_lt_of_le r.1 le) lx) (cl x q)) (λ q. not-le_of_lt (bg x q) r.0) (in_either x Q (variables_of_all gs) l))
+        (in_either x O (Q ++ variables_of_all gs) j))
 
     implied-before : (ns : Nodes) (o : Option Insts) → OrderedAll Y T (O ++ (xs ++ freshened Y T n b op xs)) (Q ++ (xs ++ freshened Y T n b op xs)) c rest ns o →
         OrderedAll Y T O Q b gs
@@ -337,7 +333,7 @@ module _ (Y : System) (T : ℕ → TypeTerm) where
   below-freshened n b op xs bx x i = ⊎_elim (λ j. lt_of_lt_of_le (bx x j) (omega arith)) (λ r. r.1) (fresh-range 0 (implied_of Y T op xs b) xs n x i)
 
   clear-both : (n m : ℕ) (xs ys : List ℕ) → Clear n m xs → Clear n m ys → Clear n m (xs ++ ys)
-  clear-both n m xs ys p q x i = ⊎_elim (λ j. p x j) (λ j. q x j) (in-either x xs ys i)
+  clear-both n m xs ys p q x i = ⊎_elim (λ j. p x j) (λ j. q x j) (in_either x xs ys i)
 
   clear-less : (n n' m m' : ℕ) (xs : List ℕ) → n ≤ n' → m' ≤ m → Clear n m xs → Clear n' m' xs
   clear-less n n' m m' xs p q h x i = ⊎_elim (λ lt. inl (lt_of_lt_of_le lt p)) (λ le. inr (le_trans q le)) (h x i)
@@ -382,7 +378,7 @@ module _ (Y : System) (T : ℕ → TypeTerm) where
         let below_g : Below n (variables_of g) = λ z i. bg z (in-condition vs g h k z i) in
         let below_h : Below n (variables_of h) = λ z i. bg z (in-then vs g h k z i) in
         let below_k : Below n (variables_of k) = λ z i. bg z (in-else vs g h k z i) in
-        let below_beside : Below n (O ++ (without (free_in g) vs ++ variables_of h)) = below-both n O (without (free_in g) vs ++ variables_of h) bo (below-both n (without (free_in g) vs) (variables_of h) (λ z i. below_g z (free-is-own g z (in-without z (free_in g) vs i))) below_h) in
+        let below_beside : Below n (O ++ (without (free_in g) vs ++ variables_of h)) = below-both n O (without (free_in g) vs ++ variables_of h) bo (below-both n (without (free_in g) vs) (variables_of h) (λ z i. below_g z (free-is-own g z (from_without z (free_in g) vs i))) below_h) in
         let rg = marked s (Q ++ variables_of_node y) below_beside below_g sc.1 (clear-both n n1 Q (variables_of_node y) (clear-less n n m n1 Q (le_refl n) (le_trans sh.0 sk.0) cl) (placed-after (variables_of h) (variables_of_node y) n n1 n2 below_h (λ w i. W.node-placed Y T t w i))) fr in
         let rh = marked t (Q ++ variables_of_node x) (below-both n1 O (variables_of g) (below-more n n1 O sg.0 bo) (below-more n n1 (variables_of g) sg.0 below_g)) (below-more n n1 (variables_of h) sg.0 below_h) sc.2
         (clear-both n1 n2 Q (variables_of_node x) (clear-less n n1 m n2 Q sg.0 sk.0 cl) (placed-before (variables_of g) (variables_of_node x) n n1 n2 below_g sg.0 (λ w i. W.node-placed Y T s w i))) (free-later (variables_of g) n n1 b c below_g sg.0 sg.1 fr) in
@@ -400,7 +396,7 @@ module _ (Y : System) (T : ℕ → TypeTerm) where
         let below_g : Below n (variables_of g) = λ z i. bg z (in-condition vs g h k z i) in
         let below_h : Below n (variables_of h) = λ z i. bg z (in-then vs g h k z i) in
         let below_k : Below n (variables_of k) = λ z i. bg z (in-else vs g h k z i) in
-        let below_beside : Below n (O ++ (without (free_in g) vs ++ variables_of h)) = below-both n O (without (free_in g) vs ++ variables_of h) bo (below-both n (without (free_in g) vs) (variables_of h) (λ z i. below_g z (free-is-own g z (in-without z (free_in g) vs i))) below_h) in
+        let below_beside : Below n (O ++ (without (free_in g) vs ++ variables_of h)) = below-both n O (without (free_in g) vs ++ variables_of h) bo (below-both n (without (free_in g) vs) (variables_of h) (λ z i. below_g z (free-is-own g z (from_without z (free_in g) vs i))) below_h) in
         let rg = marked s Q below_beside below_g sc.1 (clear-less n n m n1 Q (le_refl n) sk.0 cl) fr in
         let rk = marked u Q (below-more n n1 O sg.0 bo) (below-more n n1 (variables_of k) sg.0 below_k) sc.3 (clear-less n n1 m m Q sg.0 (le_refl m) cl) (λ w lw. fr w (le_trans sg.0 lw)) in
         finish (S.ite_never s u j) bg (Ite vs rg.goal (unmarked (Conj no_nodes)) rk.goal) (three-same vs rg.goal (unmarked (Conj no_nodes)) rk.goal x (unmarked (Conj no_nodes)) z rg.order refl rk.order)
@@ -442,7 +438,7 @@ module _ (Y : System) (T : ℕ → TypeTerm) where
         let below_both : Below end (xs ++ zs) = below-both end xs zs (below-more n end xs from_n below_xs) (below-freshened n b op xs below_xs) in
         let others = marked-all r (Q ++ (xs ++ zs)) (below-both end O (xs ++ zs) (below-more n end O from_n bo) below_both) (below-more n end (variables_of_all rest) from_n below_rest)
         (parts-fewer rest (O ++ xs) (O ++ (xs ++ zs))
-        (λ w i j. ⊎_elim (λ l. in-left w O xs l) (λ l. ⊎_elim (λ q. in-right w O xs q) (λ q. ⊎_elim (λ e. in-right w O xs e) (λ e. absurd (not-le_of_lt (below_rest w i) e.0)) (fresh-range 0 (implied_of Y T op xs b) xs n w q)) (in-either w xs zs l)) (in-either w O (xs ++ zs) j))
+        (λ w i j. ⊎_elim (λ l. in_left w O xs l) (λ l. ⊎_elim (λ q. in_right w O xs q) (λ q. ⊎_elim (λ e. in_right w O xs e) (λ e. absurd (not-le_of_lt (below_rest w i) e.0)) (fresh-range 0 (implied_of Y T op xs b) xs n w q)) (in_either w xs zs l)) (in_either w O (xs ++ zs) j))
         (parts-rest pick O sc))
         (clear-both end m Q (xs ++ zs) (clear-less n end m m Q from_n (le_refl m) cl) (λ w i. inl (below_both w i))) (free-later xs n end b c below_xs from_n (W.freshly-stays Y T n b c op xs f) fr) in
         record {

@@ -6,10 +6,7 @@ use Rattle.mc_model.specs.Lists.{In}
 use Rattle.mc_accepted.specs.Least.{least, lesser}
 use Rattle.mc_accepted.specs.Arranged.{placed, ascending}
 use Rattle.mc_order_laws.specs.OrderLaws.{Rising, IsLeast, NamedByFaults}
-
-differ : (t : Bool) → t ≡ true → t ≡ false → ⊥
-differ true e f = cc
-differ false e f = cc
+use Rattle.mc_order_laws.proofs.Arranging.{not-both}
 
 not-less : (x y : ℕ) → nat_lt x y ≡ false → y ≤ x
 not-less x y e = at (nat_lt y x) refl (nat_eq x y) refl
@@ -17,8 +14,8 @@ not-less x y e = at (nat_lt y x) refl (nat_eq x y) refl
     at : (t : Bool) → nat_lt y x ≡ t → (u : Bool) → nat_eq x y ≡ u → y ≤ x
     at true p u q = le_of_lt (ltb-true y x p)
     at false p true q = subst (λ z. y ≤ z) (sym (eqb-true x y q)) (le_refl y)
-    at false p false q = (let a : x < y → ⊥ = λ lt. differ (nat_lt x y) (lt-ltb x y lt) e in
-        let b : y < x → ⊥ = λ lt. differ (nat_lt y x) (lt-ltb y x lt) p in
+    at false p false q = (let a : x < y → ⊥ = λ lt. not-both (nat_lt x y) (lt-ltb x y lt) e in
+        let b : y < x → ⊥ = λ lt. not-both (nat_lt y x) (lt-ltb y x lt) p in
         omega (arith, a, b))
 
 in-placed : (x y : ℕ) (ys : List ℕ) → In y (placed x ys) → (y ≡ x) ⊎ In y ys
@@ -70,7 +67,7 @@ names f (x ∷ xs) y i e = at (f x) refl (⊎_elim (λ q. inl q) (λ j. inr (nam
   where
     at : (t : Bool) → f x ≡ t → (y ≡ x) ⊎ In y (ascending f xs) → In y (cond t (placed x (ascending f xs)) (ascending f xs))
     at true q j = placed-here x y (ascending f xs) j
-    at false q j = ⊎_elim (λ p. absurd (differ (f x) (ap f (sym p) ∙ e) q)) (λ k. k) j
+    at false q j = ⊎_elim (λ p. absurd (not-both (f x) (ap f (sym p) ∙ e) q)) (λ k. k) j
 
 is-least : (f : ℕ → Bool) (xs : List ℕ) → IsLeast f xs (least f xs)
 is-least f [] = λ y i. absurd i
@@ -81,10 +78,10 @@ is-least f (x ∷ xs) = at (f x) refl (least f xs) (is-least f xs)
     smaller v false p e h = (inl refl, e, λ y i q. ⊎_elim (λ s. subst (λ k. x ≤ k) (sym s) (le_refl x)) (λ j. le_trans (not-less v x p) (h.2 y j q)) i)
 
     at : (t : Bool) → f x ≡ t → (o : Option ℕ) → IsLeast f xs o → IsLeast f (x ∷ xs) (cond t (Some (lesser x o)) o)
-    at true e None h = (inl refl, e, λ y i q. ⊎_elim (λ s. subst (λ k. x ≤ k) (sym s) (le_refl x)) (λ j. absurd (differ (f y) q (h y j))) i)
+    at true e None h = (inl refl, e, λ y i q. ⊎_elim (λ s. subst (λ k. x ≤ k) (sym s) (le_refl x)) (λ j. absurd (not-both (f y) q (h y j))) i)
     at true e (Some v) h = smaller v (nat_lt v x) refl e h
     at false e None h = λ y i. ⊎_elim (λ s. ap f s ∙ e) (λ j. h y j) i
-    at false e (Some v) h = (inr h.0, h.1, λ y i q. ⊎_elim (λ s. absurd (differ (f x) (ap f (sym s) ∙ q) e)) (λ j. h.2 y j q) i)
+    at false e (Some v) h = (inr h.0, h.1, λ y i q. ⊎_elim (λ s. absurd (not-both (f x) (ap f (sym s) ∙ q) e)) (λ j. h.2 y j q) i)
 
 pub named-by-faults : NamedByFaults
 named-by-faults f xs = (rises f xs, (λ y. (named f xs y, λ h. names f xs y h.0 h.1)), is-least f xs)

@@ -16,43 +16,25 @@ use Rattle.mc_accepted.specs.Unmarked.{unmarked}
 use Rattle.mc_accepted.specs.Least.{least}
 use Rattle.mc_accepted.specs.Arranged.{Operations, Declared, Fault, waits, negated_binds, branches_differ, lacks, alone, two_goals, count_flat, fresh_at, tests_at, Point, with_inst, Arranged, runs, breaks, Trial, Waiting, Picked, takes, none_runs, Branches, all_run, one_breaks, variables_of_waiting, or_first, picked, pick, behind, goes_on, with_branch, and_branches, no_branch, each_branch, unless, wrapped, stuck, in_turn, atom, assigned, same, taken, built, took, take, made, constant, input_after, after_call, after, best, called, applied_with, call_of, binds, differs, joined_at, or_free, merged, merges, those_in, branched, conditional, negation, trial, trials, usable, implied_in}
 use Rattle.mc_program.specs.declared.builtin.Builtin.{Builtin}
-
-pub in-left : (x : ℕ) (xs ys : List ℕ) → In x xs → In x (xs ++ ys)
-in-left x [] ys i = absurd i
-in-left x (z ∷ xs) ys i = ⊎_elim (λ e. inl e) (λ j. inr (in-left x xs ys j)) i
-
-pub in-right : (x : ℕ) (xs ys : List ℕ) → In x ys → In x (xs ++ ys)
-in-right x [] ys i = i
-in-right x (z ∷ xs) ys i = inr (in-right x xs ys i)
-
-pub in-either : (x : ℕ) (xs ys : List ℕ) → In x (xs ++ ys) → In x xs ⊎ In x ys
-in-either x [] ys i = inr i
-in-either x (z ∷ xs) ys i = ⊎_elim (λ e. inl (inl e)) (λ j. ⊎_elim (λ k. inl (inr k)) (λ k. inr k) (in-either x xs ys j)) i
-
-pub in-is : (x : ℕ) (xs : List ℕ) → is_in x xs ≡ true → In x xs
-in-is x [] e = cc
-in-is x (y ∷ ys) e = at (nat_eq x y) refl e (in-is x ys)
-  where
-    at : (t : Bool) → nat_eq x y ≡ t → cond t true (is_in x ys) ≡ true → (is_in x ys ≡ true → In x ys) → (x ≡ y) ⊎ In x ys
-    at true q h r = inl (eqb-true x y q)
-    at false q h r = inr (r h)
+use Rattle.mc_laws.proofs.FlatGoals.{in_left, in_right}
+use Rattle.mc_laws.proofs.FlatWhole.{is_in_true}
 
 pub not-in : (x : ℕ) (xs : List ℕ) → (In x xs → ⊥) → is_in x xs ≡ false
 not-in x xs n = at (is_in x xs) refl
   where
     at : (t : Bool) → is_in x xs ≡ t → t ≡ false
-    at true e = absurd (n (in-is x xs e))
+    at true e = absurd (n (is_in_true x xs e))
     at false e = refl
 
 -- the parts' variables are among those of an if-then-else
 pub in-condition : (vs : List ℕ) (g h k : Flat_goal) (x : ℕ) → In x (variables_of g) → In x (variables_of (F.If vs g h k))
-in-condition vs g h k x i = in-right x vs (variables_of g ++ (variables_of h ++ variables_of k)) (in-left x (variables_of g) (variables_of h ++ variables_of k) i)
+in-condition vs g h k x i = in_right x vs (variables_of g ++ (variables_of h ++ variables_of k)) (in_left x (variables_of g) (variables_of h ++ variables_of k) i)
 
 pub in-then : (vs : List ℕ) (g h k : Flat_goal) (x : ℕ) → In x (variables_of h) → In x (variables_of (F.If vs g h k))
-in-then vs g h k x i = in-right x vs (variables_of g ++ (variables_of h ++ variables_of k)) (in-right x (variables_of g) (variables_of h ++ variables_of k) (in-left x (variables_of h) (variables_of k) i))
+in-then vs g h k x i = in_right x vs (variables_of g ++ (variables_of h ++ variables_of k)) (in_right x (variables_of g) (variables_of h ++ variables_of k) (in_left x (variables_of h) (variables_of k) i))
 
 pub in-else : (vs : List ℕ) (g h k : Flat_goal) (x : ℕ) → In x (variables_of k) → In x (variables_of (F.If vs g h k))
-in-else vs g h k x i = in-right x vs (variables_of g ++ (variables_of h ++ variables_of k)) (in-right x (variables_of g) (variables_of h ++ variables_of k) (in-right x (variables_of h) (variables_of k) i))
+in-else vs g h k x i = in_right x vs (variables_of g ++ (variables_of h ++ variables_of k)) (in_right x (variables_of g) (variables_of h ++ variables_of k) (in_right x (variables_of h) (variables_of k) i))
 
 abbrev pub Within : List ℕ → List ℕ → Type 0
 Within xs ys = (x : ℕ) → In x xs → In x ys
@@ -336,13 +318,13 @@ module _ {I : Type 0} (Op : Operations I) (P : Source) (declared : ℕ → List 
     keeps (F.Not g) O n b = negation-keeps (variables_of g) (free_in g) n b (trial Op P declared T g (O ++ free_in g) n b) (keeps g (O ++ free_in g) n b)
     keeps (F.Exists vs g) O n b =
         kept-wrapped (vs ++ variables_of g) n b (λ gs. Exists vs (alone gs)) (trial Op P declared T g O n b)
-        (keeps-more (vs ++ variables_of g) (variables_of g) (trial Op P declared T g) (λ x i. in-right x vs (variables_of g) i) (keeps g) O n b)
+        (keeps-more (vs ++ variables_of g) (variables_of g) (trial Op P declared T g) (λ x i. in_right x vs (variables_of g) i) (keeps g) O n b)
 
     pub all-keep : (gs : Flat_goals) → AllKeep (variables_of_all gs) (trials Op P declared T gs)
     all-keep no_flat = tt
     all-keep (flat_then g gs) = (
-      keeps-more (variables_of g ++ variables_of_all gs) (variables_of g) (trial Op P declared T g) (λ x i. in-left x (variables_of g) (variables_of_all gs) i) (keeps g),
-      all-keep-more (variables_of g ++ variables_of_all gs) (variables_of_all gs) (trials Op P declared T gs) (λ x i. in-right x (variables_of g) (variables_of_all gs) i) (all-keep gs),
+      keeps-more (variables_of g ++ variables_of_all gs) (variables_of g) (trial Op P declared T g) (λ x i. in_left x (variables_of g) (variables_of_all gs) i) (keeps g),
+      all-keep-more (variables_of g ++ variables_of_all gs) (variables_of_all gs) (trials Op P declared T gs) (λ x i. in_right x (variables_of g) (variables_of_all gs) i) (all-keep gs),
     )
 
   pub others-stay : (g : Flat_goal) (O : List ℕ) (n : ℕ) (b c : Point I) (gs : Nodes) (m : ℕ) (zs : List ℕ) → trial Op P declared T g O n b ≡ runs gs (Some c) m zs → (n ≤ m) × Stays (variables_of g) n b c

@@ -5,7 +5,7 @@ use Rattle.std.proofs.lemmas.Bool.{eqb-true}
 use Rattle.mc_program.specs.Programs.{TypeTerm}
 use Rattle.mc_model.specs.Outcomes.{inputs_of}
 use Rattle.mc_model.specs.Flat as F
-use Rattle.mc_model.specs.Flat.{Flat_goal, Flat_goals, no_flat, flat_then, variables_of, variables_of_all, free_in}
+use Rattle.mc_model.specs.Flat.{Flat_goal, Flat_goals, variables_of, variables_of_all}
 use Rattle.mc_model.specs.Lists.{In, is_in}
 use Rattle.mc_model.specs.Scheduled.{Node, Nodes, no_nodes, node_then}
 use Rattle.mc_model.specs.Stream.{is_bound}
@@ -17,16 +17,17 @@ use Rattle.mc_accepted.specs.code.Standing.{implied_of, freshened, fresh_tests, 
 use Rattle.mc_program.specs.declared.builtin.Builtin.{Builtin}
 use Rattle.mc_source.specs.declared.det.Most.{Most}
 use Rattle.mc_source.specs.declared.det.Most.TheVariants.{Zero, One, Many}
-use Rattle.mc_order_laws.proofs.OthersStay.{in-left, in-right, in-either, in-condition, in-then, in-else, Within}
+use Rattle.mc_order_laws.proofs.OthersStay.{in-condition, in-then, in-else, Within}
+use Rattle.mc_laws.proofs.FlatGoals.{in_either, in_left, in_right}
 
 pub picks-goal : {gs rest : Flat_goals} {g : Flat_goal} → Picks gs g rest → (x : ℕ) → In x (variables_of g) → In x (variables_of_all gs)
-picks-goal (here {g = g} {gs = gs}) x i = in-left x (variables_of g) (variables_of_all gs) i
-picks-goal (there {k = k} {gs = gs} p) x i = in-right x (variables_of k) (variables_of_all gs) (picks-goal p x i)
+picks-goal (here {g = g} {gs = gs}) x i = in_left x (variables_of g) (variables_of_all gs) i
+picks-goal (there {k = k} {gs = gs} p) x i = in_right x (variables_of k) (variables_of_all gs) (picks-goal p x i)
 
 pub picks-rest : {gs rest : Flat_goals} {g : Flat_goal} → Picks gs g rest → (x : ℕ) → In x (variables_of_all rest) → In x (variables_of_all gs)
-picks-rest (here {g = g} {gs = gs}) x i = in-right x (variables_of g) (variables_of_all gs) i
+picks-rest (here {g = g} {gs = gs}) x i = in_right x (variables_of g) (variables_of_all gs) i
 picks-rest (there {k = k} {gs = gs} {rest = rest} p) x i =
-    ⊎_elim (λ j. in-left x (variables_of k) (variables_of_all gs) j) (λ j. in-right x (variables_of k) (variables_of_all gs) (picks-rest p x j)) (in-either x (variables_of k) (variables_of_all rest) i)
+    ⊎_elim (λ j. in_left x (variables_of k) (variables_of_all gs) j) (λ j. in_right x (variables_of k) (variables_of_all gs) (picks-rest p x j)) (in_either x (variables_of k) (variables_of_all rest) i)
 
 -- ---- what is changed
 abbrev pub Stays : (own : List ℕ) → (n m : ℕ) → Insts → Insts → Type 0
@@ -56,22 +57,22 @@ pub with-each : (own : List ℕ) (n m : ℕ) (b : Insts) (o : Option Insts) (os 
 with-each own n m b None os s t = t
 with-each own n m b (Some c) os s t = (s, t)
 
-also-off : (x i : ℕ) (b : Insts) (y : ℕ) → (y ≡ x → ⊥) → also x i b y ≡ b y
+pub also-off : (x i : ℕ) (b : Insts) (y : ℕ) → (y ≡ x → ⊥) → also x i b y ≡ b y
 also-off x i b y off = at (nat_eq y x) (eqb-true y x)
   where
     at : (t : Bool) → (t ≡ true → y ≡ x) → cond t i (b y) ≡ b y
     at true e = absurd (off (e refl))
     at false e = refl
 
-cond-off : (t : Bool) (b c : Insts) (y : ℕ) → c y ≡ b y → cond t b c y ≡ b y
+pub cond-off : (t : Bool) (b c : Insts) (y : ℕ) → c y ≡ b y → cond t b c y ≡ b y
 cond-off true b c y e = refl
 cond-off false b c y e = e
 
-state-off : (t : Bool) (b c : Insts) (y : ℕ) → c y ≡ b y → cond t c b y ≡ b y
+pub state-off : (t : Bool) (b c : Insts) (y : ℕ) → c y ≡ b y → cond t c b y ≡ b y
 state-off true b c y e = e
 state-off false b c y e = refl
 
-take-off : (ys is : List ℕ) (b : Insts) (y : ℕ) → (In y ys → ⊥) → take_all ys is b y ≡ b y
+pub take-off : (ys is : List ℕ) (b : Insts) (y : ℕ) → (In y ys → ⊥) → take_all ys is b y ≡ b y
 take-off [] is b y off = refl
 take-off (x ∷ xs) [] b y off = refl
 take-off (x ∷ xs) (i ∷ is) b y off = take-off xs is (cond (is_bound (b x)) b (also x i b)) y (λ j. off (inr j)) ∙ cond-off (is_bound (b x)) b (also x i b) y (also-off x i b y (λ e. off (inl e)))
@@ -110,13 +111,13 @@ outputs-in (true ∷ bs) (y ∷ xs) x i = inr (outputs-in bs xs x i)
 outputs-in (false ∷ bs) (y ∷ xs) x i = ⊎_elim (λ e. inl e) (λ j. inr (outputs-in bs xs x j)) i
 
 apply-in : (bs : List Bool) (xs : List ℕ) (x : ℕ) → In x (at_inputs bs xs ++ at_outputs bs xs) → In x xs
-apply-in bs xs x i = ⊎_elim (λ j. inputs-in bs xs x j) (λ j. outputs-in bs xs x j) (in-either x (at_inputs bs xs) (at_outputs bs xs) i)
+apply-in bs xs x i = ⊎_elim (λ j. inputs-in bs xs x j) (λ j. outputs-in bs xs x j) (in_either x (at_inputs bs xs) (at_outputs bs xs) i)
 
 before-either : (ns ms : Nodes) (x : ℕ) → In x (variables_of_nodes (nodes_before ns ms)) → In x (variables_of_nodes ns) ⊎ In x (variables_of_nodes ms)
 before-either no_nodes ms x i = inr i
 before-either (node_then n ns) ms x i =
-    ⊎_elim (λ j. inl (in-left x (variables_of_node n) (variables_of_nodes ns) j)) (λ j. ⊎_elim (λ l. inl (in-right x (variables_of_node n) (variables_of_nodes ns) l)) (λ l. inr l) (before-either ns ms x j))
-    (in-either x (variables_of_node n) (variables_of_nodes (nodes_before ns ms)) i)
+    ⊎_elim (λ j. inl (in_left x (variables_of_node n) (variables_of_nodes ns) j)) (λ j. ⊎_elim (λ l. inl (in_right x (variables_of_node n) (variables_of_nodes ns) l)) (λ l. inr l) (before-either ns ms x j))
+    (in_either x (variables_of_node n) (variables_of_nodes (nodes_before ns ms)) i)
 
 module _ (Y : System) (T : ℕ → TypeTerm) where
   pub after-off : {f : ℕ → Bool} {ms : List Mode} {xs : List ℕ} {b c : Insts} → AfterArguments Y T f ms xs b c → (y : ℕ) → (In y xs → ⊥) → c y ≡ b y
@@ -168,7 +169,7 @@ module _ (Y : System) (T : ℕ → TypeTerm) where
         (le_trans (stays s).0 (le_trans (stays t).0 (stays u).0), joined-stays (variables_of (F.If vs g h k)) O n m b (reachable (o ∷ o' ∷ [])) o'' j)
     stays (S.ite_never {O = O} {n = n} {m = m} {b = b} {vs = vs} {g = g} {h = h} {k = k} {o = o} {o'' = o''} s u j) = (le_trans (stays s).0 (stays u).0, joined-stays (variables_of (F.If vs g h k)) O n m b (reachable (o ∷ [])) o'' j)
     stays (S.neg s p) = ((stays s).0, λ z off k. refl)
-    stays (S.some {n = n} {m = m} {b = b} {vs = vs} {g = g} {o = o} s) = ((stays s).0, widened (vs ++ variables_of g) (variables_of g) n n m m b o (λ x i. in-right x vs (variables_of g) i) (le_refl n) (le_refl m) (stays s).1)
+    stays (S.some {n = n} {m = m} {b = b} {vs = vs} {g = g} {o = o} s) = ((stays s).0, widened (vs ++ variables_of g) (variables_of g) n n m m b o (λ x i. in_right x vs (variables_of g) i) (le_refl n) (le_refl m) (stays s).1)
 
     pub all-stays : {O : List ℕ} {n m : ℕ} {b : Insts} {gs : Flat_goals} {ns : Nodes} {o : Option Insts} → StandingAll Y T O n b gs ns o m → Ranged (variables_of_all gs) n m b o
     all-stays (S.done {n = n}) = (le_refl n, λ z off k. refl)
@@ -191,8 +192,8 @@ module _ (Y : System) (T : ℕ → TypeTerm) where
     any-stays (S.either {n = n} {n1 = n1} {m = m} {b = b} {g = g} {gs = gs} {o = o} {os = os} s r) = (
       le_trans (stays s).0 (any-stays r).0,
       with-each (variables_of g ++ variables_of_all gs) n m b o os
-          (widened (variables_of g ++ variables_of_all gs) (variables_of g) n n n1 m b o (λ x i. in-left x (variables_of g) (variables_of_all gs) i) (le_refl n) (any-stays r).0 (stays s).1)
-          (each-widened (variables_of g ++ variables_of_all gs) (variables_of_all gs) n1 n m m b (reachable os) (λ x i. in-right x (variables_of g) (variables_of_all gs) i) (stays s).0 (le_refl m) (any-stays r).1),
+          (widened (variables_of g ++ variables_of_all gs) (variables_of g) n n n1 m b o (λ x i. in_left x (variables_of g) (variables_of_all gs) i) (le_refl n) (any-stays r).0 (stays s).1)
+          (each-widened (variables_of g ++ variables_of_all gs) (variables_of_all gs) n1 n m m b (reachable os) (λ x i. in_right x (variables_of g) (variables_of_all gs) i) (stays s).0 (le_refl m) (any-stays r).1),
     )
 
   -- ---- which variables its nodes have
@@ -205,7 +206,7 @@ module _ (Y : System) (T : ℕ → TypeTerm) where
   pub fresh-placed : (n : ℕ) (b : Insts) (op : Builtin) (xs : List ℕ) (y : ℕ) → In y (variables_of_nodes (fresh_nodes Y T n b op xs)) → Placed xs n (n + length (fresh_tests Y T n b op xs)) y
   fresh-placed n b op xs y i =
       ⊎_elim (λ j. fresh-range 0 (implied_of Y T op xs b) xs n y (apply-in (inputs_of op) (freshened Y T n b op xs) y j)) (λ j. tests-range 0 (implied_of Y T op xs b) xs n y j)
-      (in-either y (at_inputs (inputs_of op) (freshened Y T n b op xs) ++ at_outputs (inputs_of op) (freshened Y T n b op xs)) (variables_of_nodes (test_nodes (fresh_tests Y T n b op xs))) i)
+      (in_either y (at_inputs (inputs_of op) (freshened Y T n b op xs) ++ at_outputs (inputs_of op) (freshened Y T n b op xs)) (variables_of_nodes (test_nodes (fresh_tests Y T n b op xs))) i)
 
   mutual
     pub node-placed : {O : List ℕ} {n m : ℕ} {b : Insts} {g : Flat_goal} {x : Node} {o : Option Insts} → Standing Y T O n b g x o m → (y : ℕ) → In y (variables_of_node x) → Placed (variables_of g) n m y
@@ -224,30 +225,30 @@ module _ (Y : System) (T : ℕ → TypeTerm) where
     node-placed (S.conj s) y i = all-placed s y i
     node-placed (S.disj s j) y i = any-placed s y i
     node-placed (S.ite {n = n} {n1 = n1} {n2 = n2} {m = m} {vs = vs} {g = g} {h = h} {k = k} {x = xc} {y = xt} {z = xe} s p t u j) y i =
-        ⊎_elim (λ l. inl (in-left y vs (variables_of g ++ (variables_of h ++ variables_of k)) l))
+        ⊎_elim (λ l. inl (in_left y vs (variables_of g ++ (variables_of h ++ variables_of k)) l))
         (λ l. ⊎_elim (λ r. placed-more (variables_of (F.If vs g h k)) (variables_of g) n n n1 m y (in-condition vs g h k) (le_refl n) (le_trans (stays t).0 (stays u).0) (node-placed s y r))
         (λ l2. ⊎_elim (λ r. placed-more (variables_of (F.If vs g h k)) (variables_of h) n1 n n2 m y (in-then vs g h k) (stays s).0 (stays u).0 (node-placed t y r))
         (λ r. placed-more (variables_of (F.If vs g h k)) (variables_of k) n2 n m m y (in-else vs g h k) (le_trans (stays s).0 (stays t).0) (le_refl m) (node-placed u y r))
-        (in-either y (variables_of_node xt) (variables_of_node xe) l2))
-        (in-either y (variables_of_node xc) (variables_of_node xt ++ variables_of_node xe) l))
-        (in-either y vs (variables_of_node xc ++ (variables_of_node xt ++ variables_of_node xe)) i)
+        (in_either y (variables_of_node xt) (variables_of_node xe) l2))
+        (in_either y (variables_of_node xc) (variables_of_node xt ++ variables_of_node xe) l))
+        (in_either y vs (variables_of_node xc ++ (variables_of_node xt ++ variables_of_node xe)) i)
     node-placed (S.ite_never {n = n} {n1 = n1} {m = m} {vs = vs} {g = g} {h = h} {k = k} {x = xc} {z = xe} s u j) y i =
-        ⊎_elim (λ l. inl (in-left y vs (variables_of g ++ (variables_of h ++ variables_of k)) l))
+        ⊎_elim (λ l. inl (in_left y vs (variables_of g ++ (variables_of h ++ variables_of k)) l))
         (λ l. ⊎_elim (λ r. placed-more (variables_of (F.If vs g h k)) (variables_of g) n n n1 m y (in-condition vs g h k) (le_refl n) (stays u).0 (node-placed s y r))
         (λ r. placed-more (variables_of (F.If vs g h k)) (variables_of k) n1 n m m y (in-else vs g h k) (stays s).0 (le_refl m) (node-placed u y r))
-        (in-either y (variables_of_node xc) (variables_of_node xe) l))
-        (in-either y vs (variables_of_node xc ++ variables_of_node xe) i)
+        (in_either y (variables_of_node xc) (variables_of_node xe) l))
+        (in_either y vs (variables_of_node xc ++ variables_of_node xe) i)
     node-placed (S.neg s p) y i = node-placed s y i
     node-placed (S.some {n = n} {m = m} {vs = vs} {g = g} {x = x} s) y i =
-        ⊎_elim (λ l. inl (in-left y vs (variables_of g) l)) (λ l. placed-more (vs ++ variables_of g) (variables_of g) n n m m y (λ z j. in-right z vs (variables_of g) j) (le_refl n) (le_refl m) (node-placed s y l)) (in-either y vs (variables_of_node x) i)
+        ⊎_elim (λ l. inl (in_left y vs (variables_of g) l)) (λ l. placed-more (vs ++ variables_of g) (variables_of g) n n m m y (λ z j. in_right z vs (variables_of g) j) (le_refl n) (le_refl m) (node-placed s y l)) (in_either y vs (variables_of_node x) i)
 
     pub all-placed : {O : List ℕ} {n m : ℕ} {b : Insts} {gs : Flat_goals} {ns : Nodes} {o : Option Insts} → StandingAll Y T O n b gs ns o m → (y : ℕ) → In y (variables_of_nodes ns) → Placed (variables_of_all gs) n m y
     all-placed S.done y i = absurd i
     all-placed (S.dropped {n = n} {m = m} {g = g} {gs = gs} {x = x} p s) y i =
-        ⊎_elim (λ l. placed-more (variables_of_all gs) (variables_of g) n n m m y (picks-goal p) (le_refl n) (le_refl m) (node-placed s y l)) (λ a. absurd a) (in-either y (variables_of_node x) [] i)
+        ⊎_elim (λ l. placed-more (variables_of_all gs) (variables_of g) n n m m y (picks-goal p) (le_refl n) (le_refl m) (node-placed s y l)) (λ a. absurd a) (in_either y (variables_of_node x) [] i)
     all-placed (S.next {n = n} {n1 = n1} {m = m} {g = g} {gs = gs} {rest = rest} {x = x} {ns = ns} p s r) y i =
         ⊎_elim (λ l. placed-more (variables_of_all gs) (variables_of g) n n n1 m y (picks-goal p) (le_refl n) (all-stays r).0 (node-placed s y l))
-        (λ l. placed-more (variables_of_all gs) (variables_of_all rest) n1 n m m y (picks-rest p) (stays s).0 (le_refl m) (all-placed r y l)) (in-either y (variables_of_node x) (variables_of_nodes ns) i)
+        (λ l. placed-more (variables_of_all gs) (variables_of_all rest) n1 n m m y (picks-rest p) (stays s).0 (le_refl m) (all-placed r y l)) (in_either y (variables_of_node x) (variables_of_nodes ns) i)
     all-placed (S.implied_outputs {n = n} {m = m} {b = b} {op = op} {xs = xs} {gs = gs} {rest = rest} {ns = ns} p f r) y i =
         ⊎_elim (λ l. placed-more (variables_of_all gs) xs n n (n + length (fresh_tests Y T n b op xs)) m y (picks-goal p) (le_refl n) (all-stays r).0 (fresh-placed n b op xs y l))
         (λ l. placed-more (variables_of_all gs) (variables_of_all rest) (n + length (fresh_tests Y T n b op xs)) n m m y (picks-rest p) (omega arith) (le_refl m) (all-placed r y l))
@@ -256,6 +257,6 @@ module _ (Y : System) (T : ℕ → TypeTerm) where
     pub any-placed : {O : List ℕ} {n m : ℕ} {b : Insts} {gs : Flat_goals} {ns : Nodes} {os : List (Option Insts)} → StandingAny Y T O n b gs ns os m → (y : ℕ) → In y (variables_of_nodes ns) → Placed (variables_of_all gs) n m y
     any-placed S.no_other y i = absurd i
     any-placed (S.either {n = n} {n1 = n1} {m = m} {g = g} {gs = gs} {x = x} {ns = ns} s r) y i =
-        ⊎_elim (λ l. placed-more (variables_of g ++ variables_of_all gs) (variables_of g) n n n1 m y (λ z j. in-left z (variables_of g) (variables_of_all gs) j) (le_refl n) (any-stays r).0 (node-placed s y l))
-        (λ l. placed-more (variables_of g ++ variables_of_all gs) (variables_of_all gs) n1 n m m y (λ z j. in-right z (variables_of g) (variables_of_all gs) j) (stays s).0 (le_refl m) (any-placed r y l))
-        (in-either y (variables_of_node x) (variables_of_nodes ns) i)
+        ⊎_elim (λ l. placed-more (variables_of g ++ variables_of_all gs) (variables_of g) n n n1 m y (λ z j. in_left z (variables_of g) (variables_of_all gs) j) (le_refl n) (any-stays r).0 (node-placed s y l))
+        (λ l. placed-more (variables_of g ++ variables_of_all gs) (variables_of_all gs) n1 n m m y (λ z j. in_right z (variables_of g) (variables_of_all gs) j) (stays s).0 (le_refl m) (any-placed r y l))
+        (in_either y (variables_of_node x) (variables_of_nodes ns) i)

@@ -1,5 +1,5 @@
 -- Functions that look for nodes of a small graph tell its truth.
-use Rattle.std.proofs.Common.{◌≡◌, ◌≢◌, ℕ, zero, suc, Bool, true, false, cond, nat_eq, ◌&&◌, List, [], ◌∷◌, Option, Some, None, refl, subst, ⊎_elim, arith}
+use Rattle.std.proofs.Common.{◌≡◌, ◌≢◌, ℕ, zero, suc, Bool, true, false, cond, nat_eq, List, [], ◌∷◌, Option, Some, None, refl, subst, ⊎_elim, arith}
 use Rattle.std.proofs.lemmas.Bool.{eqb-true}
 use Rattle.mc_program.specs.Programs.{TypeTerm}
 use Rattle.mc_model.specs.Insts.{dead, AllowsConstants}
@@ -12,6 +12,7 @@ use Rattle.mc_order_laws.specs.code.ExamplesOfNodes.{few, joined, fits, chosen, 
 use Rattle.mc_order_laws.specs.code.ExamplesOfNodes as N
 use Rattle.mc_order_laws.proofs.DeclaredModes.{modes-are-declared}
 use Rattle.mc_order_laws.proofs.MarkedGoals.{Each, merged-one}
+use Rattle.mc_order_laws.proofs.Arranging.{and-first, and-second}
 
 is-dead : (i : ℕ) → N.is_dead i ≡ true → few i ≡ dead
 is-dead zero e = cc
@@ -59,14 +60,6 @@ takes-not : (i : ℕ) → N.takes_constants i ≡ false → AllowsConstants (few
 takes-not zero e h = h
 takes-not (suc zero) e h = cc
 takes-not (suc (suc i)) e h = cc
-
-and-first : (t u : Bool) → (t && u) ≡ true → t ≡ true
-and-first true u e = refl
-and-first false u e = cc
-
-and-second : (t u : Bool) → (t && u) ≡ true → u ≡ true
-and-second true u e = e
-and-second false u e = cc
 
 each-one : (i : ℕ) (js : List ℕ) → N.each_is i js ≡ true → Each system (type_of system copies) i js
 each-one i [] e = tt

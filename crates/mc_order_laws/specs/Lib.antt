@@ -1,2 +1,4 @@
+pub mod NormalScopes
 pub mod OrderLaws
+pub mod SomeTest
 pub mod code

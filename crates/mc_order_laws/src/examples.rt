@@ -1,7 +1,11 @@
 //! Computed orders of clauses' goals, and the rules that goals without an order break. Each is the contract of a
 //! function that does nothing, and each group has an equation that does not hold.
 ghost use Rattle.mc_order_laws.specs.code.ExamplesOfOrder.{NeededFirst, ModesChosen, ListsTakenApart, Conditions, Negations, ResultsCompared, StatesInTurn, StatesCompared};
+ghost use Rattle.mc_order_laws.specs.code.ExamplesOfDeterminisms.{NegationsTold, BranchesTold, AppendTold};
+ghost use Rattle.mc_order_laws.specs.code.ExamplesOfInOrder.{OnesInOrder};
 ghost use Rattle.mc_order_laws.specs.code.ExamplesOfNodes.{PremisesAreMet};
+ghost use Rattle.mc_order_laws.specs.code.ExamplesOfScopes.{ScopesAlone, ScopesApart};
+ghost use Rattle.mc_order_laws.specs.code.ExamplesOfTests.{ListsAreTold};
 ghost use Rattle.mc_order_laws.specs.code.ExamplesOfFaults.{NoGoalRuns, NegatedGoalsBind, BranchesDiffer, FinalInstsUnmet};
 
 /// Which goal runs first, and in which of its modes a call runs.
@@ -20,6 +24,13 @@ pub fn compound_orders()
     ensures negations { Negations }
 {}
 
+/// From clauses to their determinisms and to the goals that are pruned: order, changes, switch form, tables.
+pub fn determinisms()
+    ensures negations { NegationsTold }
+    ensures branches { BranchesTold }
+    ensures append { AppendTold }
+{}
+
 /// The rules that goals without an order break.
 pub fn faults()
     ensures no_goal_runs { NoGoalRuns }
@@ -31,4 +42,20 @@ pub fn faults()
 /// Functions that look for nodes and tell the truth of their graph, and a goal that is in order over them.
 pub fn premises()
     ensures { PremisesAreMet }
+{}
+
+/// A goal that is in order whichever test tells inclusion, and one that isn't.
+pub fn in_order()
+    ensures { OnesInOrder }
+{}
+
+/// Clauses whose quantifiers are named apart, and clauses where they are not though their scopes are written out.
+pub fn scopes()
+    ensures scopes_alone { ScopesAlone }
+    ensures scopes_apart { ScopesApart }
+{}
+
+/// Some test tells inclusion of the insts of lists.
+pub fn tests()
+    ensures { ListsAreTold }
 {}

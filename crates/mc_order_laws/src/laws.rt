@@ -2,6 +2,8 @@
 //! does nothing.
 ghost use Rattle.std.specs.Prelude.{ℕ};
 ghost use Rattle.mc_accepted.specs.Forms.{Form};
+ghost use Rattle.mc_order_laws.specs.NormalScopes.{NormalGoalsBelow, NormalGoalsScoped, NormalOrderIsOrdered, ScopedNamedApart};
+ghost use Rattle.mc_order_laws.specs.SomeTest.{NodesAreTold, SomeTestTells};
 ghost use Rattle.mc_order_laws.specs.OrderLaws.{ArrangedStands, InOrderIsOrdered, ModesAreDeclared, NamedByFaults, NothingLacks, OneOrder, OthersStay, StandingIsOrdered};
 
 /// A goal changes no variable but its own, and those that are numbered on.
@@ -44,4 +46,32 @@ pub fn nothing_lacks()
 /// The variables that a fault names: all that a test tells, rising, or the least of them.
 pub fn named_by_faults()
     ensures { NamedByFaults }
+{}
+
+/// Where a clause's own quantifiers name variables of their own, all are named apart once its scopes are written out.
+pub fn scopes_are_named_apart()
+    ensures { ScopedNamedApart }
+{}
+
+/// The scopes of a predicate's normal goal are written out, where its clauses' quantifiers are named apart.
+pub fn normal_goals_are_scoped()
+    ensures { NormalGoalsScoped }
+{}
+
+/// The number of a normal goal's variables is above all of them, and above the head variables.
+pub fn normal_goals_are_below()
+    ensures { NormalGoalsBelow }
+{}
+
+/// Where a predicate's normal goal is in order over nodes, that is the order of an ordered goal, whose end meets the
+/// final insts.
+pub fn normal_order_is_ordered()
+    ensures { NormalOrderIsOrdered }
+{}
+
+/// Of finitely many insts, under types that meet finitely many, some test tells inclusion; and such a test tells that of
+/// nodes.
+pub fn some_test_tells()
+    ensures insts { SomeTestTells }
+    ensures nodes { NodesAreTold }
 {}
