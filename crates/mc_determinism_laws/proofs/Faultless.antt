@@ -14,7 +14,7 @@ use Rattle.mc_accepted.specs.Accepted.{entered}
 use Rattle.mc_accepted.specs.Inferred.{system_of, body_determinism}
 use Rattle.mc_accepted.specs.DeterminismFaults.{allows, not_allowed, both_named, undeclared, shown_procedure, call_fault, misplaced_call, io_fault, misplaces_io}
 use Rattle.mc_determinism_laws.specs.FaultLaws.{FaultlessMeets}
-use Rattle.mc_determinism_laws.proofs.Monotone.{to_allows}
+use Rattle.mc_laws.proofs.Monotone.{to_allows}
 use Rattle.mc_determinism_laws.proofs.Placing.{misplaced_tells, misplaces_io_tells}
 
 both_none : (o u : Option Fault) → option_or o u ≡ None → (o ≡ None) × (u ≡ None)

@@ -48,7 +48,7 @@ module _ (S : System) (T : ℕ → TypeTerm) where
     equation_kept b (node (Apply op xs ys) changes d m) = refl
 
     mutual
-      openings_kept : (b : Insts) (n : Node) → openings (formed S T keep b n) ≡ openings n
+      pub openings_kept : (b : Insts) (n : Node) → openings (formed S T keep b n) ≡ openings n
       openings_kept b (node s changes d m) = openings_kept_in b (insts_after (node s changes d m) b) s
 
       openings_kept_in : (b c : Insts) (s : Scheduled) → openings_in (formed_in S T keep b c s) ≡ openings_in s

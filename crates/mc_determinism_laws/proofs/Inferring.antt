@@ -9,7 +9,7 @@ use Rattle.mc_source.specs.declared.det.Most.TheVariants.{Zero, One, Many}
 use Rattle.mc_accepted.specs.Inferred.{DeclaredSystem, LeastClosed}
 use Rattle.mc_accepted.specs.DeterminismFaults.{determinism_faults}
 use Rattle.mc_determinism_laws.specs.FaultLaws.{AllowsTells, FaultsAreOne, JoinIsLeast, LeastIsOne}
-use Rattle.mc_determinism_laws.proofs.Monotone.{to_allows, from_allows, allows_one_way}
+use Rattle.mc_laws.proofs.Monotone.{to_allows, from_allows, allows_one_way}
 
 pub allows_tells : AllowsTells
 allows_tells d i = (to_allows d i, from_allows d i)

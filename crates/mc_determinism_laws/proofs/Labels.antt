@@ -5,7 +5,7 @@ use Rattle.std.proofs.lemmas.Bool.{eqb-true, eq-eqb}
 use Rattle.mc_program.specs.Values.{Val, int, char, str, con, state, same_value}
 use Rattle.mc_model.specs.Scheduled.{Label, for_symbol, for_constant}
 use Rattle.mc_accepted.specs.Switched.{same_label, others}
-use Rattle.mc_determinism_laws.proofs.Equality.{value_same}
+use Rattle.mc_laws.proofs.Equality.{value_same}
 use Rattle.mc_determinism_laws.proofs.Quiet.{matches}
 
 pub label_same : (k l : Label) → same_label k l ≡ true → k ≡ l

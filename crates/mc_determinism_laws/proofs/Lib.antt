@@ -1,11 +1,9 @@
 mod Enough
-mod Equality
 pub mod Faultless
 pub mod Forms
 pub mod Grouping
 mod Inferring
 pub mod Labels
-mod Monotone
 pub mod Opened
 mod Places
 mod Placing

@@ -11,7 +11,7 @@ use Rattle.mc_source.specs.declared.det.Most.{Most}
 use Rattle.mc_source.specs.declared.det.Most.TheVariants.{Zero, One, Many}
 use Rattle.mc_accepted.specs.Inferred.{with_determinisms, calls_it, calls_in, one_calls, arm_calls}
 use Rattle.mc_determinism_laws.specs.TableLaws.{TableIsMonotone, TableDepends}
-use Rattle.mc_determinism_laws.proofs.Monotone.{allows_itself, conj_is_monotone, disj_is_monotone, ite_is_monotone, negated_is_monotone, pruned_is_monotone}
+use Rattle.mc_laws.proofs.Monotone.{allows_itself, conj_is_monotone, disj_is_monotone, ite_is_monotone, negated_is_monotone, pruned_is_monotone}
 
 either_monotone : (t u v w : Bool) → (IsTrue t → IsTrue v) → (IsTrue u → IsTrue w) → IsTrue (t || u) → IsTrue (v || w)
 either_monotone true u v w f g h = left v w (f refl)

@@ -3,7 +3,7 @@
 ghost use Rattle.mc_determinism_laws.specs.code.ExamplesOfInference.{LeastOnes};
 ghost use Rattle.mc_determinism_laws.specs.code.ExamplesOfInsts.{Unfounded, FreeInside, OtherParameters, ParametersFounded, ParametersInside, InstTexts, TidyModes, UnfoundedModes};
 ghost use Rattle.mc_determinism_laws.specs.code.ExamplesOfClauses.{ClausesSwitched};
-ghost use Rattle.mc_determinism_laws.specs.code.ExamplesOfSwitches.{ArmsMerged, FactsSwitched, ListsSwitched, WhatIsLookedThrough, SeveralVariables, LabelsDontOverlap};
+ghost use Rattle.mc_determinism_laws.specs.code.ExamplesOfSwitches.{ArmsMerged, NestedArmsMerged, FactsSwitched, ListsSwitched, WhatIsLookedThrough, SeveralVariables, LabelsDontOverlap};
 ghost use Rattle.mc_determinism_laws.specs.code.ExamplesOfDeterminisms.{ListsDetermined, FactsDetermined, HeadsDetermined, CallsDetermined, Marks};
 ghost use Rattle.mc_determinism_laws.specs.code.ExamplesOfFaults.{Contexts, NotAllowed, Undeclared, MisplacedCalls, MisplacedIo, MainIsAsked, FaultsInOrder};
 
@@ -15,6 +15,7 @@ pub fn switches()
     ensures several { SeveralVariables }
     ensures labels { LabelsDontOverlap }
     ensures kept { ArmsMerged }
+    ensures nested { NestedArmsMerged }
     ensures clauses { ClausesSwitched }
 {}
 

@@ -172,6 +172,24 @@ ArmsMerged =
     ArmsMerge (program []) integers (ground_are (0 ∷ [])) (kept_facts ((1, 1) ∷ []))
     × (ArmsMerge (program []) integers (ground_are (0 ∷ [])) (kept_facts []) → ⊥)
 
+-- `s(1, red, 3). s(1, red, 2).`, whose arm is a switch again, with one arm of both
+abbrev pub kept_pair : (y : ℕ) → Node
+kept_pair y =
+    changing
+    (Conj (nodes (test 0 1 ∷ take 1 red [] ∷ changing (Const 2 (int (pos y))) ((2, 1) ∷ []) ∷ [])))
+    ((2, 1) ∷ [])
+
+abbrev pub kept_pairs : List (ℕ × ℕ) → Node
+kept_pairs changes =
+    formed (program []) colours (λ before after ds. changes) (ground_are (0 ∷ 1 ∷ []))
+    (changing (Disj (nodes (kept_pair 3 ∷ kept_pair 2 ∷ []))) ((2, 1) ∷ []))
+
+-- the arms of an arm go by what the whole binds, so all of them may not change nothing either
+abbrev pub NestedArmsMerged : Type 0
+NestedArmsMerged =
+    ArmsMerge (program []) colours (ground_are (0 ∷ 1 ∷ [])) (kept_pairs ((2, 1) ∷ []))
+    × (ArmsMerge (program []) colours (ground_are (0 ∷ 1 ∷ [])) (kept_pairs []) → ⊥)
+
 -- what variable 2 is in each answer
 abbrev pub seconds : Items Bindings → List (Option Val)
 seconds End = []

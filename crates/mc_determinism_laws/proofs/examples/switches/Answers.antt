@@ -6,7 +6,8 @@ use Rattle.mc_model.specs.Stream.{is_bound}
 use Rattle.mc_accepted.specs.Inclusion.{Merged, LeastAbove}
 use Rattle.mc_accepted.specs.Ordered.{Insts, change_at}
 use Rattle.mc_determinism_laws.specs.code.Examples.{source, graph, ground_are}
-use Rattle.mc_determinism_laws.specs.code.ExamplesOfSwitches.{integers}
+use Rattle.mc_determinism_laws.specs.code.ExamplesOfSwitches.{integers, colours}
+use Rattle.mc_laws.proofs.Merging.{one_is_merged}
 use Rattle.mc_determinism_laws.proofs.examples.switches.Goals as goal
 
 least : (i : ℕ) (t : TypeTerm) → LeastAbove source graph (i ∷ i ∷ []) i t
@@ -50,8 +51,28 @@ ground_is_free e = cc
 
 pub returns-clause-kept : goal.returns-clause-kept
 returns-clause-kept c = (
-  (((((omega arith), tt), (none_is_one, tt), (λ x e. merges (after x) (integers x)), (λ x e. stays_free (before x) (after x) e)), ((tt, (tt, tt)), ((tt, (tt, tt)), tt)), tt)),
+  (((((omega arith), tt), (none_is_one, tt), (λ x e. merges (after x) (integers x)), (λ x i e g. g.0), (λ x e. stays_free (before x) (after x) e)), ((tt, (tt, tt)), ((tt, (tt, tt)), tt)), tt)),
   (λ m. ground_is_free (m.0.2 1 refl).0),
+)
+
+abbrev pair_before : Insts
+pair_before = ground_are (0 ∷ 1 ∷ [])
+
+abbrev pair_after : Insts
+pair_after x = change_at x ((2, 1) ∷ []) (pair_before x)
+
+pub returns-clause-nested : goal.returns-clause-nested
+returns-clause-nested c = (
+  (
+    ((omega arith, tt), (none_is_one, tt), (λ x e. one_is_merged source graph (pair_after x) 0 (colours x)), (λ x i e g. g.0), (λ x e. stays_free (pair_before x) (pair_after x) e)),
+    (
+      ((omega arith, tt), (none_is_one, tt), (λ x e. merges (pair_after x) (colours x)), (λ x i e g. g.0), (λ x e. stays_free (pair_before x) (pair_after x) e)),
+      ((tt, (tt, (tt, tt))), ((tt, (tt, (tt, tt))), tt)),
+      tt,
+    ),
+    tt,
+  ),
+  (λ m. ground_is_free (m.1.0.2 2 refl).0),
 )
 
 pub returns-clause-facts : goal.returns-clause-facts
