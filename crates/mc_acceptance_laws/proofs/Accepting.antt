@@ -1,15 +1,25 @@
--- A procedure without a fault of determinism, whose body is ordered, is accepted.
-use Rattle.std.proofs.Common.{◌≡◌, ℕ, zero, suc, length, refl, sym, ap, ◌∙◌}
-use Rattle.mc_model.specs.Lists.{from}
+-- A procedure without a fault of determinism, whose body is ordered, is accepted, and so is one
+-- whose body is the switch form of an ordered goal.
+use Rattle.std.proofs.Common.{◌≡◌, ◌⊎◌, inl, inr, ℕ, List, [], ◌∷◌, ◌++◌, length, Bool, true, false, if◌then◌else◌, nat_eq, refl, sym, ap, ◌∙◌}
+use Rattle.std.proofs.lemmas.Bool.{eqb-true}
+use Rattle.mc_model.specs.Flat.{Flat_goal, variables_of}
+use Rattle.mc_model.specs.Stream.{is_bound}
+use Rattle.mc_model.specs.Lists.{In}
 use Rattle.mc_model.specs.Good.{System}
 use Rattle.mc_model.specs.Scheduled.{Procedure}
 use Rattle.mc_accepted.specs.Accepted.{entered}
 use Rattle.mc_accepted.specs.Determined.{nothing_known}
-use Rattle.mc_accepted.specs.Fits.{goal_of}
+use Rattle.mc_accepted.specs.Fits.{goal_of, type_of}
+use Rattle.mc_accepted.specs.Ordered.{Insts, variables_of_node}
 use Rattle.mc_accepted.specs.Inferred.{system_of}
+use Rattle.mc_sound.specs.Soundness.{AcceptedAreGood}
+use Rattle.mc_order_laws.proofs.NormalScopes.{from_length}
 use Rattle.mc_order_laws.proofs.EndsMet.{in-order-is-ordered}
 use Rattle.mc_determinism_laws.proofs.Faultless.{faultless_meets}
-use Rattle.mc_acceptance_laws.specs.AcceptedLaws.{IsTold, FaultlessIsAccepted, InOrderIsAccepted}
+use Rattle.mc_acceptance_laws.specs.AcceptedLaws.{IsTold, BodyIsOrdered, FaultlessIsAccepted, FormIsAccepted, InOrderIsAccepted, ComputedAreGood}
+use Rattle.mc_acceptance_laws.specs.FormLaws.{BoundAreOutside}
+use Rattle.mc_acceptance_laws.proofs.FormedGoals.{forms_stay_ordered}
+use Rattle.mc_acceptance_laws.proofs.Retelling.{both_told}
 use Rattle.mc_acceptance_laws.proofs.Telling.{told_stays_ordered}
 
 pub faultless_is_accepted : FaultlessIsAccepted
@@ -28,9 +38,25 @@ faultless_is_accepted D ds k o closed lt e t h =
       io = m.io;
     }
 
-from_length : (n k : ℕ) → length (from n k) ≡ k
-from_length n zero = refl
-from_length n (suc k) = ap suc (from_length (suc n) k)
+-- what is bound at the call is in the head
+pub bound_in_head : (head first xs : List ℕ) → BoundAreOutside head (entered head first) xs
+bound_in_head [] is xs x q i = cc
+bound_in_head (y ∷ ys) [] xs x q i = cc
+bound_in_head (y ∷ ys) (j ∷ is) xs x q i = at (nat_eq x y) refl q (λ r. bound_in_head ys is xs x r i)
+  where
+    at : (t : Bool) → nat_eq x y ≡ t → is_bound (if t then j else entered ys is x) ≡ true → (is_bound (entered ys is x) ≡ true → In x ys) → (x ≡ y) ⊎ In x ys
+    at true e q again = inl (eqb-true x y e)
+    at false e q again = inr (again q)
+
+pub form_is_accepted : FormIsAccepted
+form_is_accepted D ds k n o closed lt insts e t h f =
+    let S : System = system_of D ds in
+    let p : Procedure = S.procs k in
+    let b : Insts = entered p.head p.first in
+    let g : Flat_goal = (goal_of S p).body in
+    let m = forms_stay_ordered S (type_of S p) p.head p.head b g n f.goal o f.kept insts h.0 f.same (bound_in_head p.head p.first (variables_of g ++ variables_of_node n)) f.merge in
+    faultless_is_accepted D ds k o closed lt e t
+    (told_stays_ordered S p p.head p.head b nothing_known g m.0 p.body o m.2 (both_told m.1 f.told) f.marks t.determinisms, h.1)
 
 as_long : (S : System) (p : Procedure) → IsTold S p → length p.last ≡ length p.head
 as_long S p t = t.last ∙ sym (ap length t.head ∙ from_length 0 (goal_of S p).arity)
@@ -39,9 +65,15 @@ pub in_order_is_accepted : InOrderIsAccepted
 in_order_is_accepted D ds k x closed lt e t q =
     let S : System = system_of D ds in
     let p : Procedure = S.procs k in
-    let r = in-order-is-ordered S p q.choice q.modes q.truthful q.declared q.next (goal_of S p).body x (as_long S p t) q.head_below q.goal_below q.scopes q.order in (
-      r.1.0,
-      r.1.1,
-      λ told marks. faultless_is_accepted D ds k r.0 closed lt e t
-          (told_stays_ordered S p p.head p.head (entered p.head p.first) nothing_known (goal_of S p).body r.1.0 p.body r.0 r.1.2 told marks t.determinisms, r.2),
+    let h = in-order-is-ordered S p q.choice q.modes q.truthful q.declared q.next (goal_of S p).body x (as_long S p t) q.head_below q.goal_below q.scopes q.order in (
+      h.1.0,
+      h.1.1,
+      (λ told marks. faultless_is_accepted D ds k h.0 closed lt e t
+          (told_stays_ordered S p p.head p.head (entered p.head p.first) nothing_known (goal_of S p).body h.1.0 p.body h.0 h.1.2 told marks t.determinisms, h.2)),
+      (λ insts form. form_is_accepted D ds k h.1.0 h.0 closed lt insts e t (h.1.2, h.2) form),
     )
+
+pub computed_are_good : AcceptedAreGood → ComputedAreGood
+computed_are_good good D ds E fits closed computed =
+    good (system_of D ds) E fits
+    (λ k lt. let c = computed k lt in form_is_accepted D ds k c.goal c.after closed lt fits.insts c.faultless c.told c.ordered c.form)

@@ -1,8 +1,8 @@
 -- Whether the point after an ordered goal is reachable is told by the goal.
-use Rattle.std.proofs.Common.{◌≡◌, inl, inr, ℕ, List, [], ◌∷◌, Bool, true, false, not, nat_eq, ◌||◌, ◌&&◌, Option, Some, None, refl, sym, ap, ap₂, ◌∙◌, subst, ⊎_elim}
+use Rattle.std.proofs.Common.{◌≡◌, inl, inr, ℕ, List, [], ◌∷◌, Bool, true, false, not, nat_eq, ◌||◌, ◌&&◌, Option, Some, None, refl, sym, ap, ap₂, ◌∙◌, subst}
 use Rattle.std.proofs.Math.Path.{fun_ext}
 use Rattle.std.specs.Cmp.Lexicographic.{pointwise, bytes_decides}
-use Rattle.std.proofs.lemmas.Bool.{eqb-true, eq-eqb, and_parts}
+use Rattle.std.proofs.lemmas.Bool.{eqb-true, and_parts}
 use Rattle.mc_program.specs.Programs.{TypeTerm, Source}
 use Rattle.mc_source.specs.Determinism.{is_zero}
 use Rattle.mc_source.specs.declared.det.Most.{Most}
@@ -12,10 +12,11 @@ use Rattle.mc_model.specs.Flat.{Flat_goal, Flat_goals}
 use Rattle.mc_model.specs.Scheduled.{Node, Scheduled, Nodes, no_nodes, Arms}
 use Rattle.mc_model.specs.Good.{System}
 use Rattle.mc_accepted.specs.Ordered as R
-use Rattle.mc_accepted.specs.Ordered.{Insts, change_at, reachable, unless_never, builtin_most, tested_by, KeepsChanges, Joined, Ordered, OrderedNode, OrderedAll, OrderedAny, OrderedArms, kept}
+use Rattle.mc_accepted.specs.Ordered.{Insts, reachable, unless_never, builtin_most, tested_by, Joined, Ordered, OrderedNode, OrderedAll, OrderedAny, OrderedArms, kept}
 use Rattle.mc_accepted.specs.Determined.{insts_after, lists_name, allows_name}
 use Rattle.mc_accepted.specs.MergedArms.{takes_constants, never_ends, never_ends_in, one_never_ends, each_never_ends, each_arm_never_ends}
 use Rattle.mc_program.specs.declared.builtin.Builtin.{Builtin}
+use Rattle.mc_sound.proofs.Takes.{allows_named}
 
 abbrev pub is_none : Option Insts → Bool
 is_none None = true
@@ -26,33 +27,6 @@ all_none [] = true
 all_none (o ∷ os) = is_none o && all_none os
 
 -- ---- what a deconstruction and a test of a constant ask
-or_left : (p q : Bool) → p ≡ true → (p || q) ≡ true
-or_left true q e = refl
-or_left false q e = cc
-
-or_right : (p q : Bool) → q ≡ true → (p || q) ≡ true
-or_right true q e = refl
-or_right false q e = e
-
-both_true : (p q : Bool) → p ≡ true → q ≡ true → (p && q) ≡ true
-both_true true q e f = f
-both_true false q e f = cc
-
-lists_named : (P : Source) (ls : List Listed) (s : ℕ) (Q : List ℕ → Type 0) → Lists P ls s Q → lists_name ls (P.symbols s).name ≡ true
-lists_named P [] s Q h = absurd h
-lists_named P (l ∷ ls) s Q h =
-    ⊎_elim
-    (λ a. or_left (pointwise nat_eq l.name (P.symbols s).name.bytes && nat_eq l.arity (P.symbols s).name.arity) (lists_name ls (P.symbols s).name)
-    (both_true (pointwise nat_eq l.name (P.symbols s).name.bytes) (nat_eq l.arity (P.symbols s).name.arity) ((bytes_decides l.name (P.symbols s).name.bytes).1 a.0) (eq-eqb l.arity (P.symbols s).name.arity a.1)))
-    (λ a. or_right (pointwise nat_eq l.name (P.symbols s).name.bytes && nat_eq l.arity (P.symbols s).name.arity) (lists_name ls (P.symbols s).name) (lists_named P ls s Q a)) h
-
-allows_named : (P : Source) (N : InstNode) (i s : ℕ) (Q : List ℕ → Type 0) → AllowsSymbol P N i s Q → allows_name N (P.symbols s).name ≡ true
-allows_named P free i s Q h = absurd h
-allows_named P ground i s Q h = refl
-allows_named P unique i s Q h = refl
-allows_named P dead i s Q h = refl
-allows_named P (bound ls) i s Q h = lists_named P ls s Q h
-
 name_lists : (P : Source) (ls : List Listed) (s : ℕ) → lists_name ls (P.symbols s).name ≡ true → Lists P ls s (λ js. Unit {0})
 name_lists P [] s e = cc
 name_lists P (l ∷ ls) s e = by_test (pointwise nat_eq l.name (P.symbols s).name.bytes && nat_eq l.arity (P.symbols s).name.arity) refl e (name_lists P ls s)

@@ -17,7 +17,8 @@ use Rattle.mc_determinism_laws.proofs.Labels.{label_same}
 use Rattle.mc_determinism_laws.proofs.Forms.{told}
 use Rattle.mc_determinism_laws.proofs.Grouping.{chosen_opens}
 use Rattle.mc_acceptance_laws.specs.FormLaws.{FormsKeepVariables}
-use Rattle.mc_acceptance_laws.proofs.Outside.{Same, same_self, same_onto, in-left, in-right, in-either}
+use Rattle.mc_acceptance_laws.proofs.Outside.{Same, same_self, same_onto}
+use Rattle.mc_laws.proofs.FlatGoals.{in_either, in_left, in_right}
 
 pub same_label_self : (l : Label) → same_label l l ≡ true
 same_label_self (for_symbol s) = eq-eqb s s refl
@@ -25,13 +26,13 @@ same_label_self (for_constant v) = same_of v v refl
 
 pub same_both : (xs ys us vs : List ℕ) → Same xs us → Same ys vs → Same (xs ++ ys) (us ++ vs)
 same_both xs ys us vs p q = (
-  (λ x i. ⊎_elim (λ j. in-left x us vs (p.0 x j)) (λ j. in-right x us vs (q.0 x j)) (in-either x xs ys i)),
-  (λ x i. ⊎_elim (λ j. in-left x xs ys (p.1 x j)) (λ j. in-right x xs ys (q.1 x j)) (in-either x us vs i)),
+  (λ x i. ⊎_elim (λ j. in_left x us vs (p.0 x j)) (λ j. in_right x us vs (q.0 x j)) (in_either x xs ys i)),
+  (λ x i. ⊎_elim (λ j. in_left x xs ys (p.1 x j)) (λ j. in_right x xs ys (q.1 x j)) (in_either x us vs i)),
 )
 
 -- ---- what is opened is a variable
 module _ (x : ℕ) where
-  told_part : (os us : List Opening) → is_told (label_in x (os ++ us)) ≡ true → (is_told (label_in x os) ≡ true) ⊎ (is_told (label_in x us) ≡ true)
+  pub told_part : (os us : List Opening) → is_told (label_in x (os ++ us)) ≡ true → (is_told (label_in x os) ≡ true) ⊎ (is_told (label_in x us) ≡ true)
   told_part [] us e = inr e
   told_part (o ∷ os) us e = at (nat_eq o.0 x) e (λ q. told_part os us q)
     where
@@ -39,7 +40,7 @@ module _ (x : ℕ) where
       at true e again = inl refl
       at false e again = again e
 
-  told_one : (y : ℕ) (k : Label) → is_told (label_in x ((y, k) ∷ [])) ≡ true → x ≡ y
+  pub told_one : (y : ℕ) (k : Label) → is_told (label_in x ((y, k) ∷ [])) ≡ true → x ≡ y
   told_one y k e = at (nat_eq y x) refl e
     where
       at : (t : Bool) → nat_eq y x ≡ t → is_told (if t then Some k else None) ≡ true → x ≡ y
@@ -47,12 +48,12 @@ module _ (x : ℕ) where
       at false q e = cc
 
   mutual
-    opened : (n : Node) → is_told (label_in x (openings n)) ≡ true → In x (variables_of_node n)
+    pub opened : (n : Node) → is_told (label_in x (openings n)) ≡ true → In x (variables_of_node n)
     opened (node s changes d m) e = opened_in s e
 
     opened_in : (s : Scheduled) → is_told (label_in x (openings_in s)) ≡ true → In x (variables_of_scheduled s)
     opened_in (Conj ns) e = opened_all ns e
-    opened_in (Exists vs n) e = in-right x vs (variables_of_node n) (opened n e)
+    opened_in (Exists vs n) e = in_right x vs (variables_of_node n) (opened n e)
     opened_in (Take y s ys) e = inl (told_one y (for_symbol s) e)
     opened_in (TestConst y v) e = at (is_constant v) e
       where
@@ -75,7 +76,7 @@ module _ (x : ℕ) where
     opened_all (node_then n ns) e = at (is_equation n) e (λ q. opened n q) (λ q. opened_all ns q)
       where
         at : (t : Bool) → is_told (label_in x (if t then openings n ++ openings_all ns else [])) ≡ true → (is_told (label_in x (openings n)) ≡ true → In x (variables_of_node n)) → (is_told (label_in x (openings_all ns)) ≡ true → In x (variables_of_nodes ns)) → In x (variables_of_node n ++ variables_of_nodes ns)
-        at true e here there = ⊎_elim (λ q. in-left x (variables_of_node n) (variables_of_nodes ns) (here q)) (λ q. in-right x (variables_of_node n) (variables_of_nodes ns) (there q)) (told_part (openings n) (openings_all ns) e)
+        at true e here there = ⊎_elim (λ q. in_left x (variables_of_node n) (variables_of_nodes ns) (here q)) (λ q. in_right x (variables_of_node n) (variables_of_nodes ns) (there q)) (told_part (openings n) (openings_all ns) e)
         at false e here there = cc
 
 abbrev of_all : List Disjunct → List ℕ
@@ -88,7 +89,7 @@ abbrev Among_labels : Label → List Label → Type 0
 Among_labels l [] = ⊥
 Among_labels l (k ∷ ks) = (l ≡ k) ⊎ Among_labels l ks
 
-told_those : (f : Disjunct → Bool) (ds : List Disjunct) → Told ds → Told (those f ds)
+pub told_those : (f : Disjunct → Bool) (ds : List Disjunct) → Told ds → Told (those f ds)
 told_those f [] h = tt
 told_those f (d ∷ ds) h = at (f d) (told_those f ds h.1)
   where
@@ -102,21 +103,21 @@ module _ (w : ℕ) where
   from_those f (d ∷ ds) i = at (f d) i (λ j. from_those f ds j)
     where
       at : (t : Bool) → In w (of_all (if t then d ∷ those f ds else those f ds)) → (In w (of_all (those f ds)) → In w (of_all ds)) → In w (variables_of_node d.goal ++ of_all ds)
-      at true i again = ⊎_elim (λ j. in-left w (variables_of_node d.goal) (of_all ds) j) (λ j. in-right w (variables_of_node d.goal) (of_all ds) (again j)) (in-either w (variables_of_node d.goal) (of_all (those f ds)) i)
-      at false i again = in-right w (variables_of_node d.goal) (of_all ds) (again i)
+      at true i again = ⊎_elim (λ j. in_left w (variables_of_node d.goal) (of_all ds) j) (λ j. in_right w (variables_of_node d.goal) (of_all ds) (again j)) (in_either w (variables_of_node d.goal) (of_all (those f ds)) i)
+      at false i again = in_right w (variables_of_node d.goal) (of_all ds) (again i)
 
   more_those : (f : Disjunct → Bool) (d : Disjunct) (ds : List Disjunct) → In w (of_all (those f ds)) → In w (of_all (those f (d ∷ ds)))
   more_those f d ds i = at (f d)
     where
       at : (t : Bool) → In w (of_all (if t then d ∷ those f ds else those f ds))
-      at true = in-right w (variables_of_node d.goal) (of_all (those f ds)) i
+      at true = in_right w (variables_of_node d.goal) (of_all (those f ds)) i
       at false = i
 
   this_one : (f : Disjunct → Bool) (d : Disjunct) (ds : List Disjunct) → f d ≡ true → In w (variables_of_node d.goal) → In w (of_all (those f (d ∷ ds)))
   this_one f d ds e i = at (f d) e
     where
       at : (t : Bool) → t ≡ true → In w (of_all (if t then d ∷ those f ds else those f ds))
-      at true e = in-left w (variables_of_node d.goal) (of_all (those f ds)) i
+      at true e = in_left w (variables_of_node d.goal) (of_all (those f ds)) i
       at false e = cc
 
   abbrev Labelled : ℕ → List Disjunct → List Label → Type 0
@@ -136,7 +137,7 @@ module _ (w : ℕ) where
   has_label x [] e i = absurd i
   has_label x (d ∷ ds) e i =
       (let p = and_parts (is_told (label_in x d.opens)) (list_all (λ (d : Disjunct). is_told (label_in x d.opens)) ds) e in
-      at (label_in x d.opens) refl p.0 (in-either w (variables_of_node d.goal) (of_all ds) i) (λ j. has_label x ds p.1 j))
+      at (label_in x d.opens) refl p.0 (in_either w (variables_of_node d.goal) (of_all ds) i) (λ j. has_label x ds p.1 j))
     where
       later : (k : Label) → Labelled x ds (labels_of x ds) → Labelled x (d ∷ ds) (k ∷ others k (labels_of x ds))
       later k r = (r.0, other r.0 k (labels_of x ds) r.1, more_those (opens_with x r.0) d ds r.2)
@@ -153,29 +154,29 @@ module _ (w : ℕ) where
     to_arms : (l : Label) (ls : List Label) → Among_labels l ls → In w (of_all (group l)) → In w (variables_of_arms (arms_on arm x ds ls))
     to_arms l [] a i = absurd a
     to_arms l (k ∷ ls) a i = ⊎_elim
-        (λ e. in-left w (variables_of_node (arm (group k))) (variables_of_arms (arms_on arm x ds ls)) ((alike (group k) (told_those (opens_with x k) ds t)).1 w (subst (λ j. In w (of_all (group j))) e i)))
-        (λ r. in-right w (variables_of_node (arm (group k))) (variables_of_arms (arms_on arm x ds ls)) (to_arms l ls r i)) a
+        (λ e. in_left w (variables_of_node (arm (group k))) (variables_of_arms (arms_on arm x ds ls)) ((alike (group k) (told_those (opens_with x k) ds t)).1 w (subst (λ j. In w (of_all (group j))) e i)))
+        (λ r. in_right w (variables_of_node (arm (group k))) (variables_of_arms (arms_on arm x ds ls)) (to_arms l ls r i)) a
 
     from_arms : (ls : List Label) → In w (variables_of_arms (arms_on arm x ds ls)) → In w (of_all ds)
     from_arms [] i = absurd i
     from_arms (k ∷ ls) i = ⊎_elim
         (λ j. from_those (opens_with x k) ds ((alike (group k) (told_those (opens_with x k) ds t)).0 w j))
-        (λ j. from_arms ls j) (in-either w (variables_of_node (arm (group k))) (variables_of_arms (arms_on arm x ds ls)) i)
+        (λ j. from_arms ls j) (in_either w (variables_of_node (arm (group k))) (variables_of_arms (arms_on arm x ds ls)) i)
 
 module _ (S : System) (T : ℕ → TypeTerm) where
-  chosen_told : (out : List ℕ) (b : Insts) (ds : List Disjunct) (x : ℕ) → chosen S T out b ds ≡ Some x → EachTold x ds
+  pub chosen_told : (out : List ℕ) (b : Insts) (ds : List Disjunct) (x : ℕ) → chosen S T out b ds ≡ Some x → EachTold x ds
   chosen_told out b ds x q = chosen_opens (λ op vs. fails) (λ h p vs. End) 0 (λ y. None) S T b out ds x q
 
   chosen_stands : (out : List ℕ) (b : Insts) (ds : List Disjunct) (x : ℕ) → chosen S T out b ds ≡ Some x → Told ds → In x (of_all ds)
   chosen_stands out b [] x q h = cc
   chosen_stands out b (d ∷ ds) x q h =
       let p = and_parts (is_told (label_in x d.opens)) (list_all (λ (d : Disjunct). is_told (label_in x d.opens)) ds) (chosen_told out b (d ∷ ds) x q) in
-      in-left x (variables_of_node d.goal) (of_all ds) (opened x d.goal (subst (λ os. is_told (label_in x os) ≡ true) h.0 p.0))
+      in_left x (variables_of_node d.goal) (of_all ds) (opened x d.goal (subst (λ os. is_told (label_in x os) ≡ true) h.0 p.0))
 
   module _ (kept : Kept) (b : Insts) where
     arm_alike : (again : List Disjunct → Scheduled) → ((us : List Disjunct) → Told us → Same (variables_of_scheduled (again us)) (of_all us)) → (us : List Disjunct) → Told us → Same (variables_of_node (arm_of kept again us)) (of_all us)
     arm_alike again r [] h = r [] h
-    arm_alike again r (d ∷ []) h = ((λ w i. in-left w (variables_of_node d.goal) [] i), (λ w i. ⊎_elim (λ j. j) (λ j. absurd j) (in-either w (variables_of_node d.goal) [] i)))
+    arm_alike again r (d ∷ []) h = ((λ w i. in_left w (variables_of_node d.goal) [] i), (λ w i. ⊎_elim (λ j. j) (λ j. absurd j) (in_either w (variables_of_node d.goal) [] i)))
     arm_alike again r (d ∷ c ∷ ds) h = r (d ∷ c ∷ ds) h
 
     grouped_alike : (k : ℕ) (out : List ℕ) (ds : List Disjunct) → Told ds → Same (variables_of_scheduled (grouped S T kept k b out ds)) (of_all ds)
@@ -192,7 +193,7 @@ module _ (S : System) (T : ℕ → TypeTerm) where
 
   module _ (kept : (before after : Insts) → Kept) where
     mutual
-      form_alike : (b : Insts) (n : Node) → Same (variables_of_node (formed S T kept b n)) (variables_of_node n)
+      pub form_alike : (b : Insts) (n : Node) → Same (variables_of_node (formed S T kept b n)) (variables_of_node n)
       form_alike b (node s changes d m) = form_alike_in b (insts_after (node s changes d m) b) s
 
       form_alike_in : (b c : Insts) (s : Scheduled) → Same (variables_of_scheduled (formed_in S T kept b c s)) (variables_of_scheduled s)
@@ -216,7 +217,7 @@ module _ (S : System) (T : ℕ → TypeTerm) where
       form_alike_in b c (Call p xs implied last) = same_self xs
       form_alike_in b c (Apply op xs ys) = same_self (xs ++ ys)
 
-      form_alike_all : (b : Insts) (ns : Nodes) → Same (variables_of_nodes (formed_all S T kept b ns)) (variables_of_nodes ns)
+      pub form_alike_all : (b : Insts) (ns : Nodes) → Same (variables_of_nodes (formed_all S T kept b ns)) (variables_of_nodes ns)
       form_alike_all b no_nodes = same_self []
       form_alike_all b (node_then n ns) =
           same_both (variables_of_node (formed S T kept b n)) (variables_of_nodes (formed_all S T kept (insts_after n b) ns)) (variables_of_node n) (variables_of_nodes ns) (form_alike b n) (form_alike_all (insts_after n b) ns)

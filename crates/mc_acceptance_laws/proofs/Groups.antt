@@ -8,10 +8,10 @@ use Rattle.mc_accepted.specs.Inclusion.{AllFree, NoneIs, OneIsDead, NoMoreThere,
 use Rattle.mc_acceptance_laws.specs.GroupLaws.{in_groups, EachMerged, GroupsMergeAsAll, MergingKeepsSets}
 
 -- what a merged inst is
-abbrev Kinds : Graph → List ℕ → InstNode → Type 0 → Type 0
+abbrev pub Kinds : Graph → List ℕ → InstNode → Type 0 → Type 0
 Kinds G is N Q = ((N ≡ free) × AllFree G is) ⊎ ((N ≡ dead) × NoneIs free G is × OneIsDead G is) ⊎ ((N ≢ free) × (N ≢ dead) × NoneIs free G is × NoneIs dead G is × Q)
 
-kinds : (G : Graph) (is : List ℕ) (N : InstNode) (Q : Type 0) → MergedNodes G is N Q → Kinds G is N Q
+pub kinds : (G : Graph) (is : List ℕ) (N : InstNode) (Q : Type 0) → MergedNodes G is N Q → Kinds G is N Q
 kinds G is free Q h = inl (refl, h)
 kinds G is dead Q h = inr (inl (refl, h.0, h.1))
 kinds G is ground Q h = inr (inr ((λ e. cc), (λ e. cc), h.0, h.1, h.2))

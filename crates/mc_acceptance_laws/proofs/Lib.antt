@@ -1,7 +1,13 @@
 pub mod Accepting
 pub mod Ends
 pub mod FormVariables
+pub mod FormedAppend
+pub mod FormedFacts
+pub mod FormedGoals
 pub mod Groups
+pub mod Moving
 pub mod Outside
+pub mod Retelling
+pub mod Staying
 pub mod Switching
 pub mod Telling

@@ -5,21 +5,11 @@ use Rattle.mc_model.specs.Outcomes.{inputs_of}
 use Rattle.mc_model.specs.Lists.{In, Among, is_in}
 use Rattle.mc_model.specs.Stream.{is_bound}
 use Rattle.mc_model.specs.Good.{System}
-use Rattle.mc_accepted.specs.Ordered.{Insts, Mode, plain_modes, modes_of, Freshened, FreshenedHere, at_inputs, at_outputs, binds_one, UsableAt, Usable}
+use Rattle.mc_accepted.specs.Ordered.{Insts, Mode, modes_of, Freshened, FreshenedHere, at_inputs, at_outputs, binds_one, UsableAt, Usable}
 use Rattle.mc_program.specs.declared.builtin.Builtin.{Builtin}
-use Rattle.mc_program.specs.declared.builtin.Builtin.TheVariants as B
-
-pub in-left : (x : ℕ) (xs ys : List ℕ) → In x xs → In x (xs ++ ys)
-in-left x [] ys i = absurd i
-in-left x (z ∷ xs) ys i = ⊎_elim (λ e. inl e) (λ j. inr (in-left x xs ys j)) i
-
-pub in-right : (x : ℕ) (xs ys : List ℕ) → In x ys → In x (xs ++ ys)
-in-right x [] ys i = i
-in-right x (z ∷ xs) ys i = inr (in-right x xs ys i)
-
-pub in-either : (x : ℕ) (xs ys : List ℕ) → In x (xs ++ ys) → In x xs ⊎ In x ys
-in-either x [] ys i = inr i
-in-either x (z ∷ xs) ys i = ⊎_elim (λ e. inl (inl e)) (λ j. ⊎_elim (λ k. inl (inr k)) (λ k. inr k) (in-either x xs ys j)) i
+use Rattle.mc_laws.proofs.BuiltinModes.{modes_length}
+use Rattle.mc_laws.proofs.FlatGoals.{in_either, in_left, in_right}
+use Rattle.mc_sound.proofs.Combine.{among_both}
 
 abbrev pub Same : List ℕ → List ℕ → Type 0
 Same xs ys = Among xs ys × Among ys xs
@@ -30,14 +20,11 @@ same_self xs = ((λ x i. i), (λ x i. i))
 pub same_onto : (xs ys zs : List ℕ) → Same xs ys → Same ys zs → Same xs zs
 same_onto xs ys zs p q = ((λ x i. q.0 x (p.0 x i)), (λ x i. p.1 x (q.1 x i)))
 
-among_append : (xs ys zs : List ℕ) → Among xs ys → Among (xs ++ zs) (ys ++ zs)
-among_append xs ys zs p x i = ⊎_elim (λ j. in-left x ys zs (p x j)) (λ j. in-right x ys zs j) (in-either x xs zs i)
-
 pub same_append : (xs ys zs : List ℕ) → Same xs ys → Same (xs ++ zs) (ys ++ zs)
-same_append xs ys zs p = (among_append xs ys zs p.0, among_append ys xs zs p.1)
+same_append xs ys zs p = (among_both xs ys zs p.0, among_both ys xs zs p.1)
 
 among_behind : (zs xs ys : List ℕ) → Among xs ys → Among (zs ++ xs) (zs ++ ys)
-among_behind zs xs ys p x i = ⊎_elim (λ j. in-left x zs ys j) (λ j. in-right x zs ys (p x j)) (in-either x zs xs i)
+among_behind zs xs ys p x i = ⊎_elim (λ j. in_left x zs ys j) (λ j. in_right x zs ys (p x j)) (in_either x zs xs i)
 
 -- ---- whether a goal binds one of them
 abbrev is_new : Insts → Insts → ℕ → Bool
@@ -111,7 +98,7 @@ module _ (w : ℕ) where
       at true (t ∷ us) h again (inr (inr j)) = ⊎_elim (λ a. inl (inr a)) (λ a. inr (inr a)) (again us h.1 j)
 
   -- the inputs and outputs are the arguments
-  place_stands : (bs : List Bool) (zs : List ℕ) → length bs ≡ length zs → In w zs → In w (at_inputs bs zs) ⊎ In w (at_outputs bs zs)
+  pub place_stands : (bs : List Bool) (zs : List ℕ) → length bs ≡ length zs → In w zs → In w (at_inputs bs zs) ⊎ In w (at_outputs bs zs)
   place_stands bs [] e i = absurd i
   place_stands [] (z ∷ zs) e i = cc
   place_stands (b ∷ bs) (z ∷ zs) e i = at b i (λ j. place_stands bs zs (let q : suc (length bs) ≡ suc (length zs) = e in cc) j)
@@ -140,43 +127,8 @@ module _ (w : ℕ) where
       at true i again = inr (again i)
       at false i again = ⊎_elim (λ e. inl e) (λ j. inr (again j)) i
 
-plain_length : (bs : List Bool) → length (plain_modes bs) ≡ length bs
-plain_length [] = refl
-plain_length (b ∷ bs) = ap suc (plain_length bs)
-
-modes_length : (op : Builtin) → length (modes_of op) ≡ length (inputs_of op)
-modes_length B.IntPlus = refl
-modes_length B.IntMinus = refl
-modes_length B.IntTimes = refl
-modes_length B.IntQuotient = refl
-modes_length B.IntDiv = refl
-modes_length B.IntMod = refl
-modes_length B.IntRem = refl
-modes_length B.IntNegate = refl
-modes_length B.IntLess = refl
-modes_length B.IntGreater = refl
-modes_length B.IntAtMost = refl
-modes_length B.IntAtLeast = refl
-modes_length B.StringJoin = refl
-modes_length B.StringLength = refl
-modes_length B.StringCodePoints = refl
-modes_length B.IntToString = refl
-modes_length B.CharToString = refl
-modes_length B.ToCharList = refl
-modes_length B.StringToInt = refl
-modes_length B.CharToInt = refl
-modes_length B.CharFromInt = refl
-modes_length B.CharIsDigit = refl
-modes_length B.WriteString = refl
-modes_length B.WriteChar = refl
-modes_length B.WriteInt = refl
-modes_length B.Write = refl
-modes_length B.Nl = refl
-modes_length B.ReadLine = refl
-modes_length B.Error = refl
-
 module _ (S : System) (T : ℕ → TypeTerm) where
-  usable_length : (all : List ℕ) (ms : List Mode) (xs : List ℕ) (b : Insts) → UsableAt S T all ms xs b → length ms ≡ length xs
+  pub usable_length : (all : List ℕ) (ms : List Mode) (xs : List ℕ) (b : Insts) → UsableAt S T all ms xs b → length ms ≡ length xs
   usable_length all [] [] b u = refl
   usable_length all [] (x ∷ xs) b u = absurd u
   usable_length all (m ∷ ms) [] b u = absurd u
@@ -190,13 +142,13 @@ module _ (S : System) (T : ℕ → TypeTerm) where
       args = at_inputs (inputs_of op) zs ++ at_outputs (inputs_of op) zs
 
       placed : (w : ℕ) → In w zs → In w args
-      placed w i = ⊎_elim (λ j. in-left w (at_inputs (inputs_of op) zs) (at_outputs (inputs_of op) zs) j) (λ j. in-right w (at_inputs (inputs_of op) zs) (at_outputs (inputs_of op) zs) j)
-          (place_stands w (inputs_of op) zs (sym (modes_length op) ∙ usable_length zs (modes_of op) zs b u) i)
+      placed w i = ⊎_elim (λ j. in_left w (at_inputs (inputs_of op) zs) (at_outputs (inputs_of op) zs) j) (λ j. in_right w (at_inputs (inputs_of op) zs) (at_outputs (inputs_of op) zs) j)
+          (place_stands w (inputs_of op) zs (modes_length op ∙ usable_length zs (modes_of op) zs b u) i)
 
       to : Among (xs ++ zs) (args ++ pairs ts)
-      to w i = ⊎_elim (λ j. ⊎_elim (λ a. in-left w args (pairs ts) (placed w a)) (λ a. in-right w args (pairs ts) a) (argument_stands w k is xs zs ts f j)) (λ j. in-left w args (pairs ts) (placed w j)) (in-either w xs zs i)
+      to w i = ⊎_elim (λ j. ⊎_elim (λ a. in_left w args (pairs ts) (placed w a)) (λ a. in_right w args (pairs ts) a) (argument_stands w k is xs zs ts f j)) (λ j. in_left w args (pairs ts) (placed w j)) (in_either w xs zs i)
 
       from : Among (args ++ pairs ts) (xs ++ zs)
       from w i = ⊎_elim
-          (λ j. in-right w xs zs (⊎_elim (λ a. input_stands w (inputs_of op) zs a) (λ a. output_stands w (inputs_of op) zs a) (in-either w (at_inputs (inputs_of op) zs) (at_outputs (inputs_of op) zs) j)))
-          (λ j. ⊎_elim (λ a. in-left w xs zs a) (λ a. in-right w xs zs a) (tested_stands w k is xs zs ts f j)) (in-either w args (pairs ts) i)
+          (λ j. in_right w xs zs (⊎_elim (λ a. input_stands w (inputs_of op) zs a) (λ a. output_stands w (inputs_of op) zs a) (in_either w (at_inputs (inputs_of op) zs) (at_outputs (inputs_of op) zs) j)))
+          (λ j. ⊎_elim (λ a. in_left w xs zs a) (λ a. in_right w xs zs a) (tested_stands w k is xs zs ts f j)) (in_either w args (pairs ts) i)

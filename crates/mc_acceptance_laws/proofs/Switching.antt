@@ -1,65 +1,41 @@
--- A disjunction that is ordered is ordered in its switch form.
-use Rattle.std.proofs.Common.{◌≡◌, ◌≢◌, ◌⊎◌, inl, inr, ℕ, zero, suc, List, [], ◌∷◌, ◌++◌, map, Option, Some, None, Bool, true, false, if◌then◌else◌, not, ◌&&◌, refl, sym, ap, ap₂, ◌∙◌, subst, ⊎_elim}
+-- A disjunction of ordered goals is ordered in its switch form.
+use Rattle.std.proofs.Common.{◌≡◌, ◌≢◌, ◌⊎◌, inl, inr, ℕ, zero, suc, List, [], ◌∷◌, ◌++◌, Option, Some, None, Bool, true, false, if◌then◌else◌, not, ◌&&◌, ◌||◌, refl, sym, ap, ap₂, ◌∙◌, subst, ⊎_elim}
 use Rattle.std.specs.List.{list_all}
 use Rattle.std.specs.Option.{option_or}
 use Rattle.std.proofs.lemmas.Bool.{and_parts}
 use Rattle.std.proofs.lemmas.List.{append-nil, append_assoc}
 use Rattle.mc_program.specs.Programs.{TypeTerm, Source}
 use Rattle.mc_source.specs.Determinism.{inferred, det}
+use Rattle.mc_model.specs.Insts.{free}
 use Rattle.mc_model.specs.Flat as F
 use Rattle.mc_model.specs.Flat.{Flat_goal, Flat_goals, no_flat, flat_then, free_in, free_in_all}
 use Rattle.mc_model.specs.Lists.{In, is_in}
 use Rattle.mc_model.specs.Stream.{is_bound}
 use Rattle.mc_model.specs.Scheduled.{Label, Node, node, Scheduled, Conj, Disj, Switch, Ite, Not, Exists, Assign, Test, Build, Take, Const, TestConst, Call, Apply, Nodes, no_nodes, node_then, Arms, no_arms, arm_then}
 use Rattle.mc_model.specs.Good.{System}
-use Rattle.mc_accepted.specs.Proper.{ProperGraph}
-use Rattle.mc_accepted.specs.Inclusion.{Merged}
+use Rattle.mc_accepted.specs.Fits.{FitsInsts}
+use Rattle.mc_accepted.specs.Inclusion.{AllFree, NoneIs, Merged}
 use Rattle.mc_accepted.specs.Least.{least}
 use Rattle.mc_accepted.specs.Ordered as R
-use Rattle.mc_accepted.specs.Ordered.{Insts, Parts, arm_goal, reachable, is_pruned, Joined, Ordered, OrderedNode, OrderedAny, OrderedArms, kept, Opens, OpensScheduled, EachOpens, EachArmOpens, IsLabel, AbsentFrom}
+use Rattle.mc_accepted.specs.Ordered.{Insts, change_at, Parts, arm_goal, reachable, is_pruned, KeepsChanges, Joined, Ordered, OrderedNode, OrderedAny, OrderedArms, kept, Opens, OpensScheduled, EachOpens, EachArmOpens, IsLabel, AbsentFrom}
 use Rattle.mc_accepted.specs.Determined.{insts_after, allowed_in}
+use Rattle.mc_accepted.specs.MergedArms.{EachGives, never_ends, never_ends_in, each_never_ends, each_arm_never_ends, with_end, ends, arm_ends, ChangesMerge, ArmMerges, ArmsMerge, ArmsMergeIn, ArmsMergeInEach, EachArmMerges, MergeInside}
 use Rattle.mc_accepted.specs.Switched.{Disjunct, openings, goals_of, label_in, same_label, is_label, opens_with, is_told, others, and_label, labels_of, those, Kept, arm_of, arms_on, on_chosen, is_opened, covers, opened_variables, chosen, grouped}
 use Rattle.mc_laws.proofs.Merging.{one_is_merged}
 use Rattle.mc_determinism_laws.specs.SwitchLaws.{Told}
 use Rattle.mc_determinism_laws.proofs.Labels.{label_same}
 use Rattle.mc_determinism_laws.proofs.Opened.{openings_open}
 use Rattle.mc_determinism_laws.proofs.Grouping.{least_passes}
+use Rattle.mc_order_laws.proofs.Arranging.{is-unset, or-second}
 use Rattle.mc_acceptance_laws.specs.Told as W
 use Rattle.mc_acceptance_laws.specs.Told.{Retold, RetoldIn, RetoldAll, RetoldArms, retold}
 use Rattle.mc_acceptance_laws.specs.GroupLaws.{in_groups, EachMerged}
-use Rattle.mc_acceptance_laws.specs.SwitchStands.{end_of, ends_of, KeptJoins, ArmJoins, ArmsJoin, ChosenJoins, GroupsJoin, OpenedAreFree, SwitchesStand}
-use Rattle.mc_acceptance_laws.proofs.Ends.{ends_node, after_kept}
 use Rattle.mc_acceptance_laws.proofs.Groups.{groups_merge_as_all, merging_keeps_sets}
-use Rattle.mc_acceptance_laws.proofs.Outside.{Same, same_self, same_onto, in-left, in-right, in-either}
-use Rattle.mc_acceptance_laws.proofs.FormVariables.{same_label_self, same_both}
-
-mutual
-  self : (n : Node) → Retold n n
-  self (node s changes d m) = retold (self_in s)
-
-  self_in : (s : Scheduled) → RetoldIn s s
-  self_in (Conj ns) = W.conj (self_all ns)
-  self_in (Disj ns) = W.disj (self_all ns)
-  self_in (Switch x arms) = W.switch (self_arms arms)
-  self_in (Ite vs c t e) = W.ite (self c) (self t) (self e)
-  self_in (Not n) = W.neg (self n)
-  self_in (Exists vs n) = W.some (self n)
-  self_in (Assign x y) = W.assign
-  self_in (Test x y) = W.test
-  self_in (Build x s ys) = W.build
-  self_in (Take x s ys) = W.take
-  self_in (Const x v) = W.put
-  self_in (TestConst x v) = W.test_constant
-  self_in (Call p xs implied last) = W.call
-  self_in (Apply op xs ys) = W.apply
-
-  self_all : (ns : Nodes) → RetoldAll ns ns
-  self_all no_nodes = W.done
-  self_all (node_then n ns) = W.next (self n) (self_all ns)
-
-  self_arms : (arms : Arms) → RetoldArms arms arms
-  self_arms no_arms = W.no_arm
-  self_arms (arm_then l n arms) = W.arm (self n) (self_arms arms)
+use Rattle.mc_acceptance_laws.proofs.Outside.{Same, same_self, same_onto}
+use Rattle.mc_acceptance_laws.proofs.FormVariables.{same_label_self, same_both, told_those, chosen_told}
+use Rattle.mc_acceptance_laws.proofs.Telling.{told_opens}
+use Rattle.mc_acceptance_laws.proofs.Staying.{insts_at, free_merged, merged_set}
+use Rattle.mc_laws.proofs.FlatGoals.{in_either, in_left, in_right}
 
 -- ---- labels
 abbrev NotAmong : Label → List Label → Type 0
@@ -200,9 +176,6 @@ labelled_group x l (d ∷ ds) = at (opens_with x l d) refl (labelled_group x l d
     at false q r = r
 
 -- ---- ends
-abbrev insts_at : ℕ → List Insts → List ℕ
-insts_at y cs = map (λ (c : Insts). c y) cs
-
 abbrev no_end : List Insts → Bool
 no_end [] = true
 no_end (c ∷ cs) = false
@@ -212,42 +185,170 @@ same_cons z xs ys h = ((λ w i. ⊎_elim (λ e. inl e) (λ j. inr (h.0 w j)) i),
 
 same_middle : (z : ℕ) (xs us vs : List ℕ) → Same xs (us ++ vs) → Same (z ∷ xs) (us ++ (z ∷ vs))
 same_middle z xs us vs h = (
-  (λ w i. ⊎_elim (λ e. in-right w us (z ∷ vs) (inl e)) (λ j. ⊎_elim (λ a. in-left w us (z ∷ vs) a) (λ a. in-right w us (z ∷ vs) (inr a)) (in-either w us vs (h.0 w j))) i),
-  (λ w i. ⊎_elim (λ a. inr (h.1 w (in-left w us vs a))) (λ a. ⊎_elim (λ e. inl e) (λ j. inr (h.1 w (in-right w us vs j))) a) (in-either w us (z ∷ vs) i)),
+  (λ w i. ⊎_elim (λ e. in_right w us (z ∷ vs) (inl e)) (λ j. ⊎_elim (λ a. in_left w us (z ∷ vs) a) (λ a. in_right w us (z ∷ vs) (inr a)) (in_either w us vs (h.0 w j))) i),
+  (λ w i. ⊎_elim (λ a. inr (h.1 w (in_left w us vs a))) (λ a. ⊎_elim (λ e. inl e) (λ j. inr (h.1 w (in_right w us vs j))) a) (in_either w us (z ∷ vs) i)),
 )
 
-module _ (S : System) (T : ℕ → TypeTerm) (proper : ProperGraph S.insts) (O Q : List ℕ) (b : Insts) (keep : Kept) where
+module _ (S : System) (T : ℕ → TypeTerm) (b : Insts) where
+  -- the insts after a goal, by what it keeps
+  abbrev pub end_of : Node → Option Insts
+  end_of n = if never_ends S T b n then None else Some (insts_after n b)
+
+  abbrev pub ends_of : List Disjunct → List (Option Insts)
+  ends_of [] = []
+  ends_of (d ∷ ds) = end_of d.goal ∷ ends_of ds
+
+  with_reachable : (n : Node) (cs : List Insts) (os : List (Option Insts)) → cs ≡ reachable os → with_end S T b n cs ≡ reachable (end_of n ∷ os)
+  with_reachable n cs os e = at (never_ends S T b n)
+    where
+      at : (t : Bool) → (if t then cs else insts_after n b ∷ cs) ≡ reachable ((if t then None else Some (insts_after n b)) ∷ os)
+      at true = e
+      at false = ap (λ cs. insts_after n b ∷ cs) e
+
+  ends_reachable : (ds : List Disjunct) → ends S T b (goals_of ds) ≡ reachable (ends_of ds)
+  ends_reachable [] = refl
+  ends_reachable (d ∷ ds) = with_reachable d.goal (ends S T b (goals_of ds)) (ends_of ds) (ends_reachable ds)
+
+  one_more : (n : Node) (t : Bool) (cs : List Insts) → t ≡ no_end cs → (never_ends S T b n && t) ≡ no_end (with_end S T b n cs)
+  one_more n t cs e = at (never_ends S T b n)
+    where
+      at : (u : Bool) → (u && t) ≡ no_end (if u then cs else insts_after n b ∷ cs)
+      at true = e
+      at false = refl
+
+  each_never : (ns : Nodes) → each_never_ends S T b ns ≡ no_end (ends S T b ns)
+  each_never no_nodes = refl
+  each_never (node_then n ns) = one_more n (each_never_ends S T b ns) (ends S T b ns) (each_never ns)
+
+  each_arm_never : (arms : Arms) → each_arm_never_ends S T b arms ≡ no_end (arm_ends S T b arms)
+  each_arm_never no_arms = refl
+  each_arm_never (arm_then l n arms) = one_more n (each_arm_never_ends S T b arms) (arm_ends S T b arms) (each_arm_never arms)
+
+-- ---- what is asked of the arms is asked of each disjunct
+module _ (S : System) (T : ℕ → TypeTerm) (b c : Insts) (keep : Kept) where
+  abbrev EachMerges : List Disjunct → Type 0
+  EachMerges ds = ArmsMergeInEach S T b (goals_of ds)
+
+  inside_merges : (x : ℕ) (l : Label) (n : Node) → label_in x (openings n) ≡ Some l → MergeInside S T b c n → ArmsMerge S T b n
+  inside_merges x l (node (Conj ns) changes d m) e h = h
+  inside_merges x l (node (Disj ns) changes d m) e h = h
+  inside_merges x l (node (Switch y arms) changes d m) e h = cc
+  inside_merges x l (node (Ite vs n t u) changes d m) e h = h
+  inside_merges x l (node (Not n) changes d m) e h = h
+  inside_merges x l (node (Exists vs n) changes d m) e h = h
+  inside_merges x l (node (Assign y z) changes d m) e h = h
+  inside_merges x l (node (Test y z) changes d m) e h = h
+  inside_merges x l (node (Build y s ys) changes d m) e h = h
+  inside_merges x l (node (Take y s ys) changes d m) e h = h
+  inside_merges x l (node (Const y v) changes d m) e h = h
+  inside_merges x l (node (TestConst y v) changes d m) e h = h
+  inside_merges x l (node (Call p xs implied last) changes d m) e h = h
+  inside_merges x l (node (Apply op xs ys) changes d m) e h = h
+
+  module _ (x : ℕ) where
+    abbrev GroupsMerge : List Label → List Disjunct → Type 0
+    GroupsMerge [] ds = Unit {0}
+    GroupsMerge (l ∷ ls) ds = EachMerges (those (opens_with x l) ds) × GroupsMerge ls ds
+
+    group_tail : (t : Bool) (d : Disjunct) (us : List Disjunct) → EachMerges (if t then d ∷ us else us) → EachMerges us
+    group_tail true d us h = h.1
+    group_tail false d us h = h
+
+    group_head : (t : Bool) (d : Disjunct) (us : List Disjunct) → t ≡ true → EachMerges (if t then d ∷ us else us) → ArmsMerge S T b d.goal
+    group_head true d us e h = h.0
+    group_head false d us e h = cc
+
+    groups_tail : (ls : List Label) (d : Disjunct) (ds : List Disjunct) → GroupsMerge ls (d ∷ ds) → GroupsMerge ls ds
+    groups_tail [] d ds h = tt
+    groups_tail (l ∷ ls) d ds h = (group_tail (opens_with x l d) d (those (opens_with x l) ds) h.0, groups_tail ls d ds h.1)
+
+    groups_head : (ls : List Label) (d : Disjunct) (ds : List Disjunct) → HasOne x ls d → GroupsMerge ls (d ∷ ds) → ArmsMerge S T b d.goal
+    groups_head [] d ds o h = absurd o
+    groups_head (l ∷ ls) d ds o h = ⊎_elim (λ e. group_head (opens_with x l d) d (those (opens_with x l) ds) e h.0) (λ r. groups_head ls d ds r h.1) o
+
+    from_groups : (ls : List Label) (ds : List Disjunct) → EachHasOne x ls ds → GroupsMerge ls ds → EachMerges ds
+    from_groups ls [] o h = tt
+    from_groups ls (d ∷ ds) o h = (groups_head ls d ds o.0 h, from_groups ls ds o.1 (groups_tail ls d ds h))
+
+    module _ (again : List Disjunct → Scheduled) (rec : (us : List Disjunct) → Told us → ArmsMergeIn S T b c (again us) → EachMerges us) where
+      arm_merges : (l : Label) (us : List Disjunct) → Told us → AllLabelled x l us → MergeInside S T b c (arm_of keep again us) → EachMerges us
+      arm_merges l [] t a h = tt
+      arm_merges l (d ∷ []) t a h = (inside_merges x l d.goal (subst (λ os. label_in x os ≡ Some l) t.0 a.0) h, tt)
+      arm_merges l (d ∷ e ∷ us) t a h = rec (d ∷ e ∷ us) t h
+
+      arms_merge : (ls : List Label) (ds : List Disjunct) → Told ds → EachArmMerges S T b c (arms_on (arm_of keep again) x ds ls) → GroupsMerge ls ds
+      arms_merge [] ds t h = tt
+      arms_merge (l ∷ ls) ds t h = (arm_merges l (those (opens_with x l) ds) (told_those (opens_with x l) ds t) (labelled_group x l ds) h.1, arms_merge ls ds t h.2)
+
+  pub each_merges : (k : ℕ) (out : List ℕ) (ds : List Disjunct) → Told ds → ArmsMergeIn S T b c (grouped S T keep k b out ds) → EachMerges ds
+  each_merges zero out ds t h = h
+  each_merges (suc k) out ds t h = at (chosen S T out b ds) refl (λ out. each_merges k out) h
+    where
+      at : (o : Option ℕ) → chosen S T out b ds ≡ o → ((out : List ℕ) (us : List Disjunct) → Told us → ArmsMergeIn S T b c (grouped S T keep k b out us) → EachMerges us) → ArmsMergeIn S T b c (on_chosen (λ out. arm_of keep (grouped S T keep k b out)) out ds o) → EachMerges ds
+      at None q again h = h
+      at (Some x) q again h = from_groups x (labels_of x ds) ds (each_has_one x ds (chosen_told S T out b ds x q)) (arms_merge x (grouped S T keep k b (x ∷ out)) (again (x ∷ out)) (labels_of x ds) ds t h)
+
+-- what is bound, and occurs nowhere outside, is kept or free after a disjunct
+abbrev pub FineEnd : (outside : List ℕ) → (before : Insts) → Option Insts → Type 0
+FineEnd O b None = Unit {0}
+FineEnd O b (Some e) = (y : ℕ) → (In y O → ⊥) → is_bound (b y) ≡ true → (e y ≡ b y) ⊎ (e y ≡ 0)
+
+-- what occurs outside and is free after the disjunction is so after a disjunct
+abbrev pub FreeEnd : System → (outside : List ℕ) → (after : Insts) → Option Insts → Type 0
+FreeEnd S O c None = Unit {0}
+FreeEnd S O c (Some e) = (y : ℕ) → In y O → is_bound (c y) ≡ false → S.insts (e y) ≡ free
+
+-- ---- a disjunction, with the insts b before it and c after it
+module _ (S : System) (T : ℕ → TypeTerm) (fits : FitsInsts S.insts) (O Q : List ℕ) (b c : Insts) (keep : Kept) (unbinds : (y : ℕ) → (In y O → ⊥) → is_bound (b y) ≡ false → is_bound (c y) ≡ false) where
   abbrev P : Source
   P = S.world.source
 
   abbrev reach : List Disjunct → List Insts
   reach ds = reachable (ends_of S T b ds)
 
-  end_is : {g : Flat_goal} {n : Node} {o : Option Insts} → OrderedNode S T O Q b g n o → o ≡ end_of S T b n
-  end_is {n = n} {o = None} h = sym (ap (λ t. if t then None else Some (insts_after n b)) (ends_node S T h))
-  end_is {n = n} {o = Some c} h = ap Some (after_kept S T h) ∙ sym (ap (λ t. if t then None else Some (insts_after n b)) (ends_node S T h))
+  abbrev AllFine : List Insts → Type 0
+  AllFine [] = Unit {0}
+  AllFine (e ∷ es) = FineEnd O b (Some e) × AllFine es
+
+  all_fine : (o : Option Insts) (os : List (Option Insts)) → FineEnd O b o → AllFine (reachable os) → AllFine (reachable (o ∷ os))
+  all_fine None os f fs = fs
+  all_fine (Some e) os f fs = (f, fs)
+
+  all_free : (o : Option Insts) (os : List (Option Insts)) → FreeEnd S O c o → ((y : ℕ) → In y O → is_bound (c y) ≡ false → AllFree S.insts (insts_at y (reachable os))) → (y : ℕ) → In y O → is_bound (c y) ≡ false → AllFree S.insts (insts_at y (reachable (o ∷ os)))
+  all_free None os f fs y i u = fs y i u
+  all_free (Some e) os f fs y i u = (f y i u, fs y i u)
 
   abbrev IsFree : Flat_goal → Disjunct → Type 0
   IsFree g d = (x : ℕ) → is_bound (b x) ≡ true → is_told (label_in x d.opens) ≡ true → In x (free_in g)
 
-  -- disjuncts that are ordered, with their ends
-  data Each : Flat_goals → List Disjunct → Type 0 where
+  -- disjuncts that are ordered as they are told, with their ends
+  pub data Each : Flat_goals → List Disjunct → Type 0 where
     none : Each no_flat []
-    more : {g : Flat_goal} {gs : Flat_goals} {d : Disjunct} {ds : List Disjunct} → OrderedNode S T O Q b g d.goal (end_of S T b d.goal) → d.opens ≡ openings d.goal → IsFree g d → Each gs ds → Each (flat_then g gs) (d ∷ ds)
+    more : {g : Flat_goal} {gs : Flat_goals} {d : Disjunct} {ds : List Disjunct} {m : Node} → Retold d.goal m → OrderedNode S T O Q b g m (end_of S T b d.goal) → d.opens ≡ openings d.goal → IsFree g d → FineEnd O b (end_of S T b d.goal) → FreeEnd S O c (end_of S T b d.goal) → Each gs ds → Each (flat_then g gs) (d ∷ ds)
 
-  ordered_each : {gs : Flat_goals} {ds : List Disjunct} → Each gs ds → OrderedAny S T O Q b gs (goals_of ds) (ends_of S T b ds)
+  abbrev forms : {gs : Flat_goals} {ds : List Disjunct} → Each gs ds → Nodes
+  forms none = no_nodes
+  forms (more {m = m} w h t f fine un r) = node_then m (forms r)
+
+  told_forms : {gs : Flat_goals} {ds : List Disjunct} (e : Each gs ds) → RetoldAll (goals_of ds) (forms e)
+  told_forms none = W.done
+  told_forms (more w h t f fine un r) = W.next w (told_forms r)
+
+  ordered_each : {gs : Flat_goals} {ds : List Disjunct} (e : Each gs ds) → OrderedAny S T O Q b gs (forms e) (ends_of S T b ds)
   ordered_each none = R.no_other
-  ordered_each (more h t f r) = R.either h (ordered_each r)
-
-  each_ordered : (ds : List Disjunct) {gs : Flat_goals} {os : List (Option Insts)} → OrderedAny S T O Q b gs (goals_of ds) os → Told ds → OpenedAreFree b gs ds → Each gs ds × (os ≡ ends_of S T b ds)
-  each_ordered [] R.no_other t f = (none, refl)
-  each_ordered (d ∷ ds) (R.either {g = g} h hs) t f =
-      let r = each_ordered ds hs t.1 f.1 in
-      (more (subst (λ o. OrderedNode S T O Q b g d.goal o) (end_is h) h) t.0 f.0 r.0, ap₂ (λ o os. o ∷ os) (end_is h) r.1)
+  ordered_each (more w h t f fine un r) = R.either h (ordered_each r)
 
   told_each : {gs : Flat_goals} {ds : List Disjunct} → Each gs ds → Told ds
   told_each none = tt
-  told_each (more h t f r) = (t, told_each r)
+  told_each (more w h t f fine un r) = (t, told_each r)
+
+  fine_each : {gs : Flat_goals} {ds : List Disjunct} → Each gs ds → AllFine (reach ds)
+  fine_each none = tt
+  fine_each (more {d = d} {ds = ds} w h t f fine un r) = all_fine (end_of S T b d.goal) (ends_of S T b ds) fine (fine_each r)
+
+  free_each : {gs : Flat_goals} {ds : List Disjunct} → Each gs ds → (y : ℕ) → In y O → is_bound (c y) ≡ false → AllFree S.insts (insts_at y (reach ds))
+  free_each none y i u = tt
+  free_each (more {d = d} {ds = ds} w h t f fine un r) y i u = all_free (end_of S T b d.goal) (ends_of S T b ds) un (free_each r) y i u
 
   -- ---- some of the disjuncts and the others
   record SplitInto (gs : Flat_goals) (es us ws : List Disjunct) : Type 0 where
@@ -265,7 +366,7 @@ module _ (S : System) (T : ℕ → TypeTerm) (proper : ProperGraph S.insts) (O Q
 
   split : (f : Disjunct → Bool) {gs : Flat_goals} {es : List Disjunct} → Each gs es → SplitInto gs es (those f es) (those (λ d. not (f d)) es)
   split f none = record { hs = no_flat; ks = no_flat; parts = R.no_part; taken = none; left = none; between = λ y. same_self []; ends = refl }
-  split f (more {g = g} {gs = gs} {d = d} {ds = es} h t fr r) = at (f d) (split f r)
+  split f (more {g = g} {gs = gs} {d = d} {ds = es} w h t fr fine un r) = at (f d) (split f r)
     where
       taken_ends : (o : Option Insts) (us ws : List Disjunct) → SplitInto gs es us ws → ((y : ℕ) → Same (insts_at y (reachable (o ∷ ends_of S T b es))) (insts_at y (reachable (o ∷ ends_of S T b us)) ++ insts_at y (reach ws)))
       taken_ends None us ws s y = s.between y
@@ -288,7 +389,7 @@ module _ (S : System) (T : ℕ → TypeTerm) (proper : ProperGraph S.insts) (O Q
         hs = flat_then g s.hs;
         ks = s.ks;
         parts = R.to_part s.parts;
-        taken = more h t fr s.taken;
+        taken = more w h t fr fine un s.taken;
         left = s.left;
         between = taken_ends (end_of S T b d.goal) (those f es) (those (λ d. not (f d)) es) s;
         ends = taken_none (end_of S T b d.goal) (those f es) (those (λ d. not (f d)) es) s;
@@ -298,7 +399,7 @@ module _ (S : System) (T : ℕ → TypeTerm) (proper : ProperGraph S.insts) (O Q
         ks = flat_then g s.ks;
         parts = R.to_rest s.parts;
         taken = s.taken;
-        left = more h t fr s.left;
+        left = more w h t fr fine un s.left;
         between = left_ends (end_of S T b d.goal) (those f es) (those (λ d. not (f d)) es) s;
         ends = left_none (end_of S T b d.goal) (those f es) (those (λ d. not (f d)) es) s;
       }
@@ -337,7 +438,7 @@ module _ (S : System) (T : ℕ → TypeTerm) (proper : ProperGraph S.insts) (O Q
 
   -- what joins all ends joins the groups' ends
   regrouped : (all : List Insts) (os : List (Option Insts)) (o : Option Insts) → Grouped os all → no_end (reachable os) ≡ no_end all → Joined S T O b all o → Joined S T O b (reachable os) o
-  regrouped all os o g e j = at all (reachable os) o e j (λ y i k m. (let q = g y i in (groups_merge_as_all P S.insts proper q.0 (insts_at y (reachable os)) k (T y) q.2).0 (merging_keeps_sets P S.insts (insts_at y all) (in_groups q.0) k (T y) q.1.1 q.1.0 m)))
+  regrouped all os o g e j = at all (reachable os) o e j (λ y i k m. (let q = g y i in (groups_merge_as_all P S.insts fits.proper q.0 (insts_at y (reachable os)) k (T y) q.2).0 (merging_keeps_sets P S.insts (insts_at y all) (in_groups q.0) k (T y) q.1.1 q.1.0 m)))
     where
       at : (cs ds : List Insts) (o : Option Insts) → no_end ds ≡ no_end cs → Joined S T O b cs o → ((y : ℕ) → In y O → (k : ℕ) → Merged P S.insts (insts_at y cs) k (T y) → Merged P S.insts (insts_at y ds) k (T y)) → Joined S T O b ds o
       at [] [] o e j f = j
@@ -346,54 +447,116 @@ module _ (S : System) (T : ℕ → TypeTerm) (proper : ProperGraph S.insts) (O Q
       at (c ∷ cs) (d ∷ ds) None e j f = absurd j
       at (c ∷ cs) (d ∷ ds) (Some z) e j f = λ y. ((λ i. f y i (z y) ((j y).0 i)), (j y).1)
 
+  -- what joins the groups' ends joins all ends
+  apart : (all : List Insts) (os : List (Option Insts)) → Grouped os all → (y : ℕ) → In y O → (k : ℕ) → Merged P S.insts (insts_at y (reachable os)) k (T y) → Merged P S.insts (insts_at y all) k (T y)
+  apart all os g y i k m =
+      let q = g y i in
+      merging_keeps_sets P S.insts (in_groups q.0) (insts_at y all) k (T y) q.1.0 q.1.1 ((groups_merge_as_all P S.insts fits.proper q.0 (insts_at y (reachable os)) k (T y) q.2).1 m)
+
+  -- ---- what is kept of an arm joins the ends of its disjuncts
+  abbrev end_by : List Insts → List (ℕ × ℕ) → Option Insts
+  end_by all changes = if no_end all then None else Some (λ x. change_at x changes (b x))
+
+  record JoinsTo (all : List Insts) (changes : List (ℕ × ℕ)) : Type 0 where
+    joined : Joined S T O b all (end_by all changes)
+    keeps : KeepsChanges b (end_by all changes) changes
+    fine : FineEnd O b (end_by all changes)
+
+  gives_one : (y : ℕ) (cs : List Insts) → AllFine cs → (In y O → ⊥) → is_bound (b y) ≡ true → NoneIs free S.insts (insts_at y cs) → EachGives y (b y) cs
+  gives_one y [] f n q set = tt
+  gives_one y (e ∷ cs) f n q set = (⊎_elim (λ a. a) (λ z. absurd (set.0 (ap S.insts z ∙ fits.is_free))) (f.0 y n q), gives_one y cs f.1 n q set.1)
+
+  neither : (t u : Bool) → t ≡ false → u ≡ false → (t || u) ≡ false
+  neither true u e f = cc
+  neither false u e f = f
+
+  one_of : (t u : Bool) → t ≡ true → (t || u) ≡ true
+  one_of true u e = refl
+  one_of false u e = cc
+
+  merges_join : (cs all : List Insts) (changes : List (ℕ × ℕ)) → ((y : ℕ) → In y O → (k : ℕ) → Merged P S.insts (insts_at y cs) k (T y) → Merged P S.insts (insts_at y all) k (T y)) → no_end cs ≡ no_end all → AllFine cs → ((y : ℕ) → In y O → is_bound (c y) ≡ false → AllFree S.insts (insts_at y all)) → ChangesMerge S T b c cs changes → JoinsTo all changes
+  merges_join [] [] changes up e fine un m = record { joined = refl; keeps = m; fine = tt }
+  merges_join [] (a ∷ all) changes up e fine un m = cc
+  merges_join (d ∷ cs) [] changes up e fine un m = cc
+  merges_join (d ∷ cs) (a ∷ all) changes up e fine un m =
+      record {
+        joined = λ y. ((λ i. inside y i (is_bound (b y) || is_bound (c y)) refl), (λ n. outside y n (is_bound (b y)) refl));
+        keeps = ((λ y. refl), m.0, m.1);
+        fine = λ y n q. ⊎_elim (λ z. inr z) (λ s. inl s) (outside y n (is_bound (b y)) refl);
+      }
+    where
+      after : Insts
+      after y = change_at y changes (b y)
+
+      inside : (y : ℕ) → In y O → (t : Bool) → (is_bound (b y) || is_bound (c y)) ≡ t → Merged P S.insts (insts_at y (a ∷ all)) (after y) (T y)
+      inside y i true q = up y i (after y) (m.2 y q)
+      inside y i false q = free_merged S fits (insts_at y (a ∷ all)) (after y) (T y) (un y i (or-second (is_bound (b y)) (is_bound (c y)) q)) (m.4 y q)
+
+      outside : (y : ℕ) → (In y O → ⊥) → (t : Bool) → is_bound (b y) ≡ t → (after y ≡ 0) ⊎ (after y ≡ b y)
+      outside y n false q = inl (m.4 y (neither (is_bound (b y)) (is_bound (c y)) q (unbinds y n q)))
+      outside y n true q = at (is_bound (after y)) refl
+        where
+          either : (is_bound (b y) || is_bound (c y)) ≡ true
+          either = one_of (is_bound (b y)) (is_bound (c y)) q
+
+          at : (u : Bool) → is_bound (after y) ≡ u → (after y ≡ 0) ⊎ (after y ≡ b y)
+          at false r = inl (is-unset (after y) r)
+          at true r = inr (m.3 y (b y) either (gives_one y (d ∷ cs) fine n q (merged_set S fits (insts_at y (d ∷ cs)) (after y) (T y) (m.2 y either) r)))
+
   -- ---- arms
-  record Stands (s : Scheduled) (hs : Flat_goals) (us : List Disjunct) (o : Option Insts) : Type 0 where
-    form : Scheduled
-    same : RetoldIn s form
-    ordered : Ordered S T O Q b (F.Or hs) form o
+  pub record Stands (s : Scheduled) (hs : Flat_goals) (us : List Disjunct) : Type 0 where
+    pub form : Scheduled
+    pub same : RetoldIn s form
+    pub ordered : (o : Option Insts) → Joined S T O b (reach us) o → Ordered S T O Q b (F.Or hs) form o
     opens : (z : ℕ) (l : Label) → AllLabelled z l us → OpensScheduled z l form
+    ends : never_ends_in S T b s ≡ no_end (reach us)
+    joins : (changes : List (ℕ × ℕ)) → ArmMerges S T b c (node s changes (inferred det) false) → JoinsTo (reach us) changes
 
   record ArmStands (n : Node) (hs : Flat_goals) (us : List Disjunct) : Type 0 where
     form : Node
-    end : Option Insts
     same : Retold n form
-    ordered : OrderedNode S T O Q b (arm_goal hs) form end
+    ordered : OrderedNode S T O Q b (arm_goal hs) form (end_of S T b n)
     opens : (z : ℕ) (l : Label) → AllLabelled z l us → Opens z l form
-    groups : Grouped (end ∷ []) (reach us)
-    ends : no_end (reachable (end ∷ [])) ≡ no_end (reach us)
+    groups : Grouped (end_of S T b n ∷ []) (reach us)
+    ends : no_end (reachable (end_of S T b n ∷ [])) ≡ no_end (reach us)
+    fine : FineEnd O b (end_of S T b n)
 
-  each_opens : {hs : Flat_goals} {us : List Disjunct} → Each hs us → (z : ℕ) (l : Label) → AllLabelled z l us → EachOpens z l (goals_of us)
+  each_opens : {hs : Flat_goals} {us : List Disjunct} (e : Each hs us) → (z : ℕ) (l : Label) → AllLabelled z l us → EachOpens z l (forms e)
   each_opens none z l a = tt
-  each_opens (more {d = d} h t f r) z l a = ((openings_open z d.goal l (subst (λ os. label_in z os ≡ Some l) t a.0)).0, each_opens r z l a.1)
+  each_opens (more {d = d} w h t f fine un r) z l a = (told_opens z l w (openings_open z d.goal l (subst (λ os. label_in z os ≡ Some l) t a.0)).0, each_opens r z l a.1)
 
-  module _ (again : List Disjunct → Scheduled) (Bound : List Disjunct → Type 0) (rec : (hs : Flat_goals) (us : List Disjunct) → Each hs us → (o : Option Insts) → Joined S T O b (reach us) o → Bound us → Stands (again us) hs us o) where
-    several : (hs : Flat_goals) (us : List Disjunct) → arm_goal hs ≡ F.Or hs → Each hs us → KeptJoins S T O b keep us → Bound us → ArmStands (node (again us) (keep us) (inferred det) false) hs us
-    several hs us q e j i =
-        let r = rec hs us e j.0 j.1 i in
-        let g = one_group (reach us) j.0 j.1 in
+  module _ (again : List Disjunct → Scheduled) (rec : (hs : Flat_goals) (us : List Disjunct) → Each hs us → ArmsMergeIn S T b c (again us) → Stands (again us) hs us) where
+    several : (hs : Flat_goals) (us : List Disjunct) → arm_goal hs ≡ F.Or hs → Each hs us → ArmMerges S T b c (node (again us) (keep us) (inferred det) false) → ArmsMergeIn S T b c (again us) → ArmStands (node (again us) (keep us) (inferred det) false) hs us
+    several hs us q e merges inside =
+        let n : Node = node (again us) (keep us) (inferred det) false in
+        let r = rec hs us e inside in
+        let j = r.joins (keep us) merges in
+        let is_end : end_by (reach us) (keep us) ≡ end_of S T b n = ap (λ t. if t then None else Some (λ x. change_at x (keep us) (b x))) (sym r.ends) in
+        let joined : Joined S T O b (reach us) (end_of S T b n) = subst (λ o. Joined S T O b (reach us) o) is_end j.joined in
+        let g = one_group (reach us) (end_of S T b n) joined in
         record {
-          form = node r.form (keep us) (inferred det) (is_pruned Q b j.0);
-          end = j.0;
+          form = node r.form (keep us) (inferred det) (is_pruned Q b (end_of S T b n));
           same = retold r.same;
-          ordered = subst (λ g. OrderedNode S T O Q b g (node r.form (keep us) (inferred det) (is_pruned Q b j.0)) j.0) (sym q) (kept r.ordered j.2);
+          ordered = subst (λ g. OrderedNode S T O Q b g (node r.form (keep us) (inferred det) (is_pruned Q b (end_of S T b n))) (end_of S T b n)) (sym q) (kept (r.ordered (end_of S T b n) joined) (subst (λ o. KeepsChanges b o (keep us)) is_end j.keeps));
           opens = r.opens;
           groups = g.0;
           ends = g.1;
+          fine = subst (FineEnd O b) is_end j.fine;
         }
 
-    arm_stands : (hs : Flat_goals) (us : List Disjunct) → Each hs us → ArmJoins S T O b keep Bound us → ArmStands (arm_of keep again us) hs us
-    arm_stands _ [] none j = several no_flat [] refl none j.0 j.1
-    arm_stands _ (d ∷ []) (more h t f none) j =
+    arm_stands : (hs : Flat_goals) (us : List Disjunct) → Each hs us → ArmMerges S T b c (arm_of keep again us) → MergeInside S T b c (arm_of keep again us) → ArmStands (arm_of keep again us) hs us
+    arm_stands _ [] none merges inside = several no_flat [] refl none merges inside
+    arm_stands _ (d ∷ []) (more {m = m} w h t f fine un none) merges inside =
         record {
-          form = d.goal;
-          end = end_of S T b d.goal;
-          same = self d.goal;
+          form = m;
+          same = w;
           ordered = h;
-          opens = λ z l a. (openings_open z d.goal l (subst (λ os. label_in z os ≡ Some l) t a.0)).0;
+          opens = λ z l a. told_opens z l w (openings_open z d.goal l (subst (λ os. label_in z os ≡ Some l) t a.0)).0;
           groups = alone_group (end_of S T b d.goal);
           ends = refl;
+          fine = fine;
         }
-    arm_stands hs (d ∷ c ∷ us) (more h t f (more k u i r)) j = several _ (d ∷ c ∷ us) refl (more h t f (more k u i r)) j.0 j.1
+    arm_stands hs (d ∷ e ∷ us) (more w h t f fine un (more w' h' t' f' fine' un' r)) merges inside = several _ (d ∷ e ∷ us) refl (more w h t f fine un (more w' h' t' f' fine' un' r)) merges inside
 
     module _ (x : ℕ) (ds : List Disjunct) where
       record ArmsStand (ls : List Label) (ks : Flat_goals) (es : List Disjunct) : Type 0 where
@@ -405,6 +568,8 @@ module _ (S : System) (T : ℕ → TypeTerm) (proper : ProperGraph S.insts) (O Q
         absent : (l : Label) → NotAmong l ls → AbsentFrom l arms
         groups : Grouped os (reach es)
         ends : no_end (reachable os) ≡ no_end (reach es)
+        reached : arm_ends S T b (arms_on (arm_of keep again) x ds ls) ≡ reachable os
+        fine : AllFine (reachable os)
 
       abbrev Agree : List Label → List Disjunct → Type 0
       Agree [] es = Unit {0}
@@ -414,16 +579,18 @@ module _ (S : System) (T : ℕ → TypeTerm) (proper : ProperGraph S.insts) (O Q
       agree_left l [] es n a = tt
       agree_left l (k ∷ ls) es n a = (same_left x l k n.0 es ∙ a.0, agree_left l ls es n.1 a.1)
 
-      arms_stand : (ls : List Label) (ks : Flat_goals) (es : List Disjunct) → Each ks es → Agree ls es → EachHasOne x ls es → Distinct ls → EachLabel ls → ArmsJoin S T O b keep Bound x ds ls → ArmsStand ls ks es
-      arms_stand [] ks [] none a h di el j = record { arms = no_arms; os = []; same = W.no_arm; ordered = R.no_arm; opens = λ z l a. tt; absent = λ l n. tt; groups = λ y i. ([], same_self [], tt); ends = refl }
+      arms_stand : (ls : List Label) (ks : Flat_goals) (es : List Disjunct) → Each ks es → Agree ls es → EachHasOne x ls es → Distinct ls → EachLabel ls → EachArmMerges S T b c (arms_on (arm_of keep again) x ds ls) → ArmsStand ls ks es
+      arms_stand [] ks [] none a h di el j = record { arms = no_arms; os = []; same = W.no_arm; ordered = R.no_arm; opens = λ z l a. tt; absent = λ l n. tt; groups = λ y i. ([], same_self [], tt); ends = refl; reached = refl; fine = tt }
       arms_stand [] ks (e ∷ es) r a h di el j = absurd h.0
       arms_stand (l ∷ ls) ks es r a h di el j =
           let s = split (opens_with x l) r in
-          let one = arm_stands s.hs (those (opens_with x l) ds) (subst (λ us. Each s.hs us) a.0 s.taken) j.0 in
-          let rest = arms_stand ls s.ks (without_label x l es) s.left (agree_left l ls es di.0 a.1) (others_left x l ls es h) di.1 el.1 j.1 in
+          let n : Node = arm_of keep again (those (opens_with x l) ds) in
+          let end : Option Insts = end_of S T b n in
+          let one = arm_stands s.hs (those (opens_with x l) ds) (subst (λ us. Each s.hs us) a.0 s.taken) j.0 j.1 in
+          let rest = arms_stand ls s.ks (without_label x l es) s.left (agree_left l ls es di.0 a.1) (others_left x l ls es h) di.1 el.1 j.2 in
           record {
             arms = arm_then l one.form rest.arms;
-            os = one.end ∷ rest.os;
+            os = end ∷ rest.os;
             same = W.arm one.same rest.same;
             ordered = R.arm s.parts el.0 (one.opens x l (labelled_group x l ds)) (rest.absent l di.0) one.ordered rest.ordered;
             opens = λ z k q. (one.opens z k (labelled_those z k (opens_with x l) ds q), rest.opens z k q);
@@ -436,9 +603,11 @@ module _ (S : System) (T : ℕ → TypeTerm) (proper : ProperGraph S.insts) (O Q
                       (same_onto (in_groups p.0 ++ in_groups q.0) (insts_at y (reach (those (opens_with x l) ds)) ++ insts_at y (reach (without_label x l es))) (insts_at y (reach es))
                       (same_both (in_groups p.0) (in_groups q.0) (insts_at y (reach (those (opens_with x l) ds))) (insts_at y (reach (without_label x l es))) p.1 q.1)
                       (let m = subst (λ us. Same (insts_at y (reach es)) (insts_at y (reach us) ++ insts_at y (reach (without_label x l es)))) a.0 (s.between y) in (m.1, m.0))),
-                  subst (λ ks. EachMerged P S.insts (p.0 ++ q.0) ks (T y)) (ends_both y one.end rest.os) (each_both (T y) p.0 q.0 (insts_at y (reachable (one.end ∷ []))) (insts_at y (reachable rest.os)) p.2 q.2),
+                  subst (λ ks. EachMerged P S.insts (p.0 ++ q.0) ks (T y)) (ends_both y end rest.os) (each_both (T y) p.0 q.0 (insts_at y (reachable (end ∷ []))) (insts_at y (reachable rest.os)) p.2 q.2),
                 ));
-            ends = none_both_ends one.end rest.os ∙ ap₂ (λ t u. t && u) one.ends rest.ends ∙ sym (subst (λ us. no_end (reach es) ≡ (no_end (reach us) && no_end (reach (without_label x l es)))) a.0 s.ends);
+            ends = none_both_ends end rest.os ∙ ap₂ (λ t u. t && u) one.ends rest.ends ∙ sym (subst (λ us. no_end (reach es) ≡ (no_end (reach us) && no_end (reach (without_label x l es)))) a.0 s.ends);
+            reached = with_reachable S T b n (arm_ends S T b (arms_on (arm_of keep again) x ds ls)) rest.os rest.reached;
+            fine = all_fine end rest.os one.fine rest.fine;
           }
 
       agree_all : (ls : List Label) → Agree ls ds
@@ -462,32 +631,37 @@ module _ (S : System) (T : ℕ → TypeTerm) (proper : ProperGraph S.insts) (O Q
 
   chosen_free : {hs : Flat_goals} {us : List Disjunct} → Each hs us → (out : List ℕ) (x : ℕ) → chosen S T out b us ≡ Some x → is_bound (b x) ≡ true → list_all (λ (d : Disjunct). is_told (label_in x d.opens)) us ≡ true → In x (free_in_all hs)
   chosen_free none out x q bx e = cc
-  chosen_free (more {g = g} {gs = gs} {d = d} {ds = ds} h t f r) out x q bx e =
-      in-left x (free_in g) (free_in_all gs) (f x bx (and_parts (is_told (label_in x d.opens)) (list_all (λ (d : Disjunct). is_told (label_in x d.opens)) ds) e).0)
+  chosen_free (more {g = g} {gs = gs} {d = d} {ds = ds} w h t f fine un r) out x q bx e =
+      in_left x (free_in g) (free_in_all gs) (f x bx (and_parts (is_told (label_in x d.opens)) (list_all (λ (d : Disjunct). is_told (label_in x d.opens)) ds) e).0)
 
-  plain_stands : (hs : Flat_goals) (us : List Disjunct) → Each hs us → (o : Option Insts) → Joined S T O b (reach us) o → Stands (Disj (goals_of us)) hs us o
-  plain_stands hs us e o j = record { form = Disj (goals_of us); same = self_in (Disj (goals_of us)); ordered = R.disj (ordered_each e) j; opens = λ z l a. each_opens e z l a }
+  plain_stands : (hs : Flat_goals) (us : List Disjunct) → Each hs us → Stands (Disj (goals_of us)) hs us
+  plain_stands hs us e =
+      record {
+        form = Disj (forms e);
+        same = W.disj (told_forms e);
+        ordered = λ o j. R.disj (ordered_each e) j;
+        opens = λ z l a. each_opens e z l a;
+        ends = each_never S T b (goals_of us) ∙ ap no_end (ends_reachable S T b us);
+        joins = λ changes m. merges_join (reach us) (reach us) changes (λ y i k q. q) refl (fine_each e) (free_each e) (subst (λ cs. ChangesMerge S T b c cs changes) (ends_reachable S T b us) m);
+      }
 
-  grouped_stands : (k : ℕ) (out : List ℕ) (hs : Flat_goals) (us : List Disjunct) → Each hs us → (o : Option Insts) → Joined S T O b (reach us) o → GroupsJoin S T O b keep k out us → Stands (grouped S T keep k b out us) hs us o
-  grouped_stands zero out hs us e o j i = plain_stands hs us e o j
-  grouped_stands (suc k) out hs us e o j i = at (chosen S T out b us) refl (λ out. grouped_stands k out) i
+  pub grouped_stands : (k : ℕ) (out : List ℕ) (hs : Flat_goals) (us : List Disjunct) → Each hs us → ArmsMergeIn S T b c (grouped S T keep k b out us) → Stands (grouped S T keep k b out us) hs us
+  grouped_stands zero out hs us e i = plain_stands hs us e
+  grouped_stands (suc k) out hs us e i = at (chosen S T out b us) refl (λ out. grouped_stands k out) i
     where
-      at : (c : Option ℕ) → chosen S T out b us ≡ c → ((out : List ℕ) (hs : Flat_goals) (us : List Disjunct) → Each hs us → (o : Option Insts) → Joined S T O b (reach us) o → GroupsJoin S T O b keep k out us → Stands (grouped S T keep k b out us) hs us o) → ChosenJoins S T O b keep (GroupsJoin S T O b keep k) out us c → Stands (on_chosen (λ out. arm_of keep (grouped S T keep k b out)) out us c) hs us o
-      at None q again i = plain_stands hs us e o j
+      at : (o : Option ℕ) → chosen S T out b us ≡ o → ((out : List ℕ) (hs : Flat_goals) (us : List Disjunct) → Each hs us → ArmsMergeIn S T b c (grouped S T keep k b out us) → Stands (grouped S T keep k b out us) hs us) → ArmsMergeIn S T b c (on_chosen (λ out. arm_of keep (grouped S T keep k b out)) out us o) → Stands (on_chosen (λ out. arm_of keep (grouped S T keep k b out)) out us o) hs us
+      at None q again i = plain_stands hs us e
       at (Some x) q again i =
           let opened = and_parts (is_bound (b x)) (not (is_in x out) && list_all (λ (d : Disjunct). is_told (label_in x d.opens)) us) (chosen_opened out us x q) in
           let all = (and_parts (not (is_in x out)) (list_all (λ (d : Disjunct). is_told (label_in x d.opens)) us) opened.1).1 in
-          let r = arms_stand (grouped S T keep k b (x ∷ out)) (GroupsJoin S T O b keep k (x ∷ out)) (again (x ∷ out)) x us (labels_of x us) hs us e
-          (agree_all (grouped S T keep k b (x ∷ out)) (GroupsJoin S T O b keep k (x ∷ out)) (again (x ∷ out)) x us (labels_of x us)) (each_has_one x us all) (distinct_labels x us) (each_label x us (told_each e)) i in
+          let form : List Disjunct → Scheduled = grouped S T keep k b (x ∷ out) in
+          let r = arms_stand form (again (x ∷ out)) x us (labels_of x us) hs us e
+          (agree_all form (again (x ∷ out)) x us (labels_of x us)) (each_has_one x us all) (distinct_labels x us) (each_label x us (told_each e)) i in
           record {
             form = Switch x r.arms;
             same = W.switch r.same;
-            ordered = R.switch (is_set (b x) opened.0) (chosen_free e out x q opened.0 all) r.ordered (regrouped (reach us) r.os o r.groups r.ends j);
+            ordered = λ o j. R.switch (is_set (b x) opened.0) (chosen_free e out x q opened.0 all) r.ordered (regrouped (reach us) r.os o r.groups r.ends j);
             opens = λ z l a. r.opens z l a;
+            ends = each_arm_never S T b (arms_on (arm_of keep form) x us (labels_of x us)) ∙ ap no_end r.reached ∙ r.ends;
+            joins = λ changes m. merges_join (reachable r.os) (reach us) changes (apart (reach us) r.os r.groups) r.ends r.fine (free_each e) (subst (λ cs. ChangesMerge S T b c cs changes) r.reached m);
           }
-
-pub switches_stand : SwitchesStand
-switches_stand S T O Q b keep k out gs ds os o proper h t f j i =
-    let e = each_ordered S T proper O Q b keep ds h t f in
-    let r = grouped_stands S T proper O Q b keep k out gs ds e.0 o (subst (λ os. Joined S T O b (reachable os) o) e.1 j) i in
-    (r.form, r.same, r.ordered)

@@ -25,7 +25,7 @@ use Rattle.mc_acceptance_laws.proofs.Outside.{Same, same_self, same_append, same
 
 -- ---- a goal that is told has the variables of the goal
 mutual
-  told_variables : {n m : Node} → Retold n m → variables_of_node m ≡ variables_of_node n
+  pub told_variables : {n m : Node} → Retold n m → variables_of_node m ≡ variables_of_node n
   told_variables (retold r) = told_variables_in r
 
   told_variables_in : {s t : Scheduled} → RetoldIn s t → variables_of_scheduled t ≡ variables_of_scheduled s
@@ -44,7 +44,7 @@ mutual
   told_variables_in W.call = refl
   told_variables_in W.apply = refl
 
-  told_variables_all : {ns ms : Nodes} → RetoldAll ns ms → variables_of_nodes ms ≡ variables_of_nodes ns
+  pub told_variables_all : {ns ms : Nodes} → RetoldAll ns ms → variables_of_nodes ms ≡ variables_of_nodes ns
   told_variables_all W.done = refl
   told_variables_all (W.next r rs) = ap₂ (λ xs ys. xs ++ ys) (told_variables r) (told_variables_all rs)
 
@@ -71,7 +71,7 @@ told_equation (retold W.apply) e = absurd e
 
 module _ (x : ℕ) (l : Label) where
   mutual
-    told_opens : {n m : Node} → Retold n m → Opens x l n → Opens x l m
+    pub told_opens : {n m : Node} → Retold n m → Opens x l n → Opens x l m
     told_opens (retold r) h = told_opens_in r h
 
     told_opens_in : {s t : Scheduled} → RetoldIn s t → OpensScheduled x l s → OpensScheduled x l t

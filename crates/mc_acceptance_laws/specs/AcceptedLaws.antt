@@ -5,17 +5,20 @@ use Rattle.mc_source.specs.declared.det.Det.{Det}
 use Rattle.mc_source.specs.declared.det.Most.TheVariants.{Many}
 use Rattle.mc_model.specs.Flat.{Flat_goal, variables_of}
 use Rattle.mc_model.specs.Lists.{from}
-use Rattle.mc_model.specs.Good.{System}
+use Rattle.mc_model.specs.Good.{System, GoodProcedures}
 use Rattle.mc_model.specs.Scheduled.{Node, Procedure}
 use Rattle.mc_accepted.specs.Ordered.{Insts, OrderedNode}
 use Rattle.mc_accepted.specs.Determined.{Known, nothing_known}
-use Rattle.mc_accepted.specs.Fits.{goal_of, type_of}
+use Rattle.mc_accepted.specs.MergedArms.{ArmsMerge}
+use Rattle.mc_accepted.specs.Switched.{Kept, formed}
+use Rattle.mc_accepted.specs.ProperTypes.{Parameters}
+use Rattle.mc_accepted.specs.Fits.{FitsInsts, Fits, goal_of, type_of}
 use Rattle.mc_accepted.specs.Unmarked.{unmarked_node}
 use Rattle.mc_accepted.specs.Arranged.{Declared, in_order, arrange}
 use Rattle.mc_accepted.specs.Chosen.{Chosen, of_nodes}
 use Rattle.mc_accepted.specs.code.Truthful.{Truthful, AllDeclared}
 use Rattle.mc_accepted.specs.Accepted.{entered, FinalAfter, KeepsDeterminism, AcceptedProcedure}
-use Rattle.mc_accepted.specs.Inferred.{DeclaredSystem, system_of, Closed}
+use Rattle.mc_accepted.specs.Inferred.{DeclaredProcedure, DeclaredSystem, system_of, Closed}
 use Rattle.mc_accepted.specs.DeterminismFaults.{procedure_fault}
 use Rattle.mc_order_laws.specs.OrderLaws.{Below, FlatScopes}
 use Rattle.mc_acceptance_laws.specs.Told.{Retold, KeepsMarks}
@@ -56,6 +59,30 @@ FaultlessIsAccepted =
     ((system_of D ds).procs k).body o
     → AcceptedProcedure (system_of D ds) ((system_of D ds).procs k)
 
+-- The body is the switch form of a goal, with any determinisms and marks before, and those of the
+-- table and of its insts in the end: the kept insts of arms merge the ends of their disjuncts.
+pub record IsFormed (S : System) (p : Procedure) (n : Node) : Type 0 where
+  pub goal : Node
+  pub same : Retold n goal
+  pub kept : (before after : Insts) → Kept
+  pub merge :
+      ArmsMerge S (type_of S p) (entered p.head p.first)
+      (formed S (type_of S p) kept (entered p.head p.first) goal)
+  pub told : Retold (formed S (type_of S p) kept (entered p.head p.first) goal) p.body
+  pub marks : KeepsMarks S (type_of S p) p.head (entered p.head p.first) p.body
+
+-- A procedure without a fault of determinism is accepted, where determinisms are closed and its body
+-- is the switch form of a goal that is ordered, told.
+abbrev pub FormIsAccepted : Type 0
+FormIsAccepted =
+    (D : DeclaredSystem) (ds : ℕ → Det) (k : ℕ) (n : Node) (o : Option Insts) → Closed D ds
+    → k < D.count → FitsInsts D.insts
+    → procedure_fault (system_of D ds) (D.procs k) ((system_of D ds).procs k) ≡ None
+    → IsTold (system_of D ds) ((system_of D ds).procs k)
+    → BodyIsOrdered (system_of D ds) ((system_of D ds).procs k) n o
+    → IsFormed (system_of D ds) ((system_of D ds).procs k) n
+    → AcceptedProcedure (system_of D ds) ((system_of D ds).procs k)
+
 -- The procedure's goal is in order over nodes of the graph, where the functions that look for nodes
 -- tell its truth, the modes are those of the procedures, variables from the next number on are in
 -- no goal, and the goal's scopes are written out.
@@ -74,7 +101,7 @@ pub record IsInOrder (S : System) (p : Procedure) (x : Node) : Type 0 where
       ≡ in_order x
 
 -- Such an order is that of an ordered goal, and a procedure without a fault of determinism is
--- accepted where its body is that goal, told.
+-- accepted where its body is that goal, told, or its switch form, told.
 abbrev pub InOrderIsAccepted : Type 0
 InOrderIsAccepted =
     (D : DeclaredSystem) (ds : ℕ → Det) (k : ℕ) (x : Node) → Closed D ds → k < D.count
@@ -89,3 +116,27 @@ InOrderIsAccepted =
     (entered ((system_of D ds).procs k).head ((system_of D ds).procs k).first)
     ((system_of D ds).procs k).body
     → AcceptedProcedure (system_of D ds) ((system_of D ds).procs k))
+    × (FitsInsts D.insts
+    → IsFormed (system_of D ds) ((system_of D ds).procs k) n
+    → AcceptedProcedure (system_of D ds) ((system_of D ds).procs k))
+
+-- A procedure as its phases make it: a goal that is its predicate's normal goal in an order of the
+-- relation, as scheduling gives it; the switch form of that goal as its body, told; and no fault of
+-- determinism.
+pub record IsComputed (S : System) (d : DeclaredProcedure) (p : Procedure) : Type 0 where
+  pub goal : Node
+  pub after : Option Insts
+  pub ordered : BodyIsOrdered S p goal after
+  pub form : IsFormed S p goal
+  pub told : IsTold S p
+  pub faultless : procedure_fault S d p ≡ None
+
+-- So the procedures of a system that fits are good, where each is computed and determinisms are
+-- closed.
+abbrev pub ComputedAreGood : Type 0
+ComputedAreGood =
+    (D : DeclaredSystem) (ds : ℕ → Det) (E : Parameters) → Fits (system_of D ds) E → Closed D ds
+    → ((k : ℕ)
+    → k < D.count
+    → IsComputed (system_of D ds) (D.procs k) ((system_of D ds).procs k))
+    → GoodProcedures (system_of D ds)

@@ -1,5 +1,5 @@
 pub mod AcceptedLaws
 pub mod FormLaws
 pub mod GroupLaws
-pub mod SwitchStands
 pub mod Told
+pub mod code

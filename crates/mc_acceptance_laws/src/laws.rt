@@ -1,8 +1,9 @@
 //! The laws that what the definitions compute is accepted. Each is the contract of a function that does nothing.
-ghost use Rattle.mc_acceptance_laws.specs.FormLaws.{FormsKeepVariables};
+ghost use Rattle.mc_acceptance_laws.specs.FormLaws.{FormsKeepVariables, FormsStayOrdered};
 ghost use Rattle.mc_acceptance_laws.specs.GroupLaws.{GroupsMergeAsAll, MergingKeepsSets};
-ghost use Rattle.mc_acceptance_laws.specs.SwitchStands.{SwitchesStand};
-ghost use Rattle.mc_acceptance_laws.specs.AcceptedLaws.{FaultlessIsAccepted, InOrderIsAccepted, ToldStaysOrdered};
+ghost use Rattle.mc_acceptance_laws.specs.AcceptedLaws.{ComputedAreGood, FaultlessIsAccepted, FormIsAccepted, InOrderIsAccepted, ToldStaysOrdered};
+
+use mc_sound::laws::accepted_are_good;
 
 /// An ordered goal stays ordered where its determinisms and marks are told.
 pub fn told_stays_ordered()
@@ -14,11 +15,24 @@ pub fn faultless_is_accepted()
     ensures { FaultlessIsAccepted }
 {}
 
+/// A procedure without a fault of determinism is accepted, where its body is the switch form of an ordered goal, told.
+pub fn form_is_accepted()
+    ensures { FormIsAccepted }
+{}
+
 /// The order over nodes of a procedure's goal is that of an ordered goal, and a procedure without a fault of
-/// determinism is accepted where its body is that goal, told.
+/// determinism is accepted where its body is that goal or its switch form, told.
 pub fn in_order_is_accepted()
     ensures { InOrderIsAccepted }
 {}
+
+/// The procedures of a system that fits are good, where each is what its phases make: the switch form of an ordered
+/// goal, told, without a fault of determinism.
+pub fn computed_procedures_are_good()
+    ensures { ComputedAreGood }
+{
+    accepted_are_good()
+}
 
 /// What merges the merged insts of groups, as those of a switch's arms, merges all that are in the groups, in any order.
 pub fn groups_merge_as_all()
@@ -31,8 +45,7 @@ pub fn forms_keep_variables()
     ensures { FormsKeepVariables }
 {}
 
-/// A disjunction that is ordered is ordered in its switch form, where the kept insts of arms join those of their
-/// disjuncts.
-pub fn switches_stand()
-    ensures { SwitchesStand }
+/// An ordered goal is ordered in its switch form, where the kept insts of arms merge the ends of their disjuncts.
+pub fn forms_stay_ordered()
+    ensures { FormsStayOrdered }
 {}

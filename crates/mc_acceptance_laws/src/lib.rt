@@ -1,4 +1,5 @@
-//! The laws that what the definitions compute is accepted.
+//! The laws that what the definitions compute is accepted, and examples that meet what they ask.
 #![tactic(auto)]
 
+pub mod examples;
 pub mod laws;
