@@ -46,7 +46,7 @@ parameters_are first σ (type_then t ts) e =
     (parameters_are (suc first) σ ts (λ v lt. let s : suc first + v ≡ first + suc v = omega arith in ap σ s ∙ e (suc v) (omega arith)))
 
 -- lists with a last element
-abbrev last_of : TypeTerm → List TypeTerm → TypeTerm
+abbrev pub last_of : TypeTerm → List TypeTerm → TypeTerm
 last_of d [] = d
 last_of d (t ∷ ts) = last_of t ts
 
@@ -55,7 +55,7 @@ front_of [] = []
 front_of (t ∷ []) = []
 front_of (t ∷ u ∷ ts) = t ∷ front_of (u ∷ ts)
 
-last-push : (d : TypeTerm) (ts : List TypeTerm) (t : TypeTerm) → last_of d (ts ++ t ∷ []) ≡ t
+pub last-push : (d : TypeTerm) (ts : List TypeTerm) (t : TypeTerm) → last_of d (ts ++ t ∷ []) ≡ t
 last-push d [] t = refl
 last-push d (x ∷ xs) t = last-push x xs t
 

@@ -1,9 +1,9 @@
 -- Which of the examples are well typed.
-use Rattle.std.proofs.Common.{◌≡◌, ℕ, zero, suc, ◌<◌, List, [], ◌∷◌, length, take, get_or, refl, sym, ap, ◌∙◌, subst, arith, inl, inr}
+use Rattle.std.proofs.Common.{◌≡◌, ℕ, zero, suc, ◌<◌, ◌≤◌, List, [], ◌∷◌, length, take, get_or, refl, sym, ap, ◌∙◌, subst, arith, inl, inr}
 use Rattle.std.specs.List.{Contains}
 use Rattle.std.specs.Prelude.{◌⊎◌}
 use Rattle.mc_program.specs.Programs.{TypeTerm, variable_type, union_type, no_types, Expression, made}
-use Rattle.mc_accepted.specs.Resolving.{Walks, Live, Takes, Resolves, WellTyped, FirstTwo, steps_of}
+use Rattle.mc_accepted.specs.Resolving.{Walks, Live, Takes, Resolves, WellTyped, FirstTwo, TooMany, assignments_limit, steps_of}
 use Rattle.mc_typing_laws.specs.code.Examples.{two_types, plain, candidates, over, amb, Typings, LiveAtOnce, ResolvedClauses}
 use Rattle.mc_source.specs.declared.name.Candidate.{Candidate}
 use Rattle.mc_source.specs.declared.name.Candidate.TheVariants.{Con}
@@ -178,6 +178,24 @@ two_distinct (suc i) zero ij lt e = omega arith
 two_distinct (suc i) (suc zero) ij lt e = omega arith
 two_distinct (suc i) (suc (suc j)) ij lt e = omega arith
 
+no_third : TooMany two_types plain 2 (over 1) → ⊥
+no_third many =
+    let each : (i : ℕ) → i < length many.live → (get_or many.live i [] ≡ first_of many.moment) ⊎ (get_or many.live i [] ≡ Con 1 ∷ []) = λ i lt. live_at many.moment (get_or many.live i []) (many.all_live i lt) in
+    three (first_of many.moment) (Con 1 ∷ []) (get_or many.live 0 []) (get_or many.live 1 []) (get_or many.live 2 [])
+    (each 0 (omega (arith, many.many))) (each 1 (omega (arith, many.many))) (each 2 (omega (arith, many.many)))
+    (many.distinct 0 1 (omega arith) (omega (arith, many.many))) (many.distinct 0 2 (omega arith) (omega (arith, many.many))) (many.distinct 1 2 (omega arith) (omega (arith, many.many)))
+
+-- what passes a limit passes each smaller one
+smaller_limit : (m n : ℕ) → m ≤ n → TooMany two_types plain n (over 1) → TooMany two_types plain m (over 1)
+smaller_limit m n le many =
+    record {
+      moment = many.moment;
+      live = many.live;
+      many = omega (arith, le, many.many);
+      distinct = many.distinct;
+      all_live = many.all_live;
+    }
+
 pub live_at_once : LiveAtOnce
 live_at_once = (
   record {
@@ -187,11 +205,8 @@ live_at_once = (
     distinct = two_distinct;
     all_live = two_live;
   },
-  (λ many.
-      let each : (i : ℕ) → i < length many.live → (get_or many.live i [] ≡ first_of many.moment) ⊎ (get_or many.live i [] ≡ Con 1 ∷ []) = λ i lt. live_at many.moment (get_or many.live i []) (many.all_live i lt) in
-      three (first_of many.moment) (Con 1 ∷ []) (get_or many.live 0 []) (get_or many.live 1 []) (get_or many.live 2 [])
-      (each 0 (omega (arith, many.many))) (each 1 (omega (arith, many.many))) (each 2 (omega (arith, many.many)))
-      (many.distinct 0 1 (omega arith) (omega (arith, many.many))) (many.distinct 0 2 (omega arith) (omega (arith, many.many))) (many.distinct 1 2 (omega arith) (omega (arith, many.many)))),
+  no_third,
+  (λ many. no_third (smaller_limit 2 assignments_limit (omega arith) many)),
 )
 
 abbrev symbol_of : List Expression → ℕ

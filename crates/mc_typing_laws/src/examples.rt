@@ -1,6 +1,7 @@
 //! Computed examples of resolving. Each is the contract of a function that does nothing.
 ghost use Rattle.mc_typing_laws.specs.code.Examples.{Typings, LiveAtOnce, ResolvedClauses};
 ghost use Rattle.mc_typing_laws.specs.code.ExamplesOfTypes.{ListsOfAny, AskedList};
+ghost use Rattle.mc_typing_laws.specs.code.ExamplesOfWalks.{CharactersAreBare, ConstructorsAreListed};
 
 /// A clause with one typing, one with two, and one without any.
 pub fn typings()
@@ -21,4 +22,10 @@ pub fn resolved_clauses()
 pub fn most_general()
     ensures types { ListsOfAny }
     ensures query { AskedList }
+{}
+
+/// Clauses where the walk or the normal goal alone is typed, since they lack what the laws between the two ask for.
+pub fn walks_apart()
+    ensures characters { CharactersAreBare }
+    ensures constructors { ConstructorsAreListed }
 {}

@@ -4,7 +4,7 @@ use Rattle.std.specs.Prelude.{◌≡◌, ℕ, zero, suc, List, [], ◌∷◌, co
 use Rattle.mc_program.specs.Programs.{TypeTerm, variable_type, union_type, no_types, Constructor, Predicate, Source, variable, made, no_expressions, Equal, And, no_formulas, formula_then}
 use Rattle.mc_program.specs.PlainPrograms.{no_name}
 use Rattle.mc_accepted.specs.ProperTypes.{Parameters}
-use Rattle.mc_accepted.specs.Resolving.{Unresolved, any_variable, any_name, no_terms, term_then, Unresolved_clause, equation, all_of, no_goals, goal_then, Resolves, WellTyped, FirstTwo, TooMany, resolved}
+use Rattle.mc_accepted.specs.Resolving.{Unresolved, any_variable, any_name, no_terms, term_then, Unresolved_clause, equation, all_of, no_goals, goal_then, Resolves, WellTyped, FirstTwo, TooMany, assignments_limit, resolved}
 use Rattle.mc_source.specs.declared.name.Candidate.{Candidate}
 use Rattle.mc_source.specs.declared.name.Candidate.TheVariants.{Con}
 
@@ -66,10 +66,12 @@ Typings =
     × ((picks : List Candidate) → Resolves two_types plain (over 2) picks → ⊥)
 
 -- In `pa(nil).` two assignments are live once `nil` has been walked, and one is where the head is
--- closed: so a limit of one is passed, and a limit of two isn't.
+-- closed: so a limit of one is passed, and a limit of two isn't, nor is the limit of the language.
 abbrev pub LiveAtOnce : Type 0
 LiveAtOnce =
-    TooMany two_types plain 1 (over 1) × (TooMany two_types plain 2 (over 1) → ⊥)
+    TooMany two_types plain 1 (over 1)
+    × (TooMany two_types plain 2 (over 1) → ⊥)
+    × (TooMany two_types plain assignments_limit (over 1) → ⊥)
 
 -- the picks of `amb` go to its names in order
 abbrev pub ResolvedClauses : Type 0
