@@ -133,7 +133,7 @@ mark_from fs (N.Bound cs) shared h = absurd (omega arith)
 mark_from fs (N.Bound cs) gone h = absurd (omega arith)
 
 -- a node that allows a state has a highest mark
-highest : (M : Node) → 0 < marks M → (m : Mark) × (level m ≡ marks M)
+pub highest : (M : Node) → 0 < marks M → (m : Mark) × (level m ≡ marks M)
 highest N.Free h = absurd (omega arith)
 highest N.Ground h = (shared, refl)
 highest N.Unique h = (sole, refl)
@@ -148,7 +148,7 @@ takes_union state_type u ts = refl
 takes_union (variable_type v) u ts = refl
 takes_union (union_type w us) u ts = refl
 
-takes_any : (b : TypeTerm) (v : ℕ) → takes b (variable_type v) ≡ true
+pub takes_any : (b : TypeTerm) (v : ℕ) → takes b (variable_type v) ≡ true
 takes_any int_type v = refl
 takes_any char_type v = refl
 takes_any string_type v = refl

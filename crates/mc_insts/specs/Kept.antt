@@ -10,6 +10,8 @@ use Rattle.mc_insts.specs.code.Walks.{scene, node_at, ProperCases}
 use Rattle.mc_insts.specs.code.Shown.{Distinct}
 use Rattle.mc_insts.specs.code.TypeRows.{terms}
 use Rattle.mc_insts.specs.code.Tables.{ConstructorsAre, ShapesAre}
+use Rattle.mc_insts.specs.code.Merges.{Builtins}
+use Rattle.mc_insts.specs.code.Pairs.{PairsAre}
 
 pub record AreOf (P : Source) (I : Insts) : Type 0 where
   pub fits : FitsConstructors P
@@ -21,3 +23,5 @@ pub record AreOf (P : Source) (I : Insts) : Type 0 where
       (i : ℕ) (cs : List Case)
       → node_at I.graph.nodes i ≡ N.Bound cs
       → ProperCases (scene I.graph I.shapes) (length I.graph.nodes) cs
+  pub builtins : Builtins I.graph.nodes
+  pub pairs : PairsAre P I.graph (terms I.types) I.pairs

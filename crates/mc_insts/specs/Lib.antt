@@ -1,5 +1,7 @@
 pub mod Programs
 pub mod Graphs
 pub mod Narrowed
+pub mod Merging
+pub mod Growing
 pub mod Kept
 pub mod code

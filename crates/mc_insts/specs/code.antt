@@ -12,3 +12,9 @@ pub mod Shown
 pub mod Narrowing
 pub mod Through
 pub mod Tables
+pub mod Joins
+pub mod Listings
+pub mod Merges
+pub mod Answers
+pub mod Pairs
+pub mod Ready

@@ -12,6 +12,7 @@ ghost use Rattle.mc_insts.specs.code.Tables.{ConstructorsAre};
 use crate::functors::Functors;
 use crate::graph::{InstGraph, Node, Shapes};
 use crate::intern::row_of;
+use crate::pairs::MergedPairs;
 use crate::rows::{complete, functor_of};
 use crate::types::TypeSet;
 use mc_base::{Memory, Row, Text};
@@ -22,13 +23,15 @@ use std::alloc::Global;
 /// The number of an inst: 0 is `free`, 1 `ground`, 2 `unique`, 3 `dead`.
 pub type InstId = u32;
 
-/// The insts of a program: a graph of nodes, which may have cycles, and the types that were met, each a row.
+/// The insts of a program: a graph of nodes, which may have cycles, the types that were met, each a row, and the pairs
+/// that were merged.
 #[derive(Drop)]
 pub struct Insts {
-    graph: InstGraph,
+    pub(crate) graph: InstGraph,
     symbols: Row<u32>,
     types: TypeSet,
-    shapes: Shapes,
+    pub(crate) shapes: Shapes,
+    pub(crate) pairs: MergedPairs,
 }
 
 /// The functors of a program's constructors, and that of each symbol.
@@ -88,11 +91,12 @@ impl Insts {
                 rows: Row::new(alloc),
                 known,
             },
+            pairs: MergedPairs::new(alloc),
         })
     }
 
     /// The row of a type. All rows that a walk can meet are there then.
-    fn row(&mut self, alloc: Global, t: &Ty, program: &Program) -> Result<u32, Memory>
+    pub(crate) fn row(&mut self, alloc: Global, t: &Ty, program: &Program) -> Result<u32, Memory>
         requires { AreOf (plain_program program.now) self.old }
         ensures program { AreOf (plain_program program.now) self.new }
         ensures graph { self.new.graph ≡ self.old.graph }

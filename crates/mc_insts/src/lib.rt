@@ -4,10 +4,14 @@
 mod cases;
 mod functors;
 mod graph;
+mod grow;
 mod insts;
 mod intern;
+mod merge;
+mod merging;
 mod narrow;
 mod over;
+mod pairs;
 mod rows;
 mod triples;
 mod types;

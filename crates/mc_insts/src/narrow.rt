@@ -9,7 +9,7 @@ use mc_base::{Copied, Memory, Row};
 use std::alloc::Global;
 
 /// A number, n times.
-fn repeated(alloc: Global, i: u32, n: u32) -> Result<Row<u32>, Memory>
+pub(crate) fn repeated(alloc: Global, i: u32, n: u32) -> Result<Row<u32>, Memory>
     ensures { IfOk result (λ row. row ≡ replicate n i) }
 {
     let items = Vec::from_elem(alloc, i, n as usize)?;

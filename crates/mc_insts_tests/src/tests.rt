@@ -1,3 +1,4 @@
+ghost use Rattle.std.specs.Prelude.{◌<◌};
 ghost use Rattle.mc_program.specs.PlainPrograms.{plain_program};
 ghost use Rattle.mc_insts.specs.Programs.{FitsConstructors};
 
@@ -8,9 +9,13 @@ use mc_program::ty::Ty;
 use std::alloc::Global;
 use std::test::Fail;
 
+const FREE: InstId = 0;
+
 const GROUND: InstId = 1;
 
 const UNIQUE: InstId = 2;
+
+const DEAD: InstId = 3;
 
 /// A program without types, symbols and predicates.
 fn empty(alloc: Global) -> Program
@@ -43,5 +48,30 @@ fn unique_and_ground(rt: HostRuntime) -> Result<(), Fail> {
     assert!(rt; up && !down);
     let (up, down) = both_ways(alloc, &Ty::Union(0, Row::one(alloc, Ty::Io)?))?;
     assert!(rt; up && down);
+    Ok(())
+}
+
+/// Whether two builtin insts are merged to a third at a type, in both orders and many at once.
+fn merges(alloc: Global, t: &Ty, i: InstId, j: InstId, k: InstId) -> Result<bool, Memory>
+    requires i_builtin { i < 4 }
+    requires j_builtin { j < 4 }
+{
+    let program = empty(alloc);
+    let mut insts = Insts::new(alloc, &program)?;
+    let one = insts.merge(alloc, i, j, t, &program)?;
+    let other = insts.merge(alloc, j, i, t, &program)?;
+    let again = insts.merge(alloc, i, j, t, &program)?;
+    let all = insts.merge_all(alloc, &[i, j, i], t, &program)?;
+    Ok(one == k && other == k && again == k && all == k)
+}
+
+#[test]
+fn builtin_insts_merge(rt: HostRuntime) -> Result<(), Fail> {
+    let alloc = rt.alloc();
+    assert!(rt; merges(alloc, &Ty::Io, UNIQUE, GROUND, GROUND)?);
+    assert!(rt; merges(alloc, &Ty::Io, UNIQUE, DEAD, DEAD)?);
+    assert!(rt; merges(alloc, &Ty::Int, FREE, GROUND, GROUND)?);
+    assert!(rt; merges(alloc, &Ty::Var(0), UNIQUE, GROUND, GROUND)?);
+    assert!(rt; merges(alloc, &Ty::Var(0), FREE, FREE, FREE)?);
     Ok(())
 }

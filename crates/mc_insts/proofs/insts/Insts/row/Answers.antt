@@ -4,7 +4,8 @@ use Rattle.mc_program.specs.PlainPrograms.{plain_program, plain_type}
 use Rattle.mc_insts.specs.code.Walks.{scene}
 use Rattle.mc_insts.specs.code.TypeRows.{terms}
 use Rattle.mc_insts.specs.code.Tables.{ConstructorsAre}
-use Rattle.mc_insts.proofs.Growth.{extends_length, extends_get}
+use Rattle.mc_insts.proofs.Growth.{extends_length, extends_get, extends_on}
+use Rattle.mc_insts.proofs.Readies.{pairs_typed}
 use Rattle.mc_insts.proofs.Climbing.{itself}
 use Rattle.mc_insts.proofs.Tables.{shapes_on, scene_proper, rows_are}
 use Rattle.mc_insts.proofs.insts.Insts.row.Goals as goal
@@ -23,6 +24,8 @@ returns-in_err-r-clause-program c =
       fewer = omega arith;
       distinct = c.requires.distinct;
       nodes = c.requires.nodes;
+      builtins = c.requires.builtins;
+      pairs = pairs_typed (plain_program c.args.program.now) c.args.self.now.graph (terms c.args.self.now.types) (terms c.row_of.new.types) c.args.self.now.pairs c.row_of.ensures.extends c.requires.pairs;
     }
 
 pub returns-in_err-complete-clause-program : goal.returns-in_err-complete-clause-program
@@ -33,6 +36,8 @@ returns-in_err-complete-clause-program c = record {
   fewer = c.complete.ensures.fewer;
   distinct = c.requires.distinct;
   nodes = λ i cs e. let p = c.requires.nodes i cs e in record { rising = p.rising; fitting = p.fitting };
+  builtins = c.requires.builtins;
+  pairs = pairs_typed (plain_program c.args.program.now) c.args.self.now.graph (terms c.args.self.now.types) (terms c.complete.new.types) c.args.self.now.pairs (extends_on (terms c.args.self.now.types) (terms c.row_of.new.types) (terms c.complete.new.types) c.row_of.ensures.extends c.complete.ensures.extends) c.requires.pairs;
 }
 
 pub returns-clause-program : goal.returns-clause-program
@@ -43,6 +48,8 @@ returns-clause-program c = record {
   fewer = c.complete.ensures.fewer;
   distinct = c.requires.distinct;
   nodes = λ i cs e. let p = c.requires.nodes i cs e in record { rising = p.rising; fitting = p.fitting };
+  builtins = c.requires.builtins;
+  pairs = pairs_typed (plain_program c.args.program.now) c.args.self.now.graph (terms c.args.self.now.types) (terms c.complete.new.types) c.args.self.now.pairs (extends_on (terms c.args.self.now.types) (terms c.row_of.new.types) (terms c.complete.new.types) c.row_of.ensures.extends c.complete.ensures.extends) c.requires.pairs;
 }
 
 pub returns-clause-is : goal.returns-clause-is
