@@ -1,0 +1,7 @@
+pub mod Ties
+pub mod Searched
+pub mod WrittenTypes
+pub mod Outcomes
+pub mod Walked
+pub mod Unresolved
+pub mod code
