@@ -1,0 +1,9 @@
+ghost use Rattle.mc_type_table.specs.code.Examples.{Variables, Circles, Regular, Tables};
+
+/// Definitions of types, the rules that they break and the tables that they are.
+pub fn types_of_programs()
+    ensures variables { Variables }
+    ensures circles { Circles }
+    ensures regular { Regular }
+    ensures tables { Tables }
+{}
