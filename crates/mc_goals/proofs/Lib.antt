@@ -1,0 +1,11 @@
+pub mod Views
+pub mod Naming
+pub mod Conjunctions
+pub mod Lists
+pub mod Meeting
+pub mod Heads
+pub mod Slots
+pub mod Results
+pub mod HeadSteps
+pub mod TermVariables
+pub mod ClauseGoals
