@@ -1,0 +1,4 @@
+pub mod Updates
+pub mod Versions
+pub mod Numbered
+pub mod code
