@@ -1,5 +1,6 @@
 mod Appended
 mod Disjuncts
+mod Names
 mod Nested
 mod Scoped
 mod Shapes

@@ -1,5 +1,6 @@
 -- Where state variables may stand (the Mercury manual: State variables).
-use Rattle.std.specs.Prelude.{ℕ, Bool, true, false, ◌&&◌, List, [], ◌∷◌, ◌++◌, Option, Some, None}
+use Rattle.std.specs.Prelude.{ℕ, Bool, true, false, ◌&&◌, List, [], ◌∷◌, ◌++◌, map, Option, Some, None}
+use Rattle.std.specs.Borrow.{Bor}
 use Rattle.std.specs.Str.{bytes_eq}
 use Rattle.std.specs.Set.{is_member}
 use Rattle.mc_term_data.specs.Plain.{PlainTerm, PlainTerms, at, no_term, more_terms, App, Items, Tailed, Conj, Disj}
@@ -8,6 +9,8 @@ use Rattle.mc_clause_syntax.specs.declared.goal_form.Parts.{Parts}
 use Rattle.mc_clause_syntax.specs.declared.goal_form.Parts.TheVariants.{Nothing, Goals, Quantified, Sides, Arguments}
 use Rattle.mc_clause_syntax.specs.declared.state.StateForm.{StateForm}
 use Rattle.mc_clause_syntax.specs.declared.state.StateForm.TheVariants.{Both, Before, After}
+use Rattle.mc_clause_syntax.specs.declared.state_names.StatesWanted.{StatesWanted}
+use Rattle.mc_clause_syntax.specs.declared.state_names.StatesWanted.TheVariants.{Every, Updated}
 use Rattle.mc_clause_syntax.specs.GoalForms.{goal_form, parts}
 use Rattle.mc_clause_syntax.specs.StateVariables.{state}
 
@@ -15,13 +18,21 @@ use Rattle.mc_clause_syntax.specs.StateVariables.{state}
 abbrev pub in_scope : List (List ℕ) → List ℕ → Bool
 in_scope scope x = is_member bytes_eq scope x
 
-abbrev pub name_of : Option (StateForm × List ℕ) → List (List ℕ)
-name_of None = []
-name_of (Some s) = s.1 ∷ []
+-- the names behind references
+abbrev pub names_of : List (Bor (List ℕ)) → List (List ℕ)
+names_of xs = map (λ x. x.now) xs
+
+-- the name of a state variable, where it is wanted: every one is, or one whose version after it is
+abbrev pub wanted_name : StatesWanted → Option (StateForm × List ℕ) → List (List ℕ)
+wanted_name wanted None = []
+wanted_name Every (Some s) = s.1 ∷ []
+wanted_name Updated (Some (Before, x)) = []
+wanted_name Updated (Some (After, x)) = x ∷ []
+wanted_name Updated (Some (Both, x)) = x ∷ []
 
 -- the name of the state variable that a term is
 abbrev pub state_name : PlainTerm → List (List ℕ)
-state_name (at (App w ts) l) = name_of (state w ts)
+state_name (at (App w ts) l) = wanted_name Every (state w ts)
 state_name _ = []
 
 -- the names of the state variables in a list behind a quantifier
@@ -34,18 +45,22 @@ quantified (at (Items ts) l) = quantified_in ts
 quantified _ = []
 
 abbrev mutual
-  -- the names of the state variables in a term
-  pub states_of : PlainTerm → List (List ℕ)
-  states_of (at (App w ts) l) = name_of (state w ts) ++ states_of_all ts
-  states_of (at (Items ts) l) = states_of_all ts
-  states_of (at (Tailed ts t) l) = states_of_all ts ++ states_of t
-  states_of (at (Conj ts) l) = states_of_all ts
-  states_of (at (Disj ts) l) = states_of_all ts
-  states_of _ = []
+  -- the names of the wanted state variables in a term
+  pub states_in : StatesWanted → PlainTerm → List (List ℕ)
+  states_in wanted (at (App w ts) l) = wanted_name wanted (state w ts) ++ states_in_all wanted ts
+  states_in wanted (at (Items ts) l) = states_in_all wanted ts
+  states_in wanted (at (Tailed ts t) l) = states_in_all wanted ts ++ states_in wanted t
+  states_in wanted (at (Conj ts) l) = states_in_all wanted ts
+  states_in wanted (at (Disj ts) l) = states_in_all wanted ts
+  states_in wanted _ = []
 
-  pub states_of_all : PlainTerms → List (List ℕ)
-  states_of_all no_term = []
-  states_of_all (more_terms t ts) = states_of t ++ states_of_all ts
+  pub states_in_all : StatesWanted → PlainTerms → List (List ℕ)
+  states_in_all wanted no_term = []
+  states_in_all wanted (more_terms t ts) = states_in wanted t ++ states_in_all wanted ts
+
+-- the names of the state variables in a term
+abbrev pub states_of : PlainTerm → List (List ℕ)
+states_of t = states_in Every t
 
 -- One version of a state variable stands where a variable may, and both where an argument of a name
 -- does; its name is in scope.

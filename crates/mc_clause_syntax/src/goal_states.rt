@@ -4,7 +4,8 @@ ghost use Rattle.mc_clause_syntax.specs.States.{quantified, goal_placed, parts_p
 ghost use Rattle.mc_clause_syntax.specs.code.Scopes.{all_names};
 
 use crate::goal_form::{GoalForm, Parts};
-use crate::scope::{Scope, quantified};
+use crate::scope::Scope;
+use crate::state_names::quantified;
 use mc_base::Memory;
 use mc_term_data::{Node, Term, arity};
 

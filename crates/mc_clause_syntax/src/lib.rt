@@ -9,6 +9,7 @@ mod goal_form;
 mod goal_states;
 mod scope;
 mod state;
+mod state_names;
 mod variables;
 
 pub use arguments::{
@@ -16,5 +17,6 @@ pub use arguments::{
 };
 pub use clause::{is_clause, is_query};
 pub use goal_form::{GoalForm, Parts, Stand};
-pub use state::is_state;
+pub use state::{StateForm, is_state, state_variable};
+pub use state_names::{StatesWanted, name_set, push_all_states, push_quantified, push_states};
 pub use variables::has_too_many_variables;

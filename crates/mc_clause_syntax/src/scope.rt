@@ -1,11 +1,12 @@
-ghost use Rattle.std.specs.Prelude.{◌≡◌, ◌∷◌, ◌++◌, [], map, IfOk, OnOk};
+ghost use Rattle.std.specs.Prelude.{◌≡◌, ◌∷◌, [], map, IfOk};
 ghost use Rattle.mc_base.specs.NameSets.{put_all};
 ghost use Rattle.mc_term_data.specs.Plain.{plain_term, tms};
 ghost use Rattle.mc_clause_syntax.specs.StateVariables.{state};
-ghost use Rattle.mc_clause_syntax.specs.States.{in_scope, name_of, state_name, quantified_in, quantified, states_of, states_of_all, placed_state, placed, all_placed};
+ghost use Rattle.mc_clause_syntax.specs.States.{in_scope, states_of, placed_state, placed, all_placed};
 ghost use Rattle.mc_clause_syntax.specs.code.Scopes.{all_names};
 
-use crate::state::{StateForm, state};
+use crate::state::{StateForm, state_variable};
+use crate::state_names::{StatesWanted, name_set, push_states};
 use mc_base::{Memory, NameSet, Text};
 use mc_term_data::{Node, Term};
 use std::alloc::Global;
@@ -33,10 +34,10 @@ impl<'a> Scope<'a> {
         ensures { IfOk result
             (λ scope. scope.sets.items ≡ put_all [] (states_of (plain_term head.now)) ∷ []) }
     {
-        let mut names = NameSet::new(alloc);
-        add_states(&mut names, head)?;
+        let mut names = Vec::new(alloc);
+        push_states(&mut names, StatesWanted::Every, head)?;
         let mut scope = Scope::empty(alloc);
-        scope.sets.push(names)?;
+        scope.sets.push(name_set(alloc, &names)?)?;
         Ok(scope)
     }
 
@@ -97,94 +98,10 @@ impl<'a> Scope<'a> {
             ≡ placed_state (all_names self.now.sets.items) is_argument
             (state name.now (tms (map plain_term parts.now))) }
     {
-        match state(name, parts) {
+        match state_variable(name, parts) {
             Some((StateForm::Both, variable)) => is_argument && self.has(variable),
             Some((_, variable)) => self.has(variable),
             None => true,
         }
-    }
-}
-
-// Puts in the names of the state variables in a term.
-#[cycle(states)]
-fn add_states<'a>(names: &mut NameSet<'a>, term: &'a Term) -> Result<(), Memory>
-    ensures { OnOk result (names.new ≡ put_all names.old (states_of (plain_term term.now))) }
-{
-    match &term.node {
-        Node::App(name, parts) => {
-            add_state(names, name.as_slice(), parts.as_slice())?;
-            add_all_states(names, parts.as_slice())?;
-            Ok(())
-        }
-        Node::List(elements, tail) => {
-            add_all_states(names, elements.as_slice())?;
-            match tail {
-                Some(tail) => {
-                    add_states(names, tail)?;
-                    Ok(())
-                }
-                None => Ok(()),
-            }
-        }
-        Node::Conj(parts) | Node::Disj(parts) => add_all_states(names, parts.as_slice()),
-        Node::Var(_) | Node::Int(_) | Node::Str(_) => Ok(()),
-    }
-}
-
-#[cycle(states)]
-fn add_all_states<'a>(names: &mut NameSet<'a>, terms: &'a [Term]) -> Result<(), Memory>
-    ensures { OnOk result (names.new ≡ put_all names.old (states_of_all (tms (map plain_term terms.now)))) }
-{
-    for term in terms {
-        add_states(names, term)?;
-    }
-    Ok(())
-}
-
-// Puts in the name of a state variable, where a name over parts is one.
-fn add_state<'a>(names: &mut NameSet<'a>, name: &[Text], parts: &'a [Term]) -> Result<(), Memory>
-    ensures { OnOk result
-        (names.new
-        ≡ put_all names.old (name_of (state name.now (tms (map plain_term parts.now))))) }
-{
-    match state(name, parts) {
-        Some((_, variable)) => {
-            names.insert(variable)?;
-            Ok(())
-        }
-        None => Ok(()),
-    }
-}
-
-/// The names of the state variables in a list behind a quantifier.
-pub fn quantified<'a>(alloc: Global, list: &'a Term) -> Result<NameSet<'a>, Memory>
-    ensures { IfOk result (λ names. names ≡ put_all [] (quantified (plain_term list.now))) }
-{
-    let mut names = NameSet::new(alloc);
-    match &list.node {
-        Node::List(elements, None) => {
-            add_quantified(&mut names, elements.as_slice())?;
-            Ok(names)
-        }
-        _ => Ok(names),
-    }
-}
-
-fn add_quantified<'a>(names: &mut NameSet<'a>, terms: &'a [Term]) -> Result<(), Memory>
-    ensures { OnOk result (names.new ≡ put_all names.old (quantified_in (tms (map plain_term terms.now)))) }
-{
-    for term in terms {
-        add_state_of(names, term)?;
-    }
-    Ok(())
-}
-
-// Puts in the name of a state variable, where a term is one.
-fn add_state_of<'a>(names: &mut NameSet<'a>, term: &'a Term) -> Result<(), Memory>
-    ensures { OnOk result (names.new ≡ put_all names.old (state_name (plain_term term.now))) }
-{
-    match &term.node {
-        Node::App(name, parts) => add_state(names, name.as_slice(), parts.as_slice()),
-        _ => Ok(()),
     }
 }

@@ -19,7 +19,7 @@ pub enum StateForm {
 }
 
 /// What a name over parts is as a state variable: which of its versions, and its name.
-pub fn state<'a>(name: &[Text], parts: &'a [Term]) -> Option<(StateForm, &'a [u8])>
+pub fn state_variable<'a>(name: &[Text], parts: &'a [Term]) -> Option<(StateForm, &'a [u8])>
     ensures { option_map (λ s. (s.0, s.1.now)) result ≡ state name.now (tms (map plain_term parts.now)) }
 {
     match name {
@@ -61,14 +61,14 @@ fn state_form(name: &[u8]) -> Option<StateForm>
 pub fn is_state(name: &[Text], parts: &[Term]) -> bool
     ensures { result ≡ is_state name.now (tms (map plain_term parts.now)) }
 {
-    state(name, parts).is_some()
+    state_variable(name, parts).is_some()
 }
 
 /// Whether a name over parts is both versions of a state variable.
 pub fn is_both_versions(name: &[Text], parts: &[Term]) -> bool
     ensures { result ≡ both_versions (state name.now (tms (map plain_term parts.now))) }
 {
-    match state(name, parts) {
+    match state_variable(name, parts) {
         Some((StateForm::Both, _)) => true,
         _ => false,
     }
