@@ -8,10 +8,11 @@ use Rattle.mc_clause_syntax.specs.declared.goal_form.GoalForm.{GoalForm}
 use Rattle.mc_clause_syntax.specs.declared.goal_form.GoalForm.TheVariants as G
 use Rattle.mc_clause_syntax.specs.declared.state.StateForm.{StateForm}
 use Rattle.mc_clause_syntax.specs.declared.state.StateForm.TheVariants.{Both, Before, After}
+use Rattle.mc_clause_syntax.specs.declared.state_names.StatesWanted.TheVariants.{Updated}
 use Rattle.mc_clause_syntax.specs.GoalForms.{goal_form}
 use Rattle.mc_clause_syntax.specs.StateVariables.{state}
-use Rattle.mc_clause_syntax.specs.States.{in_scope, quantified, states_of}
-use Rattle.mc_state_variables.specs.Updates.{leave_out, common, afters_of_all, updated}
+use Rattle.mc_clause_syntax.specs.States.{in_scope, quantified, states_of, states_in_all}
+use Rattle.mc_state_variables.specs.Updates.{leave_out, common, updated}
 use Rattle.mc_state_variables.specs.Versions.{Held, version, before_of, after_of, distinct, begun, behind, entered, entered_behind, renewed, renewed_behind, handed, seen_outside, closings, and_then}
 
 abbrev pub one_version : List Held → (line : ℕ) → StateForm × List ℕ → PlainTerm
@@ -205,10 +206,10 @@ module _ (l : ℕ) (c : Condition) (then_part : Part) where
       (λ u. arrow (c.quantify (inside hs n) (c.goal.updates ++ then_part.updates) w.text) u)
       (then_goal xs hs n w.next)
 
-  abbrev pub conditional : Branch
-  conditional =
+  abbrev pub conditional : (updates : List (List ℕ)) → Branch
+  conditional us =
       record {
-        updates = leave_out c.names (c.goal.updates ++ then_part.updates);
+        updates = us;
         writing =
             λ xs hs n.
             conditional_text xs hs n
@@ -265,6 +266,16 @@ conditional_goal b =
       is_conditional = true;
     }
 
+-- the goal behind an `if`
+abbrev pub behind_if : (updates : List (List ℕ)) → Goal → Goal
+behind_if us g =
+    record {
+      part = record { updates = us; writing = g.part.writing };
+      branch = record { updates = us; writing = g.branch.writing };
+      condition = unquantified (record { updates = us; writing = g.part.writing });
+      is_conditional = g.is_conditional;
+    }
+
 -- the disjuncts of a disjunction; a conditional before others is one with them behind its else
 abbrev pub branches_of : (line : ℕ) → List Goal → List Branch
 branches_of l [] = []
@@ -285,17 +296,17 @@ abbrev pub written_by :
 written_by G.Conjunction w l ts gs = conjunction_of l gs
 written_by G.Disjunction w l ts gs = disjunction_of l gs
 written_by G.Else w l ts gs = disjunction_of l gs
-written_by G.Negation w l ts gs = λ hs n. applied w l (in_negation (goal_parts gs) hs n)
-written_by G.Implication w l ts (a ∷ b ∷ []) = implied l a.part b.part
-written_by G.ReverseImplication w l ts (a ∷ b ∷ []) = implied l b.part a.part
-written_by G.Equivalence w l ts (a ∷ b ∷ []) = both_ways l a.part b.part
-written_by G.Universal w l (more_terms q ts) (_ ∷ g ∷ []) =
+written_by G.Negation w l ts (g ∷ _) = λ hs n. applied w l (in_negation (g.part ∷ []) hs n)
+written_by G.Implication w l ts (a ∷ b ∷ _) = implied l a.part b.part
+written_by G.ReverseImplication w l ts (a ∷ b ∷ _) = implied l b.part a.part
+written_by G.Equivalence w l ts (a ∷ b ∷ _) = both_ways l a.part b.part
+written_by G.Universal w l (more_terms q ts) (_ ∷ g ∷ _) =
     quantified_goal (codes "all") l q (negated g.part)
 written_by G.Unification w l ts gs = λ hs n. written (at (App w (terms_of hs ts)) l) n
 written_by G.Disunification w l ts gs =
     λ hs n.
-    written (at (App w (terms_of (renewed (afters_of_all ts) n hs) ts)) l)
-    (renewed_behind (afters_of_all ts) n hs)
+    written (at (App w (terms_of (renewed (states_in_all Updated ts) n hs) ts)) l)
+    (renewed_behind (states_in_all Updated ts) n hs)
 written_by G.Call w l ts gs = λ hs n. written (at (App w (terms_of hs ts)) l) n
 written_by f w l ts gs = λ hs n. written (at (App w ts) l) n
 
@@ -314,10 +325,10 @@ quantified_condition l q p =
 abbrev pub goal_by :
     GoalForm → (updates : List (List ℕ)) → (name : List (List ℕ)) → (line : ℕ) → PlainTerms
     → List Goal → Goal
-goal_by G.Arrow us w l ts (c ∷ t ∷ []) = conditional_goal (conditional l c.condition t.part)
-goal_by G.Then us w l ts (c ∷ t ∷ []) = conditional_goal (conditional l c.condition t.part)
-goal_by G.If us w l ts (g ∷ []) = g
-goal_by G.Existential us w l (more_terms q ts) (p ∷ g ∷ []) =
+goal_by G.Arrow us w l ts (c ∷ t ∷ _) = conditional_goal (conditional l c.condition t.part us)
+goal_by G.Then us w l ts (c ∷ t ∷ _) = conditional_goal (conditional l c.condition t.part us)
+goal_by G.If us w l ts (g ∷ _) = behind_if us g
+goal_by G.Existential us w l (more_terms q ts) (p ∷ g ∷ _) =
     no_conditional l
     (record { updates = us; writing = quantified_goal (codes "some") l q g.part })
     (quantified_condition l q g.part)

@@ -1,14 +1,12 @@
 -- Which state variables a goal updates. (Mercury Language Reference Manual: State variables.)
-use Rattle.std.specs.Prelude.{ℕ, List, [], ◌∷◌, ◌++◌, Option, Some, if◌then◌else◌}
-use Rattle.mc_term_data.specs.Plain.{PlainTerm, PlainTerms, at, no_term, more_terms, App, Items, Tailed, Conj, Disj}
+use Rattle.std.specs.Prelude.{ℕ, List, [], ◌∷◌, ◌++◌, if◌then◌else◌}
+use Rattle.mc_term_data.specs.Plain.{PlainTerm, PlainTerms, at, no_term, more_terms, App, Conj, Disj}
 use Rattle.mc_term_data.specs.Names.{count}
 use Rattle.mc_clause_syntax.specs.declared.goal_form.GoalForm.{GoalForm}
 use Rattle.mc_clause_syntax.specs.declared.goal_form.GoalForm.TheVariants as G
-use Rattle.mc_clause_syntax.specs.declared.state.StateForm.{StateForm}
-use Rattle.mc_clause_syntax.specs.declared.state.StateForm.TheVariants.{Both, After}
+use Rattle.mc_clause_syntax.specs.declared.state_names.StatesWanted.TheVariants.{Updated}
 use Rattle.mc_clause_syntax.specs.GoalForms.{goal_form}
-use Rattle.mc_clause_syntax.specs.StateVariables.{state}
-use Rattle.mc_clause_syntax.specs.States.{in_scope, quantified}
+use Rattle.mc_clause_syntax.specs.States.{in_scope, quantified, states_in_all}
 
 -- the names that aren't among those
 abbrev pub leave_out : (those names : List (List ℕ)) → List (List ℕ)
@@ -20,26 +18,6 @@ leave_out those (x ∷ xs) =
 abbrev pub common : List (List ℕ) → List (List ℕ) → List (List ℕ)
 common [] ys = []
 common (x ∷ xs) ys = if in_scope ys x then x ∷ common xs ys else common xs ys
-
--- the name of a state variable whose version after a goal stands there
-abbrev pub name_after : Option (StateForm × List ℕ) → List (List ℕ)
-name_after (Some (Both, x)) = x ∷ []
-name_after (Some (After, x)) = x ∷ []
-name_after _ = []
-
-abbrev mutual
-  -- the names of the state variables whose version after an atom stands in a term of it
-  pub afters_of : PlainTerm → List (List ℕ)
-  afters_of (at (App w ts) l) = name_after (state w ts) ++ afters_of_all ts
-  afters_of (at (Items ts) l) = afters_of_all ts
-  afters_of (at (Tailed ts t) l) = afters_of_all ts ++ afters_of t
-  afters_of (at (Conj ts) l) = afters_of_all ts
-  afters_of (at (Disj ts) l) = afters_of_all ts
-  afters_of _ = []
-
-  pub afters_of_all : PlainTerms → List (List ℕ)
-  afters_of_all no_term = []
-  afters_of_all (more_terms t ts) = afters_of t ++ afters_of_all ts
 
 abbrev pub condition_names_by : GoalForm → PlainTerms → List (List ℕ)
 condition_names_by G.Existential (more_terms q ts) = quantified q
@@ -68,8 +46,8 @@ updated_by G.If ts each = joined each
 updated_by G.Arrow (more_terms c ts) (us ∷ each) = us ++ leave_out (condition_names c) (joined each)
 updated_by G.Then (more_terms c ts) (us ∷ each) = us ++ leave_out (condition_names c) (joined each)
 updated_by G.Existential (more_terms q ts) each = leave_out (quantified q) (joined each)
-updated_by G.Unification ts each = afters_of_all ts
-updated_by G.Call ts each = afters_of_all ts
+updated_by G.Unification ts each = states_in_all Updated ts
+updated_by G.Call ts each = states_in_all Updated ts
 updated_by f ts each = []
 
 abbrev mutual

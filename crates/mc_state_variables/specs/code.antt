@@ -1,1 +1,5 @@
+pub mod Conditions
 pub mod Examples
+pub mod Helds
+pub mod Pieces
+pub mod Steps

@@ -1,0 +1,62 @@
+-- Goals behind others, and branches that are one or several.
+use Rattle.std.proofs.Common.{◌≡◌, ℕ, zero, nat_eq, true, false, ◌≤◌, ◌-◌, ◌+◌, ◌<◌, List, [], ◌∷◌, ◌++◌, length, map, drop, get_or, refl, ap, sym, ◌∙◌, arith}
+use Rattle.std.proofs.Common.{drop-cons, suc, ap₂}
+use Rattle.mc_term_data.specs.Plain.{PlainTerm, PlainTerms, PlainNode, at, no_term, more_terms, Var, Int, Str, App, Items, Tailed, Conj, Disj, plain_term, plain_node, node_step, term_step, tms}
+use Rattle.mc_term_data.specs.declared.term.Term.{Term}
+use Rattle.mc_term_data.specs.declared.term.Node.TheFolds.{fold-roll-Term, fold-roll-Node}
+use Rattle.mc_term_data.specs.declared.term.Node.TheVariants as N
+use Rattle.mc_term_data.specs.declared.term.Node.TheVariants.{rolls-Conj}
+use Rattle.mc_term_data.specs.declared.term.Node.TheOpen as O
+use Rattle.mc_state_variables.specs.Versions.{followed_by, and_then}
+use Rattle.mc_state_variables.specs.Numbered.{line_of}
+use Rattle.mc_state_variables.specs.code.Helds.{listed}
+use Rattle.mc_state_variables.specs.code.Pieces.{Piece, alone, conjuncts, gather, gathered}
+
+pub plain_line : (t : Term) → line_of (plain_term t) ≡ t.line
+plain_line t = ap line_of (fold-roll-Term PlainNode PlainTerm node_step term_step (record { node = t.node; line = t.line }))
+
+-- the plain view of a conjunction
+pub plain_conj : (t : Term) (xs : List Term) → t.node ≡ N.Conj xs → plain_term t ≡ at (Conj (tms (map plain_term xs))) t.line
+plain_conj t xs e =
+    fold-roll-Term PlainNode PlainTerm node_step term_step (record { node = t.node; line = t.line })
+    ∙ ap (λ n. at n t.line) (ap plain_node (e ∙ sym (rolls-Conj xs)) ∙ fold-roll-Node PlainNode PlainTerm node_step term_step (O.Conj xs))
+
+pub not_zero : (n : ℕ) → nat_eq n 0 ≡ false → 1 ≤ n
+not_zero zero e = cc
+not_zero (suc n) e = omega arith
+
+joined_terms : (ts : PlainTerms) (us : List PlainTerm) → tms (listed ts ++ us) ≡ followed_by ts (tms us)
+joined_terms no_term us = refl
+joined_terms (more_terms t ts) us = ap (λ vs. more_terms t vs) (joined_terms ts us)
+
+-- a goal with some behind it is a conjunction
+pub conjoined : (t : PlainTerm) (us : List PlainTerm) (l : ℕ) → line_of t ≡ l → 1 ≤ length us → at (Conj (tms (conjuncts t ++ us))) l ≡ and_then t (tms us)
+conjoined t [] l e h = absurd (omega arith)
+conjoined (at (Conj ts) k) (u ∷ us) l e h = ap (λ m. at (Conj (tms (listed ts ++ u ∷ us))) m) (sym e) ∙ ap (λ vs. at (Conj vs) k) (joined_terms ts (u ∷ us))
+conjoined (at (Var x) k) (u ∷ us) l e h = ap (λ m. at (Conj (more_terms (at (Var x) k) (tms (u ∷ us)))) m) (sym e)
+conjoined (at (Int n) k) (u ∷ us) l e h = ap (λ m. at (Conj (more_terms (at (Int n) k) (tms (u ∷ us)))) m) (sym e)
+conjoined (at (Str s) k) (u ∷ us) l e h = ap (λ m. at (Conj (more_terms (at (Str s) k) (tms (u ∷ us)))) m) (sym e)
+conjoined (at (App w ts) k) (u ∷ us) l e h = ap (λ m. at (Conj (more_terms (at (App w ts) k) (tms (u ∷ us)))) m) (sym e)
+conjoined (at (Items ts) k) (u ∷ us) l e h = ap (λ m. at (Conj (more_terms (at (Items ts) k) (tms (u ∷ us)))) m) (sym e)
+conjoined (at (Tailed ts t) k) (u ∷ us) l e h = ap (λ m. at (Conj (more_terms (at (Tailed ts t) k) (tms (u ∷ us)))) m) (sym e)
+conjoined (at (Disj ts) k) (u ∷ us) l e h = ap (λ m. at (Conj (more_terms (at (Disj ts) k) (tms (u ∷ us)))) m) (sym e)
+
+-- branches that aren't one are a disjunction
+pub several : (l : ℕ) (ts : List PlainTerm) → (length ts ≡ 1 → ⊥) → at (Disj (tms ts)) l ≡ alone l (tms ts)
+several l [] h = refl
+several l (t ∷ []) h = absurd (h refl)
+several l (t ∷ u ∷ ts) h = refl
+
+pub gathered-last : (l : ℕ) (ps : List Piece) (p : Piece) (ts : PlainTerms) → gathered l (ps ++ p ∷ []) ts ≡ gathered l ps (gather l p.opened p.text ts)
+gathered-last l [] p ts = refl
+gathered-last l (q ∷ ps) p ts = ap (λ us. gather l q.opened q.text us) (gathered-last l ps p ts)
+
+pub no_items : {A : Type 0} (xs : List A) → length xs ≡ 0 → xs ≡ []
+no_items [] e = refl
+no_items (x ∷ xs) e = absurd (omega arith)
+
+pub item_before : (ts : List Term) (k : ℕ) (t : Term) → 1 ≤ k → k ≤ length ts → t ≡ get_or ts (k - 1) t → drop (k - 1) ts ≡ t ∷ drop k ts
+item_before ts k t h le e =
+    let at_item : get_or ts (k - 1) t ≡ t = sym e in
+    let next : suc (k - 1) ≡ k = omega arith in
+    drop-cons ts (k - 1) t (omega arith) ∙ ap₂ (λ x j. x ∷ drop j ts) at_item next

@@ -1,0 +1,156 @@
+-- What each form of goal is written as, by what its parts are written as.
+use Rattle.std.proofs.Common.{◌≡◌, ℕ, ◌≤◌, ◌<◌, Bool, true, false, List, [], ◌∷◌, ◌++◌, Option, Some, None, length, map, reverse, refl, ap, ap₂, sym, ◌∙◌, arith, codes, Result, Ok, Err, IfOk}
+use Rattle.std.proofs.lemmas.List.{append-nil}
+use Rattle.mc_base.specs.NameSets.{put_all}
+use Rattle.mc_term_data.specs.Plain.{PlainTerm, PlainTerms, at, no_term, more_terms, App, Conj, plain_term, tms}
+use Rattle.mc_term_data.specs.declared.term.Term.{Term}
+use Rattle.mc_clause_syntax.specs.States.{quantified, states_of}
+use Rattle.mc_state_variables.specs.Updates.{leave_out, updated}
+use Rattle.mc_state_variables.specs.Versions.{Held, behind, distinct, entered, entered_behind, renewed, renewed_behind, handed, closings, seen_outside, and_then}
+use Rattle.mc_state_variables.specs.Numbered.{Written, Part, Goal, Condition, written, on_text, ended, goal_of, goals_of, goal_parts, conditional, conjunction_of, in_order, quantified_goal, quantifier, negated, in_negation, applied, implied, both_ways, term_of, rule_of, fact_of, head_states}
+use Rattle.mc_state_variables.specs.code.Helds.{listed}
+use Rattle.mc_state_variables.specs.code.Steps.{steps_of, stepwise}
+use Rattle.mc_state_variables.specs.code.Pieces.{Piece, pieces_of}
+use Rattle.mc_state_variables.specs.code.Conditions.{condition_by}
+use Rattle.mc_state_variables.specs.declared.steps.Step.{Step}
+use Rattle.mc_state_variables.proofs.Lists.{terms-listed, terms_from_list}
+use Rattle.mc_state_variables.proofs.Sets.{set_same, closings-wanted_set}
+use Rattle.mc_state_variables.proofs.Forms.{part_updates, branch-same}
+use Rattle.mc_state_variables.proofs.Orders.{ended_whole, behind_whole, stepwise_is}
+
+pub if_ok : {T E : Type 0} (r : Result T E) (P Q : T → Type 0) → IfOk r P → ((x : T) → P x → Q x) → IfOk r Q
+if_ok (Ok x) P Q h f = f x h
+if_ok (Err e) P Q h f = tt
+
+stepwise_none : (ss : List Step) (hs : List Held) (n : ℕ) → stepwise ss [] hs n ≡ written no_term n
+stepwise_none [] hs n = refl
+stepwise_none (s ∷ ss) hs n = refl
+
+-- the goals of a conjunction, where none is left
+pub conjunction_is : (l : ℕ) (ts : PlainTerms) (xs : List PlainTerm) (ss : List Step) (hs behind : List Held) (n m : ℕ)
+    → on_text (λ us. xs ++ listed us) (stepwise ss [] behind m) ≡ on_text listed (stepwise (steps_of ts) (goal_parts (goals_of ts)) hs n)
+    → written (at (Conj (tms xs)) l) m ≡ conjunction_of l (goals_of ts) hs n
+conjunction_is l ts xs ss hs behind n m e =
+    let whole : Written PlainTerms = in_order (goal_parts (goals_of ts)) hs n in
+    let all : written (xs ++ []) m ≡ on_text listed whole =
+    ap (on_text (λ us. xs ++ listed us)) (sym (stepwise_none ss behind m)) ∙ e ∙ ap (on_text listed) (stepwise_is ts hs n) in
+    let text : xs ≡ listed whole.text = sym (append-nil xs) ∙ ap (λ w. w.text) all in
+    let next : m ≡ whole.next = ap (λ w. w.next) all in ap₂ (λ us k. written (at (Conj us) l) k) (ap tms text ∙ terms-listed whole.text) next
+
+pieces_none : (l : ℕ) (ws : List (List (List ℕ))) (xs : List (List ℕ)) (fresh : Bool) (hs : List Held) (n : ℕ) → pieces_of l ws xs fresh [] hs n ≡ written [] n
+pieces_none l [] xs fresh hs n = refl
+pieces_none l (w ∷ ws) xs fresh hs n = refl
+
+-- the pieces of a disjunction, where no disjunct is left
+pub pieces_are : (l : ℕ) (ps : List Piece) (ws : List (List (List ℕ))) (xs : List (List ℕ)) (fresh : Bool) (hs : List Held) (m : ℕ) (all : Written (List Piece))
+    → on_text (λ qs. ps ++ qs) (pieces_of l ws xs fresh [] hs m) ≡ all → written ps m ≡ all
+pieces_are l ps ws xs fresh hs m all e = ap (λ qs. written qs m) (sym (append-nil ps)) ∙ ap (on_text (λ qs. ps ++ qs)) (sym (pieces_none l ws xs fresh hs m)) ∙ e
+
+pub condition_goal : (l : ℕ) (list : Option PlainTerm) (t : PlainTerm) → (condition_by l list t).goal ≡ (goal_of t).part
+condition_goal l None t = refl
+condition_goal l (Some q) t = refl
+
+-- a condition and its then part
+pub conditional_is : (l : ℕ) (c : Condition) (g t : PlainTerm) (xs : List (List ℕ)) (hs : List Held) (n : ℕ) (names : List (List ℕ)) (ins : List Held) (m : ℕ) (w : PlainTerm) (k : ℕ) (behind : List Held) (test result : PlainTerm) (next : ℕ) (cs : PlainTerms)
+    → c.goal ≡ (goal_of g).part → names ≡ c.names → ins ≡ entered names n hs → m ≡ entered_behind names n
+    → written w k ≡ ended (goal_of g).part (put_all [] (updated g)) ins m
+    → behind ≡ handed (put_all [] (updated g)) (renewed (put_all [] (updated g)) m ins) ins
+    → test ≡ c.quantify ins (updated g ++ updated t) w
+    → written result next ≡ (goal_of t).part.writing behind k
+    → cs ≡ closings xs (leave_out names (updated t)) l (seen_outside names behind hs)
+    → written (at (App (codes "->" ∷ []) (more_terms test (more_terms (and_then result cs) no_term))) l) next ≡ (conditional l c (goal_of t).part []).writing xs hs n
+conditional_is l c g t xs hs n names ins m w k behind test result next cs e f i j h b q r d =
+    let p : Part = (goal_of t).part in
+    let inside : ins ≡ entered c.names n hs = i ∙ ap (λ ns. entered ns n hs) f in
+    let from : m ≡ entered_behind c.names n = j ∙ ap (λ ns. entered_behind ns n) f in
+    let whole : written w k ≡ ended c.goal c.goal.updates (entered c.names n hs) (entered_behind c.names n) =
+    h ∙ ended_whole g ins m ∙ ap (λ p. ended p p.updates ins m) (sym e) ∙ ap₂ (λ hs m. ended c.goal c.goal.updates hs m) inside from in
+    let reached : behind ≡ handed c.goal.updates (renewed c.goal.updates (entered_behind c.names n) (entered c.names n hs)) (entered c.names n hs) =
+    b ∙ behind_whole g ins m ∙ ap (λ p. handed p.updates (renewed p.updates m ins) ins) (sym e) ∙ ap₂ (λ hs m. handed c.goal.updates (renewed c.goal.updates m hs) hs) inside from in
+    let all : updated g ++ updated t ≡ c.goal.updates ++ p.updates = ap₂ (λ us vs. us ++ vs) (sym (part_updates g) ∙ ap (λ p. p.updates) (sym e)) (sym (part_updates t)) in
+    let closed : cs ≡ closings xs (leave_out c.names p.updates) l (seen_outside c.names behind hs) =
+    d ∙ ap₂ (λ ns us. closings xs (leave_out ns us) l (seen_outside ns behind hs)) f (sym (part_updates t)) in
+    ap₂ (λ v w. written (at (App (codes "->" ∷ []) (more_terms v (more_terms w.text no_term))) l) w.next)
+    (q ∙ ap₂ (λ hs us. c.quantify hs us w) inside all ∙ ap (λ v. c.quantify (entered c.names n hs) (c.goal.updates ++ p.updates) v.text) whole)
+    (ap (λ us. written (and_then result us) next) closed
+    ∙ ap (λ v. written (and_then v.text (closings xs (leave_out c.names p.updates) l (seen_outside c.names behind hs))) v.next) r
+    ∙ ap₂ (λ hs' v. on_text (λ u. and_then u (closings xs (leave_out c.names p.updates) l (seen_outside c.names hs' hs))) (p.writing hs' v.next)) reached whole)
+
+-- a goal under `some`
+pub existential_is : (l : ℕ) (q g : PlainTerm) (hs : List Held) (n : ℕ) (names : List (List ℕ)) (ins : List Held) (m : ℕ) (list text : PlainTerm) (next : ℕ)
+    → names ≡ quantified q → ins ≡ entered names n hs → m ≡ entered_behind names n
+    → list ≡ quantifier ins (updated g) q
+    → written text next ≡ (goal_of g).part.writing ins m
+    → written (at (App (codes "some" ∷ []) (more_terms list (more_terms text no_term))) l) next ≡ quantified_goal (codes "some") l q (goal_of g).part hs n
+existential_is l q g hs n names ins m list text next f i j k e =
+    let inside : ins ≡ entered (quantified q) n hs = i ∙ ap (λ ns. entered ns n hs) f in
+    let from : m ≡ entered_behind (quantified q) n = j ∙ ap (λ ns. entered_behind ns n) f in
+    ap₂ (λ v w. written (at (App (codes "some" ∷ []) (more_terms v (more_terms w.text no_term))) l) w.next)
+    (k ∙ ap₂ (λ hs us. quantifier hs us q) inside (sym (part_updates g)))
+    (e ∙ ap₂ (goal_of g).part.writing inside from)
+
+-- a goal under `all`
+pub universal_is : (l : ℕ) (q g : PlainTerm) (hs : List Held) (n : ℕ) (names : List (List ℕ)) (ins : List Held) (m : ℕ) (list text : PlainTerm) (next : ℕ)
+    → names ≡ quantified q → ins ≡ entered names n hs → m ≡ entered_behind names n
+    → list ≡ quantifier ins [] q
+    → written text next ≡ ended (goal_of g).part (put_all [] (updated g)) ins m
+    → written (at (App (codes "all" ∷ []) (more_terms list (more_terms text no_term))) l) next ≡ quantified_goal (codes "all") l q (negated (goal_of g).part) hs n
+universal_is l q g hs n names ins m list text next f i j k e =
+    let p : Part = (goal_of g).part in
+    let inside : ins ≡ entered (quantified q) n hs = i ∙ ap (λ ns. entered ns n hs) f in
+    let from : m ≡ entered_behind (quantified q) n = j ∙ ap (λ ns. entered_behind ns n) f in
+    ap₂ (λ v w. written (at (App (codes "all" ∷ []) (more_terms v (more_terms w.text no_term))) l) w.next)
+    (k ∙ ap (λ hs. quantifier hs [] q) inside)
+    (e ∙ ended_whole g ins m ∙ ap₂ (λ hs m. ended p p.updates hs m) inside from)
+
+-- a negation
+pub negation_is : (w : List (List ℕ)) (l : ℕ) (g : PlainTerm) (hs : List Held) (n : ℕ) (text : PlainTerm) (next : ℕ)
+    → written text next ≡ ended (goal_of g).part (put_all [] (updated g)) hs n
+    → written (at (App w (more_terms text no_term)) l) next ≡ applied w l (in_negation ((goal_of g).part ∷ []) hs n)
+negation_is w l g hs n text next e = ap (λ v. written (at (App w (more_terms v.text no_term)) l) v.next) (e ∙ ended_whole g hs n)
+
+-- an implication
+pub implied_is : (l : ℕ) (a b : PlainTerm) (hs : List Held) (n : ℕ) (left : PlainTerm) (m : ℕ) (behind : List Held) (right : PlainTerm) (next : ℕ)
+    → written left m ≡ ended (goal_of a).part (put_all [] (updated a)) hs n
+    → behind ≡ handed (put_all [] (updated a)) (renewed (put_all [] (updated a)) n hs) hs
+    → written right next ≡ ended (goal_of b).part (put_all [] (updated b)) behind m
+    → written (at (App (codes "=>" ∷ []) (more_terms left (more_terms right no_term))) l) next ≡ implied l (goal_of a).part (goal_of b).part hs n
+implied_is l a b hs n left m behind right next e f h =
+    let p : Part = (goal_of b).part in
+    ap (λ v. written (at (App (codes "=>" ∷ []) (more_terms left (more_terms v.text no_term))) l) v.next) (h ∙ ended_whole b behind m)
+    ∙ ap₂ (λ w hs. written (at (App (codes "=>" ∷ []) (more_terms w.text (more_terms (ended p p.updates hs w.next).text no_term))) l) (ended p p.updates hs w.next).next)
+    (e ∙ ended_whole a hs n) (f ∙ behind_whole a hs n)
+
+-- an equivalence
+pub both_ways_is : (l : ℕ) (a b : PlainTerm) (hs : List Held) (n : ℕ) (forth : PlainTerm) (m : ℕ) (back : PlainTerm) (next : ℕ)
+    → written forth m ≡ implied l (goal_of a).part (goal_of b).part hs n
+    → written back next ≡ implied l (goal_of b).part (goal_of a).part hs m
+    → written (at (Conj (more_terms forth (more_terms back no_term))) l) next ≡ both_ways l (goal_of a).part (goal_of b).part hs n
+both_ways_is l a b hs n forth m back next e f =
+    let p : Part = (goal_of a).part in
+    let q : Part = (goal_of b).part in
+    ap (λ v. written (at (Conj (more_terms forth (more_terms v.text no_term))) l) v.next) f
+    ∙ ap (λ w. written (at (Conj (more_terms w.text (more_terms (implied l q p hs w.next).text no_term))) l) (implied l q p hs w.next).next) e
+
+-- a clause with a body
+pub rule_is : (l : ℕ) (h b : PlainTerm) (names : List (List ℕ)) (ins : List Held) (m : ℕ) (head text : PlainTerm) (next : ℕ)
+    → names ≡ states_of h → ins ≡ entered names 0 [] → m ≡ entered_behind names 0
+    → head ≡ term_of ins h → written text next ≡ (goal_of b).branch.writing (put_all [] names) ins m
+    → at (App (codes ":-" ∷ []) (more_terms head (more_terms text no_term))) l
+    ≡ rule_of l (term_of (head_states h) h) ((goal_of b).branch.writing (states_of h) (head_states h) (behind 0 (distinct (states_of h)))).text
+rule_is l h b names ins m head text next f i j k e =
+    let inside : ins ≡ head_states h = i ∙ ap (λ ns. entered ns 0 []) f in
+    let from : m ≡ behind 0 (distinct (states_of h)) = j ∙ ap (λ ns. entered_behind ns 0) f in
+    let body : written text next ≡ (goal_of b).branch.writing (states_of h) (head_states h) (behind 0 (distinct (states_of h))) =
+    e ∙ branch-same b (put_all [] names) names (set_same names) ins m ∙ ap (λ ns. (goal_of b).branch.writing ns ins m) f ∙ ap₂ ((goal_of b).branch.writing (states_of h)) inside from in
+    ap₂ (λ t u. rule_of l t u) (k ∙ ap (λ hs. term_of hs h) inside) (ap (λ w. w.text) body)
+
+-- a clause without a body
+pub fact_is : (l : ℕ) (h : PlainTerm) (names : List (List ℕ)) (ins : List Held) (head : PlainTerm) (goals : List PlainTerm)
+    → names ≡ states_of h → ins ≡ entered names 0 [] → head ≡ term_of ins h → goals ≡ listed (closings (put_all [] names) [] l ins)
+    → fact_of l head (tms goals) ≡ fact_of l (term_of (head_states h) h) (closings (states_of h) [] l (head_states h))
+fact_is l h names ins head goals f i k e =
+    let inside : ins ≡ head_states h = i ∙ ap (λ ns. entered ns 0 []) f in
+    let all : tms goals ≡ closings (states_of h) [] l (head_states h) =
+    terms_from_list goals (closings (put_all [] names) [] l ins) e ∙ closings-wanted_set names [] l ins ∙ ap₂ (λ ns hs. closings ns [] l hs) f inside in
+    ap₂ (λ t us. fact_of l t us) (k ∙ ap (λ hs. term_of hs h) inside) all
