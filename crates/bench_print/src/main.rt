@@ -48,9 +48,7 @@ fn text(alloc: Global, heap: &mut Heap, program: &Program, i: i64) -> Result<Tex
 {
     let mark = heap.mark();
     let number = heap.int(i)?;
-    let mut args = Row::new(alloc);
-    args.push(number)?;
-    let value = heap.con(0, &args)?;
+    let value = heap.con(0, &[number])?;
     let text = value_text(alloc, heap, value, program)?;
     heap.release(mark);
     Ok(text)

@@ -1,11 +1,11 @@
 -- What `apply` answers: a builtin's outcome, its values named by Refs of the heap. (Mercury Language
 -- Reference Manual: the library; this project's profile.)
-use Rattle.std.specs.Prelude.{◌≡◌, ℕ, List, [], ◌∷◌, All}
+use Rattle.std.specs.Prelude.{◌≡◌, ℕ, List, [], ◌∷◌, Option, Some, None, IfSome}
 use Rattle.std.specs.Str.{IsUtf8}
 use Rattle.mc_program.specs.Values.{Val, str}
 use Rattle.mc_program.specs.Printed.{names_of, printed, Names}
 use Rattle.mc_program.specs.declared.program.Program.{Program}
-use Rattle.mc_values.specs.Heap.{IsLive, value_at, values_at}
+use Rattle.mc_values.specs.Heap.{IsLive, value_at}
 use Rattle.mc_values.specs.declared.heap.Heap.{Heap}
 use Rattle.mc_model.specs.EventList.{Exc, zero_divide, error}
 use Rattle.mc_model.specs.Outcomes.{Outcome, fails, gives, throws, writes, reads, reads_and_throws}
@@ -47,10 +47,15 @@ ReadsFrom k (reads from outputs) = from ≡ k
 ReadsFrom k (reads_and_throws from e) = from ≡ k
 ReadsFrom k _ = ⊥
 
+-- the value of an output, where there is one
+abbrev pub output_at : Heap → Option ℕ → List Val
+output_at h None = []
+output_at h (Some r) = value_at h r ∷ []
+
 -- the answer tells what the outcome is over every input, by what the Refs in it stand for
 abbrev pub Tells : Heap → ((input : List ℕ) → Outcome) → Applied → Type 0
-Tells h does (A.Gives refs) =
-    All (IsLive h) refs × ((input : List ℕ) → does input ≡ gives (values_at h refs))
+Tells h does (A.Gives output) =
+    IfSome output (IsLive h) × ((input : List ℕ) → does input ≡ gives (output_at h output))
 Tells h does A.Fails = (input : List ℕ) → does input ≡ fails
 Tells h does (A.Throws e) = (input : List ℕ) → does input ≡ throws (plain_exception e)
 Tells h does (A.Wrote text after) =

@@ -14,7 +14,7 @@ use crate::kind::{Kind, kind_of};
 use crate::library::Library;
 use crate::made::Made;
 use crate::texts::{decimal, encoded, of_character, of_integer, of_text, of_texts};
-use mc_base::{Copied, Memory, Row, Text};
+use mc_base::{Copied, Memory, Text};
 use mc_model::builtin::Builtin;
 use mc_print::value_text;
 use mc_values::{Heap, Ref};
@@ -24,7 +24,7 @@ use std::alloc::Global;
 pub fn apply(
     alloc: Global,
     op: Builtin,
-    args: &Row<Ref>,
+    args: &[Ref],
     heap: &mut Heap,
     library: &Library<'_>,
 ) -> Result<Applied, Memory>
@@ -36,7 +36,7 @@ pub fn apply(
     ensures err { OnErr result (height heap.new ≡ height heap.old) }
 {
     let mark = heap.mark();
-    let answer = answered(alloc, op, args.as_slice(), heap, library);
+    let answer = answered(alloc, op, args, heap, library);
     if answer.is_err() {
         heap.release(mark);
     }
@@ -80,9 +80,9 @@ fn at_one(
     ensures keeps { Extends heap.old heap.new }
 {
     match kind_of(heap, x) {
-        Kind::Int(a) => given(alloc, of_integer(alloc, op, a)?, heap, library),
-        Kind::Char(c) => given(alloc, of_character(alloc, op, c)?, heap, library),
-        Kind::Text(text) => given(alloc, of_text(alloc, op, text)?, heap, library),
+        Kind::Int(a) => given(of_integer(alloc, op, a)?, heap, library),
+        Kind::Char(c) => given(of_character(alloc, op, c)?, heap, library),
+        Kind::Text(text) => given(of_text(alloc, op, text)?, heap, library),
         Kind::State(taken) => at_state(alloc, op, x, taken, heap),
         Kind::Con => Ok(Applied::Fails),
     }
@@ -107,11 +107,11 @@ fn at_two(
 {
     match kind_of(heap, y) {
         Kind::Int(b) => match heap.int_at(x) {
-            Some(a) => given(alloc, of_integers(op, a, b), heap, library),
+            Some(a) => given(of_integers(op, a, b), heap, library),
             None => Ok(Applied::Fails),
         },
         Kind::Text(t) => match heap.text_at(x) {
-            Some(s) => given(alloc, of_texts(alloc, op, s, t)?, heap, library),
+            Some(s) => given(of_texts(alloc, op, s, t)?, heap, library),
             None => Ok(Applied::Fails),
         },
         Kind::State(_) => written_at(alloc, op, x, y, heap, library),
@@ -209,12 +209,7 @@ fn wrote(text: Text, state: Ref, heap: &mut Heap) -> Result<Applied, Memory>
 }
 
 /// What a builtin makes gets its place in the heap.
-fn given(
-    alloc: Global,
-    made: Made,
-    heap: &mut Heap,
-    library: &Library<'_>,
-) -> Result<Applied, Memory>
+fn given(made: Made, heap: &mut Heap, library: &Library<'_>) -> Result<Applied, Memory>
     ensures tells { IfOk result
         (Tells heap.new (λ input. made_outcome (known library.now) made)) }
     ensures keeps { Extends heap.old heap.new }
@@ -222,43 +217,24 @@ fn given(
     match made {
         Made::Fails => Ok(Applied::Fails),
         Made::Throws(exception) => Ok(Applied::Throws(exception)),
-        Made::Succeeds => Ok(Applied::Gives(Row::new(alloc))),
-        Made::Int(a) => {
-            let output = heap.int(a)?;
-            Ok(Applied::Gives(Row::one(alloc, output)?))
-        }
-        Made::Char(c) => {
-            let output = heap.char(c)?;
-            Ok(Applied::Gives(Row::one(alloc, output)?))
-        }
-        Made::Text(text) => {
-            let output = heap.text(&text)?;
-            Ok(Applied::Gives(Row::one(alloc, output)?))
-        }
-        Made::Chars(chars) => {
-            let output = char_list(alloc, chars, heap, library)?;
-            Ok(Applied::Gives(Row::one(alloc, output)?))
-        }
+        Made::Succeeds => Ok(Applied::Gives(None)),
+        Made::Int(a) => Ok(Applied::Gives(Some(heap.int(a)?))),
+        Made::Char(c) => Ok(Applied::Gives(Some(heap.char(c)?))),
+        Made::Text(text) => Ok(Applied::Gives(Some(heap.text(&text)?))),
+        Made::Chars(chars) => Ok(Applied::Gives(Some(char_list(chars, heap, library)?))),
     }
 }
 
 /// A Ref of the list of these characters, which is made from its end.
-fn char_list(
-    alloc: Global,
-    mut chars: Vec<char>,
-    heap: &mut Heap,
-    library: &Library<'_>,
-) -> Result<Ref, Memory>
+fn char_list(mut chars: Vec<char>, heap: &mut Heap, library: &Library<'_>) -> Result<Ref, Memory>
     ensures list { IfOk result
         (λ r. StandsFor heap.new r (char_list (known library.now) chars.items)) }
     ensures keeps { Extends heap.old heap.new }
 {
-    let mut list = heap.con(library.nil, &Row::new(alloc))?;
+    let mut list = heap.con(library.nil, &[])?;
     while let Some(c) = chars.pop() {
         let head = heap.char(c)?;
-        let mut parts = Row::one(alloc, head)?;
-        parts.push(list)?;
-        list = heap.con(library.cons, &parts)?;
+        list = heap.con(library.cons, &[head, list])?;
     }
     Ok(list)
 }

@@ -1,3 +1,4 @@
 pub mod Arguments
 pub mod CellLaws
 pub mod Grown
+pub mod WalkLaws

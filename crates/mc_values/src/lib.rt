@@ -3,5 +3,6 @@
 
 mod cell;
 mod heap;
+mod part;
 
 pub use heap::{Heap, Mark, Ref, marks_rise};

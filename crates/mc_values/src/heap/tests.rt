@@ -62,7 +62,7 @@ fn constructors_are_made_and_taken_apart(rt: HostRuntime) -> Result<(), Fail> {
     let seven = heap.int(7)?;
     let letter = heap.char('x')?;
     let args = all_live(&rt, alloc, &heap, &[seven, letter])?;
-    let pair = heap.con(3, &args)?;
+    let pair = heap.con(3, args.as_slice())?;
     assert_eq!(rt; heap.top_symbol(pair), Some(3));
     let count = arity(&heap, pair)?;
     assert!(rt; count == 2);

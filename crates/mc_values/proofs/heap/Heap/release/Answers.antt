@@ -10,10 +10,10 @@ invariant_of-self c = AreCells-shrunk _ _ _ c.self.invariant c.truncate.ensures.
 pub returns-clause-height : goal.returns-clause-height
 unfolding height
 returns-clause-height c =
-    let e = ap length (shrunk _ _ _ _ c.self.view_is c.truncate.ensures.items) in
+    let e = ap length (shrunk _ _ _ _ c.self.view_is c.requires c.truncate.ensures.items) in
     let le = c.requires in
     omega (arith, length-take c.args.m c.args.self.now)
 
 pub returns-clause-keeps : goal.returns-clause-keeps
 unfolding height
-returns-clause-keeps c = keeps _ _ _ c.requires (shrunk _ _ _ _ c.self.view_is c.truncate.ensures.items)
+returns-clause-keeps c = keeps _ _ _ c.requires (shrunk _ _ _ _ c.self.view_is c.requires c.truncate.ensures.items)
