@@ -1,0 +1,29 @@
+-- What an atom does, as its event list. (Mercury Language Reference Manual: Semantics; this
+-- project's profile of strict sequential execution.)
+use Rattle.std.specs.Prelude.{◌≡◌, ℕ, List}
+use Rattle.mc_model.specs.EventList.{Items, End, Stuck, Stopped, Answer, Wrote, Read, thrown}
+use Rattle.mc_model.specs.Stream.{Bindings}
+use Rattle.mc_builtins.specs.Answers.{plain_exception}
+use Rattle.mc_frames.specs.declared.went.Went.{Went}
+use Rattle.mc_frames.specs.declared.went.Went.TheVariants as W
+use Rattle.mc_frames.specs.declared.went.Acted.{Acted}
+use Rattle.mc_frames.specs.declared.went.Acted.TheVariants as A
+
+-- the list of an atom that went so, with the bindings that it left
+abbrev pub went_items : Went → Bindings → Items Bindings
+went_items W.On e = Answer e End
+went_items W.Fails e = End
+went_items W.Stuck e = Stuck
+
+-- the list begins with the wish for input from this byte on
+abbrev pub ReadsFrom : ℕ → Items Bindings → Type 0
+ReadsFrom from items = (rest : Items Bindings) × (items ≡ Read from rest)
+
+-- over every input, this is the list of a builtin that acted so, with the bindings that it left
+abbrev pub ActedItems : ((input : List ℕ) → Items Bindings) → Acted → Bindings → Type 0
+ActedItems items (A.Went went) e = (input : List ℕ) → items input ≡ went_items went e
+ActedItems items (A.Throws x) e =
+    (input : List ℕ) → items input ≡ Stopped (thrown (plain_exception x))
+ActedItems items (A.Wrote text went) e =
+    (input : List ℕ) → items input ≡ Wrote text (went_items went e)
+ActedItems items (A.Reads from) e = (input : List ℕ) → ReadsFrom from (items input)

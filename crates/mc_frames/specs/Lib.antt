@@ -1,0 +1,4 @@
+pub mod Atoms
+pub mod Frames
+pub mod Values
+pub mod code

@@ -1,0 +1,32 @@
+ghost use Rattle.std.specs.Prelude.{◌≡◌, if◌then◌else◌};
+
+use mc_base::Text;
+use mc_model::run::Exception;
+
+/// How an atom went that gives at most one answer: its body goes on with the bindings that it left, it fails, or it is
+/// stuck, since a variable is unbound whose value it needs.
+#[derive(Clone, Copy, Debug, PartialEq, Eq)]
+pub enum Went {
+    On,
+    Fails,
+    Stuck,
+}
+
+/// What the application of a builtin does: it goes as atoms do, throws, writes a text before it goes so, or wants a line
+/// of the input from a byte on.
+#[derive(Drop)]
+pub enum Acted {
+    Went(Went),
+    Throws(Exception),
+    Wrote(Text, Went),
+    Reads(u64),
+}
+
+impl Went {
+    /// On where what was to be met is met.
+    pub fn of(met: bool) -> Went
+        ensures { result ≡ (if met then Went.On else Went.Fails) }
+    {
+        if met { Went::On } else { Went::Fails }
+    }
+}
