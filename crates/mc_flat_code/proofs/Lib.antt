@@ -1,0 +1,12 @@
+pub mod EventLaws
+pub mod TickLaws
+pub mod Places
+pub mod Alternatives
+pub mod Source
+pub mod Growth
+pub mod Building
+pub mod PlaceLists
+pub mod Cases
+pub mod Views
+pub mod Goals
+pub mod Bodies

@@ -1,0 +1,49 @@
+use Rattle.std.proofs.Common.{◌≡◌, refl, sym, ap, ◌∙◌, [], ◌∷◌, ◌++◌, length, take, get_or, map, append_assoc, length-take, arith}
+use Rattle.mc_model.specs.PlainGoals.{plain_node, plain_arm, arms_of}
+use Rattle.mc_model.specs.declared.sched.Arm.{Arm}
+use Rattle.mc_model.specs.Scheduled.{Label, Node}
+use Rattle.mc_flat_code.specs.Standing.{opening}
+use Rattle.mc_flat_code.specs.code.Building.{Grows}
+use Rattle.mc_flat_code.specs.code.Openings.{opening_label}
+use Rattle.mc_flat_code.specs.declared.code.Branch.{Branch}
+use Rattle.mc_flat_code.specs.declared.code.Code.{Code}
+use Rattle.mc_flat_code.proofs.Growth.{grows_then, keyed_grows, label_grows}
+use Rattle.mc_flat_code.proofs.Views.{arm_open}
+use Rattle.mc_flat_code.proofs.Cases.{keyed_step, keyed_whole, keyed_length, end_holds, branch_grows}
+use Rattle.mc_flat_code.proofs.code.Code.branches_of.Goals as goal
+
+pub loop-k-preserved : goal.loop-k-preserved
+loop-k-preserved c =
+    let key : Code = c.key.new.self in
+    let new : Code = record c.key.new.self { branches = c.push.new.self } in
+    let b : Branch = record { key = c.in_ok-key-in-Some.key; place = get_or c.args.places.now c.loop-k.k 0 } in
+    let keyed = c.loop-k.invariant.keyed in
+    let pushed : Grows key new = branch_grows key c.push.new.self b c.in_ok-push-in-Some.ensures.items in
+    let more : Grows c.loop-k.self new = grows_then c.loop-k.self key new c.in_ok-key-in-Some.ensures.grows pushed in
+    record {
+      grows = grows_then c.args.self.now c.loop-k.self new c.loop-k.invariant.grows more;
+      goals = ap (λ k. k.instrs.items) c.in_ok-key-in-Some.ensures.others ∙ c.loop-k.invariant.goals;
+      keyed = (
+        keyed.0 ++ b ∷ [],
+        (
+          c.in_ok-push-in-Some.ensures.items ∙ ap (λ k. k.branches.items ++ b ∷ []) c.in_ok-key-in-Some.ensures.others
+              ∙ ap (λ l. l ++ b ∷ []) keyed.1.0 ∙ append_assoc c.args.self.now.branches.items keyed.0 (b ∷ []),
+          keyed_step new c.args.variable c.args.arms.now c.args.places.now c.loop-k.k c.index-arms-k.result keyed.0 b (opening_label c.in-Some.test) c.loop-k-test.true c.requires c.index-arms-k.is refl
+              (keyed_grows c.loop-k.self new more c.args.variable (arms_of (map plain_arm (take c.loop-k.k c.args.arms.now))) keyed.0 (take c.loop-k.k c.args.places.now) keyed.1.1)
+              (ap (λ (a : Label × Node). opening c.args.variable a.1) (arm_open c.index-arms-k.result)
+              ∙ ap (λ (a : Arm). opening c.args.variable (plain_node a.body)) c.index-arms-k.is ∙ sym c.in-Some.ensures)
+              (label_grows key new pushed c.in_ok-key-in-Some.key (opening_label c.in-Some.test) c.in_ok-key-in-Some.ensures.key),
+        ),
+      );
+    }
+
+pub returns-clause-keyed : goal.returns-clause-keyed
+returns-clause-keyed c =
+    let keyed = c.loop-k.invariant.keyed in
+    let end : c.loop-k.k ≡ length c.args.arms.now = omega arith in
+    let count : length keyed.0 ≡ length (take c.loop-k.k c.args.places.now) = keyed_length c.loop-k.self c.args.variable (arms_of (map plain_arm (take c.loop-k.k c.args.arms.now))) keyed.0 (take c.loop-k.k c.args.places.now) keyed.1.1 in
+    record {
+      branches = keyed.0;
+      held = end_holds c.args.self.now.branches.items keyed.0 c.loop-k.self.branches.items (record { start = c.len-start.result; count = length c.args.arms.now }) keyed.1.0 (omega (arith, c.len-start.ensures)) (omega (arith, count, length-take c.loop-k.k c.args.places.now));
+      keyed = keyed_whole c.loop-k.self c.args.variable c.args.arms.now c.args.places.now c.loop-k.k keyed.0 end c.requires keyed.1.1;
+    }

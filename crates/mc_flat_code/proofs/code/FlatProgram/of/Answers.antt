@@ -1,0 +1,23 @@
+use Rattle.std.proofs.Common.{◌+◌, sym, subst, map, take, arith}
+use Rattle.mc_model.specs.PlainGoals.{plain_proc}
+use Rattle.mc_model.specs.declared.sched.Proc.{Proc}
+use Rattle.mc_flat_code.specs.Standing.{StandsFor}
+use Rattle.mc_flat_code.specs.code.Bodies.{EachStands}
+use Rattle.mc_flat_code.specs.declared.code.Code.{Code}
+use Rattle.mc_flat_code.proofs.Bodies.{bodies_step, bodies_whole}
+use Rattle.mc_flat_code.proofs.code.FlatProgram.of.Goals as goal
+
+pub loop-procedure-preserved : goal.loop-procedure-preserved
+loop-procedure-preserved c =
+    let new : Code = c.body.new.self in
+    record {
+      is_code = c.in_ok-body.ensures.is_code;
+      stands =
+          subst (λ bs. EachStands new bs (map plain_proc (take (c.loop-procedure.procedure-index + 1) c.args.procedures.now))) (sym c.in_ok-push.ensures.items)
+          (bodies_step c.loop-procedure.code new c.in_ok-body.ensures.grows c.loop-procedure.bodies.items c.in_ok-body.field-0 c.args.procedures.now c.loop-procedure.procedure-index c.procedure-item.result c.loop-procedure-test.true c.loop-procedure.invariant.stands
+          (subst (λ (p : Proc). StandsFor new c.in_ok-body.field-0 (plain_proc p)) c.procedure-item.is c.in_ok-body.ensures.stands));
+    }
+
+pub returns-clause-stands : goal.returns-clause-stands
+returns-clause-stands c =
+    bodies_whole (record { code = c.loop-procedure.code; bodies = c.loop-procedure.bodies }) c.args.procedures.now c.loop-procedure.procedure-index (omega arith) c.loop-procedure.invariant.stands

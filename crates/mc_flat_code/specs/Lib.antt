@@ -1,0 +1,5 @@
+pub mod code
+pub mod Ticked
+pub mod Running
+pub mod Standing
+pub mod SourceRuns
