@@ -17,7 +17,7 @@ use Rattle.mc_insts.specs.code.Tables.{functor_of, constructor_of, arguments_of,
 use Rattle.mc_insts.proofs.Found.{by_order, find_at, rising_of}
 use Rattle.mc_insts.proofs.Scenes.{found}
 
-abbrev same : Constructor → Constructor → Bool
+abbrev pub same : Constructor → Constructor → Bool
 same c d = nat_eq c.functor d.functor
 
 bool_same : (a b : Bool) → (a ≡ true → b ≡ true) → (b ≡ true → a ≡ true) → a ≡ b
@@ -26,7 +26,7 @@ bool_same true false f g = sym (f refl)
 bool_same false true f g = g refl
 bool_same false false f g = refl
 
-flips : (c d : Constructor) → same c d ≡ same d c
+pub flips : (c d : Constructor) → same c d ≡ same d c
 flips c d = bool_same (same c d) (same d c) (λ h. eq-eqb d.functor c.functor (sym (eqb-true c.functor d.functor h))) (λ h. eq-eqb c.functor d.functor (sym (eqb-true d.functor c.functor h)))
 
 not_true : (b : Bool) → (b ≡ true → ⊥) → b ≡ false
@@ -38,7 +38,7 @@ all_from : {A : Type 0} (P : A → Type 0) (xs : List A) → ((k : ℕ) (d : A) 
 all_from P [] h = tt
 all_from P (x ∷ xs) h = (h 0 x (omega arith), all_from P xs (λ k d lt. h (suc k) d (omega arith)))
 
-distinct_from : (xs : List Constructor) → ((i j : ℕ) (d e : Constructor) → i < j → j < length xs → (get_or xs i d).functor ≡ (get_or xs j e).functor → ⊥) → IsDistinct same xs
+pub distinct_from : (xs : List Constructor) → ((i j : ℕ) (d e : Constructor) → i < j → j < length xs → (get_or xs i d).functor ≡ (get_or xs j e).functor → ⊥) → IsDistinct same xs
 unfolding IsDistinct
 distinct_from [] h = tt
 distinct_from (x ∷ xs) h = (
@@ -51,7 +51,7 @@ all_at P [] h k d lt = absurd (omega arith)
 all_at P (x ∷ xs) h zero d lt = h.0
 all_at P (x ∷ xs) h (suc k) d lt = all_at P xs h.1 k d (omega arith)
 
-distinct_at : (xs : List Constructor) → IsDistinct same xs → (i j : ℕ) (d e : Constructor) → i < j → j < length xs → (get_or xs i d).functor ≡ (get_or xs j e).functor → ⊥
+pub distinct_at : (xs : List Constructor) → IsDistinct same xs → (i j : ℕ) (d e : Constructor) → i < j → j < length xs → (get_or xs i d).functor ≡ (get_or xs j e).functor → ⊥
 unfolding IsDistinct
 distinct_at [] h i j d e lt w q = absurd (omega arith)
 distinct_at (x ∷ xs) h i zero d e lt w q = absurd (omega arith)

@@ -2,7 +2,7 @@
 use Rattle.std.proofs.Common.{◌≡◌, true, inl, inr, ℕ, ◌<◌, ◌+◌, ◌++◌, List, [], ◌∷◌, length, refl, sym, ap, ◌∙◌, subst, arith, length-append, ⊎_elim}
 use Rattle.mc_program.specs.Programs.{TypeTerm, state_type, Source}
 use Rattle.mc_model.specs.Types.{takes}
-use Rattle.mc_model.specs.Insts.{Graph, free, dead}
+use Rattle.mc_model.specs.Insts.{Graph, dead}
 use Rattle.mc_accepted.specs.Inclusion.{gone, state_tip, NoMore, LeastAbove}
 use Rattle.mc_insts.specs.code.Functors.{Functor}
 use Rattle.mc_insts.specs.declared.graph.InstGraph.{InstGraph}
@@ -23,6 +23,7 @@ use Rattle.mc_insts.proofs.Nodes.{Inner, included_to}
 use Rattle.mc_insts.proofs.Overs.{rank, rank_of, rank_to, rank_dead}
 use Rattle.mc_insts.proofs.Gathering.{gathers_first, gathers_second}
 use Rattle.mc_insts.proofs.Merged.{D, proper_made, stands_there, above_low, above_high, clash_none, exact, tidied, node_old, node_new}
+use Rattle.mc_insts.proofs.Forming.{shown_free, shown_dead, formed_made}
 use Rattle.mc_insts.proofs.LeastAbove.{least_there}
 
 dead_marks : (M : Node) → marks M ≡ 3 → M ≡ N.Dead
@@ -33,20 +34,6 @@ dead_marks N.Dead h = refl
 dead_marks (N.Bound cs) h = absurd (omega arith)
 
 -- a node that shows as `free` or `dead` is so
-pub shown_free : (fs : List Functor) (M : Node) → plain_node fs M ≡ free → M ≡ N.Free
-shown_free fs N.Free h = refl
-shown_free fs N.Ground h = cc
-shown_free fs N.Unique h = cc
-shown_free fs N.Dead h = cc
-shown_free fs (N.Bound cs) h = cc
-
-pub shown_dead : (fs : List Functor) (M : Node) → plain_node fs M ≡ dead → M ≡ N.Dead
-shown_dead fs N.Free h = cc
-shown_dead fs N.Ground h = cc
-shown_dead fs N.Unique h = cc
-shown_dead fs N.Dead h = refl
-shown_dead fs (N.Bound cs) h = cc
-
 abbrev pub insts_of : List Functor → List Node → InstGraph
 insts_of f ns = record { functors = f; nodes = ns }
 
@@ -67,6 +54,7 @@ module _ (I : InstGraph) (shapes : Shapes) (i j r : ℕ) (proper : Proper (scene
     functors = refl;
     proper = proper;
     builtins = builtins;
+    formed = λ f. f;
     there = high;
     gathers = λ P type rows. gathers_second P (plain_graph I.functors I.nodes) i j (type r) (more i j low high h P type rows)
         (λ e. ap (plain_node I.functors) (f (shown_free I.functors (node_at I.nodes j) e)))
@@ -79,6 +67,7 @@ module _ (I : InstGraph) (shapes : Shapes) (i j r : ℕ) (proper : Proper (scene
     functors = refl;
     proper = proper;
     builtins = builtins;
+    formed = λ f. f;
     there = low;
     gathers = λ P type rows. gathers_first P (plain_graph I.functors I.nodes) i j (type r) (more j i high low h P type rows)
         (λ e. ap (plain_node I.functors) (f (shown_free I.functors (node_at I.nodes i) e)))
@@ -220,6 +209,7 @@ module _ (I : InstGraph) (shapes : Shapes) (i j r : ℕ) (proper : Proper (scene
             dead_there = node_old C proper made 3 builtins.many ∙ builtins.dead_there;
             many = let b = builtins.many in omega arith;
           };
+          formed = formed_made C made (same_of i j r) k m builtins;
           there = stands_there C proper made (same_of i j r) k m;
           gathers = gathers_made;
         }

@@ -21,6 +21,7 @@ pub mod Spread
 pub mod Mades
 pub mod Below
 pub mod Merged
+pub mod Forming
 pub mod Older
 pub mod Overs
 pub mod LeastAbove
@@ -29,3 +30,9 @@ pub mod Kept
 pub mod PairKeys
 pub mod Growths
 pub mod Readies
+pub mod Chained
+pub mod MoreFunctors
+pub mod Definitions
+pub mod MadeNodes
+pub mod MakingNodes
+pub mod Added

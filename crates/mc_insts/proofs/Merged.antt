@@ -85,10 +85,10 @@ module _ (C : Scene) (proper : Proper C) (made : List Node) where
   D = record { nodes = C.nodes ++ made; functors = C.functors; rows = C.rows; known = C.known }
 
   pub node_old : (i : ℕ) → i < length C.nodes → node_at D.nodes i ≡ node_at C.nodes i
-  node_old i h = get_or_append_left C.nodes made N.Free i h
+  node_old i h = get_or_append_left C.nodes made (N.Bound []) i h
 
   pub node_new : (n : ℕ) → node_at D.nodes (length C.nodes + n) ≡ node_at made n
-  node_new n = get_or-append-add C.nodes made n N.Free
+  node_new n = get_or-append-add C.nodes made n (N.Bound [])
 
   child_old : (t : Triple) (f a : ℕ) → Within C t → child D t f a ≡ child C t f a
   child_old t f a w = same_triple _ _ _ _ _ _ (ap (λ K. node_arg K t.low f a) (node_old t.low w.low)) (ap (λ K. node_arg K t.high f a) (node_old t.high w.high)) refl

@@ -48,11 +48,11 @@ on_map : (o : Option (List TypeTerm)) (Q R : List TypeTerm → Type 0) → ((ts 
 on_map None Q R f h = h
 on_map (Some ts) Q R f h = f ts h
 
-no_kind : (fs : List Functor) (M : Node) → M ≡ N.Free → ((plain_node fs M ≡ unique) ⊎ (plain_node fs M ≡ dead)) → ⊥
+no_kind : (fs : List Functor) (M : Node) → M ≡ N.Bound [] → ((plain_node fs M ≡ unique) ⊎ (plain_node fs M ≡ dead)) → ⊥
 no_kind fs M e h =
     ⊎_elim
-    (λ x. let y : plain_node fs N.Free ≡ unique = ap (plain_node fs) (sym e) ∙ x in cc)
-    (λ x. let y : plain_node fs N.Free ≡ dead = ap (plain_node fs) (sym e) ∙ x in cc)
+    (λ x. let y : plain_node fs (N.Bound []) ≡ unique = ap (plain_node fs) (sym e) ∙ x in cc)
+    (λ x. let y : plain_node fs (N.Bound []) ≡ dead = ap (plain_node fs) (sym e) ∙ x in cc)
     h
 
 module _ (C : Scene) (proper : Proper C) (P : Source) where
@@ -71,7 +71,7 @@ module _ (C : Scene) (proper : Proper C) (P : Source) where
     H = plain_graph C.functors after
 
     pub node_kept : (i : ℕ) → i < length C.nodes → node_at after i ≡ node_at C.nodes i
-    node_kept i w = extends_get C.nodes after i N.Free older w
+    node_kept i w = extends_get C.nodes after i (N.Bound []) older w
 
     pub kept : (i : ℕ) → i < length C.nodes → H i ≡ G i
     kept i w = ap (plain_node C.functors) (node_kept i w)
@@ -102,8 +102,8 @@ module _ (C : Scene) (proper : Proper C) (P : Source) where
     leads_on [] j u i t w a = a
     leads_on ((s, k) ∷ path) j u i t w a = through_on s k i t (Leads P G path j u) (Leads P H path j u) w (λ i t v. leads_on path j u i t v) a
 
-    past : (j : ℕ) → length C.nodes ≤ j → node_at C.nodes j ≡ N.Free
-    past j h = get_past C.nodes j N.Free h
+    past : (j : ℕ) → length C.nodes ≤ j → node_at C.nodes j ≡ N.Bound []
+    past j h = get_past C.nodes j (N.Bound []) h
 
     pub tidy_back : (i : ℕ) (t : TypeTerm) → i < length C.nodes → Tidy P H i t → Tidy P G i t
     tidy_back i t w tidy path j u l k =

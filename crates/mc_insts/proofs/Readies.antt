@@ -14,13 +14,14 @@ use Rattle.mc_insts.specs.declared.types.TypeKey.{TypeKey}
 use Rattle.mc_insts.specs.Graphs.{graph_of, count_of}
 use Rattle.mc_insts.specs.Growing.{Grown}
 use Rattle.mc_insts.specs.Kept.{AreOf}
-use Rattle.mc_insts.specs.Merging.{StandsForAll, OneIncludesTheOther}
+use Rattle.mc_insts.specs.Merging.{StandsForAll, OneIncludesTheOther, EachIs}
 use Rattle.mc_insts.specs.code.Functors.{Functor}
 use Rattle.mc_insts.specs.code.Lists.{Extends}
 use Rattle.mc_insts.specs.code.Walks.{scene, Proper}
 use Rattle.mc_insts.specs.code.Shown.{plain_graph, Meant, RowsAre}
 use Rattle.mc_insts.specs.code.TypeRows.{terms, term_at, AllBelow}
 use Rattle.mc_insts.specs.code.Answers.{Gathers, IsMerge}
+use Rattle.mc_insts.specs.code.Formed.{Formed}
 use Rattle.mc_insts.specs.code.Merges.{Builtins}
 use Rattle.mc_insts.specs.code.Steps.{same_of}
 use Rattle.mc_insts.specs.code.Pairs.{Holds, Stood, PairIs, PairsAre}
@@ -28,6 +29,7 @@ use Rattle.mc_insts.specs.code.Ready.{Ready, Onward}
 use Rattle.mc_insts.proofs.Growth.{extends_on, extends_same, extends_length, extends_get}
 use Rattle.mc_insts.proofs.Gathering.{gathers_one, gathers_both, stands}
 use Rattle.mc_insts.proofs.Growths.{gathers_on}
+use Rattle.mc_insts.proofs.Forming.{formed_fits, fits_formed}
 use Rattle.mc_insts.proofs.Kept.{insts_of}
 use Rattle.mc_insts.proofs.Older.{kept, allows_on, allows_back}
 
@@ -56,7 +58,7 @@ stood_on P I shapes ts ms is r k proper older all s =
     let w = s.there in
     record { there = omega arith; gathers = gathers_on (scene I shapes) proper P ms older (term_at ts r) is k all s.there s.gathers }
 
-pair_on : (P : Source) (I : InstGraph) (shapes : Shapes) (ts : List TypeTerm) (ms : List Node) (pair : Triple) (k : ℕ) → Proper (scene I shapes) → Extends I.nodes ms → PairIs P I ts pair k → PairIs P (insts_of I.functors ms) ts pair k
+pub pair_on : (P : Source) (I : InstGraph) (shapes : Shapes) (ts : List TypeTerm) (ms : List Node) (pair : Triple) (k : ℕ) → Proper (scene I shapes) → Extends I.nodes ms → PairIs P I ts pair k → PairIs P (insts_of I.functors ms) ts pair k
 pair_on P I shapes ts ms pair k proper older p =
     let l = extends_length I.nodes ms older in
     let v = p.first in
@@ -87,9 +89,9 @@ same_graph : (fs : List Functor) (g : InstGraph) → g.functors ≡ fs → insts
 same_graph fs g e = ap (λ f. insts_of f g.nodes) (sym e)
 
 module _ (P : Source) (I : Insts) (ready : Ready P I) where
-  ready_at : (ns : List Node) (pairs : List (Triple × ℕ)) → Extends I.graph.nodes ns → Proper (scene (insts_of I.graph.functors ns) I.shapes) → Builtins ns
+  pub ready_at : (ns : List Node) (pairs : List (Triple × ℕ)) → Extends I.graph.nodes ns → Proper (scene (insts_of I.graph.functors ns) I.shapes) → Builtins ns → (Formed I.graph.nodes → Formed ns)
       → ((pair : Triple) (k : ℕ) → Holds pairs pair k → Holds I.pairs pair k ⊎ PairIs P (insts_of I.graph.functors ns) (terms I.types) pair k) → Ready P (with_graph I (insts_of I.graph.functors ns) pairs)
-  ready_at ns pairs older proper builtins new = record {
+  ready_at ns pairs older proper builtins formed new = record {
     of = record {
       fits = ready.of.fits;
       constructors = ready.of.constructors;
@@ -98,6 +100,7 @@ module _ (P : Source) (I : Insts) (ready : Ready P I) where
       distinct = ready.of.distinct;
       nodes = proper.nodes;
       builtins = builtins;
+      insts = formed_fits (scene (insts_of I.graph.functors ns) I.shapes) (length ns) ready.of.distinct proper.nodes (formed (fits_formed I.graph.functors I.graph.nodes ready.of.insts));
       pairs = λ pair k h. ⊎_elim (λ old. pair_on P I.graph I.shapes (terms I.types) ns pair k ready.proper older (ready.of.pairs pair k old)) (λ p. p) (new pair k h);
     };
     proper = proper;
@@ -124,7 +127,7 @@ module _ (P : Source) (I : Insts) (ready : Ready P I) where
     ready_pair pairs new =
         let e = same_graph I.graph.functors g m.functors in
         subst (λ (h : InstGraph). Ready P (with_graph I h pairs)) e
-        (ready_at g.nodes pairs m.older (subst (λ (h : InstGraph). Proper (scene h I.shapes)) (sym e) m.proper) m.builtins
+        (ready_at g.nodes pairs m.older (subst (λ (h : InstGraph). Proper (scene h I.shapes)) (sym e) m.proper) m.builtins m.formed
         (λ u n h. ⊎_elim (λ old. inl old)
         (λ x. inr
         (subst (λ (h : InstGraph). PairIs P h (terms I.types) u n) (sym e)
@@ -175,6 +178,17 @@ below_drop n half is le h k w =
 pub take_rest : (n : ℕ) (xs : List ℕ) → take (length xs - n) (drop n xs) ≡ drop n xs
 take_rest n xs = ap (λ m. take m (drop n xs)) (sym (length-drop n xs)) ∙ take-length (drop n xs)
 
+-- each of a part is the inst that each of the whole is
+pub each_take : (n i : ℕ) (is : List ℕ) → EachIs i is → EachIs i (take n is)
+each_take zero i is h = tt
+each_take (suc n) i [] h = tt
+each_take (suc n) i (j ∷ is) h = (h.0, each_take n i is h.1)
+
+pub each_drop : (n i : ℕ) (is : List ℕ) → EachIs i is → EachIs i (drop n is)
+each_drop zero i is h = h
+each_drop (suc n) i [] h = tt
+each_drop (suc n) i (j ∷ is) h = each_drop n i is h.1
+
 -- what the halves are merged to stands for all
 pub stood_halves : (P : Source) (I I1 I2 I3 : Insts) (is : List ℕ) (half r i j k : ℕ) → half ≤ length is → AllBelow (length I.graph.nodes) is → Onward I I1 → Ready P I1 → Onward I1 I2 → Ready P I2 → Onward I2 I3
     → Stood P I1.graph (terms I1.types) (take half is) r i → Stood P I2.graph (terms I2.types) (drop half is) r j → Stood P I3.graph (terms I3.types) (i ∷ j ∷ []) r k → Stood P I3.graph (terms I3.types) is r k
@@ -190,7 +204,7 @@ stood_halves P I I1 I2 I3 is half r i j k le all o1 r1 o2 r2 o3 first second bot
     both)
 
 -- what the graph says of older nodes
-grown_along : (P : Source) (I J : Insts) (shapes : Shapes) → Proper (scene I.graph shapes) → Extends I.graph.nodes J.graph.nodes → J.graph.functors ≡ I.graph.functors → Grown P I J
+pub grown_along : (P : Source) (I J : Insts) (shapes : Shapes) → Proper (scene I.graph shapes) → Extends I.graph.nodes J.graph.nodes → J.graph.functors ≡ I.graph.functors → Grown P I J
 grown_along P I J shapes proper older functors =
     let C = scene I.graph shapes in
     let ms = J.graph.nodes in
@@ -234,6 +248,7 @@ cleared P I of = record {
   distinct = of.distinct;
   nodes = λ i cs e. let p = of.nodes i cs e in record { rising = p.rising; fitting = p.fitting };
   builtins = of.builtins;
+  insts = of.insts;
   pairs = λ pair k h. absurd h;
 }
 
@@ -262,6 +277,10 @@ same_count_of I0 I J e f = ap count_of f ∙ ap (λ (g : InstGraph). length g.no
 pub on_err : {A E : Type 0} (r : Result A E) (X Y : Type 0) → (X → Y) → OnErr r X → OnErr r Y
 on_err (Ok a) X Y f h = tt
 on_err (Err e) X Y f h = f h
+
+pub on_err_always : {A E : Type 0} (r : Result A E) (Y : Type 0) → Y → OnErr r Y
+on_err_always (Ok a) Y y = tt
+on_err_always (Err e) Y y = y
 
 pub on_ok : {A E : Type 0} (r : Result A E) (X Y : Type 0) → (X → Y) → OnOk r X → OnOk r Y
 on_ok (Ok a) X Y f h = f h

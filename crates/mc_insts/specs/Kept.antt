@@ -2,7 +2,9 @@
 -- each call keeps it.
 use Rattle.std.specs.Prelude.{◌≡◌, ℕ, ◌≤◌, List, length}
 use Rattle.mc_program.specs.Programs.{Source}
+use Rattle.mc_accepted.specs.Fits.{FitsInsts}
 use Rattle.mc_insts.specs.Programs.{FitsConstructors}
+use Rattle.mc_insts.specs.Graphs.{graph_of}
 use Rattle.mc_insts.specs.declared.insts.Insts.{Insts}
 use Rattle.mc_insts.specs.declared.graph.Case.{Case}
 use Rattle.mc_insts.specs.declared.graph.Node.TheVariants as N
@@ -24,4 +26,6 @@ pub record AreOf (P : Source) (I : Insts) : Type 0 where
       → node_at I.graph.nodes i ≡ N.Bound cs
       → ProperCases (scene I.graph I.shapes) (length I.graph.nodes) cs
   pub builtins : Builtins I.graph.nodes
+  -- the graph is one of insts: what else is asked of a program's insts
+  pub insts : FitsInsts (graph_of I)
   pub pairs : PairsAre P I.graph (terms I.types) I.pairs

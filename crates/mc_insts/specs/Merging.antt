@@ -1,6 +1,6 @@
 -- Merging insts at a type. (Mercury Language Reference Manual: Modes, insts; this project's profile
 -- of uniqueness.)
-use Rattle.std.specs.Prelude.{◌≢◌, ◌⊎◌, ℕ, List, [], ◌∷◌}
+use Rattle.std.specs.Prelude.{◌≡◌, ◌≢◌, ◌⊎◌, ℕ, List, [], ◌∷◌}
 use Rattle.mc_program.specs.Programs.{TypeTerm, Source}
 use Rattle.mc_model.specs.Insts.{free, dead, Graph}
 use Rattle.mc_accepted.specs.Inclusion.{Tip, Path, Allows, Included, AllFree, NoneIs, OneIsDead, NoneMore, LeastAbove, Merged}
@@ -48,3 +48,8 @@ pub record StandsForAll (P : Source) (G : Graph) (is : List ℕ) (k : ℕ) (t : 
 -- one of two insts is included in the other
 abbrev pub OneIncludesTheOther : Source → Graph → (i j : ℕ) → TypeTerm → Type 0
 OneIncludesTheOther P G i j t = Included P G i j t ⊎ Included P G j i t
+
+-- each of these is that inst
+abbrev pub EachIs : ℕ → List ℕ → Type 0
+EachIs i [] = Unit {0}
+EachIs i (j ∷ js) = (j ≡ i) × EachIs i js

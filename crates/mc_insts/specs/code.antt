@@ -14,7 +14,10 @@ pub mod Through
 pub mod Tables
 pub mod Joins
 pub mod Listings
+pub mod Formed
 pub mod Merges
 pub mod Answers
 pub mod Pairs
 pub mod Ready
+pub mod Chains
+pub mod Bounds

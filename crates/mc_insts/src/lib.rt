@@ -1,7 +1,10 @@
 //! Instantiation sets: a graph of nodes with cycles, and inclusion by walks over visited pairs at types.
 #![tactic(auto)]
 
+mod bounds;
 mod cases;
+mod chains;
+mod define;
 mod functors;
 mod graph;
 mod grow;
@@ -17,4 +20,5 @@ mod triples;
 mod types;
 mod walk;
 
+pub use define::{InstDef, InstFault};
 pub use insts::{InstId, Insts};

@@ -4,6 +4,7 @@ ghost use Rattle.mc_insts.specs.declared.graph.Node.TheVariants.{Bound};
 ghost use Rattle.mc_insts.specs.code.Lists.{Extends, Stands};
 ghost use Rattle.mc_insts.specs.code.Cases.{node_has, row_arg, Rising};
 ghost use Rattle.mc_insts.specs.code.Walks.{scene, node_at, functor_at, arity_of, low_of, high_of, row_of, Proper, Within, ProperCases};
+ghost use Rattle.mc_insts.specs.code.Formed.{Filled, AllFilled, Formed};
 ghost use Rattle.mc_insts.specs.code.OverArgs.{OverWide};
 ghost use Rattle.mc_insts.specs.code.Pushes.{joined_of};
 ghost use Rattle.mc_insts.specs.code.Shown.{Distinct, plain_graph, RowsAre};
@@ -235,6 +236,7 @@ impl InstGraph {
         ensures length { IfOk result (λ row. length row ≡ arity_of (scene self.now shapes.now) functor) }
         ensures both { IfOk result (λ row. Both (scene self.now shapes.now) seen.new t functor lows.now highs.now row) }
         ensures there { IfOk result (λ row. (k : ℕ) → k < length row → get_or row k 0 < top_of (scene self.now shapes.now) seen.new) }
+        ensures filled { IfOk result (λ row. Filled lows.now → Filled highs.now → Filled row) }
     {
         match over_row(shapes.row(t.row), t.row, shapes.known, functor) {
             None => lows.copied(alloc),
@@ -296,6 +298,7 @@ impl InstGraph {
         ensures extends { Extends seen.old seen.new }
         ensures sound { Sound (scene self.now shapes.now) seen.new }
         ensures joined { IfOk result (λ out. JoinedCases (scene self.now shapes.now) seen.new t lows.now highs.now out) }
+        ensures filled { IfOk result (λ out. AllFilled lows.now → AllFilled highs.now → AllFilled out) }
     {
         let mut out = Vec::new(alloc);
         let mut a = 0;
@@ -357,6 +360,7 @@ impl InstGraph {
         ensures sound { Sound (scene self.now shapes.now) seen.new }
         ensures merges { IfOk result (λ m. Merges (scene self.now shapes.now) seen.new t m) }
         ensures fits { IfOk result (λ m. (cs : List Case) → m ≡ Node.Bound cs → ProperCases (scene self.now shapes.now) (top_of (scene self.now shapes.now) seen.new) cs) }
+        ensures filled { IfOk result (λ m. Formed self.now.nodes → (cs : List Case) → m ≡ Node.Bound cs → AllFilled cs) }
     {
         let row = shapes.row(t.row);
         let lows = cases_of(alloc, self.node(t.low), t.low, row)?;

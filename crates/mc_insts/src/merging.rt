@@ -1,6 +1,6 @@
 ghost use Rattle.std.specs.Prelude.{◌≡◌, ◌∷◌, ◌<◌, ℕ, [], length, get_or, take, IfOk, OnOk, OnErr};
 ghost use Rattle.mc_program.specs.PlainPrograms.{plain_type, plain_program};
-ghost use Rattle.mc_insts.specs.Merging.{StandsForAll, OneIncludesTheOther};
+ghost use Rattle.mc_insts.specs.Merging.{StandsForAll, OneIncludesTheOther, EachIs};
 ghost use Rattle.mc_insts.specs.code.TypeRows.{terms, term_at, AllBelow};
 ghost use Rattle.mc_insts.specs.code.Pairs.{Stood};
 
@@ -39,6 +39,7 @@ impl Insts {
         ensures kept { OnOk result
             (OneIncludesTheOther (plain_program program.now) (graph_of self.old) i j (plain_type t.now)
             → count_of self.new ≡ count_of self.old) }
+        ensures alike { IfOk result (λ k. i ≡ j → k ≡ i) }
         ensures program { AreOf (plain_program program.now) self.new }
         ensures grown { Grown (plain_program program.now) self.old self.new }
         ensures graph { OnErr result (graph_of self.new ≡ graph_of self.old) }
@@ -64,6 +65,7 @@ impl Insts {
         ensures merged { IfOk result
             (λ k. StandsForAll (plain_program program.now) (graph_of self.new) insts.now k
             (plain_type t.now)) }
+        ensures alike { IfOk result (λ k. (i : ℕ) → EachIs i insts.now → k ≡ i) }
         ensures program { AreOf (plain_program program.now) self.new }
         ensures grown { Grown (plain_program program.now) self.old self.new }
         ensures graph { OnErr result (graph_of self.new ≡ graph_of self.old) }
@@ -80,8 +82,8 @@ impl Insts {
         }
     }
 
-    /// What two insts are merged to at the type of a row: by the table, where they were merged before. Where there is no
-    /// memory for the table, the answer stands all the same.
+    /// What two insts are merged to at the type of a row: by the table, where they were merged before. An inst merged
+    /// with itself is that inst. Where there is no memory for the table, the answer stands all the same.
     fn merge_pair(
         &mut self,
         alloc: Global,
@@ -103,9 +105,13 @@ impl Insts {
             (OneIncludesTheOther (plain_program program.now) (graph_of self.old) i j
             (term_at (terms self.old.types) r)
             → self.new.graph ≡ self.old.graph) }
+        ensures alike { IfOk result (λ k. i ≡ j → k ≡ i) }
         ensures err { OnErr result (self.new ≡ self.old) }
     {
         let _ = program;
+        if i == j {
+            return Ok(i);
+        }
         let pair = Triple {
             low: i,
             high: j,
@@ -136,6 +142,7 @@ impl Insts {
         ensures stood { IfOk result
             (λ k. Stood (plain_program program.now) self.new.graph (terms self.new.types)
             insts.now r k) }
+        ensures alike { IfOk result (λ k. (i : ℕ) → EachIs i insts.now → k ≡ i) }
     {
         let n = insts.len();
         if n == 1 {

@@ -12,6 +12,7 @@ use Rattle.mc_insts.specs.code.Lists.{Extends}
 use Rattle.mc_insts.specs.code.Walks.{Scene, scene, node_at, Below, Proper}
 use Rattle.mc_insts.specs.code.Shown.{plain_graph, RowsAre}
 use Rattle.mc_insts.specs.code.Steps.{same_of}
+use Rattle.mc_insts.specs.code.Formed.{Formed}
 use Rattle.mc_insts.specs.code.Merges.{Builtins}
 use Rattle.mc_insts.specs.Merging.{LivesAbove, EachIsTidy, OneAllows}
 
@@ -46,6 +47,7 @@ pub record IsMerge (before after : InstGraph) (shapes : Shapes) (is : List ℕ) 
   pub functors : after.functors ≡ before.functors
   pub proper : Proper (scene after shapes)
   pub builtins : Builtins after.nodes
+  pub formed : Formed before.nodes → Formed after.nodes
   pub there : k < length after.nodes
   pub gathers :
       (P : Source) (type : ℕ → TypeTerm) → RowsAre P (scene after shapes) type

@@ -8,6 +8,7 @@ use Rattle.mc_insts.specs.declared.graph.Shape.TheVariants as S
 use Rattle.mc_insts.specs.declared.triples.Triple.{Triple}
 use Rattle.mc_insts.specs.code.Lists.{Stands}
 use Rattle.mc_insts.specs.code.Cases.{find_case, argument, node_has, node_arg, row_has, row_arg, marks, Rising, Fitting}
+use Rattle.mc_insts.specs.code.Formed.{AllFilled, Formed}
 use Rattle.mc_insts.specs.code.Joins.{Join}
 use Rattle.mc_insts.specs.code.Steps.{same_of}
 use Rattle.mc_insts.specs.code.Walks.{Scene, node_at, arity_of, low_of, high_of, row_of, child, Below, Within, ProperCases}
@@ -117,3 +118,4 @@ pub record Made (C : Scene) (root : Triple) (k : ℕ) (made : List Node) : Type 
   pub sound : Sound C seen
   pub merges : (n : ℕ) (u : Triple) → Stands seen n u → Merges C seen u (node_at made n)
   pub fits : (n : ℕ) (cs : List Case) → node_at made n ≡ N.Bound cs → ProperCases C (top_of C seen) cs
+  pub filled : Formed C.nodes → (n : ℕ) (cs : List Case) → node_at made n ≡ N.Bound cs → AllFilled cs

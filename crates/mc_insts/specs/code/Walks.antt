@@ -14,7 +14,7 @@ use Rattle.mc_insts.specs.code.Lists.{Stands}
 use Rattle.mc_insts.specs.code.Cases.{node_has, node_arg, row_has, row_arg, marks, Rising, Fitting}
 
 abbrev pub node_at : List Node → ℕ → Node
-node_at ns i = get_or ns i N.Free
+node_at ns i = get_or ns i (N.Bound [])
 
 abbrev pub shape_at : List Shape → ℕ → Shape
 shape_at rows r = get_or rows r S.Constants

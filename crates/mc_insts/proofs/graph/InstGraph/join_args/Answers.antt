@@ -3,6 +3,8 @@ use Rattle.mc_insts.specs.declared.graph.Shape.{Shape}
 use Rattle.mc_insts.specs.code.Cases.{row_has, row_arg}
 use Rattle.mc_insts.specs.code.Overs.{RowWide}
 use Rattle.mc_insts.specs.code.Walks.{scene, shape_at, arity_of}
+use Rattle.mc_insts.proofs.Forming.{refers_filled}
+use Rattle.mc_insts.proofs.Results.{if_ok_two}
 use Rattle.mc_insts.proofs.Scenes.{row_wide, row_arg_there}
 use Rattle.mc_insts.proofs.graph.InstGraph.join_args.Goals as goal
 
@@ -20,3 +22,10 @@ join_typed-requires-clause-within c =
       high = c.requires.highs_there k (omega arith);
       row = subst (λ r. r < length C.rows) (sym (c.in-Some.ensures.1 k ∙ ap (λ (K : Shape). row_arg K c.args.t.row c.args.functor k) c.row.ensures)) (row_arg_there C c.requires.proper c.args.t.row c.args.functor k c.requires.within.row h (omega arith));
     }
+
+pub returns-in-Some-clause-filled : goal.returns-in-Some-clause-filled
+returns-in-Some-clause-filled c =
+    let C = scene c.args.self.now c.args.shapes.now in
+    if_ok_two _ _ _ c.join_typed.result
+    (λ row wide refers f g k lt. refers_filled C _ _ _ c.requires.builtins (f k (omega arith)) (g k (omega arith)) (refers k (omega arith)))
+    c.join_typed.ensures.length c.join_typed.ensures.refers

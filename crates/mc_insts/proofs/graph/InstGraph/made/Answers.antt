@@ -1,14 +1,15 @@
-use Rattle.std.proofs.Common.{◌≡◌, ℕ, ◌+◌, ◌<◌, List, [], ◌∷◌, ◌++◌, length, sym, ap, subst, arith, length-append}
+use Rattle.std.proofs.Common.{◌≡◌, ℕ, ◌+◌, ◌<◌, List, [], ◌∷◌, ◌++◌, length, sym, ap, ◌∙◌, subst, arith, length-append}
 use Rattle.mc_insts.specs.declared.graph.Case.{Case}
 use Rattle.mc_insts.specs.declared.graph.Node.{Node}
 use Rattle.mc_insts.specs.declared.graph.Node.TheVariants as N
 use Rattle.mc_insts.specs.declared.triples.Triple.{Triple}
 use Rattle.mc_insts.specs.code.Lists.{Stands}
 use Rattle.mc_insts.specs.code.Walks.{scene, node_at, ProperCases}
+use Rattle.mc_insts.specs.code.Formed.{AllFilled}
 use Rattle.mc_insts.specs.code.Merges.{Merges, top_of}
 use Rattle.mc_insts.proofs.Growth.{extends_length}
 use Rattle.mc_insts.proofs.Opens.{refers_on}
-use Rattle.mc_insts.proofs.Mades.{merges_more, fits_more, merges_all}
+use Rattle.mc_insts.proofs.Mades.{none_proper, none_filled, merges_more, fits_more, filled_more, merges_all}
 use Rattle.mc_insts.proofs.graph.InstGraph.made.Goals as goal
 
 pub loop-t-init : goal.loop-t-init
@@ -20,7 +21,8 @@ loop-t-init c =
       count = ap length c.new-nodes.ensures.items;
       order = omega arith;
       merges = λ n u h s. absurd (omega arith);
-      fits = λ n cs h. let x : node_at c.new-nodes.result.items n ≡ N.Free = ap (λ (made : List Node). node_at made n) c.new-nodes.ensures.items in cc;
+      fits = λ n cs h. none_proper C (top_of C c.resolve.new.seen) cs (sym (ap (λ (made : List Node). node_at made n) c.new-nodes.ensures.items) ∙ h);
+      filled = λ f n cs h. none_filled cs (sym (ap (λ (made : List Node). node_at made n) c.new-nodes.ensures.items) ∙ h);
     }
 
 pub merged_node-requires-clause-sound : goal.merged_node-requires-clause-sound
@@ -46,6 +48,8 @@ loop-t-preserved c =
           (merges_more C c.in-Some.t c.in_ok-node.node c.loop-t.next c.loop-t.nodes.items _ _ c.merged_node.ensures.extends c.loop-t.invariant.count s c.loop-t.invariant.merges c.in_ok-node.ensures.merges);
       fits = subst (λ (made : List Node). (n : ℕ) (cs : List Case) → node_at made n ≡ N.Bound cs → ProperCases C (top_of C c.merged_node.new.seen) cs) (sym c.in_ok-push.ensures.items)
           (fits_more C c.in_ok-node.node c.loop-t.nodes.items _ _ c.merged_node.ensures.extends c.loop-t.invariant.fits c.in_ok-node.ensures.fits);
+      filled = λ f. subst (λ (made : List Node). (n : ℕ) (cs : List Case) → node_at made n ≡ N.Bound cs → AllFilled cs) (sym c.in_ok-push.ensures.items)
+          (filled_more c.in_ok-node.node c.loop-t.nodes.items (c.loop-t.invariant.filled f) (c.in_ok-node.ensures.filled f));
     }
 
 pub returns : goal.returns
@@ -60,4 +64,5 @@ returns c =
       sound = c.loop-t.invariant.sound;
       merges = subst (λ (made : List Node). (n : ℕ) (u : Triple) → Stands c.loop-t.seen n u → Merges C c.loop-t.seen u (node_at made n)) (sym e) (merges_all C c.loop-t.next c.loop-t.nodes.items c.loop-t.seen c.in_default.ensures.triple c.loop-t.invariant.merges);
       fits = subst (λ (made : List Node). (n : ℕ) (cs : List Case) → node_at made n ≡ N.Bound cs → ProperCases C (top_of C c.loop-t.seen) cs) (sym e) c.loop-t.invariant.fits;
+      filled = λ f. subst (λ (made : List Node). (n : ℕ) (cs : List Case) → node_at made n ≡ N.Bound cs → AllFilled cs) (sym e) (c.loop-t.invariant.filled f);
     }

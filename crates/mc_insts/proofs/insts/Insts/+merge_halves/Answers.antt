@@ -1,9 +1,10 @@
-use Rattle.std.proofs.Common.{ℕ, ◌/◌, List, length, subst, arith}
+use Rattle.std.proofs.Common.{◌≡◌, ℕ, ◌/◌, ◌∙◌, List, length, sym, subst, arith}
 use Rattle.mc_program.specs.PlainPrograms.{plain_program}
+use Rattle.mc_insts.specs.Merging.{EachIs}
 use Rattle.mc_insts.specs.code.TypeRows.{terms}
 use Rattle.mc_insts.specs.code.Pairs.{Stood}
 use Rattle.mc_insts.proofs.Results.{if_ok}
-use Rattle.mc_insts.proofs.Readies.{take_rest, stood_halves}
+use Rattle.mc_insts.proofs.Readies.{take_rest, stood_halves, each_take, each_drop}
 use Rattle.mc_insts.proofs.insts.Insts.+merge_halves.Goals as goal
 
 pub returns-clause-stood : goal.returns-clause-stood
@@ -18,3 +19,13 @@ returns-clause-stood t c =
     (subst (λ (js : List ℕ). Stood P I2.graph (terms I2.types) js c.args.r c.in_ok-j.j) (take_rest (length is / 2) is) c.in_ok-j.ensures.stood)
     s)
     c.merge_pair.ensures.stood
+
+pub returns-clause-alike : goal.returns-clause-alike
+returns-clause-alike t c =
+    let is : List ℕ = c.args.insts.now in
+    if_ok _ _ c.merge_pair.result
+    (λ k same i all.
+    let first : c.in_ok-i.i ≡ i = c.in_ok-i.ensures.alike i (each_take (length is / 2) i is all) in
+    let second : c.in_ok-j.j ≡ i = c.in_ok-j.ensures.alike i (subst (EachIs i) (sym (take_rest (length is / 2) is)) (each_drop (length is / 2) i is all)) in
+    same (first ∙ sym second) ∙ first)
+    c.merge_pair.ensures.alike

@@ -25,6 +25,7 @@ returns-in_err-r-clause-program c =
       distinct = c.requires.distinct;
       nodes = c.requires.nodes;
       builtins = c.requires.builtins;
+      insts = c.requires.insts;
       pairs = pairs_typed (plain_program c.args.program.now) c.args.self.now.graph (terms c.args.self.now.types) (terms c.row_of.new.types) c.args.self.now.pairs c.row_of.ensures.extends c.requires.pairs;
     }
 
@@ -37,6 +38,7 @@ returns-in_err-complete-clause-program c = record {
   distinct = c.requires.distinct;
   nodes = λ i cs e. let p = c.requires.nodes i cs e in record { rising = p.rising; fitting = p.fitting };
   builtins = c.requires.builtins;
+  insts = c.requires.insts;
   pairs = pairs_typed (plain_program c.args.program.now) c.args.self.now.graph (terms c.args.self.now.types) (terms c.complete.new.types) c.args.self.now.pairs (extends_on (terms c.args.self.now.types) (terms c.row_of.new.types) (terms c.complete.new.types) c.row_of.ensures.extends c.complete.ensures.extends) c.requires.pairs;
 }
 
@@ -49,6 +51,7 @@ returns-clause-program c = record {
   distinct = c.requires.distinct;
   nodes = λ i cs e. let p = c.requires.nodes i cs e in record { rising = p.rising; fitting = p.fitting };
   builtins = c.requires.builtins;
+  insts = c.requires.insts;
   pairs = pairs_typed (plain_program c.args.program.now) c.args.self.now.graph (terms c.args.self.now.types) (terms c.complete.new.types) c.args.self.now.pairs (extends_on (terms c.args.self.now.types) (terms c.row_of.new.types) (terms c.complete.new.types) c.row_of.ensures.extends c.complete.ensures.extends) c.requires.pairs;
 }
 
