@@ -1,0 +1,4 @@
+pub mod Growing
+pub mod Naming
+pub mod Fits
+pub mod Views
