@@ -1,0 +1,5 @@
+pub mod Laws
+pub mod Allowing
+pub mod Raising
+pub mod Stacks
+pub mod Calling
