@@ -1,0 +1,5 @@
+pub mod Skeletons
+pub mod Questions
+pub mod Entering
+pub mod Tests
+pub mod Knowing

@@ -1,0 +1,4 @@
+pub mod Symbols
+pub mod Points
+pub mod Testing
+pub mod Facts

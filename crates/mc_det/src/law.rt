@@ -1,0 +1,11 @@
+ghost use Rattle.mc_det.specs.SkeletonLaws.{SkeletonsTell, LeastBySkeletons};
+
+/// A goal's skeleton comes to what the table says of the goal.
+pub fn skeletons_tell()
+    ensures { SkeletonsTell }
+{}
+
+/// The least determinisms by skeletons are the least by the table.
+pub fn least_by_skeletons()
+    ensures { LeastBySkeletons }
+{}
