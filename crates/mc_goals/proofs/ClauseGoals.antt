@@ -1,15 +1,14 @@
 -- A clause's goal: the equations of its head, and then its body.
 use Rattle.std.proofs.Common.{◌≡◌, ℕ, suc, ◌+◌, List, [], ◌∷◌, ◌++◌, length, get_or, Bool, true, false, cond, Option, Some, None, refl, sym, ap, ap₂, ◌∙◌, subst, arith}
 use Rattle.mc_program.specs.Programs.{Expression, variable, constant, made, applied, ClauseForm}
-use Rattle.mc_model.specs.Flat.{Flat_goal}
 use Rattle.mc_accepted.specs.Scope.{occurring}
-use Rattle.mc_accepted.specs.Normal.{head_place, is_place, named_by_quantifiers, other_variables, names_in, Conjuncts, before, equate, one_or_and, conjunction, conjuncts_of, head_equation, head_equations, clause_goal}
+use Rattle.mc_accepted.specs.Normal.{head_place, is_place, named_by_quantifiers, other_variables, names_in, Conjuncts, equate, one_or_and, conjunction, conjuncts_of, head_equation, head_equations, clause_goal}
 use Rattle.mc_goals.specs.declared.numbers.Number.{Number}
 use Rattle.mc_goals.specs.declared.numbers.Numbers.{Numbers}
 use Rattle.mc_goals.specs.declared.numbering.Numbering.{Numbering}
 use Rattle.mc_goals.specs.code.Naming.{followed, variable_in}
 use Rattle.mc_goals.specs.code.Numbering.{number_at, number_or, own_place, Places}
-use Rattle.mc_goals.specs.code.Meeting.{slot_of, Knows, head_variables}
+use Rattle.mc_goals.specs.code.Meeting.{Knows, head_variables}
 use Rattle.mc_goals.proofs.Naming.{followed-assoc, nothing, followed-nothing}
 use Rattle.mc_goals.proofs.Conjunctions.{Single, single-append, equated_single, goal_single}
 use Rattle.mc_goals.proofs.Heads.{names_are, own_is}

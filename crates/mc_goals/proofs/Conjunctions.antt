@@ -1,10 +1,9 @@
 -- Goals put at the end of a conjunction, one after another.
-use Rattle.std.proofs.Common.{◌≡◌, ◌≢◌, ℕ, ◌+◌, ◌<◌, ◌≤◌, List, [], ◌∷◌, ◌++◌, map, length, Option, Some, None, refl, sym, ap, ap₂, ◌∙◌, append_assoc, append-nil, arith}
-use Rattle.std.proofs.lemmas.List.{map-append}
+use Rattle.std.proofs.Common.{◌≡◌, ◌≢◌, ℕ, ◌<◌, List, [], ◌∷◌, ◌++◌, length, Option, Some, None, refl, sym, ap, ap₂, ◌∙◌, append_assoc, append-nil, arith}
 use Rattle.mc_program.specs.Programs.{Expression, variable, constant, made, applied, Expressions, no_expressions, expression_then, Formula, Equal, Call, And, Or, If, Not, Exists, Formulas, no_formulas, formula_then}
 use Rattle.mc_model.specs.Flat as F
 use Rattle.mc_model.specs.Flat.{Flat_goal, Flat_goals, no_flat, flat_then, flats}
-use Rattle.mc_accepted.specs.Normal.{listed_flats, conjuncts, all_conjuncts, one_or_and, conjunction, disjuncts, all_disjuncts, around, Conjuncts, Named_terms, before, alone, the_variable, name_term, name_terms, equate, equation, conjuncts_of, conjuncts_of_all, disjuncts_of}
+use Rattle.mc_accepted.specs.Normal.{conjuncts, all_conjuncts, one_or_and, conjunction, around, Conjuncts, alone, the_variable, name_term, name_terms, equate, equation, conjuncts_of, conjuncts_of_all}
 use Rattle.mc_goals.specs.code.Naming.{followed, with_goal, numbered, added, variable_in}
 use Rattle.mc_goals.proofs.Naming.{followed-assoc, followed-nothing}
 

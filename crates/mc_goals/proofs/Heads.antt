@@ -1,9 +1,9 @@
 -- The places of head arguments, one argument after another, and the numbers that come of them.
-use Rattle.std.proofs.Common.{◌≡◌, ℕ, zero, suc, ◌+◌, List, [], ◌∷◌, ◌++◌, length, get_or, Bool, true, false, cond, nat_eq, ◌||◌, Option, Some, None, refl, sym, ap, ap₂, ◌∙◌, subst, arith, append_assoc, append-nil}
+use Rattle.std.proofs.Common.{◌≡◌, ℕ, suc, ◌+◌, List, [], ◌∷◌, ◌++◌, length, Bool, true, false, cond, nat_eq, ◌||◌, Option, Some, None, refl, sym, ap, ap₂, ◌∙◌, subst, arith, append_assoc, append-nil}
 use Rattle.std.specs.Option.{is_some}
 use Rattle.std.proofs.Math.Path.{fun_ext}
-use Rattle.std.proofs.lemmas.Bool.{eqb-true, eqb-false}
-use Rattle.mc_program.specs.Programs.{Expression, variable, constant, made, applied, Expressions, expressions, ClauseForm}
+use Rattle.std.proofs.lemmas.Bool.{eqb-true}
+use Rattle.mc_program.specs.Programs.{Expression, variable, constant, made, applied, ClauseForm}
 use Rattle.mc_model.specs.Lists.{is_in, once, place_in}
 use Rattle.mc_accepted.specs.Scope.{variables_in, variables_in_all, occurring}
 use Rattle.mc_accepted.specs.Normal.{one_more, head_place, has_place, no_arguments, place_or, is_place, named_by_quantifiers, other_variables, names_in}
@@ -12,9 +12,9 @@ use Rattle.mc_goals.specs.declared.numbers.Number.TheVariants as N
 use Rattle.mc_goals.specs.declared.numbering.Numbering.{Numbering}
 use Rattle.mc_goals.specs.code.Naming.{variable_in}
 use Rattle.mc_goals.specs.code.Numbering.{number_or, own_place}
-use Rattle.mc_goals.specs.code.Meeting.{slot_of, IsPut, IsKept, MetArgumentIf, MetArgument, number_for, Knows, head_variables}
+use Rattle.mc_goals.specs.code.Meeting.{slot_of, MetArgumentIf, MetArgument, number_for, Knows, head_variables}
 use Rattle.mc_goals.proofs.Lists.{itself, is_in-append, once-push, is_in-once, place-absent}
-use Rattle.mc_goals.proofs.Meeting.{others_of, known, no_arguments-append, in_others, known_some}
+use Rattle.mc_goals.proofs.Meeting.{others_of, no_arguments-append, in_others, known_some}
 
 pub head_variables-append : (hs ts : List Expression) → head_variables (hs ++ ts) ≡ head_variables hs ++ head_variables ts
 head_variables-append [] ts = refl

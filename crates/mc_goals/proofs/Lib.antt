@@ -9,3 +9,9 @@ pub mod Results
 pub mod HeadSteps
 pub mod TermVariables
 pub mod ClauseGoals
+pub mod Several
+pub mod Drops
+pub mod Counts
+pub mod OutsideCounts
+pub mod Scoping
+pub mod PartSteps

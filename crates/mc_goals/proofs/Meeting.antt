@@ -1,18 +1,15 @@
 -- What is known of a clause's variables while they are met, and in the end: their numbers.
-use Rattle.std.proofs.Common.{◌≡◌, ℕ, zero, suc, ◌+◌, List, [], ◌∷◌, ◌++◌, length, get_or, Bool, true, false, cond, nat_eq, ◌||◌, Option, Some, None, refl, sym, ap, ap₂, ◌∙◌, subst, arith, append_assoc, append-nil}
+use Rattle.std.proofs.Common.{◌≡◌, ℕ, ◌+◌, List, [], ◌∷◌, ◌++◌, length, Bool, true, false, cond, nat_eq, ◌||◌, Option, Some, None, refl, sym, ap, ap₂, ◌∙◌, subst}
 use Rattle.std.specs.Option.{is_some}
-use Rattle.std.proofs.Math.Path.{fun_ext}
-use Rattle.std.proofs.lemmas.Bool.{eqb-true, eqb-false}
-use Rattle.mc_program.specs.Programs.{Expression, variable, constant, made, applied, Expressions, expressions, ClauseForm}
+use Rattle.std.proofs.lemmas.Bool.{eqb-true}
+use Rattle.mc_program.specs.Programs.{Expression}
 use Rattle.mc_model.specs.Lists.{is_in, once, place_in}
-use Rattle.mc_accepted.specs.Scope.{variables_in, variables_in_all, occurring}
-use Rattle.mc_accepted.specs.Normal.{one_more, head_place, has_place, no_arguments, place_or, is_place, named_by_quantifiers, other_variables, names_in}
+use Rattle.mc_accepted.specs.Normal.{head_place, has_place, no_arguments}
 use Rattle.mc_goals.specs.declared.numbers.Number.{Number}
 use Rattle.mc_goals.specs.declared.numbers.Number.TheVariants as N
 use Rattle.mc_goals.specs.declared.numbering.Numbering.{Numbering}
-use Rattle.mc_goals.specs.code.Numbering.{number_or}
-use Rattle.mc_goals.specs.code.Meeting.{slot_of, IsPut, IsKept, MetIf, Met, MetArgumentIf, MetArgument, number_for, Knows}
-use Rattle.mc_goals.proofs.Lists.{itself, is_in-append, once-push, is_in-once, place-there, place-last, place-absent}
+use Rattle.mc_goals.specs.code.Meeting.{slot_of, IsKept, MetIf, Met, number_for, Knows}
+use Rattle.mc_goals.proofs.Lists.{is_in-append, once-push, is_in-once, place-there, place-last}
 
 abbrev pub others_of : List Expression → List ℕ → List ℕ
 others_of head ys = no_arguments head (once ys)

@@ -7,11 +7,11 @@ use Rattle.mc_program.specs.declared.expr.Expr.{Expr}
 use Rattle.mc_program.specs.Programs.{Expression, variable, constant, made, applied, Expressions, expression_then, expressions}
 use Rattle.mc_model.specs.Flat as F
 use Rattle.mc_model.specs.Flat.{Flat_goal}
-use Rattle.mc_accepted.specs.Normal.{Conjuncts, before, Named_terms, the_variable, name_term, name_terms}
+use Rattle.mc_accepted.specs.Normal.{Conjuncts, Named_terms, the_variable, name_term, name_terms}
 use Rattle.mc_goals.specs.declared.building.Head.{Head}
 use Rattle.mc_goals.specs.declared.building.Head.TheVariants as H
 use Rattle.mc_goals.specs.declared.terms.Front.{Front}
-use Rattle.mc_goals.specs.code.Naming.{held, followed, with_variable, with_goal, goal_over, added, Named, NamedAll}
+use Rattle.mc_goals.specs.code.Naming.{followed, with_variable, with_goal, goal_over, added, Named, NamedAll}
 
 abbrev pub joined : Named_terms → Named_terms → Named_terms
 joined r s =

@@ -1,3 +1,4 @@
 pub mod Numbering
 pub mod Naming
 pub mod Meeting
+pub mod Outside

@@ -42,8 +42,10 @@ pub fn goal_of_clause(alloc: Global, first: u32, clause: &Clause) -> Result<Clau
     } = met;
     let rest = number_behind(first, others.len())?;
     let numbers = Numbers { slots, rest };
+    // A fact over constants has a goal for each argument, and takes no more room than that.
+    let room = Vec::with_capacity(alloc, clause.head.as_slice().len())?;
     let mut building = Building {
-        goals: Vec::new(alloc),
+        goals: room,
         made: Vec::new(alloc),
         next: rest,
     };

@@ -1,12 +1,19 @@
-//! Normal goals: the goal of a clause over the head variables of its predicate.
+//! Clauses with their scopes written out, and normal goals: the one goal of a predicate over its head variables.
 #![tactic(auto)]
 
 mod building;
 mod clauses;
 mod goals;
+mod normal;
 mod numbering;
 mod numbers;
 mod occurrences;
+mod outside;
+mod scopes;
+mod shape;
 mod terms;
 
 pub use clauses::{ClauseGoal, goal_of_clause};
+pub use normal::normal_goal;
+pub use scopes::scoped_clause;
+pub use shape::{Shape, flat_goal};

@@ -1,7 +1,7 @@
-use Rattle.std.proofs.Common.{◌≡◌, ◌++◌, ◌+◌, map, sym, ap, ◌∙◌, refl, arith, length}
+use Rattle.std.proofs.Common.{◌≡◌, ◌+◌, map, sym, ap, ◌∙◌, refl, arith, length}
 use Rattle.mc_program.specs.PlainPrograms.{plain_clause}
 use Rattle.mc_model.specs.PlainGoals.{plain_flat}
-use Rattle.mc_accepted.specs.Normal.{Conjuncts, one_or_and, conjuncts_of, head_equations, clause_goal}
+use Rattle.mc_accepted.specs.Normal.{Conjuncts, one_or_and, head_equations, clause_goal}
 use Rattle.mc_goals.specs.declared.numbers.Numbers.{Numbers}
 use Rattle.mc_goals.specs.code.Naming.{held, followed}
 use Rattle.mc_goals.specs.code.Numbering.{number_at}
@@ -21,8 +21,8 @@ returns-clause-goal c =
     let count = c.len.ensures in
     let long = met.others.ok.0 in
     let behind : rest ≡ n + length met.others.items = omega arith in
-    let start : Conjuncts = record { goals = map plain_flat c.new.result.items; made_variables = c.new-2.result.items; next = rest } in
-    let empty : start ≡ nothing rest = λ i. record { goals = map plain_flat (c.new.ensures.items i); made_variables = c.new-2.ensures.items i; next = rest } in
+    let start : Conjuncts = record { goals = map plain_flat c.in_ok-room.room.items; made_variables = c.new.result.items; next = rest } in
+    let empty : start ≡ nothing rest = λ i. record { goals = map plain_flat ((c.in_ok-room.ensures {u = tt}).items i); made_variables = c.new.ensures.items i; next = rest } in
     let heads : held c.add_head.new.into ≡ followed (nothing rest) (head_equations (number_at numbers) cf.head rest 0 cf.head) =
     c.in_ok-add_head.ensures cf.head (places_are n cf met numbers k refl behind)
     ∙ ap (λ (s : Conjuncts). followed s (head_equations (number_at numbers) cf.head s.next 0 cf.head)) empty in
@@ -42,8 +42,8 @@ returns-clause-next c =
     let count = c.len.ensures in
     let long = met.others.ok.0 in
     let behind : rest ≡ n + length met.others.items = omega arith in
-    let start : Conjuncts = record { goals = map plain_flat c.new.result.items; made_variables = c.new-2.result.items; next = rest } in
-    let empty : start ≡ nothing rest = λ i. record { goals = map plain_flat (c.new.ensures.items i); made_variables = c.new-2.ensures.items i; next = rest } in
+    let start : Conjuncts = record { goals = map plain_flat c.in_ok-room.room.items; made_variables = c.new.result.items; next = rest } in
+    let empty : start ≡ nothing rest = λ i. record { goals = map plain_flat ((c.in_ok-room.ensures {u = tt}).items i); made_variables = c.new.ensures.items i; next = rest } in
     let heads : held c.add_head.new.into ≡ followed (nothing rest) (head_equations (number_at numbers) cf.head rest 0 cf.head) =
     c.in_ok-add_head.ensures cf.head (places_are n cf met numbers k refl behind)
     ∙ ap (λ (s : Conjuncts). followed s (head_equations (number_at numbers) cf.head s.next 0 cf.head)) empty in

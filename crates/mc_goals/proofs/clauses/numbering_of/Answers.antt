@@ -1,4 +1,4 @@
-use Rattle.std.proofs.Common.{◌≡◌, ◌++◌, map, sym, ap, subst, ◌∙◌}
+use Rattle.std.proofs.Common.{◌++◌, map, ap, subst, ◌∙◌}
 use Rattle.mc_program.specs.PlainPrograms.{plain_expression, plain_goal}
 use Rattle.mc_accepted.specs.Scope.{occurring}
 use Rattle.mc_accepted.specs.Normal.{named_by_quantifiers}

@@ -1,4 +1,4 @@
-use Rattle.std.proofs.Common.{◌≡◌, ◌++◌, sym, ap, ◌∙◌}
+use Rattle.std.proofs.Common.{◌++◌, sym, ap, ◌∙◌}
 use Rattle.mc_program.specs.PlainPrograms.{plain_expression}
 use Rattle.mc_accepted.specs.Scope.{variables_in}
 use Rattle.mc_goals.specs.code.Meeting.{head_variables}

@@ -1,4 +1,4 @@
-use Rattle.std.proofs.Common.{arith, ◌≡◌, map, subst}
+use Rattle.std.proofs.Common.{arith, map, subst}
 use Rattle.std.proofs.lemmas.List.{take_all}
 use Rattle.mc_program.specs.PlainPrograms.{plain_expression}
 use Rattle.mc_goals.specs.code.Meeting.{Knows, head_variables}

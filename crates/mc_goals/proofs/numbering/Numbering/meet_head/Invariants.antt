@@ -1,4 +1,4 @@
-use Rattle.std.proofs.Common.{ℕ, List, [], map, take}
+use Rattle.std.proofs.Common.{ℕ, [], map, take}
 use Rattle.mc_program.specs.PlainPrograms.{plain_expression}
 use Rattle.mc_goals.specs.code.Meeting.{Knows, head_variables}
 use Rattle.mc_goals.proofs.numbering.Numbering.meet_head.Given as goal

@@ -1,0 +1,6 @@
+use Rattle.std.proofs.Common.{◌≡◌, take}
+use Rattle.mc_goals.specs.code.Outside.{count, less}
+use Rattle.mc_goals.proofs.outside.Outside.remove_all.Given as goal
+
+abbrev pub invariant-loop-variable : goal.invariant-loop-variable
+invariant-loop-variable l = count l.self ≡ less (count l.fn.self) (take l.variable-index l.variables)

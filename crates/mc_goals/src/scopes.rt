@@ -1,0 +1,299 @@
+ghost use Rattle.std.specs.Prelude.{◌≡◌, ◌<◌, ◌^◌, ◌++◌, map, IfOk, OnOk};
+ghost use Rattle.mc_program.specs.Programs.{If};
+ghost use Rattle.mc_program.specs.PlainPrograms.{plain_goal, plain_clause, formulas};
+ghost use Rattle.mc_accepted.specs.Scope as scope;
+ghost use Rattle.mc_accepted.specs.Scope.{clause_scoped, occurring, occurring_all};
+ghost use Rattle.mc_goals.specs.code.Outside.{count, more, less, free_by, free_by_all, own_of, scoped_by, parts_by, disjuncts_by};
+
+use crate::occurrences::{push_all_occurring, push_all_variables, push_occurring, push_variables};
+use crate::outside::Outside;
+use mc_base::{Copied, Memory, Row};
+use mc_program::expr::{Expr, copy_expr};
+use mc_program::program::{Clause, Goal};
+use std::alloc::Global;
+
+/// The clause with its scopes written out, the variables of its head being outside its body.
+pub fn scoped_clause(alloc: Global, clause: &Clause) -> Result<Clause, Memory>
+    ensures scoped { IfOk result (λ made. plain_clause made
+        ≡ clause_scoped (plain_clause clause.now)) }
+    ensures variables { IfOk result (λ made. made.vars ≡ clause.now.vars) }
+    ensures place { IfOk result (λ made. made.place ≡ clause.now.place) }
+{
+    let mut variables = Vec::new(alloc);
+    push_all_variables(&mut variables, clause.head.as_slice())?;
+    let mut outside = Outside::nothing(alloc);
+    outside.add_all(variables.as_slice())?;
+    let body = scoped_goal(alloc, &mut outside, &clause.body)?;
+    Ok(Clause {
+        vars: clause.vars,
+        head: copied_terms(alloc, clause.head.as_slice())?,
+        body,
+        place: clause.place,
+    })
+}
+
+/// Other terms that are the same.
+fn copied_terms(alloc: Global, terms: &[Expr]) -> Result<Row<Expr>, Memory>
+    ensures { IfOk result (λ copies. copies ≡ terms.now) }
+{
+    let mut copies = Vec::with_capacity(alloc, terms.len())?;
+    for term in terms {
+        copies.push(copy_expr(alloc, term)?)?;
+    }
+    Row::of(copies)
+}
+
+/// A goal with its scopes written out.
+#[cycle(scopes)]
+#[tactic(auto, using(crate::proofs::OutsideCounts::less_more))]
+fn scoped_goal(alloc: Global, outside: &mut Outside, goal: &Goal) -> Result<Goal, Memory>
+    ensures goal { IfOk result (λ made. plain_goal made
+        ≡ scoped_by (count outside.old) (plain_goal goal.now)) }
+    ensures kept { OnOk result (count outside.new ≡ count outside.old) }
+{
+    match goal {
+        Goal::True => Ok(Goal::True),
+        Goal::Conj(goals) => Ok(Goal::Conj(parts(alloc, outside, goals.as_slice())?)),
+        Goal::Disj(goals) => Ok(Goal::Disj(disjuncts(alloc, outside, goals.as_slice())?)),
+        Goal::Ite(vars, condition, then_part, else_part) => {
+            let vars = vars.as_slice();
+            let made = beside(alloc, outside, condition, vars, then_part)?;
+            let then_part = beside(alloc, outside, then_part, vars, condition)?;
+            let all = with_own(alloc, outside, vars, &made)?;
+            let else_part = scoped_goal(alloc, outside, else_part)?;
+            choice(alloc, all, made, then_part, else_part)
+        }
+        Goal::Not(goal) => {
+            let goal = scoped_goal(alloc, outside, goal)?;
+            let own = own_variables(alloc, outside, &goal)?;
+            Ok(Goal::Not(Box::new(alloc, quantified(alloc, own, goal)?)?))
+        }
+        Goal::Some(vars, goal) => {
+            outside.add_all(vars.as_slice())?;
+            let goal = scoped_goal(alloc, outside, goal)?;
+            outside.remove_all(vars.as_slice());
+            Ok(Goal::Some(vars.copied(alloc)?, Box::new(alloc, goal)?))
+        }
+        Goal::Equal(left, right) => Ok(Goal::Equal(
+            copy_expr(alloc, left)?,
+            copy_expr(alloc, right)?,
+        )),
+        Goal::Call(pred, args) => Ok(Goal::Call(*pred, copied_terms(alloc, args.as_slice())?)),
+    }
+}
+
+/// The choice of these parts.
+fn choice(
+    alloc: Global,
+    vars: Vec<u32>,
+    condition: Goal,
+    then_part: Goal,
+    else_part: Goal,
+) -> Result<Goal, Memory>
+    ensures { IfOk result (λ goal. plain_goal goal
+        ≡ If vars.items (plain_goal condition) (plain_goal then_part) (plain_goal else_part)) }
+{
+    Ok(Goal::Ite(
+        Row::of(vars)?,
+        Box::new(alloc, condition)?,
+        Box::new(alloc, then_part)?,
+        Box::new(alloc, else_part)?,
+    ))
+}
+
+/// A condition or its then part with its scopes written out, under the variables that are quantified over both, where
+/// the other one stands beside it.
+#[cycle(scopes)]
+#[tactic(auto, using(crate::proofs::OutsideCounts::less_more))]
+fn beside(
+    alloc: Global,
+    outside: &mut Outside,
+    goal: &Goal,
+    vars: &[u32],
+    other: &Goal,
+) -> Result<Goal, Memory>
+    ensures goal { IfOk result (λ made. plain_goal made
+        ≡ scoped_by (more (more (count outside.old) vars.now) (occurring (plain_goal other.now))) (plain_goal goal.now)) }
+    ensures kept { OnOk result (count outside.new ≡ count outside.old) }
+{
+    let variables = occurrences(alloc, other)?;
+    outside.add_all(vars)?;
+    outside.add_all(variables.as_slice())?;
+    let made = scoped_goal(alloc, outside, goal)?;
+    outside.remove_all(variables.as_slice());
+    outside.remove_all(vars);
+    Ok(made)
+}
+
+/// Variables that are quantified over a condition, and behind them its own.
+#[tactic(auto, using(crate::proofs::OutsideCounts::less_more))]
+fn with_own(
+    alloc: Global,
+    outside: &mut Outside,
+    vars: &[u32],
+    condition: &Goal,
+) -> Result<Vec<u32>, Memory>
+    ensures vars { IfOk result (λ all. all.items
+        ≡ vars.now ++ own_of (more (count outside.old) vars.now) (plain_goal condition.now)) }
+    ensures kept { OnOk result (count outside.new ≡ count outside.old) }
+{
+    outside.add_all(vars)?;
+    let own = own_variables(alloc, outside, condition)?;
+    outside.remove_all(vars);
+    let mut all = Vec::from_slice(alloc, vars)?;
+    all.extend_from_slice(own.as_slice())?;
+    Ok(all)
+}
+
+/// The variables that occur in a goal, in order.
+fn occurrences(alloc: Global, goal: &Goal) -> Result<Vec<u32>, Memory>
+    ensures { IfOk result (λ variables. variables.items ≡ occurring (plain_goal goal.now)) }
+{
+    let mut variables = Vec::new(alloc);
+    push_occurring(&mut variables, goal)?;
+    Ok(variables)
+}
+
+/// The goals of a conjunction with their scopes written out: each has the others outside.
+#[cycle(scopes)]
+#[tactic(auto, using(crate::proofs::OutsideCounts::less_more))]
+fn parts(alloc: Global, outside: &mut Outside, goals: &[Goal]) -> Result<Row<Goal>, Memory>
+    ensures goals { IfOk result (λ made. map plain_goal made
+        ≡ parts_by (more (count outside.old) (occurring_all (formulas (map plain_goal goals.now)))) (formulas (map plain_goal goals.now))) }
+    ensures kept { OnOk result (count outside.new ≡ count outside.old) }
+{
+    let mut all = Vec::new(alloc);
+    push_all_occurring(&mut all, goals)?;
+    outside.add_all(all.as_slice())?;
+    let mut made = Vec::with_capacity(alloc, goals.len())?;
+    for goal in goals {
+        made.push(part(alloc, outside, goal)?)?;
+    }
+    outside.remove_all(all.as_slice());
+    Row::of(made)
+}
+
+/// A part of a conjunction with its scopes written out, where the whole conjunction was outside.
+#[cycle(scopes)]
+fn part(alloc: Global, outside: &mut Outside, goal: &Goal) -> Result<Goal, Memory>
+    ensures goal { IfOk result (λ made. plain_goal made
+        ≡ scoped_by (less (count outside.old) (occurring (plain_goal goal.now))) (plain_goal goal.now)) }
+    ensures counts { OnOk result (count outside.new
+        ≡ more (less (count outside.old) (occurring (plain_goal goal.now))) (occurring (plain_goal goal.now))) }
+{
+    let own = occurrences(alloc, goal)?;
+    outside.remove_all(own.as_slice());
+    let made = scoped_goal(alloc, outside, goal)?;
+    outside.add_all(own.as_slice())?;
+    Ok(made)
+}
+
+/// The goals of a disjunction with their scopes written out.
+#[cycle(scopes)]
+fn disjuncts(alloc: Global, outside: &mut Outside, goals: &[Goal]) -> Result<Row<Goal>, Memory>
+    ensures goals { IfOk result (λ made. map plain_goal made
+        ≡ disjuncts_by (count outside.old) (formulas (map plain_goal goals.now))) }
+    ensures kept { OnOk result (count outside.new ≡ count outside.old) }
+{
+    let mut made = Vec::with_capacity(alloc, goals.len())?;
+    for goal in goals {
+        made.push(scoped_goal(alloc, outside, goal)?)?;
+    }
+    Row::of(made)
+}
+
+/// Variables quantified around a goal, where there are any.
+fn quantified(alloc: Global, vars: Vec<u32>, goal: Goal) -> Result<Goal, Memory>
+    ensures { IfOk result (λ made. plain_goal made
+        ≡ scope.quantified vars.items (plain_goal goal)) }
+{
+    if vars.is_empty() {
+        return Ok(goal);
+    }
+    Ok(Goal::Some(Row::of(vars)?, Box::new(alloc, goal)?))
+}
+
+/// The free variables of a goal that don't occur outside, each once, in order.
+fn own_variables(alloc: Global, outside: &mut Outside, goal: &Goal) -> Result<Vec<u32>, Memory>
+    ensures own { IfOk result (λ own. own.items
+        ≡ own_of (count outside.old) (plain_goal goal.now)) }
+    ensures kept { OnOk result (count outside.new ≡ count outside.old) }
+{
+    let mut free = Vec::new(alloc);
+    push_free(alloc, outside, &mut free, goal)?;
+    outside.absent_once(alloc, free.as_slice())
+}
+
+/// Puts the free variables of a goal at the end that don't occur outside, in order.
+#[cycle(free)]
+fn push_free(
+    alloc: Global,
+    outside: &mut Outside,
+    list: &mut Vec<u32>,
+    goal: &Goal,
+) -> Result<(), Memory>
+    ensures free { OnOk result (list.new.items
+        ≡ list.old.items ++ free_by (count outside.old) (plain_goal goal.now)) }
+    ensures kept { OnOk result (count outside.new ≡ count outside.old) }
+{
+    match goal {
+        Goal::True => Ok(()),
+        Goal::Conj(goals) => push_all_free(alloc, outside, list, goals.as_slice()),
+        Goal::Disj(goals) => push_all_free(alloc, outside, list, goals.as_slice()),
+        Goal::Ite(vars, condition, then_part, else_part) => {
+            push_free_under(alloc, outside, list, condition, vars.as_slice())?;
+            push_free_under(alloc, outside, list, then_part, vars.as_slice())?;
+            push_free(alloc, outside, list, else_part)
+        }
+        Goal::Not(goal) => push_free(alloc, outside, list, goal),
+        Goal::Some(vars, goal) => push_free_under(alloc, outside, list, goal, vars.as_slice()),
+        Goal::Equal(left, right) => {
+            let mut variables = Vec::new(alloc);
+            push_variables(&mut variables, left)?;
+            push_variables(&mut variables, right)?;
+            outside.push_absent(list, variables.as_slice())
+        }
+        Goal::Call(_, args) => {
+            let mut variables = Vec::new(alloc);
+            push_all_variables(&mut variables, args.as_slice())?;
+            outside.push_absent(list, variables.as_slice())
+        }
+    }
+}
+
+/// The same of a goal over which variables are quantified.
+#[cycle(free)]
+#[tactic(auto, using(crate::proofs::OutsideCounts::less_more))]
+fn push_free_under(
+    alloc: Global,
+    outside: &mut Outside,
+    list: &mut Vec<u32>,
+    goal: &Goal,
+    vars: &[u32],
+) -> Result<(), Memory>
+    ensures free { OnOk result (list.new.items
+        ≡ list.old.items ++ free_by (more (count outside.old) vars.now) (plain_goal goal.now)) }
+    ensures kept { OnOk result (count outside.new ≡ count outside.old) }
+{
+    outside.add_all(vars)?;
+    push_free(alloc, outside, list, goal)?;
+    outside.remove_all(vars);
+    Ok(())
+}
+
+#[cycle(free)]
+fn push_all_free(
+    alloc: Global,
+    outside: &mut Outside,
+    list: &mut Vec<u32>,
+    goals: &[Goal],
+) -> Result<(), Memory>
+    ensures free { OnOk result (list.new.items
+        ≡ list.old.items ++ free_by_all (count outside.old) (formulas (map plain_goal goals.now))) }
+    ensures kept { OnOk result (count outside.new ≡ count outside.old) }
+{
+    for goal in goals {
+        push_free(alloc, outside, list, goal)?;
+    }
+    Ok(())
+}
