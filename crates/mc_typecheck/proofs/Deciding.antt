@@ -1,9 +1,9 @@
 -- What the search's answers say of a clause.
-use Rattle.std.proofs.Common.{◌≡◌, ℕ, zero, suc, ◌+◌, ◌<◌, ◌≤◌, ◌⊎◌, Bool, true, false, List, [], ◌∷◌, ◌++◌, length, take, get_or, map, refl, sym, ap, ap₂, subst, ◌∙◌, inl, inr, arith, take_all}
+use Rattle.std.proofs.Common.{◌≡◌, ℕ, zero, suc, ◌<◌, ◌≤◌, ◌⊎◌, Bool, List, [], ◌∷◌, ◌++◌, length, take, get_or, refl, sym, ap, ap₂, subst, ◌∙◌, inl, inr, arith, take_all}
 use Rattle.std.proofs.lemmas.Bool.{cases_lt}
 use Rattle.mc_program.specs.Programs.{TypeTerm, Source}
 use Rattle.mc_accepted.specs.ProperTypes.{Parameters}
-use Rattle.mc_accepted.specs.Resolving.{Walks, Step as WalkStep, push_variable, push_number, push_text, choose, equate, call, close_head, names_of, Before, Earlier, Live, TooMany, WellTyped, FirstTwo, Unresolved_clause, steps_of, Resolves as ClauseResolves}
+use Rattle.mc_accepted.specs.Resolving.{Walks, Step as WalkStep, push_variable, push_number, push_text, choose, equate, call, close_head, names_of, Before, Earlier, Live, TooMany, Unresolved_clause, steps_of, Resolves as ClauseResolves}
 use Rattle.mc_source.specs.declared.name.Candidate.{Candidate}
 use Rattle.mc_type_search.specs.declared.signature.Signature.{Signature}
 use Rattle.mc_type_search.specs.declared.steps.Step.{Step}
@@ -20,7 +20,7 @@ use Rattle.mc_types.specs.Trees.{shape, type_of, applied}
 use Rattle.mc_types.proofs.TreeLaws.{exact}
 use Rattle.mc_type_search.specs.declared.written_types.Written.{Written, Free as OfFree, Rigid as OfRigid, Named as OfNamed, App' as OfApp}
 use Rattle.mc_type_search.specs.Writing.{written}
-use Rattle.mc_typecheck.proofs.Offers.{same_candidate, Offered, offered_at, offered_before, not_before_itself, Sole, sole_at}
+use Rattle.mc_typecheck.proofs.Offers.{same_candidate, Offered, offered_at, offered_before, not_before_itself, sole_at}
 use Rattle.mc_typecheck.proofs.Suiting.{Suited, typed_suited, ties_length}
 use Rattle.mc_typecheck.proofs.Moments.{choices_of, walks_by, tied_length, moment_of, live_choices, choices_live}
 

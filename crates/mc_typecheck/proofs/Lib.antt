@@ -5,4 +5,5 @@ pub mod Moments
 pub mod Deciding
 pub mod Properness
 pub mod Stepping
-pub mod Pendings
+pub mod Onward
+pub mod Choosing

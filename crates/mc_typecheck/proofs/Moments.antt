@@ -1,5 +1,5 @@
 -- What is live at a moment of a walk, and in its ties.
-use Rattle.std.proofs.Common.{◌≡◌, ℕ, zero, suc, ◌+◌, ◌<◌, ◌≤◌, ◌⊎◌, List, [], ◌∷◌, ◌++◌, length, take, get_or, map, refl, sym, ap, subst, ◌∙◌, inl, inr, arith}
+use Rattle.std.proofs.Common.{◌≡◌, ℕ, zero, suc, ◌<◌, ◌≤◌, List, [], ◌∷◌, ◌++◌, length, take, get_or, refl, sym, ap, subst, ◌∙◌, arith}
 use Rattle.std.proofs.Math.Logic.{◌↔◌}
 use Rattle.mc_program.specs.Programs.{TypeTerm, Source}
 use Rattle.mc_accepted.specs.ProperTypes.{Parameters}
@@ -9,10 +9,10 @@ use Rattle.mc_types.specs.Trees.{shape, type_of}
 use Rattle.mc_type_search.specs.declared.signature.Signature.{Signature}
 use Rattle.mc_type_search.specs.declared.steps.Step.{Step}
 use Rattle.mc_type_search.specs.Typed.{Typed, LiveAt}
-use Rattle.mc_typecheck.specs.Ties.{Meaning, of_equation, of_number, of_text, of_head, Tie, tied, sole, named, ties_in, pick_of, picks_of, declared, topmost, below, names_term, names_atom}
+use Rattle.mc_typecheck.specs.Ties.{of_equation, of_number, of_text, of_head, Tie, tied, sole, named, ties_in, pick_of, picks_of, topmost, below, names_term, names_atom}
 use Rattle.mc_typecheck.specs.Searched.{AreTies, VariablesBelow}
-use Rattle.mc_typecheck.proofs.Suiting.{Suits, Suited, typed_suited, suited_typed, ties_length}
-use Rattle.mc_typecheck.proofs.Walking.{AllSuited, Tied, walks_of, tied_by}
+use Rattle.mc_typecheck.proofs.Suiting.{Suited, typed_suited, suited_typed}
+use Rattle.mc_typecheck.proofs.Walking.{AllSuited, walks_of, tied_by}
 
 pub variables_taken : (vars m : ℕ) (walk : List WalkStep) → VariablesBelow vars walk → VariablesBelow vars (take m walk)
 variables_taken vars zero walk h = tt

@@ -1,5 +1,5 @@
 -- The ties of a walk name places and meanings that are there.
-use Rattle.std.proofs.Common.{◌≡◌, ℕ, zero, suc, ◌+◌, ◌-◌, ◌<◌, ◌≤◌, Bool, List, [], ◌∷◌, ◌++◌, length, take, drop, get_or, map, refl, sym, ap, subst, ◌∙◌, arith}
+use Rattle.std.proofs.Common.{◌≡◌, ℕ, zero, suc, ◌+◌, ◌-◌, ◌<◌, ◌≤◌, Bool, List, [], ◌∷◌, ◌++◌, length, get_or, sym, ap, subst, ◌∙◌, arith}
 use Rattle.std.proofs.lemmas.List.{length-map}
 use Rattle.mc_program.specs.Programs.{Source}
 use Rattle.mc_program.specs.PlainPrograms.{plain_type}
@@ -9,8 +9,8 @@ use Rattle.mc_source.specs.declared.name.Candidate.{Candidate}
 use Rattle.mc_type_search.specs.declared.signature.Signature.{Signature}
 use Rattle.mc_type_search.specs.declared.steps.Step.{Step}
 use Rattle.mc_type_search.specs.Typed.{Proper, AllProper}
-use Rattle.mc_typecheck.specs.Ties.{Meaning, of_name, of_number, of_text, of_equation, of_head, Declared, Tie, tied, sole, named, offered, topmost, below, declared, made_by, names_term, names_atom}
-use Rattle.mc_typecheck.specs.Searched.{AreTies, VariablesBelow, plain_step, plain_tie, plain_signature}
+use Rattle.mc_typecheck.specs.Ties.{Meaning, of_number, of_text, of_equation, of_head, Declared, Tie, tied, sole, named, topmost, below, declared, made_by, names_term, names_atom}
+use Rattle.mc_typecheck.specs.Searched.{AreTies, VariablesBelow, plain_step, plain_tie}
 use Rattle.mc_typecheck.proofs.Suiting.{same_places, same_candidates, found_at, as_many, first_is, others_are, ties_length}
 use Rattle.mc_typecheck.proofs.Offers.{offered_at, sole_at}
 use Rattle.mc_typecheck.proofs.Walking.{AllBelow, below_more, below_join, below_take, below_drop}

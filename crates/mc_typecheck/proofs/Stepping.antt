@@ -1,6 +1,6 @@
 -- One step of a walk more.
-use Rattle.std.proofs.Common.{◌≡◌, ℕ, zero, suc, ◌+◌, ◌-◌, ◌<◌, ◌≤◌, Bool, true, false, cond, not, ◌&&◌, ◌||◌, Option, Some, None, List, [], ◌∷◌, ◌++◌, length, map, take, drop, get_or, refl, sym, ap, ap₂, subst, ◌∙◌, arith, append_assoc, append-nil}
-use Rattle.std.specs.Prelude.{nat_eq, slice_get, Contains}
+use Rattle.std.proofs.Common.{◌≡◌, ℕ, zero, suc, ◌+◌, ◌<◌, ◌≤◌, Bool, true, false, cond, not, ◌&&◌, ◌||◌, Option, Some, List, [], ◌∷◌, ◌++◌, length, map, take, drop, get_or, refl, sym, ap, ap₂, subst, ◌∙◌, arith, append_assoc, append-nil}
+use Rattle.std.specs.Prelude.{nat_eq, Contains}
 use Rattle.std.proofs.lemmas.List.{map_push, drop_more, take_more, drop_all}
 use Rattle.mc_program.specs.Programs.{Source}
 use Rattle.mc_accepted.specs.ProperTypes.{Parameters}
@@ -9,11 +9,11 @@ use Rattle.mc_source.specs.declared.name.Candidate.{Candidate}
 use Rattle.mc_type_search.specs.declared.signature.Signature.{Signature}
 use Rattle.mc_type_search.specs.declared.steps.Step.{Step}
 use Rattle.mc_typecheck.specs.Ties.{Meaning, of_name, of_number, of_text, of_equation, of_head, names_term, names_atom, tied, made_by, Declared, Tie, declared, is_same, is_among, offered, sole, named, topmost, below}
-use Rattle.mc_typecheck.specs.Searched.{PlainStep, AreTies, plain_signature, plain_step, plain_tie}
+use Rattle.mc_typecheck.specs.Searched.{AreTies, plain_step, plain_tie}
 use Rattle.mc_typecheck.specs.Walked.{Stand, after, after_all, start, IsAt, Shows, entry, place_of}
 use Rattle.mc_typecheck.specs.declared.table.Signatures.{Signatures}
 use Rattle.mc_typecheck.specs.declared.walk.Walk.{Walk}
-use Rattle.mc_typecheck.specs.code.Tables.{listed, offer, only_step}
+use Rattle.mc_typecheck.specs.code.Tables.{offer, only_step}
 
 through : {A B : Type 0} (f : A → B) (b : Bool) (x : A) → map f (cond b (x ∷ []) []) ≡ cond b (f x ∷ []) []
 through f true x = refl
@@ -41,7 +41,7 @@ module _ (P : Source) (D : Parameters) where
       ap₂ (λ (cs : List (Option Declared)) (qs : List ℕ). record { candidates = cs; places = qs }) e same
 
   -- the candidates that are offered from a place on
-  offered_split : (test : Candidate → Bool) (n : ℕ) (met : List Candidate) (c : Candidate) (cs : List Candidate) → offered P D test n met (c ∷ cs) ≡ offer P D test n met c ++ offered P D test n (met ++ c ∷ []) cs
+  pub offered_split : (test : Candidate → Bool) (n : ℕ) (met : List Candidate) (c : Candidate) (cs : List Candidate) → offered P D test n met (c ∷ cs) ≡ offer P D test n met c ++ offered P D test n (met ++ c ∷ []) cs
   offered_split test n met c cs = split (test c && (nat_eq (length (signature P D c)) n && not (is_among c met)))
     where
       split : (b : Bool) → cond b (of_name c ∷ offered P D test n (met ++ c ∷ []) cs) (offered P D test n (met ++ c ∷ []) cs) ≡ cond b (of_name c ∷ []) [] ++ offered P D test n (met ++ c ∷ []) cs

@@ -1,19 +1,19 @@
 -- What types a walk types its ties, and the other way round.
-use Rattle.std.proofs.Common.{◌≡◌, ◌≢◌, ℕ, zero, suc, ◌+◌, ◌-◌, ◌<◌, ◌≤◌, ◌⊎◌, Bool, true, false, cond, eqb, List, [], ◌∷◌, ◌++◌, length, take, drop, get_or, map, refl, sym, ap, ap₂, subst, ◌∙◌, inl, inr, arith}
+use Rattle.std.proofs.Common.{◌≡◌, ◌≢◌, ℕ, zero, suc, ◌-◌, ◌<◌, ◌≤◌, Bool, true, cond, eqb, List, [], ◌∷◌, ◌++◌, length, take, drop, get_or, map, refl, sym, ap, ap₂, subst, ◌∙◌, inl, inr, arith}
 use Rattle.std.specs.Prelude.{nat_lt, Contains}
 use Rattle.std.proofs.lemmas.Bool.{cases_lt, lt-ltb, le-ltb, eq-eqb, ne_eqb}
-use Rattle.std.proofs.lemmas.List.{map_push, drop-map, take-map, length-map, length_push}
+use Rattle.std.proofs.lemmas.List.{map_push, drop-map, take-map, length-map}
 use Rattle.mc_program.specs.Programs.{TypeTerm, int_type, char_type, string_type, state_type, variable_type, union_type, TypeTerms, no_types, type_then, Source}
 use Rattle.mc_model.specs.Types.{instance_of, instances_of}
 use Rattle.mc_accepted.specs.ProperTypes.{Parameters}
-use Rattle.mc_accepted.specs.Resolving.{Step, push_variable, push_number, push_text, choose, equate, call, close_head, signature, Takes, Walks, NamesTerm, NamesAtom, topmost as topmost_types, below as types_below}
+use Rattle.mc_accepted.specs.Resolving.{Step, push_variable, push_number, push_text, choose, equate, call, close_head, signature, Takes, Walks, topmost as topmost_types, below as types_below}
 use Rattle.mc_accepted.specs.MostGeneral.{variables_of, variables_of_all, variables_of_each, bound_of, rigid_count}
 use Rattle.mc_types.specs.Substitutions.{under}
 use Rattle.mc_source.specs.declared.name.Candidate.{Candidate}
-use Rattle.mc_typecheck.specs.Ties.{Meaning, of_name, of_number, of_text, of_equation, of_head, Declared, Tie, names_term, names_atom, topmost, below, declared, offered, sole, named, tied, pick_of, picks_of}
+use Rattle.mc_typecheck.specs.Ties.{Meaning, of_name, of_number, of_text, of_equation, of_head, Tie, names_term, names_atom, topmost, below, declared, offered, sole, tied, pick_of, picks_of}
 use Rattle.mc_typecheck.specs.Searched.{VariablesBelow}
 use Rattle.mc_typecheck.proofs.Suiting.{Suits}
-use Rattle.mc_typecheck.proofs.Offers.{names_term_of, of_names_term, names_atom_of, of_names_atom, Offered, offered_at, offered_has, Sole, sole_at, sole_has}
+use Rattle.mc_typecheck.proofs.Offers.{names_term_of, of_names_term, names_atom_of, of_names_atom, Offered, offered_at, offered_has, sole_at, sole_has}
 
 -- TYPES WITH OTHER TYPES FOR THEIR VARIABLES
 

@@ -3,5 +3,4 @@ pub mod Searched
 pub mod WrittenTypes
 pub mod Outcomes
 pub mod Walked
-pub mod Unresolved
 pub mod code

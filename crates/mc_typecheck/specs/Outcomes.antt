@@ -1,6 +1,6 @@
 -- What the search over the steps of a walk says of the clause: the laws between the two. (Mercury
 -- Language Reference Manual: Types, overloading; this project's profile.)
-use Rattle.std.specs.Prelude.{◌≡◌, ◌↔◌, ℕ, ◌+◌, ◌<◌, List, [], take}
+use Rattle.std.specs.Prelude.{◌≡◌, ◌↔◌, ℕ, ◌+◌, List, [], take}
 use Rattle.mc_program.specs.Programs.{Source}
 use Rattle.mc_accepted.specs.ProperTypes.{Parameters}
 use Rattle.mc_accepted.specs.Resolving.{Step as WalkStep, Live, TooMany, steps_of, Unresolved_clause, WellTyped, FirstTwo, Resolves as ClauseResolves}
@@ -11,7 +11,7 @@ use Rattle.mc_type_search.specs.declared.outcome.Outcome.{Outcome}
 use Rattle.mc_type_search.specs.declared.outcome.Outcome.TheVariants as O
 use Rattle.mc_type_search.specs.Typed.{LiveAt, AllProper}
 use Rattle.mc_type_search.specs.Resolved.{OutcomeSays}
-use Rattle.mc_typecheck.specs.Ties.{Tie, tied, ties_in, made_by, picks_of}
+use Rattle.mc_typecheck.specs.Ties.{tied, ties_in, made_by, picks_of}
 use Rattle.mc_typecheck.specs.Searched.{AreTies, VariablesBelow}
 use Rattle.mc_typecheck.specs.WrittenTypes.{AreTypes}
 

@@ -1,7 +1,7 @@
-ghost use Rattle.std.specs.Prelude.{◌≡◌, ◌+◌, ◌<◌, ◌≤◌, ◌++◌, ◌∷◌, [], Some, List, length, map, take, slice_index_or, nat_eq, if◌then◌else◌, Contains, IfOk, OnOk};
+ghost use Rattle.std.specs.Prelude.{◌≡◌, ◌+◌, ◌<◌, ◌≤◌, ◌++◌, ◌∷◌, [], Some, List, length, map, take, slice_index_or, nat_eq, if◌then◌else◌, option_to_list, Contains, IfOk, OnOk};
 ghost use Rattle.mc_program.specs.Programs.{Source};
 ghost use Rattle.mc_accepted.specs.ProperTypes.{Parameters};
-ghost use Rattle.mc_typecheck.specs.Ties.{Declared, Meaning, of_name, declared, is_same, is_among, names_atom, offered};
+ghost use Rattle.mc_typecheck.specs.Ties.{Declared, Meaning, of_name, of_equation, declared, is_same, is_among, names_atom, offered, pick_of};
 ghost use Rattle.mc_typecheck.specs.Walked.{entry, place_of, Shows};
 ghost use Rattle.mc_source.specs.declared.name.Candidate.{Candidate as AnyCandidate};
 ghost use Rattle.mc_typecheck.specs.code.Tables.{passes_as, listed, offer};
@@ -87,7 +87,7 @@ impl Signatures {
     }
 
     /// Where the head of a predicate stands, if it is there.
-    fn place_of_head(&self, pred: u32) -> Option<usize>
+    pub fn place_of_head(&self, pred: u32) -> Option<usize>
         ensures { pred < self.now.preds → result ≡ Some (4 + (self.now.symbols + (self.now.preds + pred))) }
     {
         let pred = pred as usize;
@@ -145,6 +145,31 @@ impl Signatures {
             put(&mut all, place)?;
         }
         Ok(all)
+    }
+
+    /// The candidate that is so many places behind the first one that is offered.
+    pub fn chosen(
+        &self,
+        of_atom: bool,
+        candidates: &[Candidate],
+        count: usize,
+        choice: usize,
+    ) -> Option<Candidate>
+        ensures { (P : Source) (D : Parameters)
+            → ((c : AnyCandidate) → Contains candidates.now c → Shows P D self.now (of_name c))
+            → option_to_list result
+            ≡ pick_of (slice_index_or (offered P D (passes_as of_atom) count [] candidates.now) choice of_equation) }
+    {
+        let mut left = choice;
+        for k in 0..candidates.len() {
+            if self.offer(of_atom, candidates, k, count).is_some() {
+                if left == 0 {
+                    return Some(candidates[k]);
+                }
+                left -= 1;
+            }
+        }
+        None
     }
 
     /// Where candidate `k` stands, where it is offered.

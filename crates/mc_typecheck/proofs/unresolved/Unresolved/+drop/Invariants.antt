@@ -1,6 +1,0 @@
-use Rattle.std.proofs.Common.{◌≤◌}
-use Rattle.mc_typecheck.specs.declared.unresolved.Unresolved.{size-Unresolved}
-use Rattle.mc_typecheck.proofs.unresolved.Unresolved.+drop.Given as goal
-
-abbrev pub invariant-loop-self : goal.invariant-loop-self
-invariant-loop-self l = size-Unresolved l.self ≤ size-Unresolved l.initial.self

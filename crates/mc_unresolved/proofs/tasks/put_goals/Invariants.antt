@@ -1,0 +1,8 @@
+use Rattle.mc_unresolved.proofs.Pendings.{GoalsPut}
+use Rattle.mc_unresolved.proofs.tasks.put_goals.Given as goal
+
+abbrev pub invariant-loop-k : goal.invariant-loop-k
+invariant-loop-k l = GoalsPut l.goals l.fn.pending.items l.pending.items l.k
+
+abbrev pub decreases-loop-k : goal.decreases-loop-k
+decreases-loop-k l = l.k
