@@ -1,0 +1,152 @@
+-- What is answered of a clause.
+use Rattle.std.proofs.Common.{◌≡◌, ℕ, zero, suc, ◌+◌, ◌<◌, Option, Some, None, List, [], ◌∷◌, ◌++◌, map, length, get_or, Vec, Global, refl, sym, ap, ap₂, subst, ◌∙◌, arith}
+use Rattle.std.specs.Prelude.{slice_get, Ok, Err}
+use Rattle.mc_program.specs.Programs.{TypeTerm, Source}
+use Rattle.mc_program.specs.PlainPrograms.{plain_type}
+use Rattle.mc_program.specs.declared.program.Resolved.{Resolved}
+use Rattle.mc_program.specs.declared.ty.Ty.{Ty}
+use Rattle.mc_accepted.specs.ProperTypes.{Parameters}
+use Rattle.mc_accepted.specs.Resolving.{Step, terms_steps, goal_steps, steps_of, resolved, FirstTwo, close_head, assignments_limit, count}
+use Rattle.mc_accepted.specs.MostGeneral.{rigid_count}
+use Rattle.mc_source.specs.declared.name.Candidate.{Candidate}
+use Rattle.mc_type_search.specs.declared.signature.Signature.{Signature}
+use Rattle.mc_type_search.specs.declared.outcome.Outcome.TheVariants as O
+use Rattle.mc_type_search.specs.declared.written_types.Written.{Written, Free}
+use Rattle.mc_typecheck.specs.Ties.{of_head, declared, tied, picks_of, Declared}
+use Rattle.mc_typecheck.specs.Searched.{VariablesBelow, plain_signature}
+use Rattle.mc_typecheck.specs.WrittenTypes.{AreTypes}
+use Rattle.mc_typecheck.specs.Outcomes.{ClauseSays}
+use Rattle.mc_typecheck.specs.Walked.{IsAt, WasWalked, Shows, ShowsAll, after_all, start, entry}
+use Rattle.mc_typecheck.specs.declared.table.Signatures.{Signatures}
+use Rattle.mc_typecheck.specs.declared.walk.Walk.{Walk}
+use Rattle.mc_unresolved.specs.Unresolved.{plain_unresolved_clause}
+use Rattle.mc_unresolved.specs.Steps.{plain_walk_step}
+use Rattle.mc_unresolved.specs.declared.clause.UnresolvedClause.{UnresolvedClause}
+use Rattle.mc_unresolved.specs.declared.steps.WalkStep.{WalkStep}
+use Rattle.mc_check_clause.specs.VariableTypes.{AreVariableTypes, ArePlain}
+use Rattle.mc_check_clause.specs.code.Shown.{AreShown}
+use Rattle.mc_check_clause.specs.Checked.{Answers}
+use Rattle.mc_check_clause.specs.code.Made.{IsMade}
+use Rattle.mc_check_clause.specs.declared.checking.TypeFault.{TypeFault}
+use Rattle.mc_check_clause.specs.declared.checking.TypeFault.TheVariants as F
+
+-- THE HEAD
+
+second_shown : (P : Source) (D : Parameters) (t : Signatures) (a b : List Step) → ShowsAll P D t (a ++ b) → ShowsAll P D t b
+second_shown P D t [] b h = h
+second_shown P D t (s ∷ a) b h = second_shown P D t a b h.1
+
+pub head_shown : (P : Source) (D : Parameters) (t : Signatures) (clause : UnresolvedClause) → ShowsAll P D t (steps_of (plain_unresolved_clause clause)) → Shows P D t (of_head clause.pred)
+head_shown P D t clause h =
+    let c = plain_unresolved_clause clause in
+    (second_shown P D t (terms_steps c.head) (close_head c.pred (count c.head) ∷ goal_steps c.body) h).0
+
+mapped_at : {A B : Type 0} (f : A → B) (xs : List A) (k : ℕ) (d : A) → k < length xs → slice_get (map f xs) k ≡ Some (f (get_or xs k d))
+mapped_at f [] k d lt = let none : ⊥ = omega arith in absurd none
+mapped_at f (x ∷ xs) zero d lt = refl
+mapped_at f (x ∷ xs) (suc k) d lt = mapped_at f xs k d (omega arith)
+
+abbrev held : Option Declared → Declared → Declared
+held (Some x) d = x
+held None d = d
+
+same_declared : (a b : Declared) → Some a ≡ Some b → a ≡ b
+same_declared a b e = ap (λ o. held o a) e
+
+abbrev number_in : Option ℕ → ℕ
+number_in (Some n) = n
+number_in None = 0
+
+pub same_number : (a b : ℕ) → Some a ≡ Some b → a ≡ b
+same_number a b e = ap number_in e
+
+pub head_counted : (P : Source) (D : Parameters) (t : Signatures) (pred place number : ℕ) (s d : Signature) → Shows P D t (of_head pred) → place ≡ 4 + (t.symbols + (t.preds + pred)) → place < length t.all.items → s ≡ get_or t.all.items place d → number ≡ rigid_count (map plain_type s.types.items) → number ≡ rigid_count (P.preds pred).types
+head_counted P D t pred place number s d shows at lt is counted =
+    let here : Some (plain_signature s) ≡ Some (declared P D (of_head pred)) =
+    ap (λ (x : Signature). Some (plain_signature x)) is ∙ sym (mapped_at plain_signature t.all.items place d lt) ∙ ap (entry t) at ∙ shows.1 in
+    counted ∙ ap (λ (x : Declared). rigid_count x.types) (same_declared (plain_signature s) (declared P D (of_head pred)) here)
+
+-- THE TYPES
+
+pub variable_types : (P : Source) (D : Parameters) (walk : List Step) (picks : List Candidate) (r vars : ℕ) (ws : List Written) (ts : List TypeTerm) → AreTypes P D walk vars picks ws → ArePlain r ws ts → AreVariableTypes P D walk picks r ts
+variable_types P D walk picks r vars ws ts are plain =
+    let long = are.as_many in
+    let many = plain.as_many in
+    let d = Free 0 in
+    record {
+      general = λ τ h.
+          let g = are.general τ h in
+          let p = plain.general g.0 in
+          (p.0, (λ v lt. g.1 v d (omega (arith, long, many)) ∙ p.1 v d (omega (arith, many))));
+      typed = λ σ.
+          let p = plain.typed σ in
+          let g = are.typed p.0 in
+          (g.0, g.1, (λ v lt. g.2 v d (omega (arith, long, many)) ∙ p.1 v d (omega (arith, many))));
+      numbered = plain.numbered;
+    }
+
+-- THE WALK
+
+module _ (t : Signatures) (clause : UnresolvedClause) (steps : List WalkStep) (are : map plain_walk_step steps ≡ steps_of (plain_unresolved_clause clause)) (vars : ℕ) (all : vars ≡ length clause.names) (own : VariablesBelow (length clause.names) (steps_of (plain_unresolved_clause clause))) (walk : Walk) (walked : (P : Source) (D : Parameters) → ShowsAll P D t (map plain_walk_step steps) → IsAt P D t walk (after_all P D (map plain_walk_step steps) (start vars))) where
+  abbrev whole : List Step
+  whole = steps_of (plain_unresolved_clause clause)
+
+  pub own_below : VariablesBelow vars whole
+  own_below = let Q : ℕ → Type 0 = λ n. VariablesBelow n whole in subst Q (sym all) own
+
+  pub walked_at : (P : Source) (D : Parameters) → ShowsAll P D t whole → IsAt P D t walk (after_all P D whole (start vars))
+  walked_at P D shows =
+      let Q : List Step → Type 0 = λ xs. IsAt P D t walk (after_all P D xs (start vars)) in
+      let R : List Step → Type 0 = λ xs. ShowsAll P D t xs in
+      subst Q are (walked P D (subst R (sym are) shows))
+
+  pub was_walked : AreShown t whole → WasWalked t walk vars
+  was_walked s = record {
+    source = s.source;
+    parameters = s.parameters;
+    steps = whole;
+    own = own_below;
+    stands = walked_at s.source s.parameters s.shows;
+  }
+
+pub shown_steps : (P : Source) (D : Parameters) (t : Signatures) (clause : UnresolvedClause) (steps : List WalkStep) → map plain_walk_step steps ≡ steps_of (plain_unresolved_clause clause) → ShowsAll P D t (steps_of (plain_unresolved_clause clause)) → ShowsAll P D t (map plain_walk_step steps)
+shown_steps P D t clause steps are shows = let Q : List Step → Type 0 = λ xs. ShowsAll P D t xs in subst Q (sym are) shows
+
+-- THE ANSWERS
+
+mapped_long : (xs : List Ty) → length xs ≡ length (map plain_type xs)
+mapped_long [] = refl
+mapped_long (x ∷ xs) = ap suc (mapped_long xs)
+
+module _ (P : Source) (D : Parameters) (clause : UnresolvedClause) (steps : List WalkStep) (are : map plain_walk_step steps ≡ steps_of (plain_unresolved_clause clause)) (vars : ℕ) (all : vars ≡ length clause.names) where
+  abbrev ties_for : (n : ℕ) → List ℕ → List Candidate
+  ties_for n choices = picks_of (tied P D (steps_of (plain_unresolved_clause clause)) n []) choices
+
+  same_picks : (choices : List ℕ) (n : ℕ) → n ≡ vars → picks_of (tied P D (map plain_walk_step steps) n []) choices ≡ ties_for vars choices
+  same_picks choices n e = ap₂ (λ (xs : List Step) (m : ℕ). picks_of (tied P D xs m []) choices) are e
+
+  pub answered_two : (v w : Vec ℕ Global) (first second : List Candidate) → first ≡ picks_of (tied P D (map plain_walk_step steps) vars []) v.items → second ≡ picks_of (tied P D (map plain_walk_step steps) vars []) w.items → ClauseSays P D (plain_unresolved_clause clause) assignments_limit vars (O.Two v w) → Answers P D clause (Err (F.Two first second))
+  answered_two v w first second e1 e2 h =
+      let Q : List Candidate → List Candidate → Type 0 = λ a b. FirstTwo P D (plain_unresolved_clause clause) a b in
+      (subst (λ a. Q a second) (sym (e1 ∙ same_picks v.items vars refl)) (subst (λ b. Q (ties_for vars v.items) b) (sym (e2 ∙ same_picks w.items vars refl)) h.0), h.1)
+
+  pub answered_one : (v : Vec ℕ Global) (types : Vec Written Global) (made : Resolved) → IsMade P D clause (map plain_walk_step steps) v.items types.items made → ClauseSays P D (plain_unresolved_clause clause) assignments_limit vars (O.One v types) → Answers P D clause (Ok made)
+  answered_one v types made m h =
+      let w = h.0 in
+      let picks : picks_of (tied P D (map plain_walk_step steps) (length clause.names) []) v.items ≡ w.picks = same_picks v.items (length clause.names) (sym all) ∙ sym h.1 in
+      let are_types = h.2 in
+      let plain = m.are_plain in (
+        record {
+          typed = w;
+          form = m.form ∙ ap (resolved (plain_unresolved_clause clause)) picks;
+          vars = m.vars;
+          place = m.place;
+          as_many = mapped_long made.var_types ∙ plain.as_many ∙ are_types.as_many ∙ all;
+          types = variable_types P D (steps_of (plain_unresolved_clause clause)) w.picks (rigid_count (P.preds clause.pred).types) vars types.items (map plain_type made.var_types) are_types plain;
+          names = m.names;
+        },
+        h.3,
+      )
+
+pub answered_memory : (P : Source) (D : Parameters) (clause : UnresolvedClause) (e : TypeFault) → e ≡ F.Memory → Answers P D clause (Err e)
+answered_memory P D clause e is = let Q : TypeFault → Type 0 = λ x. Answers P D clause (Err x) in subst Q (sym is) tt

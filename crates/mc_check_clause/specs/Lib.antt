@@ -1,0 +1,5 @@
+pub mod VariableTypes
+pub mod Tables
+pub mod Fitting
+pub mod Checked
+pub mod code

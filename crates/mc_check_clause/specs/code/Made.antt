@@ -1,0 +1,27 @@
+-- What is made of a clause by choices.
+use Rattle.std.specs.Prelude.{◌≡◌, ℕ, List, [], length, map}
+use Rattle.mc_program.specs.Programs.{Source}
+use Rattle.mc_program.specs.PlainPrograms.{plain_clause, plain_type}
+use Rattle.mc_program.specs.declared.program.Resolved.{Resolved}
+use Rattle.mc_accepted.specs.ProperTypes.{Parameters}
+use Rattle.mc_accepted.specs.Resolving.{Step, resolved}
+use Rattle.mc_accepted.specs.MostGeneral.{rigid_count}
+use Rattle.mc_type_search.specs.declared.written_types.Written.{Written}
+use Rattle.mc_typecheck.specs.Ties.{tied, picks_of}
+use Rattle.mc_unresolved.specs.Unresolved.{plain_unresolved_clause}
+use Rattle.mc_unresolved.specs.declared.clause.UnresolvedClause.{UnresolvedClause}
+use Rattle.mc_check_clause.specs.VariableTypes.{ArePlain}
+
+pub record IsMade
+    (P : Source) (D : Parameters) (clause : UnresolvedClause) (steps : List Step)
+    (choices : List ℕ) (types : List Written) (made : Resolved)
+    : Type 0 where
+  pub form :
+      plain_clause made.clause
+      ≡ resolved (plain_unresolved_clause clause)
+      (picks_of (tied P D steps (length clause.names) []) choices)
+  pub vars : made.clause.vars ≡ length clause.names
+  pub place : made.clause.place ≡ clause.place
+  pub are_plain :
+      ArePlain (rigid_count (P.preds clause.pred).types) types (map plain_type made.var_types)
+  pub names : made.var_names ≡ clause.names

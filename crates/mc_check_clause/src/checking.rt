@@ -1,0 +1,141 @@
+ghost use Rattle.std.specs.Prelude.{◌≡◌, ℕ, [], true, map, IfOk};
+ghost use Rattle.mc_program.specs.Programs.{Source};
+ghost use Rattle.mc_accepted.specs.MostGeneral.{rigid_count};
+ghost use Rattle.mc_accepted.specs.ProperTypes.{Parameters};
+ghost use Rattle.mc_accepted.specs.Resolving.{steps_of};
+ghost use Rattle.mc_unresolved.specs.Unresolved.{plain_unresolved_clause};
+ghost use Rattle.mc_unresolved.specs.Steps.{plain_walk_step};
+ghost use Rattle.mc_typecheck.specs.Ties.{of_head, tied, picks_of};
+ghost use Rattle.mc_typecheck.specs.Walked.{Shows, ShowsAll};
+ghost use Rattle.mc_check_clause.specs.Fitting.{IsSomeTable, clause_fits};
+ghost use Rattle.mc_check_clause.specs.Checked.{Answers};
+ghost use Rattle.mc_check_clause.specs.code.Made.{IsMade};
+
+use crate::picking::picked;
+use crate::rigid::rigid_count;
+use crate::types::types_of;
+use crate::walking::walked;
+use mc_base::{Copied, Memory, Row};
+use mc_program::program::Resolved;
+use mc_source::name::Candidate;
+use mc_type_search::{Outcome, Written};
+use mc_typecheck::{Signatures, resolve_walk};
+use mc_unresolved::{UnresolvedClause, WalkStep, resolved_clause, walk_steps};
+use std::alloc::Global;
+
+/// How many assignments may be live at one moment of a walk.
+const LIMIT: usize = 1024;
+
+/// Why a clause has no one resolution.
+#[derive(Drop)]
+pub enum TypeFault {
+    /// No resolution types it: rule T1
+    None,
+    /// At least two do, of which these are the first: rule T2
+    Two(Row<Candidate>, Row<Candidate>),
+    /// At one moment of its walk too many assignments are live: rule L5
+    TooMany,
+    /// There is too little memory
+    Memory,
+}
+
+impl From<Memory> for TypeFault {
+    ghost use Rattle.std.specs.Prelude.{◌≡◌};
+    ghost use Rattle.mc_check_clause.specs.declared.checking.TypeFault.TheVariants as fault_of;
+
+    ghost from_gives = { λ _ fault. fault ≡ fault_of.Memory };
+
+    fn from(_error: Memory) -> TypeFault {
+        TypeFault::Memory
+    }
+}
+
+/// The one resolution of a clause, with the most general types of its variables, or the rule that it breaks. (Mercury
+/// Language Reference Manual: Types; this project's profile: the order of candidates and of the walk, and the limit.)
+pub fn check_clause(
+    alloc: Global,
+    signatures: &Signatures,
+    clause: &UnresolvedClause,
+) -> Result<Resolved, TypeFault>
+    requires table { IsSomeTable signatures.now }
+    requires fits { clause_fits signatures.now clause.now ≡ true }
+    ensures { (P : Source) (D : Parameters)
+        → ShowsAll P D signatures.now (steps_of (plain_unresolved_clause clause.now))
+        → Answers P D clause.now result }
+{
+    let steps = walk_steps(alloc, clause)?;
+    let steps = steps.as_slice();
+    let vars = clause.names.len() as usize;
+    let walk = walked(alloc, signatures, steps, vars)?;
+    match resolve_walk(alloc, signatures, &walk, vars, LIMIT)? {
+        Outcome::None => Err(TypeFault::None),
+        Outcome::TooMany => Err(TypeFault::TooMany),
+        Outcome::Two(first, second) => {
+            let first = pick(alloc, signatures, steps, &first)?;
+            let second = pick(alloc, signatures, steps, &second)?;
+            Err(TypeFault::Two(first, second))
+        }
+        Outcome::One(choices, types) => {
+            let made = resolve(alloc, signatures, clause, steps, &choices, &types)?;
+            Ok(made)
+        }
+    }
+}
+
+/// The candidates that are picked by choices.
+fn pick(
+    alloc: Global,
+    signatures: &Signatures,
+    steps: &[WalkStep],
+    choices: &Vec<usize>,
+) -> Result<Row<Candidate>, Memory>
+    ensures { IfOk result (λ picks. (P : Source) (D : Parameters) (vars : ℕ)
+        → ShowsAll P D signatures.now (map plain_walk_step steps.now)
+        → picks ≡ picks_of (tied P D (map plain_walk_step steps.now) vars []) choices.now.items) }
+{
+    let picks = picked(alloc, signatures, steps, choices.as_slice())?;
+    Ok(Row::of(picks)?)
+}
+
+/// The clause that is picked by choices, with these types of its variables.
+fn resolve(
+    alloc: Global,
+    signatures: &Signatures,
+    clause: &UnresolvedClause,
+    steps: &[WalkStep],
+    choices: &Vec<usize>,
+    types: &Vec<Written>,
+) -> Result<Resolved, Memory>
+    ensures { IfOk result (λ made. (P : Source) (D : Parameters)
+        → ShowsAll P D signatures.now (map plain_walk_step steps.now)
+        → Shows P D signatures.now (of_head clause.now.pred)
+        → IsMade P D clause.now (map plain_walk_step steps.now) choices.now.items types.now.items made) }
+{
+    let picks = pick(alloc, signatures, steps, choices)?;
+    let rigid = head_count(signatures, clause.pred)?;
+    let made = resolved_clause(alloc, clause, picks.as_slice())?;
+    let var_types = types_of(alloc, types.as_slice(), rigid)?;
+    let var_names = clause.names.copied(alloc)?;
+    Ok(Resolved {
+        clause: made,
+        var_types,
+        var_names,
+    })
+}
+
+/// How many type variables the head of a predicate has, which are rigid.
+fn head_count(signatures: &Signatures, pred: u32) -> Result<u32, Memory>
+    ensures { IfOk result (λ count. (P : Source) (D : Parameters)
+        → Shows P D signatures.now (of_head pred) → count ≡ rigid_count (P.preds pred).types) }
+{
+    match signatures.place_of_head(pred) {
+        None => Err(Memory),
+        Some(place) => {
+            if place >= signatures.all.len() {
+                return Err(Memory);
+            }
+            let count = rigid_count(signatures.all[place].types.as_slice())?;
+            Ok(count)
+        }
+    }
+}

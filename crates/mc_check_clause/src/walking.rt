@@ -1,0 +1,54 @@
+ghost use Rattle.std.specs.Prelude.{ℕ, map, IfOk, OnOk};
+ghost use Rattle.mc_program.specs.Programs.{Source};
+ghost use Rattle.mc_accepted.specs.ProperTypes.{Parameters};
+ghost use Rattle.mc_unresolved.specs.Steps.{plain_walk_step};
+ghost use Rattle.mc_typecheck.specs.Walked.{IsAt, ShowsAll, Takes, after_all, start};
+
+use mc_base::Memory;
+use mc_typecheck::{Signatures, Walk};
+use mc_unresolved::WalkStep;
+use std::alloc::Global;
+
+/// The walk of a clause whose steps these are, and which has so many variables.
+pub fn walked(
+    alloc: Global,
+    signatures: &Signatures,
+    steps: &[WalkStep],
+    vars: usize,
+) -> Result<Walk, Memory>
+    ensures { IfOk result (λ walk. (P : Source) (D : Parameters)
+        → ShowsAll P D signatures.now (map plain_walk_step steps.now)
+        → IsAt P D signatures.now walk (after_all P D (map plain_walk_step steps.now) (start vars))) }
+{
+    let mut walk = Walk::new(alloc, vars);
+    for step in steps {
+        take_step(alloc, signatures, &mut walk, *step)?;
+    }
+    Ok(walk)
+}
+
+/// Takes a step.
+fn take_step(
+    alloc: Global,
+    signatures: &Signatures,
+    walk: &mut Walk,
+    step: WalkStep,
+) -> Result<(), Memory>
+    ensures { OnOk result (Takes signatures.now walk.old walk.new (plain_walk_step step.entry)) }
+{
+    match step {
+        WalkStep::Variable(v) => walk.push_variable(v as usize),
+        WalkStep::Number => walk.push_number(alloc, signatures),
+        WalkStep::Text => walk.push_text(alloc, signatures),
+        WalkStep::Choose(candidates, arguments) => {
+            walk.choose(alloc, signatures, candidates, arguments)
+        }
+        WalkStep::Equate => walk.equate(alloc, signatures),
+        WalkStep::Call(candidates, arguments) => {
+            walk.call(alloc, signatures, candidates, arguments)
+        }
+        WalkStep::CloseHead(pred, arguments) => {
+            walk.close_head(alloc, signatures, pred, arguments)
+        }
+    }
+}
