@@ -3,4 +3,9 @@ pub mod Numbers
 pub mod Replacing
 pub mod Modules
 pub mod Strays
-pub mod Reaching
+pub mod TypesInTypes
+pub mod Defining
+pub mod Expanding
+pub mod UnionFields
+pub mod Grouping
+pub mod Judging

@@ -17,7 +17,7 @@ use Rattle.mc_linking.specs.Faults.{shown}
 use Rattle.mc_modules.specs.Linked.{Defined, Linked}
 use Rattle.mc_type_table.specs.Written.{written_type, parameters_of, home}
 use Rattle.mc_type_table.specs.Expanded.{equivalent, in_sight, expanded}
-use Rattle.mc_type_table.specs.Reached.{reaches}
+use Rattle.mc_components.specs.Reached.{reaches}
 
 -- the type of a constructor's argument, which may have a name
 abbrev pub field_by : PlainTerm → Option (PlainTerm × PlainTerm) → PlainTerm

@@ -1,2 +1,4 @@
 pub mod Held
+pub mod Grown
+pub mod Kept
 pub mod Examples

@@ -1,18 +1,24 @@
 //! The types of a program as a table, or the rules that their definitions break.
 #![tactic(auto)]
 
+mod bodies;
+mod definitions;
 mod equivalences;
 mod examples;
-mod law;
+mod expansion;
+mod faults;
+mod fields;
+mod mentioned;
 mod replaced;
+mod table;
 mod types;
 mod variables;
 mod written;
 
 pub use equivalences::{equivalent, home, parameters_of};
 pub use examples::types_of_programs;
-pub use law::reached_by_ways;
 pub use replaced::{Room, with_definitions};
+pub use table::type_table;
 pub use types::types_of;
 pub use variables::stray_variable;
 pub use written::type_of_term;

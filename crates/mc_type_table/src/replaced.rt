@@ -133,7 +133,7 @@ fn defined_as(
 }
 
 // The definition of the type of a number.
-fn definition_of(definitions: &[Option<Ty>], number: u32) -> Option<&Ty>
+pub fn definition_of(definitions: &[Option<Ty>], number: u32) -> Option<&Ty>
     ensures { option_map (λ t. plain_type t.now) result ≡ held definitions.now number }
 {
     match definitions.get(number as usize) {

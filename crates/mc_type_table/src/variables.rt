@@ -8,9 +8,10 @@ ghost use Rattle.mc_decl_syntax.specs.Plain.{plain_item};
 ghost use Rattle.mc_decl_syntax.specs.Terms.{with_name, names_in};
 ghost use Rattle.mc_type_table.specs.Rules.{field, fields, constructor_fields, union_fields, named_parameters, stray, first_stray, first_of, stray_in};
 
+use crate::fields::field;
 use mc_base::{Memory, Row, Text};
 use mc_decl_syntax::Decl;
-use mc_term_data::{Node, Term, operands, variable};
+use mc_term_data::{Node, Term, variable};
 use std::alloc::Global;
 
 /// The first variable in the body of a type that is none of its parameters. It takes stack for each level of a term.
@@ -82,16 +83,6 @@ fn stray_in_fields<'a>(parameters: &[Text], terms: &'a [Term]) -> Option<&'a [u8
         }
     }
     None
-}
-
-// The type of a constructor's argument, which may have a name.
-fn field(term: &Term) -> &Term
-    ensures { plain_term result.now ≡ field (plain_term term.now) }
-{
-    match operands(b"::", term) {
-        Some((_, field)) => field,
-        None => term,
-    }
 }
 
 // The first variable of a type that is none of these.

@@ -1,6 +1,0 @@
-ghost use Rattle.mc_type_table.specs.Reached.{ReachedByWays};
-
-/// What is reached is what there is a way to.
-pub fn reached_by_ways()
-    ensures { ReachedByWays }
-{}
