@@ -1,0 +1,4 @@
+mod Meanings
+mod Views
+mod Walks
+mod Taking
