@@ -95,6 +95,13 @@ impl Insts {
         })
     }
 
+    /// How many insts there are; their numbers are those below.
+    pub fn count(&self) -> u32
+        ensures { result ≡ count_of self.now }
+    {
+        self.graph.nodes.len()
+    }
+
     /// The row of a type. All rows that a walk can meet are there then.
     pub(crate) fn row(&mut self, alloc: Global, t: &Ty, program: &Program) -> Result<u32, Memory>
         requires { AreOf (plain_program program.now) self.old }

@@ -101,6 +101,13 @@ impl Procs {
         &self.added[k as usize]
     }
 
+    /// The procedures that came, in the order of their numbers.
+    pub fn procs(&self) -> &[Proc]
+        ensures { result.now ≡ self.now.added }
+    {
+        self.added.as_slice()
+    }
+
     /// How many procedures came.
     pub fn count(&self) -> u32
         ensures { result ≡ length self.now.added }
