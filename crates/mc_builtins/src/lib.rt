@@ -7,8 +7,10 @@ mod integers;
 mod kind;
 mod library;
 mod made;
+mod reading;
 mod texts;
 
 pub use applied::Applied;
 pub use applying::apply;
 pub use library::Library;
+pub use reading::{Got, read_line};

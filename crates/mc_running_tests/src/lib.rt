@@ -1,0 +1,5 @@
+//! Tests of the crates that run programs.
+#![tactic(auto)]
+
+#[cfg(test)]
+mod builtins;
