@@ -21,6 +21,7 @@ body_grows old new g b p s =
       head = variables_grow old new g b.head p.head s.head;
       first = variables_grow old new g b.first p.first s.first;
       last = variables_grow old new g b.last p.last s.last;
+      size = s.size;
     }
 
 each_grows : (old new : Code) → Grows old new → (bs : List Body) (ps : List Procedure) → EachStands old bs ps → EachStands new bs ps
@@ -48,6 +49,7 @@ none_stands code =
       head = record { within = omega arith; elements = refl };
       first = record { within = omega arith; elements = refl };
       last = record { within = omega arith; elements = refl };
+      size = refl;
     }
 
 each_at : (code : Code) (bs : List Body) (ps : List Procedure) → EachStands code bs ps → (k : ℕ) → StandsFor code (get_or bs k no_body) (get_or ps k no_procedure)

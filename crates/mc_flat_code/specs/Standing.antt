@@ -1,6 +1,6 @@
 -- Which code stands for a goal, and for a procedure: it does the goal from a place on, and goes on
 -- at another after each answer.
-use Rattle.std.specs.Prelude.{◌≡◌, ◌⊎◌, ℕ, true, false, List, [], ◌∷◌, Option, Some, None, nat_eq, map, get_or, if◌then◌else◌}
+use Rattle.std.specs.Prelude.{◌≡◌, ◌⊎◌, ℕ, true, false, List, [], ◌∷◌, Option, Some, None, nat_eq, map, length, get_or, if◌then◌else◌}
 use Rattle.mc_source.specs.Determinism.{inferred, det}
 use Rattle.mc_model.specs.Scheduled.{Label, for_symbol, for_constant, Node, node, Scheduled, Conj, Disj, Switch, Ite, Not, Exists, Assign, Test, Build, Take, Const, TestConst, Call, Apply, Nodes, no_nodes, node_then, Arms, no_arms, arm_then, Procedure}
 use Rattle.mc_model.specs.PlainGoals.{plain_proc}
@@ -130,12 +130,13 @@ abbrev mutual
 abbrev pub whole_body : Procedure → Node
 whole_body p = node (Exists [] p.body) [] (inferred det) p.det.committed
 
--- a body of the code stands for a procedure
+-- a body of the code stands for a procedure, and has its number of variables
 pub record StandsFor (code : Code) (b : Body) (p : Procedure) : Type 0 where
   pub body : Stands code (whole_body p) 0 b.entry
   pub head : Holds code.variables.items b.head p.head
   pub first : Holds code.variables.items b.first p.first
   pub last : Holds code.variables.items b.last p.last
+  pub size : b.size ≡ length p.var_types
 
 -- what stands at a number that no procedure has: one without arguments that does nothing
 abbrev pub no_procedure : Procedure

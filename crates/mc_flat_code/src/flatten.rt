@@ -21,7 +21,7 @@ const END: u32 = 0;
 
 impl Code {
     /// Code that is an answer.
-    pub fn new(alloc: Global) -> Result<Code, Memory>
+    pub(crate) fn new(alloc: Global) -> Result<Code, Memory>
         ensures { IfOk result (λ code. IsCode code) }
     {
         let mut instrs = Vec::new(alloc);
@@ -50,7 +50,7 @@ impl Code {
     }
 
     /// Puts variables at the end of the variables.
-    pub fn add_variables(&mut self, variables: &[u32]) -> Result<Part, Memory>
+    pub(crate) fn add_variables(&mut self, variables: &[u32]) -> Result<Part, Memory>
         ensures grows { OnOk result (Grows self.old self.new) }
         ensures others { OnOk result (self.new ≡ record self.old { variables = self.new.variables }) }
         ensures part { IfOk result (λ part. Holds self.new.variables.items part variables.now) }
@@ -252,7 +252,7 @@ impl Code {
 
     /// The code of a goal, which goes on at a place after each answer: where it begins.
     #[cycle(flatten)]
-    pub fn node(&mut self, alloc: Global, goal: &GoalNode, next: u32) -> Result<u32, Memory>
+    pub(crate) fn node(&mut self, alloc: Global, goal: &GoalNode, next: u32) -> Result<u32, Memory>
         requires is_code { IsCode self.old }
         requires next { next < length self.old.instrs.items }
         ensures laid { IfOk result (λ place. Laid self.old self.new place) }
@@ -388,7 +388,7 @@ impl Code {
     }
 
     /// The code of a procedure.
-    pub fn body(&mut self, alloc: Global, procedure: &Proc) -> Result<Body, Memory>
+    pub(crate) fn body(&mut self, alloc: Global, procedure: &Proc) -> Result<Body, Memory>
         requires { IsCode self.old }
         ensures grows { OnOk result (Grows self.old self.new) }
         ensures is_code { OnOk result (IsCode self.new) }

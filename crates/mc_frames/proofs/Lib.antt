@@ -6,3 +6,4 @@ pub mod Growth
 pub mod Making
 pub mod SameValues
 pub mod Unifying
+pub mod Reading

@@ -1,6 +1,6 @@
 -- What an atom does, as its event list. (Mercury Language Reference Manual: Semantics; this
 -- project's profile of strict sequential execution.)
-use Rattle.std.specs.Prelude.{◌≡◌, ℕ, List}
+use Rattle.std.specs.Prelude.{◌≡◌, ℕ, List, Option}
 use Rattle.mc_model.specs.EventList.{Items, End, Stuck, Stopped, Answer, Wrote, Read, thrown}
 use Rattle.mc_model.specs.Stream.{Bindings}
 use Rattle.mc_builtins.specs.Answers.{plain_exception}
@@ -8,6 +8,8 @@ use Rattle.mc_frames.specs.declared.went.Went.{Went}
 use Rattle.mc_frames.specs.declared.went.Went.TheVariants as W
 use Rattle.mc_frames.specs.declared.went.Acted.{Acted}
 use Rattle.mc_frames.specs.declared.went.Acted.TheVariants as A
+use Rattle.mc_frames.specs.declared.went.Fed.{Fed}
+use Rattle.mc_frames.specs.declared.went.Fed.TheVariants as F
 
 -- the list of an atom that went so, with the bindings that it left
 abbrev pub went_items : Went → Bindings → Items Bindings
@@ -27,3 +29,14 @@ ActedItems items (A.Throws x) e =
 ActedItems items (A.Wrote text went) e =
     (input : List ℕ) → items input ≡ Wrote text (went_items went e)
 ActedItems items (A.Reads from) e = (input : List ℕ) → ReadsFrom from (items input)
+
+-- where a line of the input is wanted, no variable has been bound yet
+abbrev pub WaitsToRead : Acted → (old new : List (Option ℕ)) → Type 0
+WaitsToRead (A.Reads from) old new = new ≡ old
+WaitsToRead _ old new = Unit {0}
+
+-- what follows the wish for input in the list of a builtin that did so, with the bindings that it
+-- left
+abbrev pub fed_items : Fed → Bindings → Items Bindings
+fed_items (F.Went went) e = went_items went e
+fed_items (F.Throws x) e = Stopped (thrown (plain_exception x))

@@ -52,3 +52,8 @@ AreHeld P h refs = All (λ ref. IfSome ref (IsHeld P h)) refs
 pub record HasLists (l : Library) : Type 0 where
   pub nil : l.nil < length l.program.now.symbols
   pub cons : l.cons < length l.program.now.symbols
+
+-- the program has the symbols of what a reading gives
+pub record HasResults (l : Library) : Type 0 where
+  pub ok : l.ok < length l.program.now.symbols
+  pub eof : l.eof < length l.program.now.symbols

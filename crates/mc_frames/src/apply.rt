@@ -7,7 +7,7 @@ ghost use Rattle.mc_model.specs.Stream.{apply_items, gather, unify};
 ghost use Rattle.mc_builtins.specs.Answers.{known, output_at};
 ghost use Rattle.mc_frames.specs.Values.{HasLists, IsHeld, AreLive, AreHeld};
 ghost use Rattle.mc_frames.specs.Frames.{bindings};
-ghost use Rattle.mc_frames.specs.Atoms.{went_items, ActedItems};
+ghost use Rattle.mc_frames.specs.Atoms.{went_items, ActedItems, WaitsToRead};
 
 use crate::frame::{Frame, gather, unify_refs};
 use crate::went::{Acted, Went};
@@ -42,6 +42,8 @@ pub fn applied(
         (bindings heap.old frame.old.items)
         (gather call.now.inputs.now (bindings heap.old frame.old.items)))
         acted (bindings heap.new frame.new.items)) }
+    ensures waits { IfOk result
+        (λ acted. WaitsToRead acted frame.old.items frame.new.items) }
     ensures size { length frame.new.items ≡ length frame.old.items }
     ensures live { AreLive heap.new frame.new.items }
     ensures held { HasLists library.now

@@ -4,11 +4,13 @@
 mod apply;
 mod atom;
 mod call;
+mod feeding;
 mod frame;
 mod went;
 
 pub use apply::{Application, applied};
 pub use atom::{constant, made, met, same};
 pub use call::{answer, enter, ready, returned, unbound};
+pub use feeding::feed;
 pub use frame::{Frame, gather, meet, unify, unify_refs};
-pub use went::{Acted, Went};
+pub use went::{Acted, Fed, Went};

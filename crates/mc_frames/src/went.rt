@@ -22,6 +22,13 @@ pub enum Acted {
     Reads(u64),
 }
 
+/// What a builtin does that was fed a line of the input: it goes as atoms do, or throws.
+#[derive(Drop)]
+pub enum Fed {
+    Went(Went),
+    Throws(Exception),
+}
+
 impl Went {
     /// On where what was to be met is met.
     pub fn of(met: bool) -> Went

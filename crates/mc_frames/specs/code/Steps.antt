@@ -1,7 +1,13 @@
--- One variable and what it meets, and the arguments of a call by their insts.
-use Rattle.std.specs.Prelude.{ℕ, Bool, false, Option, Some, None, if◌then◌else◌}
+-- One variable and what it meets, the arguments of a call by their insts, and what is read.
+use Rattle.std.specs.Prelude.{ℕ, Bool, false, List, [], ◌∷◌, Option, Some, None, if◌then◌else◌}
 use Rattle.mc_program.specs.Values.{Val}
-use Rattle.mc_model.specs.Stream.{Bindings, meet, is_bound}
+use Rattle.mc_values.specs.Heap.{value_at}
+use Rattle.mc_values.specs.declared.heap.Heap.{Heap}
+use Rattle.mc_model.specs.EventList.{Items, Stopped, thrown, of_option}
+use Rattle.mc_model.specs.Stream.{Bindings, meet, unify, is_bound}
+use Rattle.mc_builtins.specs.Answers.{plain_exception}
+use Rattle.mc_builtins.specs.declared.reading.Got.{Got}
+use Rattle.mc_builtins.specs.declared.reading.Got.TheVariants as G
 
 -- a variable meets a value that may be there
 abbrev pub meet_if : ℕ → Option Val → Bindings → Option Bindings
@@ -16,3 +22,9 @@ lacks inst (Some r) = false
 -- the argument, where its inst isn't `free`
 abbrev pub kept : ℕ → Option ℕ → Option ℕ
 kept inst o = if is_bound inst then o else None
+
+-- variables meet what a builtin that reads gives, or it throws
+abbrev pub got_items : Heap → List ℕ → Bindings → Got → Items Bindings
+got_items h ys e (G.Gives read after) =
+    of_option (unify ys (Some (value_at h read) ∷ Some (value_at h after) ∷ []) e)
+got_items h ys e (G.Throws x) = Stopped (thrown (plain_exception x))

@@ -1,4 +1,6 @@
-use Rattle.std.proofs.Common.{ap, subst}
+use Rattle.std.proofs.Common.{sym, ap, subst, ◌∙◌}
+use Rattle.std.proofs.lemmas.List.{length-map}
+use Rattle.mc_program.specs.PlainPrograms.{plain_type}
 use Rattle.mc_flat_code.specs.Running.{IsCode}
 use Rattle.mc_flat_code.specs.Standing.{Holds}
 use Rattle.mc_flat_code.specs.code.Building.{Grows}
@@ -30,4 +32,5 @@ returns-clause-stands c =
       head = subst (λ xs. Holds new.variables.items c.in_ok-head.head xs) c.as_slice.ensures.items (variables_grow one new one_on c.in_ok-head.head c.as_slice.result.now c.in_ok-head.ensures.part);
       first = subst (λ xs. Holds new.variables.items c.in_ok-first.first xs) c.as_slice-2.ensures.items (variables_grow two new two_on c.in_ok-first.first c.as_slice-2.result.now c.in_ok-first.ensures.part);
       last = subst (λ xs. Holds new.variables.items c.in_ok-last.last xs) c.as_slice-3.ensures.items (variables_grow three new three_on c.in_ok-last.last c.as_slice-3.result.now c.in_ok-last.ensures.part);
+      size = c.len.ensures ∙ sym (length-map c.args.procedure.now.var_types plain_type);
     }
