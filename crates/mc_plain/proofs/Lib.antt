@@ -1,0 +1,16 @@
+pub mod TickedLaws
+pub mod Moves
+pub mod Steps
+pub mod Pushing
+pub mod Starts
+pub mod Growing
+pub mod Going
+pub mod Casing
+pub mod Applying
+mod Keeping
+mod Looking
+mod Strays
+mod Calling
+mod Working
+mod Beginning
+mod Opening

@@ -1,0 +1,10 @@
+pub mod code
+pub mod Machine
+pub mod Views
+pub mod Held
+pub mod Constants
+pub mod Names
+pub mod Rest
+pub mod Runs
+pub mod Running
+pub mod Laws

@@ -1,0 +1,4 @@
+pub mod Atoms
+pub mod Beginnings
+pub mod Cases
+pub mod Work
