@@ -3,3 +3,7 @@ pub mod Questions
 pub mod Entering
 pub mod Tests
 pub mod Knowing
+pub mod Walking
+pub mod Declaring
+pub mod Naming
+pub mod Marking

@@ -1,3 +1,5 @@
 pub mod Bodies
 pub mod SkeletonLaws
+pub mod Determinisms
+pub mod Marked
 pub mod code

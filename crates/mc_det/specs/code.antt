@@ -2,3 +2,4 @@ pub mod Symbols
 pub mod Points
 pub mod Testing
 pub mod Facts
+pub mod Walks

@@ -1,4 +1,4 @@
-ghost use Rattle.std.specs.Prelude.{◌≡◌, MatchOption, Some, None};
+ghost use Rattle.std.specs.Prelude.{◌≡◌, ◌++◌, ◌∷◌, [], MatchOption, Some, None};
 ghost use Rattle.mc_program.specs.Values.{plain_value, same_value};
 ghost use Rattle.mc_model.specs.PlainGoals.{plain_label};
 ghost use Rattle.mc_accepted.specs.Determined.{knows_symbol, knows_constant};
@@ -13,6 +13,13 @@ use mc_program::value::Value;
 pub struct Fact<'a> {
     pub variable: u32,
     pub on: &'a On,
+}
+
+/// Takes the last fact off.
+pub fn last_fact<'a>(facts: &mut Vec<Fact<'a>>) -> Option<Fact<'a>>
+    ensures { MatchOption result (facts.old.items ≡ []) (λ last. facts.old.items ≡ facts.new.items ++ last ∷ []) }
+{
+    facts.pop()
 }
 
 /// Whether a variable is known to have a symbol.

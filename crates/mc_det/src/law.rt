@@ -1,3 +1,4 @@
+ghost use Rattle.mc_det.specs.Marked.{MarksAreKept};
 ghost use Rattle.mc_det.specs.SkeletonLaws.{SkeletonsTell, LeastBySkeletons};
 
 /// A goal's skeleton comes to what the table says of the goal.
@@ -8,4 +9,9 @@ pub fn skeletons_tell()
 /// The least determinisms by skeletons are the least by the table.
 pub fn least_by_skeletons()
     ensures { LeastBySkeletons }
+{}
+
+/// Each goal of a body with its marks keeps the determinism that the table gives it.
+pub fn marks_are_kept()
+    ensures { MarksAreKept }
 {}

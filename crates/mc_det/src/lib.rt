@@ -1,14 +1,13 @@
-//! Determinisms of procedures: skeletons of goals, and what they tell.
+//! Determinisms of procedures: declared ones, and the least that bodies allow.
 #![tactic(auto)]
 
 mod facts;
+mod inference;
 mod law;
 mod point;
 mod symbols;
 mod tested;
+mod walk;
 
-pub use facts::{Fact, has_constant, has_symbol};
-pub use law::{least_by_skeletons, skeletons_tell};
-pub use point::Point;
-pub use symbols::{allows, is_alone, misses};
-pub use tested::is_tested;
+pub use inference::determinisms;
+pub use law::{least_by_skeletons, marks_are_kept, skeletons_tell};

@@ -3,3 +3,4 @@ pub mod Allowing
 pub mod Raising
 pub mod Stacks
 pub mod Calling
+pub mod Waiting

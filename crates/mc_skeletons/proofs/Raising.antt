@@ -12,6 +12,7 @@ use Rattle.mc_skeletons.specs.declared.skeleton.Step.{Step}
 use Rattle.mc_skeletons.specs.Skeletons.{either, value, calls}
 use Rattle.mc_skeletons.specs.Least.{assigned, body_at, declared_at, Closed, Least}
 use Rattle.mc_skeletons.specs.code.Callers.{AllBelow}
+use Rattle.mc_skeletons.specs.code.Pending.{PutAll}
 use Rattle.mc_skeletons.specs.code.Raising.{starts, room, Look}
 use Rattle.mc_skeletons.proofs.Laws.{monotone, depends}
 use Rattle.mc_skeletons.proofs.Allowing.{allows_in_turn, either_left, either_right, either_least, room_falls}
@@ -32,8 +33,8 @@ more_below n xs p h b q c = ⊎_elim (λ i. h q i) (λ i. subst (λ z. z < n) (s
 pub last_below : (n : ℕ) (all xs : List ℕ) (p : ℕ) → all ≡ xs ++ p ∷ [] → AllBelow n all → p < n
 last_below n all xs p e b = b p (subst (λ ps. Contains ps p) (sym e) (Contains-append_right xs (p ∷ []) p (0, omega arith, refl)))
 
-less_work : (a b l m : ℕ) → a + 1 ≤ b → m < 2 ^ 64 → a * 2 ^ 64 + (l + m) < b * 2 ^ 64 + (l + 1)
-less_work a b l m h k = omega (arith, h, k)
+less_work : (a b l m n : ℕ) → a + 1 ≤ b → m < 2 ^ 64 → n ≤ l + m → a * 2 ^ 64 + n < b * 2 ^ 64 + (l + 1)
+less_work a b l m n h k f = omega (arith, h, k, f)
 
 start_at : (declared : List (Option Det)) (k : ℕ) → assigned (map starts declared) k ≡ starts (declared_at declared k)
 start_at [] k = refl
@@ -122,7 +123,7 @@ module _ (bodies : List (List Step)) (declared : List (Option Det)) where
     abbrev pub raised_to : Det
     raised_to = inferred (either (row_of (assigned dets p)) (value (assigned dets) (body_at bodies p)))
 
-    module _ (left callers : List ℕ) (has : (q : ℕ) → q < length bodies → calls p (body_at bodies q) ≡ true → Contains callers q) (callers_below : AllBelow (length bodies) callers) (b : p < length bodies) (o : declared_at declared p ≡ None) (s : Standing dets (left ++ p ∷ [])) where
+    module _ (left callers new : List ℕ) (put : PutAll callers left new) (has : (q : ℕ) → q < length bodies → calls p (body_at bodies q) ≡ true → Contains callers q) (callers_below : AllBelow (length bodies) callers) (b : p < length bodies) (o : declared_at declared p ≡ None) (s : Standing dets (left ++ p ∷ [])) where
       in_dets : p < length dets
       in_dets = subst (λ m. p < m) (sym s.many) b
 
@@ -151,23 +152,23 @@ module _ (bodies : List (List Step)) (declared : List (Option Det)) where
       value_same : (q : ℕ) → calls p (body_at bodies q) ≡ false → value (assigned (set dets p raised_to)) (body_at bodies q) ≡ value (assigned dets) (body_at bodies q)
       value_same q c = depends p (assigned dets) (assigned (set dets p raised_to)) other_at (body_at bodies q) c
 
-      settles : (q : ℕ) → q < length bodies → declared_at declared q ≡ None → (calls p (body_at bodies q) ≡ true) ⊎ (calls p (body_at bodies q) ≡ false) → Contains (left ++ callers) q ⊎ Allows (row_of (assigned (set dets p raised_to) q)) (value (assigned (set dets p raised_to)) (body_at bodies q))
-      settles q lt r (inl c) = inl (Contains-append_right left callers q (has q lt c))
+      settles : (q : ℕ) → q < length bodies → declared_at declared q ≡ None → (calls p (body_at bodies q) ≡ true) ⊎ (calls p (body_at bodies q) ≡ false) → Contains new q ⊎ Allows (row_of (assigned (set dets p raised_to) q)) (value (assigned (set dets p raised_to)) (body_at bodies q))
+      settles q lt r (inl c) = inl (put.are_there q (has q lt c))
       settles q lt r (inr c) =
-          subst (λ v. Contains (left ++ callers) q ⊎ Allows (row_of (assigned (set dets p raised_to) q)) v) (sym (value_same q c))
-          (by_place (λ z d. Contains (left ++ callers) z ⊎ Allows (row_of d) (value (assigned dets) (body_at bodies z)))
+          subst (λ v. Contains new q ⊎ Allows (row_of (assigned (set dets p raised_to) q)) v) (sym (value_same q c))
+          (by_place (λ z d. Contains new z ⊎ Allows (row_of d) (value (assigned dets) (body_at bodies z)))
           (inr (either_right (row_of (assigned dets p)) (value (assigned dets) (body_at bodies p))))
           q
           (λ e. ⊎_elim
-          (λ i. ⊎_elim (λ j. inl (Contains-append_left left callers q j)) (λ j. absurd (e (only p q j))) (Contains-append_cases left (p ∷ []) q i))
+          (λ i. ⊎_elim (λ j. inl (put.kept q j)) (λ j. absurd (e (only p q j))) (Contains-append_cases left (p ∷ []) q i))
           (λ a. inr a)
           (s.settled q lt r)))
 
-      pub raised : Standing (set dets p raised_to) (left ++ callers)
+      pub raised : Standing (set dets p raised_to) new
       raised =
           record {
             many = length-set dets p raised_to ∙ s.many;
-            below = λ q c. ⊎_elim (λ i. s.below q (Contains-append_left left (p ∷ []) q i)) (λ i. callers_below q i) (Contains-append_cases left callers q c);
+            below = λ q c. ⊎_elim (λ i. s.below q (Contains-append_left left (p ∷ []) q i)) (λ i. callers_below q i) (put.no_other q c);
             declared_ones = λ k d lt e.
                 by_place (λ z x. declared_at declared z ≡ Some d → x ≡ d) (λ f. let i : None ≡ Some d = sym o ∙ f in cc) k (λ f g. s.declared_ones k d lt g) e;
             at_least_det = λ k lt e.
@@ -183,26 +184,23 @@ module _ (bodies : List (List Step)) (declared : List (Option Det)) where
             settled = λ q lt r. settles q lt r (cases_Bool (calls p (body_at bodies q)));
           }
 
-    pub falls : (left more : List ℕ) → length dets ≡ length bodies → p < length bodies → (Allows (row_of (assigned dets p)) (value (assigned dets) (body_at bodies p)) → ⊥) → length more < 2 ^ 64 → sum_by room (set dets p raised_to) * 2 ^ 64 + length (left ++ more) < sum_by room dets * 2 ^ 64 + length (left ++ p ∷ [])
-    falls left more e b a m =
-        subst (λ k. sum_by room (set dets p raised_to) * 2 ^ 64 + k < sum_by room dets * 2 ^ 64 + length (left ++ p ∷ [])) (sym (length-append left more))
-        (subst (λ k. sum_by room (set dets p raised_to) * 2 ^ 64 + (length left + length more) < sum_by room dets * 2 ^ 64 + k) (sym (length-append left (p ∷ [])))
-        (less_work (sum_by room (set dets p raised_to)) (sum_by room dets) (length left) (length more)
-        (omega (arith, sum_by-set room dets p raised_to (inferred det) (subst (λ k. p < k) (sym e) b), room_falls (assigned dets p) (value (assigned dets) (body_at bodies p)) a)) m))
+    pub falls : (left more new : List ℕ) → PutAll more left new → length dets ≡ length bodies → p < length bodies → (Allows (row_of (assigned dets p)) (value (assigned dets) (body_at bodies p)) → ⊥) → length more < 2 ^ 64 → sum_by room (set dets p raised_to) * 2 ^ 64 + length new < sum_by room dets * 2 ^ 64 + length (left ++ p ∷ [])
+    falls left more new put e b a m =
+        subst (λ k. sum_by room (set dets p raised_to) * 2 ^ 64 + length new < sum_by room dets * 2 ^ 64 + k) (sym (length-append left (p ∷ [])))
+        (less_work (sum_by room (set dets p raised_to)) (sum_by room dets) (length left) (length more) (length new)
+        (omega (arith, sum_by-set room dets p raised_to (inferred det) (subst (λ k. p < k) (sym e) b), room_falls (assigned dets p) (value (assigned dets) (body_at bodies p)) a)) m put.fewer)
 
     -- as a step of the loop has it
-    pub raised_after : (old left more new : List ℕ) (d : Det) → d ≡ raised_to → old ≡ left ++ p ∷ [] → new ≡ left ++ more → ((q : ℕ) → q < length bodies → calls p (body_at bodies q) ≡ true → Contains more q) → AllBelow (length bodies) more → p < length bodies → declared_at declared p ≡ None → Standing dets old → Standing (set dets p d) new
-    raised_after old left more new d e f g has callers_below b o s =
+    pub raised_after : (old left more new : List ℕ) (d : Det) → d ≡ raised_to → old ≡ left ++ p ∷ [] → PutAll more left new → ((q : ℕ) → q < length bodies → calls p (body_at bodies q) ≡ true → Contains more q) → AllBelow (length bodies) more → p < length bodies → declared_at declared p ≡ None → Standing dets old → Standing (set dets p d) new
+    raised_after old left more new d e f put has callers_below b o s =
         subst (λ x. Standing (set dets p x) new) (sym e)
-        (subst (Standing (set dets p raised_to)) (sym g)
-        (raised left more has callers_below b o (subst (Standing dets) f s)))
+        (raised left more new put has callers_below b o (subst (Standing dets) f s))
 
-    pub falls_after : (old left more new : List ℕ) (d : Det) → d ≡ raised_to → old ≡ left ++ p ∷ [] → new ≡ left ++ more → length dets ≡ length bodies → p < length bodies → (Allows (row_of (assigned dets p)) (value (assigned dets) (body_at bodies p)) → ⊥) → length more < 2 ^ 64 → sum_by room (set dets p d) * 2 ^ 64 + length new < sum_by room dets * 2 ^ 64 + length old
-    falls_after old left more new d e f g m b a few =
+    pub falls_after : (old left more new : List ℕ) (d : Det) → d ≡ raised_to → old ≡ left ++ p ∷ [] → PutAll more left new → length dets ≡ length bodies → p < length bodies → (Allows (row_of (assigned dets p)) (value (assigned dets) (body_at bodies p)) → ⊥) → length more < 2 ^ 64 → sum_by room (set dets p d) * 2 ^ 64 + length new < sum_by room dets * 2 ^ 64 + length old
+    falls_after old left more new d e f put m b a few =
         subst (λ x. sum_by room (set dets p x) * 2 ^ 64 + length new < sum_by room dets * 2 ^ 64 + length old) (sym e)
-        (subst (λ l. sum_by room (set dets p raised_to) * 2 ^ 64 + length l < sum_by room dets * 2 ^ 64 + length old) (sym g)
-        (subst (λ l. sum_by room (set dets p raised_to) * 2 ^ 64 + length (left ++ more) < sum_by room dets * 2 ^ 64 + length l) (sym f)
-        (falls left more m b a few)))
+        (subst (λ l. sum_by room (set dets p raised_to) * 2 ^ 64 + length new < sum_by room dets * 2 ^ 64 + length l) (sym f)
+        (falls left more new put m b a few))
 
 -- what is answered of a procedure that is looked at
 pub look_raises : (o : Option Det) (was : Det) (now : Determinism) (a : Option Det) (d : Det) → Look o was now a → a ≡ Some d → (o ≡ None) × ((d ≡ inferred (either (row_of was) now)) × (Allows (row_of was) now → ⊥))

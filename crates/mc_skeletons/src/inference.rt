@@ -1,13 +1,12 @@
-ghost use Rattle.std.specs.Prelude.{◌≡◌, ◌<◌, ◌^◌, ◌++◌, ◌∷◌, [], ℕ, length, map, IsTrue, IfOk, OnOk, MatchOption};
-ghost use Rattle.std.specs.List.{Contains};
+ghost use Rattle.std.specs.Prelude.{◌≡◌, ◌<◌, ◌^◌, length, map, IsTrue, IfOk};
 ghost use Rattle.mc_source.specs.Determinism.{Determinism, Allows, row_of};
 ghost use Rattle.mc_skeletons.specs.Skeletons.{value};
 ghost use Rattle.mc_skeletons.specs.Least.{assigned, body_at, declared_at, Least};
-ghost use Rattle.mc_skeletons.specs.code.Callers.{AllBelow};
 ghost use Rattle.mc_skeletons.specs.code.Raising.{starts, Look};
 
 use crate::callers::Callers;
 use crate::order::{either, most_of};
+use crate::pending::Pending;
 use crate::skeleton::{Step, value};
 use mc_base::{Memory, Row};
 use mc_source::det::{Det, Most};
@@ -27,11 +26,11 @@ pub fn least(
 {
     let callers = Callers::of(alloc, bodies)?;
     let mut dets = starting(alloc, declared)?;
-    let mut left = all_below(alloc, bodies.len() as u32)?;
-    while let Some(p) = take(&mut left) {
+    let mut left = Pending::all(alloc, bodies.len() as u32)?;
+    while let Some(p) = left.take() {
         if let Some(d) = look(alloc, bodies, declared, dets.as_slice(), p)? {
             dets[p as usize] = d;
-            push_all(&mut left, callers.get(p))?;
+            left.put_all(callers.get(p))?;
         }
     }
     Ok(dets)
@@ -60,34 +59,6 @@ fn start(declared: Option<Det>) -> Det
             committed: false,
         },
     }
-}
-
-/// The numbers below n.
-fn all_below(alloc: Global, n: u32) -> Result<Vec<u32>, Memory>
-    ensures has { IfOk result (λ r. (p : ℕ) → p < n → Contains r.items p) }
-    ensures below { IfOk result (λ r. AllBelow n r.items) }
-{
-    let mut all = Vec::new(alloc);
-    for p in 0..n {
-        all.push(p)?;
-    }
-    Ok(all)
-}
-
-fn push_all(left: &mut Vec<u32>, ps: &[u32]) -> Result<(), Memory>
-    ensures { OnOk result (left.new.items ≡ left.old.items ++ ps.now) }
-{
-    for p in ps {
-        left.push(*p)?;
-    }
-    Ok(())
-}
-
-/// Takes the last procedure off.
-fn take(left: &mut Vec<u32>) -> Option<u32>
-    ensures { MatchOption result (left.old.items ≡ []) (λ last. left.old.items ≡ left.new.items ++ last ∷ []) }
-{
-    left.pop()
 }
 
 /// The determinism that a procedure is raised to; none where it is declared, or allows what its body comes to.

@@ -4,6 +4,7 @@
 mod callers;
 mod inference;
 mod order;
+mod pending;
 mod skeleton;
 mod stack;
 

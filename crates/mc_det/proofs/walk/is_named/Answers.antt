@@ -1,0 +1,8 @@
+use Rattle.std.proofs.Common.{length}
+use Rattle.mc_det.specs.code.Walks.{bounds_in}
+use Rattle.mc_det.proofs.Naming.{item_named}
+use Rattle.mc_det.proofs.walk.is_named.Goals as goal
+
+pub returns : goal.returns
+returns c =
+    item_named (bounds_in c.args.procs.now (length c.args.types.now)) c.args.goals.now c.requires.among.0 c.args.goal.now c.requires.among.2 c.requires.among.1 c.requires.all
