@@ -1,0 +1,15 @@
+pub mod TableKeys
+pub mod Rewinds
+pub mod Numbers
+pub mod OverDefined
+pub mod Found
+pub mod Narrow
+pub mod Placing
+pub mod Ahead
+pub mod Steps
+pub mod AtomOutcomes
+pub mod MadeOutcomes
+pub mod CallOutcomes
+pub mod Implied
+pub mod LeftInsts
+pub mod PickedModes

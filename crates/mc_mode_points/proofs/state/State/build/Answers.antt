@@ -1,0 +1,53 @@
+use Rattle.std.proofs.Common.{◌∙◌, ◌<◌, ℕ, true, Vec, Global, List, length, get_or, Some, ap, sym, subst}
+use Rattle.mc_model.specs.Scheduled as S
+use Rattle.mc_model.specs.Scheduled.{Scheduled, node_then, no_nodes}
+use Rattle.mc_accepted.specs.Unmarked.{unmarked}
+use Rattle.mc_accepted.specs.Arranged.{with_inst, built}
+use Rattle.mc_accepted.specs.Chosen.{of_nodes}
+use Rattle.mc_insts.specs.Graphs.{count_of}
+use Rattle.mc_procs.specs.Procedures.{source_of}
+use Rattle.mc_procs.proofs.Views.{plain_sched-Build}
+use Rattle.mc_mode_points.specs.States.{point_of}
+use Rattle.mc_mode_points.specs.Agreeing.{Stepped}
+use Rattle.mc_mode_points.proofs.Ahead.{agrees-before}
+use Rattle.mc_mode_points.proofs.Steps.{stepped-set, stepped-trans}
+use Rattle.mc_mode_points.proofs.AtomOutcomes.{runs-one}
+use Rattle.mc_mode_points.proofs.MadeOutcomes.{insts-below}
+use Rattle.mc_mode_points.proofs.state.State.build.Goals as goal
+
+pub over-requires-clause-insts : goal.over-requires-clause-insts
+over-requires-clause-insts c =
+    let q = c.args.procs.now in
+    let b = point_of c.args.self.now.insts.items in
+    subst (λ (is : List ℕ). (n : ℕ) → n < length is → get_or is n 0 < count_of q.insts) (sym (c.deref.ensures.value ∙ c.in_ok-insts.ensures))
+    (insts-below b (count_of q.insts) c.args.ys.now c.requires.stands.insts)
+
+pub returns : goal.returns
+returns c = λ declared.
+    let q = c.args.procs.now in
+    let r = c.over.new.procs in
+    let s = c.args.self.now in
+    let u = c.over.new.self in
+    let t = c.set.new.self in
+    let x = c.args.x in
+    let f = c.args.symbol in
+    let ys = c.args.ys.now in
+    let b = point_of s.insts.items in
+    let n = length s.insts.items in
+    let i = c.in_ok-inst.inst in
+    let o = c.in_ok-inst.ensures in
+    let e = c.in_ok-set.ensures in
+    let p = c.in_ok-part.ensures in
+    let h : x < length u.insts.items = subst (λ (v : Vec ℕ Global). x < length v.items) (sym o.insts) c.requires.variables.0 in
+    let set : Stepped r r u t = stepped-set r u t x i o.stepped.moved.stands h o.there e.point e.log e.count e.outside e.types e.nodes in
+    record {
+      outcome = λ C T a.
+          ap (built (of_nodes C) (source_of q) declared T x f ys n b)
+          (ap (C.over f) (sym (c.deref.ensures.value ∙ c.in_ok-insts.ensures)) ∙ o.found C T (agrees-before r r u t C T o.stepped.moved.stands set.moved a))
+          ∙ runs-one c.in_ok-part.part t (S.Build x f ys) (Some (with_inst ℕ x i b)) n true
+          (p.goals ∙ ap (λ (z : Scheduled). node_then (unmarked z) no_nodes) (plain_sched-Build x f c.in_ok-row_of.field-0 ∙ ap (S.Build x f) c.in_ok-row_of.ensures))
+          p.reachable p.freshened
+          (ap Some (sym (e.point ∙ ap (λ (v : Vec ℕ Global). with_inst ℕ x i (point_of v.items)) o.insts)))
+          (sym (e.count ∙ ap (λ (v : Vec ℕ Global). length v.items) o.insts));
+      stepped = stepped-trans q r r s u t o.stepped set;
+    }

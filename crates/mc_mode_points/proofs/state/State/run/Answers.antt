@@ -1,0 +1,45 @@
+use Rattle.std.proofs.Common.{◌≡◌, ◌∙◌, ℕ, List, Bool, true, false, not, if◌then◌else◌, length, Some, None, refl, ap, sym}
+use Rattle.mc_model.specs.Stream.{is_bound}
+use Rattle.mc_model.specs.Scheduled as S
+use Rattle.mc_model.specs.Scheduled.{Scheduled, node_then, no_nodes}
+use Rattle.mc_accepted.specs.Unmarked.{unmarked}
+use Rattle.mc_accepted.specs.Arranged.{Point, after}
+use Rattle.mc_accepted.specs.Chosen.{of_nodes}
+use Rattle.mc_accepted.specs.Ordered.{implied_places, zipped}
+use Rattle.mc_procs.specs.Procedures.{source_of}
+use Rattle.mc_procs.proofs.Views.{plain_sched-Call}
+use Rattle.mc_mode_points.specs.States.{point_of}
+use Rattle.mc_mode_points.specs.Answers.{end_of}
+use Rattle.mc_mode_points.specs.Modes.{never_answers}
+use Rattle.mc_mode_points.specs.declared.state.State.{State}
+use Rattle.mc_mode_points.proofs.AtomOutcomes.{runs-one}
+use Rattle.mc_mode_points.proofs.state.State.run.Goals as goal
+
+ended : (n : Bool) (b : Point ℕ) (t : State) → b ≡ point_of t.insts.items → (if n then None else Some b) ≡ end_of (not n) t
+ended true b t e = refl
+ended false b t e = ap Some e
+
+pub returns : goal.returns
+returns c = λ declared h.
+    let q = c.args.procs.now in
+    let s = c.args.self.now in
+    let t = c.leave_arguments.new.self in
+    let m = c.args.mode.now in
+    let xs = c.args.xs.now in
+    let n = length s.insts.items in
+    let b = point_of s.insts.items in
+    let is = implied_places 0 (zipped m.first m.last) xs (λ x. is_bound (b x)) in
+    let e = c.in_ok-leave_arguments.ensures in
+    let p = c.in_ok-part.ensures in
+    record {
+      outcome = λ C T a.
+          runs-one c.in_ok-part.part t (S.Call m.proc xs is false)
+          (if never_answers m.det then None else Some (after (of_nodes C) (source_of q) declared T (zipped m.first m.last) xs b)) n (not (never_answers m.det))
+          (p.goals ∙ ap (λ (z : Scheduled). node_then (unmarked z) no_nodes)
+          (plain_sched-Call m.proc c.in_ok-row_of.field-0 c.args.implied
+          ∙ (ap (λ (ys : List ℕ). S.Call m.proc ys c.args.implied false) c.in_ok-row_of.ensures ∙ ap (λ (js : List ℕ). S.Call m.proc xs js false) h)))
+          (p.reachable ∙ ap not c.never_answers.ensures) p.freshened
+          (ended (never_answers m.det) (after (of_nodes C) (source_of q) declared T (zipped m.first m.last) xs b) t (e.after declared C T a))
+          (sym e.count);
+      stepped = e.stepped;
+    }

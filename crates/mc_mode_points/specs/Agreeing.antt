@@ -1,0 +1,59 @@
+-- Functions that look for nodes, and types of variables, that agree with what is there. Those of
+-- every later moment agree with what is there now.
+use Rattle.std.specs.Prelude.{◌≡◌, ◌↔◌, ℕ, ◌<◌, List, length, get_or, take, Some, true}
+use Rattle.mc_program.specs.Programs.{TypeTerm}
+use Rattle.mc_accepted.specs.Determined.{is_dead}
+use Rattle.mc_accepted.specs.Forms.{node_takes_constants}
+use Rattle.mc_accepted.specs.Inclusion.{Included}
+use Rattle.mc_accepted.specs.Chosen.{Chosen}
+use Rattle.mc_insts.specs.Graphs.{count_of}
+use Rattle.mc_insts.specs.Narrowed.{Narrowed}
+use Rattle.mc_procs.specs.Procedures.{PlainProcs, source_of, insts_of}
+use Rattle.mc_procs.specs.Fitting.{AllFit}
+use Rattle.mc_mode_points.specs.Tables.{node_in}
+use Rattle.mc_mode_points.specs.Nodes.{type_in, NodesAre, NodesMoved}
+use Rattle.mc_mode_points.specs.States.{LogWithin, Even, Later}
+use Rattle.mc_mode_points.specs.declared.state.State.{State}
+
+-- The functions tell the truth of the insts that are there, and find what was found; the variables
+-- that are there have these types.
+pub record Agrees (q : PlainProcs) (s : State) (C : Chosen) (T : ℕ → TypeTerm) : Type 0 where
+  pub dies : (i : ℕ) → i < count_of q.insts → C.is_dead i ≡ is_dead (insts_of q i)
+  pub constants :
+      (i : ℕ) → i < count_of q.insts → C.takes_constants i
+      ≡ node_takes_constants (source_of q) (insts_of q) (insts_of q i)
+  pub narrowed :
+      (i f : ℕ) → i < count_of q.insts
+      → Narrowed (source_of q) (insts_of q) i f (C.narrowed i f)
+  pub fits :
+      (i j : ℕ) (t : TypeTerm) → i < count_of q.insts → j < count_of q.insts
+      → (C.fits i j t ≡ true) ↔ Included (source_of q) (insts_of q) i j t
+  pub over :
+      (f k : ℕ) (is : List ℕ) → node_in s.nodes.overs f is ≡ Some k → C.over f is ≡ Some k
+  pub joined :
+      (r k : ℕ) (is : List ℕ) → node_in s.nodes.joins r is ≡ Some k
+      → C.joined (type_in s.nodes.types.items r) is ≡ Some k
+  pub types : (x : ℕ) → x < length s.types.items → T x ≡ type_in s.types.items x
+  pub typed_as :
+      (z x : ℕ) → z < length s.types.items → x < length s.types.items → T z ≡ T x
+      → C.typed_as z x ≡ true
+
+-- A state stands over procedures: they fit, its insts are nodes of their graph, and the nodes that
+-- were found are what they were looked for as.
+pub record Stands (q : PlainProcs) (s : State) : Type 0 where
+  pub fit : AllFit q
+  pub even : Even s
+  pub insts : (x : ℕ) → get_or s.insts.items x 0 < count_of q.insts
+  pub log : LogWithin (length s.insts.items) s.log.items
+  pub nodes : NodesAre (source_of q) q.insts s.nodes
+
+-- nothing that was there was changed or forgotten
+pub record Moved (q r : PlainProcs) (s t : State) : Type 0 where
+  pub nodes : NodesMoved q r s.nodes t.nodes
+  pub types : take (length s.types.items) t.types.items ≡ s.types.items
+  pub stands : Stands r t
+
+-- a later state, from which the log leads back
+pub record Stepped (q r : PlainProcs) (s t : State) : Type 0 where
+  pub later : Later s t
+  pub moved : Moved q r s t

@@ -1,0 +1,7 @@
+pub mod Tables
+pub mod Nodes
+pub mod States
+pub mod Agreeing
+pub mod Answers
+pub mod Modes
+pub mod code

@@ -1,0 +1,247 @@
+ghost use Rattle.std.specs.Prelude.{◌≡◌, ◌<◌, ◌∷◌, [], ◌||◌, ℕ, List, length, map, get_or, not, nat_eq, Some, IfOk, OnOk};
+ghost use Rattle.std.specs.List.{list_any};
+ghost use Rattle.mc_program.specs.Programs.{TypeTerm};
+ghost use Rattle.mc_model.specs.Flat.{Made};
+ghost use Rattle.mc_model.specs.Stream.{is_bound};
+ghost use Rattle.mc_model.specs.Scheduled.{Take};
+ghost use Rattle.mc_accepted.specs.Arranged.{Declared, take, took, one, built};
+ghost use Rattle.mc_accepted.specs.Chosen.{Chosen, of_nodes};
+ghost use Rattle.mc_accepted.specs.Ordered.{is_state};
+ghost use Rattle.mc_insts.specs.Graphs.{count_of};
+ghost use Rattle.mc_procs.specs.Named.{NumbersBelow};
+ghost use Rattle.mc_procs.specs.Procedures.{PlainProcs, source_of};
+ghost use Rattle.mc_mode_points.specs.Nodes.{type_in};
+ghost use Rattle.mc_mode_points.specs.States.{point_of};
+ghost use Rattle.mc_mode_points.specs.Agreeing.{Agrees, Stands, Stepped};
+ghost use Rattle.mc_mode_points.specs.Answers.{tried, IsWaiting, Ran, Answers};
+ghost use Rattle.mc_mode_points.specs.code.Taking.{take_each};
+
+use crate::asking::{DEAD, is_bound};
+use crate::fault::Failed;
+use crate::part::{Part, one};
+use crate::state::State;
+use mc_base::{Memory, Row};
+use mc_model::inst::InstId;
+use mc_model::sched::Sched;
+use mc_procs::Procs;
+use std::alloc::Global;
+
+/// A variable before others.
+fn before(alloc: Global, x: u32, ys: &[u32]) -> Result<Vec<u32>, Memory>
+    ensures { IfOk result (λ xs. xs.items ≡ x ∷ ys.now) }
+{
+    let mut xs = Vec::with_capacity(alloc, 1)?;
+    xs.push(x)?;
+    xs.extend_from_slice(ys)?;
+    Ok(xs)
+}
+
+/// A row of variables.
+pub(crate) fn row_of(alloc: Global, xs: &[u32]) -> Result<Row<u32>, Memory>
+    ensures { IfOk result (λ row. row ≡ xs.now) }
+{
+    let row = Row::of(Vec::from_slice(alloc, xs)?)?;
+    Ok(row)
+}
+
+impl State {
+    /// Whether a variable or one of these is dead.
+    fn one_dies(&self, x: u32, ys: &[u32]) -> bool
+        requires { NumbersBelow (length self.now.insts.items) (x ∷ ys.now) }
+        ensures { result ≡ list_any (λ z. nat_eq (point_of self.now.insts.items z) 3) (x ∷ ys.now) }
+    {
+        self.inst(x) == DEAD || self.one_is_dead(ys)
+    }
+
+    /// The fault of an atom over a variable and others that waits.
+    fn waiting_on(&self, alloc: Global, x: u32, ys: &[u32]) -> Failed
+        requires { NumbersBelow (length self.now.insts.items) (x ∷ ys.now) }
+        ensures { IsWaiting (x ∷ ys.now) (point_of self.now.insts.items) result }
+    {
+        match before(alloc, x, ys) {
+            Ok(xs) => self.waiting(alloc, xs.as_slice()),
+            Err(_) => Failed::Memory,
+        }
+    }
+
+    /// An equation of a variable and a constructor over variables.
+    pub fn made(
+        &mut self,
+        alloc: Global,
+        procs: &mut Procs,
+        x: u32,
+        symbol: u32,
+        ys: &[u32],
+    ) -> Result<Part, Failed>
+        requires stands { Stands procs.old self.old }
+        requires variables { NumbersBelow (length self.old.insts.items) (x ∷ ys.now) }
+        requires symbol { symbol < length procs.old.program.symbols }
+        requires arity { length ys.now ≡ ((source_of procs.old).symbols symbol).name.arity }
+        ensures { (declared : ℕ → List Declared) (outside : List ℕ)
+            → Answers (tried declared (Made x symbol ys.now) outside procs.old self.old) procs.old
+            procs.new self.old self.new result }
+    {
+        if self.one_dies(x, ys) {
+            return Err(self.waiting_on(alloc, x, ys));
+        }
+        if is_bound(self.inst(x)) {
+            let part = self.take(alloc, procs, x, symbol, ys)?;
+            return Ok(part);
+        }
+        if self.one_is_free_or_state(ys) {
+            return Err(self.waiting_on(alloc, x, ys));
+        }
+        let part = self.build(alloc, procs, x, symbol, ys)?;
+        Ok(part)
+    }
+
+    /// A bound variable is taken apart.
+    fn take(
+        &mut self,
+        alloc: Global,
+        procs: &mut Procs,
+        x: u32,
+        symbol: u32,
+        ys: &[u32],
+    ) -> Result<Part, Memory>
+        requires stands { Stands procs.old self.old }
+        requires variables { NumbersBelow (length self.old.insts.items) (x ∷ ys.now) }
+        requires symbol { symbol < length procs.old.program.symbols }
+        requires arity { length ys.now ≡ ((source_of procs.old).symbols symbol).name.arity }
+        ensures { IfOk result (λ part. (declared : ℕ → List Declared)
+            → Ran (λ C T. take (of_nodes C) (source_of procs.old) declared T x symbol ys.now
+            (length self.old.insts.items) (point_of self.old.insts.items)
+            (C.narrowed (point_of self.old.insts.items x) symbol))
+            procs.old procs.new self.old self.new part) }
+    {
+        let goal = Sched::Take(x, symbol, row_of(alloc, ys)?);
+        match procs.narrow(alloc, self.inst(x), symbol)? {
+            None => {
+                let part = one(alloc, goal, false)?;
+                Ok(part)
+            }
+            Some(insts) => {
+                self.take_as(alloc, procs, x, symbol, ys, insts.as_slice())?;
+                let part = one(alloc, goal, true)?;
+                Ok(part)
+            }
+        }
+    }
+
+    /// A variable is taken apart, where these are the insts of the constructor's arguments.
+    fn take_as(
+        &mut self,
+        alloc: Global,
+        procs: &mut Procs,
+        x: u32,
+        symbol: u32,
+        ys: &[u32],
+        insts: &[InstId],
+    ) -> Result<(), Memory>
+        requires stands { Stands procs.old self.old }
+        requires variables { NumbersBelow (length self.old.insts.items) (x ∷ ys.now) }
+        requires symbol { symbol < length procs.old.program.symbols }
+        requires arity { length insts.now ≡ ((source_of procs.old).symbols symbol).name.arity }
+        requires many { length insts.now ≡ length ys.now }
+        requires insts { (n : ℕ) → n < length insts.now → get_or insts.now n 0 < count_of procs.old.insts }
+        ensures took { OnOk result ((declared : ℕ → List Declared) (C : Chosen) (T : ℕ → TypeTerm)
+            → Agrees procs.new self.new C T
+            → took (of_nodes C) (source_of procs.old) declared T x symbol ys.now insts.now
+            (length self.old.insts.items) (point_of self.old.insts.items) (C.over symbol insts.now)
+            ≡ one (Take x symbol ys.now) (Some (point_of self.new.insts.items))
+            (length self.old.insts.items)) }
+        ensures stepped { OnOk result (Stepped procs.old procs.new self.old self.new) }
+        ensures count { OnOk result (length self.new.insts.items ≡ length self.old.insts.items) }
+    {
+        let inst = self.over(alloc, procs, symbol, insts)?;
+        self.set(x, inst)?;
+        self.take_each(ys, insts)?;
+        Ok(())
+    }
+
+    /// Free variables of a deconstruction get the insts of the constructor's arguments.
+    fn take_each(&mut self, ys: &[u32], insts: &[InstId]) -> Result<(), Memory>
+        requires variables { NumbersBelow (length self.old.insts.items) ys.now }
+        requires many { length insts.now ≡ length ys.now }
+        ensures point { OnOk result (point_of self.new.insts.items
+            ≡ take_each ys.now insts.now (point_of self.old.insts.items)) }
+        ensures stepped { OnOk result ((q : PlainProcs) → Stands q self.old
+            → ((n : ℕ) → n < length insts.now → get_or insts.now n 0 < count_of q.insts)
+            → Stepped q q self.old self.new) }
+        ensures count { OnOk result (length self.new.insts.items ≡ length self.old.insts.items) }
+    {
+        for k in 0..ys.len() {
+            self.take_one(ys[k], insts[k])?;
+        }
+        Ok(())
+    }
+
+    fn take_one(&mut self, y: u32, inst: InstId) -> Result<(), Memory>
+        requires { y < length self.old.insts.items }
+        ensures point { OnOk result (point_of self.new.insts.items
+            ≡ take_each (y ∷ []) (inst ∷ []) (point_of self.old.insts.items)) }
+        ensures stepped { OnOk result ((q : PlainProcs) → Stands q self.old
+            → inst < count_of q.insts → Stepped q q self.old self.new) }
+        ensures count { OnOk result (length self.new.insts.items ≡ length self.old.insts.items) }
+    {
+        if is_bound(self.inst(y)) {
+            return Ok(());
+        }
+        self.set(y, inst)?;
+        Ok(())
+    }
+
+    /// Whether one of these variables is free, or a state of io.
+    fn one_is_free_or_state(&self, ys: &[u32]) -> bool
+        requires insts { NumbersBelow (length self.now.insts.items) ys.now }
+        requires types { NumbersBelow (length self.now.types.items) ys.now }
+        ensures { result ≡ list_any (λ y. not (is_bound (point_of self.now.insts.items y))
+            || is_state (type_in self.now.types.items y)) ys.now }
+    {
+        for y in ys {
+            if !is_bound(self.inst(*y)) || self.is_state(*y) {
+                return true;
+            }
+        }
+        false
+    }
+
+    /// The insts of variables.
+    pub fn insts_at(&self, alloc: Global, xs: &[u32]) -> Result<Vec<InstId>, Memory>
+        requires { NumbersBelow (length self.now.insts.items) xs.now }
+        ensures { IfOk result (λ found. found.items ≡ map (point_of self.now.insts.items) xs.now) }
+    {
+        let mut found = Vec::with_capacity(alloc, xs.len())?;
+        for x in xs {
+            found.push(self.inst(*x))?;
+        }
+        Ok(found)
+    }
+
+    /// A free variable gets a constructor over bound ones.
+    fn build(
+        &mut self,
+        alloc: Global,
+        procs: &mut Procs,
+        x: u32,
+        symbol: u32,
+        ys: &[u32],
+    ) -> Result<Part, Memory>
+        requires stands { Stands procs.old self.old }
+        requires variables { NumbersBelow (length self.old.insts.items) (x ∷ ys.now) }
+        requires symbol { symbol < length procs.old.program.symbols }
+        requires arity { length ys.now ≡ ((source_of procs.old).symbols symbol).name.arity }
+        ensures { IfOk result (λ part. (declared : ℕ → List Declared)
+            → Ran (λ C T. built (of_nodes C) (source_of procs.old) declared T x symbol ys.now
+            (length self.old.insts.items) (point_of self.old.insts.items)
+            (C.over symbol (map (point_of self.old.insts.items) ys.now)))
+            procs.old procs.new self.old self.new part) }
+    {
+        let goal = Sched::Build(x, symbol, row_of(alloc, ys)?);
+        let insts = self.insts_at(alloc, ys)?;
+        let inst = self.over(alloc, procs, symbol, &insts)?;
+        self.set(x, inst)?;
+        let part = one(alloc, goal, true)?;
+        Ok(part)
+    }
+}
