@@ -1,16 +1,17 @@
 -- Goals behind others, and branches that are one or several.
-use Rattle.std.proofs.Common.{◌≡◌, ℕ, zero, nat_eq, true, false, ◌≤◌, ◌-◌, ◌+◌, ◌<◌, List, [], ◌∷◌, ◌++◌, length, map, drop, get_or, refl, ap, sym, ◌∙◌, arith}
+use Rattle.std.proofs.Common.{◌≡◌, ℕ, zero, nat_eq, true, false, ◌≤◌, ◌-◌, ◌+◌, ◌<◌, List, [], ◌∷◌, ◌++◌, length, map, reverse, drop, get_or, refl, ap, sym, ◌∙◌, arith}
 use Rattle.std.proofs.Common.{drop-cons, suc, ap₂}
+use Rattle.std.proofs.lemmas.Grind.{reverse_onto}
 use Rattle.mc_term_data.specs.Plain.{PlainTerm, PlainTerms, PlainNode, at, no_term, more_terms, Var, Int, Str, App, Items, Tailed, Conj, Disj, plain_term, plain_node, node_step, term_step, tms}
-use Rattle.mc_term_data.specs.declared.term.Term.{Term}
+use Rattle.mc_term_data.specs.declared.term.Term.{Term, roll-Term}
 use Rattle.mc_term_data.specs.declared.term.Node.TheFolds.{fold-roll-Term, fold-roll-Node}
 use Rattle.mc_term_data.specs.declared.term.Node.TheVariants as N
-use Rattle.mc_term_data.specs.declared.term.Node.TheVariants.{rolls-Conj}
+use Rattle.mc_term_data.specs.declared.term.Node.TheVariants.{rolls-Conj, rolls-App}
 use Rattle.mc_term_data.specs.declared.term.Node.TheOpen as O
 use Rattle.mc_state_variables.specs.Versions.{followed_by, and_then}
 use Rattle.mc_state_variables.specs.Numbered.{line_of}
 use Rattle.mc_state_variables.specs.code.Helds.{listed}
-use Rattle.mc_state_variables.specs.code.Pieces.{Piece, alone, conjuncts, gather, gathered}
+use Rattle.mc_state_variables.specs.code.Pieces.{Piece, is_last, alone, conjuncts, gather, gathered}
 
 pub plain_line : (t : Term) → line_of (plain_term t) ≡ t.line
 plain_line t = ap line_of (fold-roll-Term PlainNode PlainTerm node_step term_step (record { node = t.node; line = t.line }))
@@ -20,6 +21,23 @@ pub plain_conj : (t : Term) (xs : List Term) → t.node ≡ N.Conj xs → plain_
 plain_conj t xs e =
     fold-roll-Term PlainNode PlainTerm node_step term_step (record { node = t.node; line = t.line })
     ∙ ap (λ n. at n t.line) (ap plain_node (e ∙ sym (rolls-Conj xs)) ∙ fold-roll-Node PlainNode PlainTerm node_step term_step (O.Conj xs))
+
+-- the plain view of a name over parts
+pub plain_app : (t : Term) (w : List (List ℕ)) (xs : List Term) → t.node ≡ N.App w xs → plain_term t ≡ at (App w (tms (map plain_term xs))) t.line
+plain_app t w xs e =
+    fold-roll-Term PlainNode PlainTerm node_step term_step (record { node = t.node; line = t.line })
+    ∙ ap (λ n. at n t.line) (ap plain_node (e ∙ sym (rolls-App w xs)) ∙ fold-roll-Node PlainNode PlainTerm node_step term_step (O.App w xs))
+
+-- of a conjunction and of a name over parts that are made
+pub made_conj : (xs : List Term) (l : ℕ) → plain_term (roll-Term (record { node = N.Conj xs; line = l })) ≡ at (Conj (tms (map plain_term xs))) l
+made_conj xs l =
+    fold-roll-Term PlainNode PlainTerm node_step term_step (record { node = N.Conj xs; line = l })
+    ∙ ap (λ n. at n l) (ap plain_node (sym (rolls-Conj xs)) ∙ fold-roll-Node PlainNode PlainTerm node_step term_step (O.Conj xs))
+
+pub made_app : (w : List (List ℕ)) (xs : List Term) (l : ℕ) → plain_term (roll-Term (record { node = N.App w xs; line = l })) ≡ at (App w (tms (map plain_term xs))) l
+made_app w xs l =
+    fold-roll-Term PlainNode PlainTerm node_step term_step (record { node = N.App w xs; line = l })
+    ∙ ap (λ n. at n l) (ap plain_node (sym (rolls-App w xs)) ∙ fold-roll-Node PlainNode PlainTerm node_step term_step (O.App w xs))
 
 pub not_zero : (n : ℕ) → nat_eq n 0 ≡ false → 1 ≤ n
 not_zero zero e = cc
@@ -60,3 +78,19 @@ item_before ts k t h le e =
     let at_item : get_or ts (k - 1) t ≡ t = sym e in
     let next : suc (k - 1) ≡ k = omega arith in
     drop-cons ts (k - 1) t (omega arith) ∙ ap₂ (λ x j. x ∷ drop j ts) at_item next
+
+not_last : (xs : List (List (List ℕ))) (x : List (List ℕ)) → is_last (xs ++ x ∷ []) ≡ false
+not_last [] x = refl
+not_last (y ∷ xs) x = refl
+
+suc_not_zero : (n : ℕ) → false ≡ nat_eq (suc n) 0
+suc_not_zero n = grind arith
+
+-- none is left of a list that is turned where none was in it
+pub last_is : (xs : List (List (List ℕ))) → is_last (reverse xs) ≡ nat_eq (length xs) 0
+last_is [] = refl
+last_is (x ∷ xs) = ap is_last (reverse_onto xs x []) ∙ not_last (reverse xs) x ∙ suc_not_zero (length xs)
+
+pub item_at : (ts : List Term) (i : ℕ) (t : Term) → i < length ts → t ≡ get_or ts i t → drop i ts ≡ t ∷ drop (i + 1) ts
+item_at ts i t h e =
+    let next : suc i ≡ i + 1 = omega arith in drop-cons ts i t h ∙ ap₂ (λ x j. x ∷ drop j ts) (sym e) next

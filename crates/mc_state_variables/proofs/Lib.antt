@@ -1,7 +1,11 @@
+mod ByForm
+mod ByParts
+mod Clauses
 mod Closing
 mod Disjunctions
 mod Forms
-mod Goals
 pub mod Lists
 mod Orders
 pub mod Sets
+mod ShortParts
+mod Written

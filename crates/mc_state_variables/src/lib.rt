@@ -2,7 +2,11 @@
 #![tactic(auto)]
 
 mod atoms;
+mod branches;
+mod clause;
+mod conditions;
 mod examples;
+mod goals;
 mod held;
 mod names;
 mod numbering;
@@ -13,4 +17,5 @@ mod steps;
 mod terms;
 mod updates;
 
+pub use clause::{numbered_clause, numbered_goal};
 pub use examples::written_out;

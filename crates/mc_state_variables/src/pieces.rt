@@ -1,9 +1,9 @@
-ghost use Rattle.std.specs.Prelude.{◌≡◌, [], ◌∷◌, Some, None, map, reverse, IfOk, if◌then◌else◌};
+ghost use Rattle.std.specs.Prelude.{◌≡◌, ◌&&◌, ◌||◌, not, [], ◌∷◌, Some, None, map, reverse, IfOk, if◌then◌else◌};
 ghost use Rattle.std.specs.Option.{option_map};
 ghost use Rattle.mc_term_data.specs.Plain.{plain_term, tms, at, Disj, no_term};
 ghost use Rattle.mc_state_variables.specs.Versions.{closings, and_then};
 ghost use Rattle.mc_state_variables.specs.code.Helds.{plain_helds};
-ghost use Rattle.mc_state_variables.specs.code.Pieces.{plain_piece, gather, gathered, alone, conjuncts};
+ghost use Rattle.mc_state_variables.specs.code.Pieces.{is_last, plain_piece, gather, gathered, alone, conjuncts};
 
 use crate::held::{Held, closings};
 use crate::terms::{conjunction_term, disjunction_term};
@@ -55,6 +55,14 @@ impl<'a> Opening<'a> {
             })
         }
     }
+}
+
+/// Whether a disjunction begins at a disjunct, behind which stand as many as there are of these.
+#[tactic(auto, using(crate::proofs::Closing::last_is))]
+pub fn begins(fresh: bool, conditional: bool, behind: &[NameSet<'_>]) -> bool
+    ensures { result ≡ ((fresh || conditional) && not (is_last (reverse behind.now))) }
+{
+    (fresh || conditional) && !behind.is_empty()
 }
 
 /// The disjunction of these pieces; one alone is itself.

@@ -7,14 +7,14 @@ use Rattle.mc_term_data.specs.declared.term.Term.{Term}
 use Rattle.mc_clause_syntax.specs.States.{quantified, states_of}
 use Rattle.mc_state_variables.specs.Updates.{leave_out, updated}
 use Rattle.mc_state_variables.specs.Versions.{Held, behind, distinct, entered, entered_behind, renewed, renewed_behind, handed, closings, seen_outside, and_then}
-use Rattle.mc_state_variables.specs.Numbered.{Written, Part, Goal, Condition, written, on_text, ended, goal_of, goals_of, goal_parts, conditional, conjunction_of, in_order, quantified_goal, quantifier, negated, in_negation, applied, implied, both_ways, term_of, rule_of, fact_of, head_states}
+use Rattle.mc_state_variables.specs.Numbered.{Written, Part, Goal, Condition, written, on_text, ended, goal_of, goals_of, goal_parts, branch_of, conditional, conjunction_of, in_order, quantified_goal, quantifier, negated, in_negation, applied, implied, both_ways, term_of, rule_of, fact_of, head_states}
 use Rattle.mc_state_variables.specs.code.Helds.{listed}
 use Rattle.mc_state_variables.specs.code.Steps.{steps_of, stepwise}
 use Rattle.mc_state_variables.specs.code.Pieces.{Piece, pieces_of}
 use Rattle.mc_state_variables.specs.code.Conditions.{condition_by}
 use Rattle.mc_state_variables.specs.declared.steps.Step.{Step}
 use Rattle.mc_state_variables.proofs.Lists.{terms-listed, terms_from_list}
-use Rattle.mc_state_variables.proofs.Sets.{set_same, closings-wanted_set}
+use Rattle.mc_state_variables.proofs.Sets.{set_same, closings-wanted_set, closings-updated_set}
 use Rattle.mc_state_variables.proofs.Forms.{part_updates, branch-same}
 use Rattle.mc_state_variables.proofs.Orders.{ended_whole, behind_whole, stepwise_is}
 
@@ -45,6 +45,17 @@ pieces_none l (w ∷ ws) xs fresh hs n = refl
 pub pieces_are : (l : ℕ) (ps : List Piece) (ws : List (List (List ℕ))) (xs : List (List ℕ)) (fresh : Bool) (hs : List Held) (m : ℕ) (all : Written (List Piece))
     → on_text (λ qs. ps ++ qs) (pieces_of l ws xs fresh [] hs m) ≡ all → written ps m ≡ all
 pieces_are l ps ws xs fresh hs m all e = ap (λ qs. written qs m) (sym (append-nil ps)) ∙ ap (on_text (λ qs. ps ++ qs)) (sym (pieces_none l ws xs fresh hs m)) ∙ e
+
+-- a goal that isn't a conditional, as a branch
+pub closed_is : (l : ℕ) (t : PlainTerm) (xs us : List (List ℕ)) (hs : List Held) (n : ℕ) (text : PlainTerm) (m : ℕ) (goals : List PlainTerm) (out : PlainTerm)
+    → written text m ≡ (goal_of t).part.writing hs n → us ≡ put_all [] (updated t)
+    → goals ≡ listed (closings xs us l hs) → out ≡ and_then text (tms goals)
+    → written out m ≡ (branch_of l (goal_of t).part).writing xs hs n
+closed_is l t xs us hs n text m goals out e f k h =
+    let p : Part = (goal_of t).part in
+    let closed : tms goals ≡ closings xs p.updates l hs =
+    terms_from_list goals (closings xs us l hs) k ∙ ap (λ vs. closings xs vs l hs) f ∙ closings-updated_set xs (updated t) l hs ∙ ap (λ vs. closings xs vs l hs) (sym (part_updates t)) in
+    ap (λ o. written o m) h ∙ ap (λ cs. written (and_then text cs) m) closed ∙ ap (on_text (λ u. and_then u (closings xs p.updates l hs))) e
 
 pub condition_goal : (l : ℕ) (list : Option PlainTerm) (t : PlainTerm) → (condition_by l list t).goal ≡ (goal_of t).part
 condition_goal l None t = refl
