@@ -2,3 +2,7 @@ mod Meanings
 mod Views
 mod Walks
 mod Taking
+mod Forms
+mod Making
+mod Disjunctions
+mod Heads

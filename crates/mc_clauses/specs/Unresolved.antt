@@ -174,7 +174,7 @@ conditional c t =
       itself = chosen c t (made (one_of no_goals));
       names = no_list;
       condition = chosen c t (made (one_of no_goals));
-      denied = chosen c t (made (one_of no_goals));
+      denied = on_made negation (chosen c t (made (one_of no_goals)));
       is_conditional = true;
       before_else = chosen c t;
     }
@@ -201,9 +201,32 @@ disjuncts (g ∷ gs) =
 abbrev pub either : List Goal → Goal
 either gs = plainly (on_made one_or_several (disjuncts gs))
 
-abbrev pub sides : List (Walk Unresolved) → Walk Unresolved_goal
-sides (a ∷ b ∷ []) = both equation a b
-sides _ = made (all_of no_goals)
+abbrev pub true_goal : Goal
+true_goal = plainly (made (all_of no_goals))
+
+-- goals of one part, of two, and of a quantifier's list and a part
+abbrev pub of_one_part : (Goal → Goal) → List Goal → Goal
+of_one_part f (g ∷ []) = f g
+of_one_part f gs = true_goal
+
+abbrev pub of_two_parts : (Goal → Goal → Goal) → List Goal → Goal
+of_two_parts f (a ∷ b ∷ []) = f a b
+of_two_parts f gs = true_goal
+
+abbrev pub of_list_and_part : (PlainTerm → Goal → Goal) → PlainTerms → List Goal → Goal
+of_list_and_part f (more_terms list ts) (_ ∷ g ∷ []) = f list g
+of_list_and_part f ts gs = true_goal
+
+abbrev pub of_two_terms :
+    (Walk Unresolved → Walk Unresolved → Goal) → List (Walk Unresolved) → Goal
+of_two_terms f (a ∷ b ∷ []) = f a b
+of_two_terms f ts = true_goal
+
+abbrev pub equals : Walk Unresolved → Walk Unresolved → Goal
+equals a b = plainly (both equation a b)
+
+abbrev pub differs : Walk Unresolved → Walk Unresolved → Goal
+differs a b = plainly (on_made negation (both equation a b))
 
 -- in the module of a number
 module _ (l : Linked) (own : ℕ) where
@@ -214,23 +237,23 @@ module _ (l : Linked) (own : ℕ) where
   goal_by G.Fail w ts gs = plainly (made (one_of no_goals))
   goal_by G.Conjunction w ts gs = plainly (on_made all_of (conjuncts gs))
   goal_by G.Disjunction w ts gs = either gs
-  goal_by G.Arrow w ts (c ∷ t ∷ []) = conditional c t
-  goal_by G.Negation w ts (g ∷ []) = plainly (on_made negation g.itself)
-  goal_by G.Existential w (more_terms list ts) (_ ∷ g ∷ []) = for_some list g
-  goal_by G.Universal w (more_terms list ts) (_ ∷ g ∷ []) = for_all list g
-  goal_by G.Implication w ts (a ∷ b ∷ []) = implied a b
-  goal_by G.Unification w ts gs = plainly (sides (terms_of l own ts))
-  goal_by G.Disunification w ts gs = plainly (on_made negation (sides (terms_of l own ts)))
+  goal_by G.Arrow w ts gs = of_two_parts conditional gs
+  goal_by G.Negation w ts gs = of_one_part (λ g. plainly (on_made negation g.itself)) gs
+  goal_by G.Existential w ts gs = of_list_and_part for_some ts gs
+  goal_by G.Universal w ts gs = of_list_and_part for_all ts gs
+  goal_by G.Implication w ts gs = of_two_parts implied gs
+  goal_by G.Unification w ts gs = of_two_terms equals (terms_of l own ts)
+  goal_by G.Disunification w ts gs = of_two_terms differs (terms_of l own ts)
   goal_by G.Call w ts gs =
       plainly (on_made (atom (meanings l own w (count ts))) (in_turn (terms_of l own ts)))
-  goal_by _ w ts gs = plainly (made (all_of no_goals))
+  goal_by _ w ts gs = true_goal
 
   abbrev mutual
     pub goal_of : PlainTerm → Goal
     goal_of (at (Conj ts) line) = plainly (on_made all_of (conjuncts (goals_of ts)))
     goal_of (at (Disj ts) line) = either (goals_of ts)
     goal_of (at (App w ts) line) = goal_by (goal_form w (count ts)) w ts (goals_of ts)
-    goal_of _ = plainly (made (all_of no_goals))
+    goal_of _ = true_goal
 
     pub goals_of : PlainTerms → List Goal
     goals_of no_term = []
