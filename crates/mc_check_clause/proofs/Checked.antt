@@ -27,6 +27,7 @@ use Rattle.mc_check_clause.specs.VariableTypes.{AreVariableTypes, ArePlain}
 use Rattle.mc_check_clause.specs.code.Shown.{AreShown}
 use Rattle.mc_check_clause.specs.Checked.{Answers}
 use Rattle.mc_check_clause.specs.code.Made.{IsMade}
+use Rattle.mc_check_clause.proofs.ProperVariables.{are_proper}
 use Rattle.mc_check_clause.specs.declared.checking.TypeFault.{TypeFault}
 use Rattle.mc_check_clause.specs.declared.checking.TypeFault.TheVariants as F
 
@@ -135,14 +136,16 @@ module _ (P : Source) (D : Parameters) (clause : UnresolvedClause) (steps : List
       let w = h.0 in
       let picks : picks_of (tied P D (map plain_walk_step steps) (length clause.names) []) v.items ≡ w.picks = same_picks v.items (length clause.names) (sym all) ∙ sym h.1 in
       let are_types = h.2 in
-      let plain = m.are_plain in (
+      let plain = m.are_plain in
+      let types_are = variable_types P D (steps_of (plain_unresolved_clause clause)) w.picks (rigid_count (P.preds clause.pred).types) vars types.items (map plain_type made.var_types) are_types plain in (
         record {
           typed = w;
           form = m.form ∙ ap (resolved (plain_unresolved_clause clause)) picks;
           vars = m.vars;
           place = m.place;
           as_many = mapped_long made.var_types ∙ plain.as_many ∙ are_types.as_many ∙ all;
-          types = variable_types P D (steps_of (plain_unresolved_clause clause)) w.picks (rigid_count (P.preds clause.pred).types) vars types.items (map plain_type made.var_types) are_types plain;
+          types = types_are;
+          proper = are_proper P D (steps_of (plain_unresolved_clause clause)) w.picks (rigid_count (P.preds clause.pred).types) (map plain_type made.var_types) types_are;
           names = m.names;
         },
         h.3,

@@ -5,4 +5,5 @@ pub mod Entries
 pub mod Numbering
 pub mod Written
 pub mod WhatFits
+pub mod ProperVariables
 pub mod Checked

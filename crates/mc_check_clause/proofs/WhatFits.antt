@@ -2,7 +2,7 @@
 use Rattle.std.proofs.Common.{◌≡◌, ℕ, zero, suc, ◌+◌, ◌<◌, ◌≤◌, Bool, true, false, ◌&&◌, List, [], ◌∷◌, length, map, drop, get_or, refl, sym, ap, subst, ◌∙◌, arith}
 use Rattle.std.specs.Prelude.{nat_lt, Contains}
 use Rattle.std.proofs.lemmas.Bool.{ltb-true}
-use Rattle.std.proofs.lemmas.List.{drop_more, drop_all, length-map, get_or-map}
+use Rattle.std.proofs.lemmas.List.{drop_more, drop_all}
 use Rattle.mc_program.specs.Programs.{Source}
 use Rattle.mc_accepted.specs.ProperTypes.{Parameters}
 use Rattle.mc_accepted.specs.Resolving.{Step, push_variable, push_number, push_text, choose, equate, call, close_head}
@@ -10,7 +10,7 @@ use Rattle.mc_source.specs.declared.name.Candidate.{Candidate}
 use Rattle.mc_source.specs.declared.name.Candidate.TheVariants as C
 use Rattle.mc_typecheck.specs.Ties.{Meaning, of_name, of_number, of_text, of_equation, of_head}
 use Rattle.mc_typecheck.specs.Searched.{VariablesBelow}
-use Rattle.mc_typecheck.specs.Walked.{IsThere, Shows, ShowsStep, ShowsAll}
+use Rattle.mc_typecheck.specs.Walked.{IsThere, Shows, ShowsAll}
 use Rattle.mc_typecheck.specs.declared.table.Signatures.{Signatures}
 use Rattle.mc_unresolved.specs.Steps.{plain_walk_step}
 use Rattle.mc_unresolved.specs.declared.steps.WalkStep.{WalkStep}

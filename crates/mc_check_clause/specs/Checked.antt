@@ -5,12 +5,13 @@ use Rattle.mc_program.specs.Programs.{Source}
 use Rattle.mc_program.specs.PlainPrograms.{plain_clause, plain_type}
 use Rattle.mc_program.specs.declared.program.Resolved.{Resolved}
 use Rattle.mc_source.specs.declared.name.Candidate.{Candidate}
-use Rattle.mc_accepted.specs.ProperTypes.{Parameters}
+use Rattle.mc_accepted.specs.ProperTypes.{Parameters, EachProper}
 use Rattle.mc_accepted.specs.Resolving.{steps_of, resolved, Resolves, WellTyped, TooMany, FirstTwo, assignments_limit}
 use Rattle.mc_accepted.specs.MostGeneral.{rigid_count}
 use Rattle.mc_unresolved.specs.Unresolved.{plain_unresolved_clause}
 use Rattle.mc_unresolved.specs.declared.clause.UnresolvedClause.{UnresolvedClause}
 use Rattle.mc_check_clause.specs.VariableTypes.{AreVariableTypes}
+use Rattle.mc_check_clause.specs.WellFormed.{WalkIsDeclared}
 use Rattle.mc_check_clause.specs.declared.checking.TypeFault.{TypeFault}
 use Rattle.mc_check_clause.specs.declared.checking.TypeFault.TheVariants as F
 
@@ -26,6 +27,10 @@ pub record IsResolved
   pub types :
       AreVariableTypes P D (steps_of (plain_unresolved_clause clause)) typed.picks
       (rigid_count (P.preds clause.pred).types) (map plain_type made.var_types)
+  -- well formed where what the clause may speak of is declared with well-formed types
+  pub proper :
+      WalkIsDeclared P D (steps_of (plain_unresolved_clause clause))
+      → EachProper D (map plain_type made.var_types)
   pub names : made.var_names ≡ clause.names
 
 module _ (P : Source) (D : Parameters) (clause : UnresolvedClause) where

@@ -1,4 +1,5 @@
 pub mod VariableTypes
+pub mod WellFormed
 pub mod Tables
 pub mod Fitting
 pub mod Checked
