@@ -2,3 +2,4 @@ mod Parts
 mod Steps
 mod Views
 pub mod Laws
+mod AbstractTypes

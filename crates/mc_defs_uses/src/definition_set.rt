@@ -1,9 +1,9 @@
 ghost use Rattle.std.specs.Prelude.{◌≡◌, [], not, false, IfOk, OnOk, OnErr};
 ghost use Rattle.std.specs.Set.{is_member};
-ghost use Rattle.mc_defs_uses.specs.Plain.{is_definition, plain_definition};
+ghost use Rattle.mc_defs_uses.specs.Plain.{is_definition, is_kind, plain_definition};
 ghost use Rattle.mc_defs_uses.specs.Sets.{put};
 
-use crate::definition::Definition;
+use crate::definition::{Definition, Kind};
 use indexmap::IndexSet;
 use mc_base::Memory;
 use std::alloc::Global;
@@ -13,6 +13,8 @@ use std::marker::Model;
 #[derive(Drop)]
 pub struct DefinitionSet<'a> {
     definitions: IndexSet<Definition<'a>>,
+    // Each name of a type is looked up as an abstract one too, and most sets have none.
+    has_abstract_types: bool,
 }
 
 impl<'a> Model for DefinitionSet<'a> {
@@ -21,7 +23,11 @@ impl<'a> Model for DefinitionSet<'a> {
 
     ghost Value = { List PlainDefinition };
 
+    ghost use Rattle.mc_defs_uses.specs.code.Steps.{TellsAbstractTypes};
+
     ghost view = { λ s. map plain_definition s.definitions.keys };
+
+    ghost invariant = { λ s. TellsAbstractTypes s.has_abstract_types (map plain_definition s.definitions.keys) };
 }
 
 impl<'a> DefinitionSet<'a> {
@@ -31,6 +37,7 @@ impl<'a> DefinitionSet<'a> {
     {
         DefinitionSet {
             definitions: IndexSet::new(alloc),
+            has_abstract_types: false,
         }
     }
 
@@ -46,6 +53,9 @@ impl<'a> DefinitionSet<'a> {
             (is_member is_definition self.old (plain_definition definition.entry) ≡ false) }
     {
         let added = self.definitions.insert(definition)?;
+        if is_abstract(definition.kind) {
+            self.has_abstract_types = true;
+        }
         Ok(added)
     }
 
@@ -53,6 +63,15 @@ impl<'a> DefinitionSet<'a> {
     pub fn contains(&self, definition: Definition<'a>) -> bool
         ensures { result ≡ is_member is_definition self.now (plain_definition definition.entry) }
     {
+        if is_abstract(definition.kind) && !self.has_abstract_types {
+            return false;
+        }
         self.definitions.contains(&definition)
     }
+}
+
+fn is_abstract(kind: Kind) -> bool
+    ensures { result ≡ is_kind kind Kind.AbstractType }
+{
+    matches!(kind, Kind::AbstractType)
 }

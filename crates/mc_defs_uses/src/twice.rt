@@ -1,4 +1,4 @@
-ghost use Rattle.std.specs.Prelude.{◌≡◌, ◌&&◌, [], codes, nat_eq, map, IfOk};
+ghost use Rattle.std.specs.Prelude.{◌≡◌, ◌&&◌, ◌∷◌, [], codes, nat_eq, map, IfOk};
 ghost use Rattle.std.specs.Option.{option_map, option_or};
 ghost use Rattle.mc_term_data.specs.Plain.{plain_term, tms};
 ghost use Rattle.mc_term_data.specs.Names.{count};
@@ -35,6 +35,30 @@ pub fn twice_in<'a>(alloc: Global, decl: &'a Decl) -> Result<Option<NameArity<'a
 
 // The first of these constructors whose name stands before it too.
 fn again_among<'a>(alloc: Global, terms: &'a [Term]) -> Result<Option<NameArity<'a>>, Memory>
+    ensures { IfOk result
+        (λ found.
+        option_map plain_name_arity found ≡ T.again_among [] (tms (map plain_term terms.now))) }
+{
+    match terms {
+        [] | [_] => Ok(None),
+        [first, second] => Ok(again_of_two(first, second)),
+        _ => again_among_many(alloc, terms),
+    }
+}
+
+// The same of two, without a set.
+fn again_of_two<'a>(first: &'a Term, second: &'a Term) -> Option<NameArity<'a>>
+    ensures { option_map plain_name_arity result
+        ≡ T.again_among [] (tms (plain_term first.now ∷ plain_term second.now ∷ [])) }
+{
+    let name = symbol_name(second);
+    if symbol_name(first) == name {
+        return Some(name);
+    }
+    None
+}
+
+fn again_among_many<'a>(alloc: Global, terms: &'a [Term]) -> Result<Option<NameArity<'a>>, Memory>
     ensures { IfOk result
         (λ found.
         option_map plain_name_arity found ≡ T.again_among [] (tms (map plain_term terms.now))) }

@@ -4,12 +4,21 @@ use Rattle.mc_defs_uses.specs.Plain.{is_definition, plain_definition}
 use Rattle.mc_defs_uses.proofs.Views.{same_definition, is_member-views, views-put}
 use Rattle.mc_defs_uses.proofs.definition_set.DefinitionSet.insert.Goals as goal
 
-pub returns-clause-added : goal.returns-clause-added
-returns-clause-added c =
+pub returns-then-is_abstract-clause-added : goal.returns-then-is_abstract-clause-added
+returns-then-is_abstract-clause-added c =
     rw (← c.self.view_is) (c.in_ok-added.ensures.added ∙ ap not (sym (is_member-views plain_definition _ is_definition same_definition c.args.definition c.self.inside.definitions.keys)))
 
-pub returns-clause-ok : goal.returns-clause-ok
-returns-clause-ok c = rw (← c.self.view_is) (ap (map plain_definition) c.in_ok-added.ensures.keys ∙ views-put plain_definition _ is_definition same_definition c.args.definition c.self.inside.definitions.keys)
+pub returns-then-is_abstract-clause-ok : goal.returns-then-is_abstract-clause-ok
+returns-then-is_abstract-clause-ok c =
+    rw (← c.self.view_is) (ap (map plain_definition) c.in_ok-added.ensures.keys ∙ views-put plain_definition _ is_definition same_definition c.args.definition c.self.inside.definitions.keys)
+
+pub returns-else-is_abstract-clause-added : goal.returns-else-is_abstract-clause-added
+returns-else-is_abstract-clause-added c =
+    rw (← c.self.view_is) (c.in_ok-added.ensures.added ∙ ap not (sym (is_member-views plain_definition _ is_definition same_definition c.args.definition c.self.inside.definitions.keys)))
+
+pub returns-else-is_abstract-clause-ok : goal.returns-else-is_abstract-clause-ok
+returns-else-is_abstract-clause-ok c =
+    rw (← c.self.view_is) (ap (map plain_definition) c.in_ok-added.ensures.keys ∙ views-put plain_definition _ is_definition same_definition c.args.definition c.self.inside.definitions.keys)
 
 pub returns-in_err-added-clause-absent : goal.returns-in_err-added-clause-absent
 returns-in_err-added-clause-absent c =
