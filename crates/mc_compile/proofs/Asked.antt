@@ -9,28 +9,20 @@ use Rattle.mc_items.specs.declared.entry.ItemsFault.TheVariants as I
 use Rattle.mc_ground_form.specs.Database.{Database, Question}
 use Rattle.mc_ground_form.specs.Facts.{LinkedFiles, Fact, facts, database, question}
 use Rattle.mc_ground_form.specs.Program.{plain_goal, with_question, over_facts, form_of}
-use Rattle.mc_compile.specs.Phases.{Refusal, Unbuilt, unless_broken, went_on}
+use Rattle.mc_compile.specs.Phases.{Refusal, Unbuilt, went_on}
 use Rattle.mc_compile.specs.Sources.{Sources}
 use Rattle.mc_compile.specs.Reading.{PlainRead, QueryReads, Reads, rules_from, reading_rules, read_as}
 use Rattle.mc_compile.specs.Linking.{PlainNamed, Links, linked_with, linking_rules_of, library_behind}
+use Rattle.mc_compile.specs.Typing.{PlainTyped, Types}
 use Rattle.mc_compile.specs.Forming.{Formed, Forms, formed}
 use Rattle.mc_compile.specs.Laws.{QueryIsAsked}
+use Rattle.mc_compile.proofs.Once.{ok_same}
+use Rattle.mc_compile.proofs.Chains.{unbroken_made, unbroken}
+use Rattle.mc_compile.proofs.Types.{typed_is}
 
 appended_nothing : {X : Type 0} (xs ys : List X) → xs ++ ys ≡ [] → ys ≡ []
 appended_nothing [] ys e = e
 appended_nothing (x ∷ xs) ys e = cc
-
-ok_same : {A : Type 0} (x y : A) → ◌≡◌ {A = Result A Refusal} (Ok x) (Ok y) → x ≡ y
-ok_same x y e = cc
-
--- what a phase makes, where it makes something, and that no rule is broken then
-unbroken_made : {A : Type 0} (rules : List Broken) (made x : A) → ◌≡◌ {A = Result A Refusal} (Ok x) (unless_broken rules made) → x ≡ made
-unbroken_made [] made x e = ok_same x made e
-unbroken_made (rule ∷ rules) made x e = cc
-
-unbroken : {A : Type 0} (rules : List Broken) (made x : A) → ◌≡◌ {A = Result A Refusal} (Ok x) (unless_broken rules made) → rules ≡ []
-unbroken [] made x e = refl
-unbroken (rule ∷ rules) made x e = cc
 
 -- a query that is refused breaks a rule
 refused_breaks : (k : ℕ) (text : List ℕ) (rules : List Broken) → IsQueryRefusal k text (I.Broken rules) → rules ≡ [] → ⊥
@@ -64,12 +56,15 @@ form_asks named (Some p) form f e =
     ap (λ (x : Formed). is_some x.question) (ok_same form (record { files = named.files; goal = named.goal; database = p.0; question = p.1 }) e)
     ∙ over_asks named.files named.goal (facts named.files) p f
 
-forms_asks : (sources : Sources) (named : PlainNamed) (form : Formed) → Forms sources named (Ok form) → is_some form.question ≡ is_some named.goal
-forms_asks sources named form e = at (sources.wants_main || sources.first) e
+forms_asks : (sources : Sources) (typed : PlainTyped) (form : Formed) → Forms sources typed (Ok form) → is_some form.question ≡ is_some typed.named.goal
+forms_asks sources typed form e = at (sources.wants_main || sources.first) e
   where
-    at : (b : Bool) → ◌≡◌ {A = Result Formed Refusal} (Ok form) (if b then Err Unbuilt else formed named (form_of named.files named.goal)) → is_some form.question ≡ is_some named.goal
+    at : (b : Bool) → ◌≡◌ {A = Result Formed Refusal} (Ok form) (if b then Err Unbuilt else formed typed.named (form_of typed.named.files typed.named.goal)) → is_some form.question ≡ is_some typed.named.goal
     at true e = cc
-    at false e = form_asks named (form_of named.files named.goal) form refl e
+    at false e = form_asks typed.named (form_of typed.named.files typed.named.goal) form refl e
+
+types_goal : (named : PlainNamed) (typed : PlainTyped) → Types named (Ok typed) → typed.named.goal ≡ named.goal
+types_goal named typed t = ap (λ (p : PlainTyped). p.named.goal) (typed_is named typed t)
 
 links_goal : (read : PlainRead) (named : PlainNamed) → Links read (Ok named) → named.goal ≡ read.goal
 links_goal read named l =
@@ -83,5 +78,8 @@ reads_goal sources read r =
     (appended_nothing (rules_from 0 r.read.files) r.read.goal_rules (unbroken (reading_rules r.read) (read_as r.read) read r.is))
 
 pub query_asked : QueryIsAsked
-query_asked sources form (went_on {b = read} r (went_on {b = named} l f)) =
-    forms_asks sources named form f ∙ ap is_some (links_goal read named l) ∙ reads_goal sources read r
+query_asked sources form (went_on {b = read} r (went_on {b = named} l (went_on {b = typed} t f))) =
+    forms_asks sources typed form f
+    ∙ ap is_some (types_goal named typed t)
+    ∙ ap is_some (links_goal read named l)
+    ∙ reads_goal sources read r

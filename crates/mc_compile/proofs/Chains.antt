@@ -5,6 +5,7 @@ use Rattle.mc_source.specs.declared.rule.Broken.{Broken}
 use Rattle.mc_compile.specs.declared.given.CompileFault.{CompileFault}
 use Rattle.mc_compile.specs.declared.given.CompileFault.TheVariants as F
 use Rattle.mc_compile.specs.Phases.{Refusal, Breaks, unless_broken, Then, stopped, went_on, Tells, Viewed}
+use Rattle.mc_compile.proofs.Once.{ok_same}
 
 -- where the first phase goes no further
 pub stops : {A B C X Y : Type 0} (First : A → Result B Refusal → Type 0) (Second : B → Result C Refusal → Type 0) (V : X → B → Type 0) (W : Y → C → Type 0) (a : A) (fault : CompileFault) → Tells First V a (Err fault) → Tells (Then First Second) W a (Err fault)
@@ -33,6 +34,15 @@ memory_tells Phase V a (Ok x) h = absurd h
 pub broken_up : {A : Type 0} (rules : List Broken) (made : A) → (rules ≡ [] → ⊥) → ◌≡◌ {A = Result A Refusal} (Err (Breaks rules)) (unless_broken rules made)
 broken_up [] made some = absurd (some refl)
 broken_up (rule ∷ rules) made some = refl
+
+-- what a phase makes, where it makes something, and that no rule is broken then
+pub unbroken_made : {A : Type 0} (rules : List Broken) (made x : A) → ◌≡◌ {A = Result A Refusal} (Ok x) (unless_broken rules made) → x ≡ made
+unbroken_made [] made x e = ok_same x made e
+unbroken_made (rule ∷ rules) made x e = cc
+
+pub unbroken : {A : Type 0} (rules : List Broken) (made x : A) → ◌≡◌ {A = Result A Refusal} (Ok x) (unless_broken rules made) → rules ≡ []
+unbroken [] made x e = refl
+unbroken (rule ∷ rules) made x e = cc
 
 pub none_broken : {A : Type 0} (rules : List Broken) (made : A) → rules ≡ [] → ◌≡◌ {A = Result A Refusal} (Ok made) (unless_broken rules made)
 none_broken [] made none = refl

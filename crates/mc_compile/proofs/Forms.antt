@@ -14,9 +14,11 @@ use Rattle.mc_compile.specs.Phases.{Refusal, Unbuilt, stopped, went_on, Tells}
 use Rattle.mc_compile.specs.Sources.{Sources}
 use Rattle.mc_compile.specs.Reading.{PlainRead}
 use Rattle.mc_compile.specs.Linking.{PlainNamed, library_behind, linking_rules_of, linked_with, Links}
+use Rattle.mc_compile.specs.Typing.{PlainTyped, typed_as}
 use Rattle.mc_compile.specs.Forming.{Formed, formed, forming, Forms, IsProgramOf}
-use Rattle.mc_compile.specs.Compiling.{Compiles, FromLinking}
+use Rattle.mc_compile.specs.Compiling.{Compiles, FromLinking, FromTypes}
 use Rattle.mc_compile.proofs.Links.{answer_is}
+use Rattle.mc_compile.proofs.Types.{typed_is}
 use Rattle.mc_compile.specs.Laws.{CompiledFits, CompiledAsks, CompiledNumbers}
 
 unbuilt_where : (b : Bool) (r : Result Formed Refusal) → b ≡ true → ◌≡◌ {A = Result Formed Refusal} (Err Unbuilt) (cond b (Err Unbuilt) r)
@@ -32,19 +34,19 @@ neither false b e f = f
 neither true b e f = cc
 
 -- what isn't built
-pub is_unbuilt : (s : Sources) (named : PlainNamed) → s.wants_main || s.first ≡ true → Tells (Forms s) IsProgramOf named (Err F.NotBuilt)
-is_unbuilt s named e = unbuilt_where (s.wants_main || s.first) (formed named (form_of named.files named.goal)) e
+pub is_unbuilt : (s : Sources) (typed : PlainTyped) → s.wants_main || s.first ≡ true → Tells (Forms s) IsProgramOf typed (Err F.NotBuilt)
+is_unbuilt s typed e = unbuilt_where (s.wants_main || s.first) (formed typed.named (form_of typed.named.files typed.named.goal)) e
 
 -- what isn't of the form
-pub not_formed : (s : Sources) (named : PlainNamed) → s.wants_main || s.first ≡ false → IsAnswered named.files named.goal None → Tells (Forms s) IsProgramOf named (Err F.NotBuilt)
-not_formed s named e none = sym (ap (formed named) none) ∙ built_where (s.wants_main || s.first) (formed named (form_of named.files named.goal)) e
+pub not_formed : (s : Sources) (typed : PlainTyped) → s.wants_main || s.first ≡ false → IsAnswered typed.named.files typed.named.goal None → Tells (Forms s) IsProgramOf typed (Err F.NotBuilt)
+not_formed s typed e none = sym (ap (formed typed.named) none) ∙ built_where (s.wants_main || s.first) (formed typed.named (form_of typed.named.files typed.named.goal)) e
 
 -- what is of the form
-pub is_formed : (s : Sources) (named : PlainNamed) (c : Compiled) → s.wants_main || s.first ≡ false → IsAnswered named.files named.goal (Some c) → Tells (Forms s) IsProgramOf named (Ok c)
-is_formed s named c e answer = (
-  record { files = named.files; goal = named.goal; database = answer.0; question = answer.1 },
+pub is_formed : (s : Sources) (typed : PlainTyped) (c : Compiled) → s.wants_main || s.first ≡ false → IsAnswered typed.named.files typed.named.goal (Some c) → Tells (Forms s) IsProgramOf typed (Ok c)
+is_formed s typed c e answer = (
+  record { files = typed.named.files; goal = typed.named.goal; database = answer.0; question = answer.1 },
   record { program = answer.3; kept = answer.4 },
-  sym (ap (formed named) answer.2) ∙ built_where (s.wants_main || s.first) (formed named (form_of named.files named.goal)) e,
+  sym (ap (formed typed.named) answer.2) ∙ built_where (s.wants_main || s.first) (formed typed.named (form_of typed.named.files typed.named.goal)) e,
 )
 
 -- where sources are compiled, the linked files are of the form
@@ -64,15 +66,20 @@ where_built : (read : PlainRead) (library : List File) (b : Bool) (form : Formed
 where_built read library true form e = cc
 where_built read library false form e = has_form read library (form_of (linked_with read library).files read.goal) form refl e
 
-forms_what_is_linked : (s : Sources) (read : PlainRead) (named : PlainNamed) (form : Formed) → Links read (Ok named) → Ok form ≡ forming s named → HasForm form
+forms_what_is_linked : (s : Sources) (read : PlainRead) (named : PlainNamed) (form : Formed) → Links read (Ok named) → Ok form ≡ forming s (typed_as named) → HasForm form
 forms_what_is_linked s read named form l e =
     let library = library_behind read.files l.modules in
     let same = answer_is (linking_rules_of read.files library read.goal) read library named l.is in
-    where_built read library (s.wants_main || s.first) form (subst (λ n. Ok form ≡ forming s n) (sym same) e)
+    where_built read library (s.wants_main || s.first) form (subst (λ n. Ok form ≡ forming s (typed_as n)) (sym same) e)
+
+typed_form : (s : Sources) (read : PlainRead) (named : PlainNamed) (form : Formed) (r : Result Formed Refusal) → r ≡ Ok form → Links read (Ok named) → FromTypes s named r → HasForm form
+typed_form s read named form _ e l (stopped f) = cc
+typed_form s read named form r e l (went_on {b = typed} t g) =
+    forms_what_is_linked s read named form l (subst (λ p. Ok form ≡ forming s p) (typed_is named typed t) (sym e ∙ g))
 
 linked_form : (s : Sources) (read : PlainRead) (form : Formed) (r : Result Formed Refusal) → r ≡ Ok form → FromLinking s read r → HasForm form
 linked_form s read form _ e (stopped f) = cc
-linked_form s read form r e (went_on {b = named} f g) = forms_what_is_linked s read named form f (sym e ∙ g)
+linked_form s read form r e (went_on {b = named} f g) = typed_form s read named form r e f g
 
 compiled_form : (s : Sources) (form : Formed) (r : Result Formed Refusal) → r ≡ Ok form → Compiles s r → HasForm form
 compiled_form s form _ e (stopped f) = cc

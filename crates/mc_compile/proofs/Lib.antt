@@ -5,5 +5,6 @@ mod Lists
 mod ReadFiles
 mod SomeFiles
 mod Links
+mod Types
 mod Forms
 pub mod Asked

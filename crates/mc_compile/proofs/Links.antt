@@ -1,5 +1,5 @@
 -- What is known of files that are linked.
-use Rattle.std.proofs.Common.{◌≡◌, ℕ, List, [], ◌∷◌, ◌++◌, map, length, take, Option, Ok, Err, refl, sym, ap, ◌∙◌, subst}
+use Rattle.std.proofs.Common.{◌≡◌, ℕ, List, [], ◌++◌, map, length, take, Option, Ok, Err, refl, sym, ap, ◌∙◌, subst}
 use Rattle.std.proofs.lemmas.List.{length-map, take-map}
 use Rattle.std.proofs.Math.Seq.{take-append_seam}
 use Rattle.mc_term_data.specs.Plain.{PlainTerm}
@@ -19,8 +19,7 @@ use Rattle.mc_compile.specs.Library.{library_texts}
 use Rattle.mc_compile.specs.Reading.{PlainRead, plain_read}
 use Rattle.mc_compile.specs.Linking.{library_behind, rules_in, linking_rules_of, PlainNamed, plain_named, AreLinked, linked_with, Links}
 use Rattle.mc_compile.specs.code.Reader.{IsRejected, IsWithLibrary}
-use Rattle.mc_compile.proofs.Once.{ok_same}
-use Rattle.mc_compile.proofs.Chains.{broken_up, none_broken}
+use Rattle.mc_compile.proofs.Chains.{broken_up, none_broken, unbroken_made}
 
 abbrev made : Option PlainTerm → List File → List File → Linked → PlainNamed
 made goal given all names = record { files = record { given = given; all = all; names = names }; goal = goal }
@@ -30,8 +29,7 @@ made_same goal g h a b m n e f i = rw (e, f, i) refl
 
 -- what the phase answers is linked with these modules
 pub answer_is : (rules : List Broken) (read : PlainRead) (library : List File) (named : PlainNamed) → Ok named ≡ unless_broken rules (linked_with read library) → linked_with read library ≡ named
-answer_is [] read library named e = sym (ok_same named (linked_with read library) e)
-answer_is (rule ∷ rules) read library named e = cc
+answer_is rules read library named e = sym (unbroken_made rules (linked_with read library) named e)
 
 pub are_linked : (read : PlainRead) (named : Named) → Tells Links (Viewed plain_named) read (Ok named) → AreLinked (plain_named named)
 are_linked read named t =

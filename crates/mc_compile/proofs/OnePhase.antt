@@ -10,6 +10,7 @@ use Rattle.mc_compile.specs.Sources.{Sources}
 use Rattle.mc_compile.specs.Library.{library_texts}
 use Rattle.mc_compile.specs.Reading.{Reading, FileReads, FilesRead, QueryReads, counted, rules_from, items_from, PlainRead, Reads}
 use Rattle.mc_compile.specs.Linking.{PlainNamed, library_behind, linking_rules_of, linked_with, Links}
+use Rattle.mc_compile.specs.Typing.{Types}
 use Rattle.mc_compile.specs.Forming.{Forms}
 
 module _ (one_list : AtMostOneList) where
@@ -76,5 +77,8 @@ one_read one_list one_goal not_both one_refusal sources x y p q =
     (one_asked one_goal not_both one_refusal n sources.query r.goal s.goal r.goal_rules s.goal_rules r.goal_reads s.goal_reads)
     ∙ sym q.is
 
+pub one_type_table : AtMostOne Types
+one_type_table named x y p q = p ∙ sym q
+
 pub one_form : (sources : Sources) → AtMostOne (Forms sources)
-one_form sources named x y p q = p ∙ sym q
+one_form sources typed x y p q = p ∙ sym q

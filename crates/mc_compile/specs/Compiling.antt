@@ -4,12 +4,17 @@ use Rattle.std.specs.Prelude.{Result}
 use Rattle.mc_compile.specs.Phases.{Refusal, Then}
 use Rattle.mc_compile.specs.Sources.{Sources}
 use Rattle.mc_compile.specs.Reading.{PlainRead, Reads}
-use Rattle.mc_compile.specs.Linking.{Links}
+use Rattle.mc_compile.specs.Linking.{PlainNamed, Links}
+use Rattle.mc_compile.specs.Typing.{Types}
 use Rattle.mc_compile.specs.Forming.{Formed, Forms}
+
+-- the phases from types on
+abbrev pub FromTypes : Sources → PlainNamed → Result Formed Refusal → Type 0
+FromTypes sources = Then Types (Forms sources)
 
 -- the phases from linking on
 abbrev pub FromLinking : Sources → PlainRead → Result Formed Refusal → Type 0
-FromLinking sources = Then Links (Forms sources)
+FromLinking sources = Then Links (FromTypes sources)
 
 -- all phases
 abbrev pub Compiles : Sources → Result Formed Refusal → Type 0

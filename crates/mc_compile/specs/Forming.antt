@@ -9,6 +9,7 @@ use Rattle.mc_ground_form.specs.Program.{form_of, IsProgram, KeepsMetadata}
 use Rattle.mc_compile.specs.Phases.{Refusal, Unbuilt}
 use Rattle.mc_compile.specs.Sources.{Sources}
 use Rattle.mc_compile.specs.Linking.{PlainNamed}
+use Rattle.mc_compile.specs.Typing.{PlainTyped}
 
 -- linked files of the form of facts, with the goal of the query: the program of facts that they
 -- are, and what the query asks of it
@@ -24,13 +25,15 @@ formed named (Some form) =
     Ok (record { files = named.files; goal = named.goal; database = form.0; question = form.1 })
 
 -- Not built yet: a run of `main`, the first answer alone, and all that isn't of the form of facts.
-abbrev pub forming : Sources → PlainNamed → Result Formed Refusal
-forming sources named =
+-- (The form of facts has enumerations alone, whose constructors it reads from the files, and looks
+-- at no table of types.)
+abbrev pub forming : Sources → PlainTyped → Result Formed Refusal
+forming sources typed =
     if sources.wants_main || sources.first then Err Unbuilt
-    else formed named (form_of named.files named.goal)
+    else formed typed.named (form_of typed.named.files typed.named.goal)
 
-abbrev pub Forms : Sources → PlainNamed → Result Formed Refusal → Type 0
-Forms sources named result = result ≡ forming sources named
+abbrev pub Forms : Sources → PlainTyped → Result Formed Refusal → Type 0
+Forms sources typed result = result ≡ forming sources typed
 
 -- A program is that of its form: its types, constants and predicates by their numbers, its goal,
 -- and the names and places that it keeps.

@@ -3,6 +3,7 @@ pub mod Sources
 pub mod Reading
 pub mod Library
 pub mod Linking
+pub mod Typing
 pub mod Forming
 pub mod Compiling
 pub mod Laws

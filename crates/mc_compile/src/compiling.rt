@@ -4,18 +4,21 @@ ghost use Rattle.mc_compile.specs.declared.given.Given.{Given};
 ghost use Rattle.mc_compile.specs.Phases.{Tells};
 ghost use Rattle.mc_compile.specs.Sources.{sources_of};
 ghost use Rattle.mc_compile.specs.Reading.{plain_read};
+ghost use Rattle.mc_compile.specs.Linking.{plain_named, AreLinked};
 ghost use Rattle.mc_compile.specs.Forming.{IsProgramOf};
-ghost use Rattle.mc_compile.specs.Compiling.{Compiles, FromLinking};
+ghost use Rattle.mc_compile.specs.Compiling.{Compiles, FromLinking, FromTypes};
 
 use crate::forming::form;
 use crate::given::{CompileFault, Given, Query};
 use crate::named::Named;
 use crate::reading::Read;
+use crate::typed::Typed;
 use mc_base::Row;
 use mc_ground_form::Compiled;
 use std::alloc::Global;
 
-/// Compiles files and a query, phase by phase: they are read, linked with the library's modules, and formed.
+/// Compiles files and a query, phase by phase: they are read, linked with the library's modules, their types are made
+/// a table, and they are formed.
 ///
 /// # Errors
 ///
@@ -49,7 +52,25 @@ fn linked(
         (plain_read read) result }
 {
     match Named::of(alloc, read) {
-        Ok(named) => form(alloc, &named, query, want_main),
+        Ok(named) => typed(alloc, named, query, want_main),
+        Err(fault) => Err(fault),
+    }
+}
+
+// The phases from types on.
+fn typed(
+    alloc: Global,
+    named: Named,
+    query: Option<&Query>,
+    want_main: bool,
+) -> Result<Compiled, CompileFault>
+    requires { AreLinked (plain_named named) }
+    ensures { (files : List Given)
+        → Tells (FromTypes (sources_of files (option_copied query.entry) want_main)) IsProgramOf
+        (plain_named named) result }
+{
+    match Typed::of(alloc, named) {
+        Ok(typed) => form(alloc, &typed, query, want_main),
         Err(fault) => Err(fault),
     }
 }

@@ -4,32 +4,34 @@ ghost use Rattle.mc_compile.specs.declared.given.Given.{Given};
 ghost use Rattle.mc_compile.specs.Phases.{Tells};
 ghost use Rattle.mc_compile.specs.Sources.{is_first, sources_of};
 ghost use Rattle.mc_compile.specs.Linking.{plain_named, AreLinked};
+ghost use Rattle.mc_compile.specs.Typing.{plain_typed};
 ghost use Rattle.mc_compile.specs.Forming.{Forms, IsProgramOf};
 
 use crate::given::{CompileFault, Query};
-use crate::named::Named;
+use crate::typed::Typed;
 use mc_ground_form::{Compiled, program_of};
 use std::alloc::Global;
 
-/// The program that linked files are, with the query that the goal is.
+/// The program that linked files are, with the query that the goal is. The table of their types isn't used yet.
 ///
 /// # Errors
 ///
 /// `NotBuilt` where a run of `main`, the first answer alone or a form that isn't compiled yet is asked for.
 pub fn form(
     alloc: Global,
-    named: &Named,
+    typed: &Typed,
     query: Option<&Query>,
     want_main: bool,
 ) -> Result<Compiled, CompileFault>
-    requires { AreLinked (plain_named named.now) }
+    requires { AreLinked (plain_named typed.now.named) }
     ensures { (files : List Given)
         → Tells (Forms (sources_of files (option_copied query.entry) want_main)) IsProgramOf
-        (plain_named named.now) result }
+        (plain_typed typed.now) result }
 {
     if want_main || is_first(query) {
         return Err(CompileFault::NotBuilt);
     }
+    let named = &typed.named;
     match program_of(
         alloc,
         named.files.as_slice(),

@@ -2,6 +2,7 @@ ghost use Rattle.mc_compile.specs.Phases.{AtMostOne};
 ghost use Rattle.mc_compile.specs.Sources.{Sources};
 ghost use Rattle.mc_compile.specs.Reading.{Reads};
 ghost use Rattle.mc_compile.specs.Linking.{Links};
+ghost use Rattle.mc_compile.specs.Typing.{Types};
 ghost use Rattle.mc_compile.specs.Forming.{Forms};
 ghost use Rattle.mc_compile.specs.Compiling.{Compiles};
 ghost use Rattle.mc_compile.specs.Laws.{CompiledFits, CompiledAsks, CompiledNumbers, QueryIsAsked};
@@ -12,6 +13,7 @@ use mc_items::{at_most_one_goal, at_most_one_list};
 pub fn at_most_one_phase()
     ensures reads { AtMostOne Reads }
     ensures links { AtMostOne Links }
+    ensures types { AtMostOne Types }
     ensures forms { (sources : Sources) → AtMostOne (Forms sources) }
 {
     at_most_one_list();

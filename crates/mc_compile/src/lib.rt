@@ -10,6 +10,7 @@ mod linking;
 mod named;
 mod reader;
 mod reading;
+mod typed;
 
 pub use compiling::compile;
 pub use given::{CompileFault, Given, Query};
@@ -21,3 +22,4 @@ pub use library::LIBRARY;
 pub use mc_ground_form::Compiled;
 pub use named::Named;
 pub use reading::Read;
+pub use typed::Typed;

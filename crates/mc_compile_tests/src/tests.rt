@@ -1,5 +1,5 @@
 use mc_base::{Memory, Row, Text};
-use mc_compile::{CompileFault, Given, LIBRARY, Named, Query, Read};
+use mc_compile::{CompileFault, Given, LIBRARY, Named, Query, Read, Typed};
 use mc_defs_uses::{Definition, DefinitionSet, Kind, clause_of, definitions};
 use mc_items::{ItemsFault, read_items};
 use mc_source::rule::Broken;
@@ -80,6 +80,22 @@ fn named_shown(alloc: Global, files: &Row<Given>, query: Option<&Query>) -> Resu
         Ok(named) => {
             let mut out = b"ok".to_vec(alloc)?;
             out.extend_from_slice(format!(in alloc; " {}", named.files.len())?.as_bytes())?;
+            Ok(out)
+        }
+        Err(fault) => fault_shown(alloc, fault),
+    }
+}
+
+// What the first three phases answer: how many types there are, with the library's, or the rules that are broken.
+fn typed_shown(alloc: Global, files: &Row<Given>, query: Option<&Query>) -> Result<Vec<u8>, Fail> {
+    let answer = match named(alloc, files, query) {
+        Ok(named) => Typed::of(alloc, named),
+        Err(fault) => Err(fault),
+    };
+    match answer {
+        Ok(typed) => {
+            let mut out = b"ok".to_vec(alloc)?;
+            out.extend_from_slice(format!(in alloc; " {}", typed.types.len())?.as_bytes())?;
             Ok(out)
         }
         Err(fault) => fault_shown(alloc, fault),
@@ -225,6 +241,37 @@ fn faults_of_linking_are_told_where_none_of_reading_is(rt: HostRuntime) -> Resul
     let unread = query_of(alloc, b"p(X.")?;
     let answer = named_shown(alloc, &given(alloc, &[FIRST, FAULTY])?, Some(&unread))?;
     assert_eq!(rt; answer.as_slice(), b"2:1 S5".as_slice());
+    Ok(())
+}
+
+const ROUND: &[u8] = b":- module c.
+:- interface.
+:- type t == u.
+:- type u == t.
+:- type v ---> v(A).
+:- implementation.
+:- type w(A) ---> end ; more(w(w(A))).
+";
+
+// The library's types alone break no rule. Rules of types are told where none of linking is broken, and none of them for a
+// query.
+#[test]
+fn faults_of_types_are_told_where_none_of_linking_is(rt: HostRuntime) -> Result<(), Fail> {
+    let alloc = rt.alloc();
+    let query = query_of(alloc, b"p([X | Y]).")?;
+    let invisible = query_of(alloc, b"p(X), q(X).")?;
+    let answer = typed_shown(alloc, &given(alloc, &[])?, None)?;
+    assert_eq!(rt; answer.as_slice(), b"ok 6".as_slice());
+    let answer = typed_shown(alloc, &given(alloc, &[FIRST, SECOND])?, Some(&query))?;
+    assert_eq!(rt; answer.as_slice(), b"ok 7".as_slice());
+    let files = given(alloc, &[FIRST, SECOND, ROUND])?;
+    let answer = typed_shown(alloc, &files, Some(&query))?;
+    assert_eq!(rt;
+        answer.as_slice(),
+        b"2:3 T4, 2:4 T4, 2:5 T3, 2:7 T5".as_slice()
+    );
+    let answer = typed_shown(alloc, &files, Some(&invisible))?;
+    assert_eq!(rt; answer.as_slice(), b"3:1 N4".as_slice());
     Ok(())
 }
 

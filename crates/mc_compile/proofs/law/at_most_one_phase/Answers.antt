@@ -7,5 +7,8 @@ returns-clause-reads c = let g = c.at_most_one_goal.ensures in O.one_read c.at_m
 pub returns-clause-links : goal.returns-clause-links
 returns-clause-links c = O.one_link c.at_most_one_list.ensures
 
+pub returns-clause-types : goal.returns-clause-types
+returns-clause-types c = O.one_type_table
+
 pub returns-clause-forms : goal.returns-clause-forms
 returns-clause-forms c = O.one_form

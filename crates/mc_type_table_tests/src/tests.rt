@@ -1,0 +1,187 @@
+use mc_base::{Memory, Row};
+use mc_items::{Entry, ItemsFault, read_items};
+use mc_modules::{Names, link};
+use mc_type_table::type_table;
+use std::alloc::Global;
+use std::process::Abort;
+use std::test::Fail;
+
+// The library's modules, with nothing in them.
+const LIBRARY: [&str; 9] = [
+    "list", "bool", "maybe", "pair", "int", "string", "char", "io", "require",
+];
+
+// The text of a file, in which `@` stands for a line's end and `#` for the beginning of a declaration.
+fn with_lines(alloc: Global, row: &str) -> Result<Vec<u8>, Memory> {
+    let mut text = Vec::new(alloc);
+    for byte in row.as_bytes() {
+        match *byte {
+            b'@' => text.push(b'\n')?,
+            b'#' => text.extend_from_slice(b":- ")?,
+            other => text.push(other)?,
+        }
+    }
+    Ok(text)
+}
+
+fn add_file(alloc: Global, files: &mut Vec<Row<Entry>>, text: &[u8]) -> Result<(), ItemsFault> {
+    let number = u32::try_from(files.len()).unwrap_or(u32::MAX);
+    let file = read_items(alloc, number, text)?;
+    match files.push(file) {
+        Ok(()) => Ok(()),
+        Err(_) => Err(ItemsFault::Memory),
+    }
+}
+
+fn library_text(alloc: Global, name: &str) -> Result<Vec<u8>, Memory> {
+    let mut text = Vec::new(alloc);
+    text.extend_from_slice(b":- module ")?;
+    text.extend_from_slice(name.as_bytes())?;
+    text.extend_from_slice(b".\n:- interface.\n")?;
+    Ok(text)
+}
+
+// The names of the files of a row, between whose texts a backquote stands, and of the library's.
+fn names(alloc: Global, row: &str) -> Result<Names, ItemsFault> {
+    let mut all = Vec::new(alloc);
+    for text in row.split('`') {
+        add_file(alloc, &mut all, &with_lines(alloc, text)?)?;
+    }
+    for name in LIBRARY {
+        add_file(alloc, &mut all, &library_text(alloc, name)?)?;
+    }
+    link(alloc, &Row::of(all)?)
+}
+
+// What a row's types are: their number, or the rules that they break, each as FILE:LINE RULE TEXT.
+fn shown(alloc: Global, row: &str) -> Result<Vec<u8>, Fail> {
+    let mut out = Vec::new(alloc);
+    let answer = match names(alloc, row) {
+        Ok(names) => type_table(alloc, &names),
+        Err(_) => return Ok(b"not linked".to_vec(alloc)?),
+    };
+    match answer {
+        Ok(types) => out.extend_from_slice(format!(in alloc; "{} types", types.len())?.as_bytes())?,
+        Err(ItemsFault::Memory) => out.extend_from_slice(b"out of memory")?,
+        Err(ItemsFault::Broken(all)) => {
+            for broken in all.as_slice() {
+                let at = broken.at;
+                let rule = broken.rule;
+                let place = format!(in alloc; "{}:{} {rule:?} ", at.file, at.line)?;
+                out.extend_from_slice(place.as_bytes())?;
+                out.extend_from_slice(broken.what.bytes())?;
+                out.push(b';')?;
+            }
+        }
+    }
+    Ok(out)
+}
+
+// For each rule files that break it, and files beside them that don't.
+const RULES: &str = "\
+#module e.@#interface.@#type t == u.@#type u == t.@#implementation. ~ 0:3 T4 type t/0 is its own equivalent;0:4 T4 type u/0 is its own equivalent;\n\
+#module e.@#interface.@#type t == u.@#type u == int.@#implementation. ~ 2 types\n\
+#module a.@#interface.@#type t(A) ---> k(A, f :: B). ~ 0:3 T3 type variable B is not in the head;\n\
+#module a.@#interface.@#type t(A, B) ---> k(A, f :: B). ~ 1 types\n\
+#module a.@#interface.@#type t(A) == u(B).@#type u(A) ---> k(A). ~ 0:3 T3 type variable B is not in the head;\n\
+#module a.@#interface.@#type t(_) ---> k(_). ~ 0:3 T3 type variable _ is not in the head;\n\
+#module a.@#interface.@#type t(A) ---> k(B) ; k(t(t(A)), C). ~ 0:3 T3 type variable B is not in the head;\n\
+#module a.@#interface.@#type t == t.@#type u(A) ---> [A | B].@#type v(A) ---> k(v(v(A))). ~ 0:3 T4 type t/0 is its own equivalent;0:4 T3 type variable B is not in the head;0:5 T5 type v/1 is not regular;\n\
+#module a.@#interface.@#type t(A) == u(t(A)).@#type u(A) ---> k(A). ~ 0:3 T4 type t/1 is its own equivalent;\n\
+#module a.@#interface.@#type t(A) == t(B). ~ 0:3 T3 type variable B is not in the head;\n\
+#module a.@#interface.@#type t == t.@#type u == t. ~ 0:3 T4 type t/0 is its own equivalent;\n\
+#module a.@#interface.@#type t == u.@#type u ---> k(t). ~ 2 types\n\
+#module a.@#interface.@#import_module b.@#type t.@#implementation.@#type t == b.u.`\
+#module b.@#interface.@#type u.@#implementation.@#import_module a.@#type u == a.t. ~ 0:6 T4 type t/0 is its own equivalent;1:6 T4 type u/0 is its own equivalent;\n\
+#module a.@#interface.@#import_module b.@#type t.@#implementation.@#type t == b.u.`\
+#module b.@#interface.@#type u.@#implementation.@#type u == int. ~ 2 types\n\
+#module a.@#interface.@#type t(A).@#implementation.@#type t(A) ---> e ; k(t(t(A))). ~ 0:5 T5 type t/1 is not regular;\n\
+#module a.@#interface.@#type t(A).@#implementation.@#type t(A) ---> e ; k(t(A)). ~ 1 types\n\
+#module a.@#interface.@#type t(A) ---> e ; k(t(t(A))). ~ 0:3 T5 type t/1 is not regular;\n\
+#module a.@#interface.@#type t(A) ---> e ; k(A, t(A), t(int)). ~ 1 types\n\
+#module a.@#interface.@#type t(A, B) ---> e ; k(t(B, A)). ~ 1 types\n\
+#module a.@#interface.@#type t(A) ---> k(u(A)).@#type u(A) ---> e ; k(t(u(A))). ~ 0:4 T5 type u/1 is not regular;\n\
+#module a.@#interface.@#type t(A) ---> k(u(A)).@#type u(A) == t(t(A)). ~ 0:3 T5 type t/1 is not regular;\n\
+#module a.@#interface.@#type t(A) ---> k(u(u(A))).@#type u(A) ---> k(A). ~ 2 types\n\
+#module a.@#interface.@#import_module b.@#type t(A) ---> k(b.u(A)).`\
+#module b.@#interface.@#import_module a.@#type u(A).@#implementation.@#type u(A) == a.t(a.t(A)). ~ 0:4 T5 type t/1 is not regular;\n";
+
+fn rows_hold(rt: &impl Abort, alloc: Global, table: &str) -> Result<u32, Fail> {
+    let mut rows = 0u32;
+    for row in table.lines() {
+        if let Some((texts, wanted)) = row.split_once(" ~ ") {
+            let answer = shown(alloc, texts)?;
+            assert_eq!(rt; answer.as_slice(), wanted.as_bytes(), "{row}");
+            rows = rows.saturating_add(1);
+        }
+    }
+    Ok(rows)
+}
+
+#[test]
+fn rules_are_broken_and_kept(rt: HostRuntime) -> Result<(), Fail> {
+    assert_eq!(rt; rows_hold(&rt, rt.alloc(), RULES)?, 23);
+    Ok(())
+}
+
+// A module with the type `t0` and so many others, each of which is equivalent to what `step` says of the one before; `%`
+// stands for its number.
+fn chain(alloc: Global, count: u32, first: &str, step: &str) -> Result<String, Memory> {
+    let mut text = format!(in alloc; "#module a.@#interface.@#type p(A, B) ---> p(A, B).@")?;
+    text.push_str(format!(in alloc; "#type t0 == {first}.@")?.as_str())?;
+    for number in 1..count {
+        text.push_str(format!(in alloc; "#type t{number} == ")?.as_str())?;
+        let before = number.saturating_sub(1);
+        for byte in step.chars() {
+            if byte == '%' {
+                text.push_str(format!(in alloc; "t{before}")?.as_str())?;
+            } else {
+                text.push(byte)?;
+            }
+        }
+        text.push_str(".@")?;
+    }
+    Ok(text)
+}
+
+// A module with a union of so many constructors.
+fn union(alloc: Global, count: u32) -> Result<String, Memory> {
+    let mut text = format!(in alloc; "#module a.@#interface.@#type t(A) ---> k")?;
+    for number in 0..count {
+        text.push_str(format!(in alloc; " ; k{number}(t(A), A)")?.as_str())?;
+    }
+    text.push_str(".@")?;
+    Ok(text)
+}
+
+#[test]
+fn a_ring(rt: HostRuntime) -> Result<(), Fail> {
+    let alloc = rt.alloc();
+    let ring = shown(alloc, chain(alloc, 1_000, "t999", "%")?.as_str())?;
+    assert_eq!(rt; ring.iter().filter(|byte| **byte == b';').count(), 1_000);
+    Ok(())
+}
+
+#[test]
+fn a_chain(rt: HostRuntime) -> Result<(), Fail> {
+    let alloc = rt.alloc();
+    let line = shown(alloc, chain(alloc, 1_000, "int", "%")?.as_str())?;
+    assert_eq!(rt; line.as_slice(), b"1001 types".as_slice());
+    Ok(())
+}
+
+#[test]
+fn doubled_types(rt: HostRuntime) -> Result<(), Fail> {
+    let alloc = rt.alloc();
+    let doubled = shown(alloc, chain(alloc, 60, "int", "p(%, %)")?.as_str())?;
+    assert_eq!(rt; doubled.as_slice(), b"out of memory".as_slice());
+    Ok(())
+}
+
+#[test]
+fn a_wide_union(rt: HostRuntime) -> Result<(), Fail> {
+    let alloc = rt.alloc();
+    let wide = shown(alloc, union(alloc, 100_000)?.as_str())?;
+    assert_eq!(rt; wide.as_slice(), b"1 types".as_slice());
+    Ok(())
+}
