@@ -6,8 +6,7 @@ use Rattle.std.proofs.lemmas.Str.{is_utf8-from_IsUtf8, IsUtf8-from_is_utf8}
 use Rattle.std.proofs.lemmas.Bool.Decides.{nat_tests}
 use Rattle.mc_program.specs.Values.{Val, str, con, state, no_vals, val_then}
 use Rattle.mc_values.specs.declared.heap.Heap.{Heap}
-use Rattle.mc_values.specs.Heap.{IsLive, value_at, Extends, StandsFor}
-use Rattle.mc_values.specs.Parts.{IsState}
+use Rattle.mc_values.specs.Heap.{Extends, StandsFor}
 use Rattle.mc_model.specs.EventList.{error}
 use Rattle.mc_model.specs.Outcomes.{Outcome, reads, reads_and_throws}
 use Rattle.mc_model.specs.Builtins.{Library, read_from, line_outcome, line_limit}
@@ -19,10 +18,6 @@ use Rattle.mc_builtins.specs.declared.reading.Got.TheVariants as G
 -- a live Ref stands for what it stood for where the heap grows
 pub still_stands : (h k : Heap) → Extends h k → (r : ℕ) (v : Val) → StandsFor h r v → StandsFor k r v
 still_stands h k grows r v s = record { live = grows.live r s.live; is = grows.same r s.live ∙ s.is }
-
--- a state of io stays one where the heap grows
-pub still_state : (h k : Heap) → Extends h k → (r : ℕ) → IsLive h r → IsState (value_at h r) → IsState (value_at k r)
-still_state h k grows r live is = subst IsState (sym (grows.same r live)) is
 
 isnt_true : (b : Bool) → (b ≡ true → ⊥) → b ≡ false
 isnt_true true h = absurd (h refl)

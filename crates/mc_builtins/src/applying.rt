@@ -1,5 +1,4 @@
-ghost use Rattle.std.specs.Prelude.{◌≡◌, ◌≤◌, ℕ, List, [], ◌∷◌, All, IfOk, OnErr, Some};
-ghost use Rattle.mc_program.specs.Values.{Val, vals};
+ghost use Rattle.std.specs.Prelude.{◌≡◌, [], ◌∷◌, All, IfOk, OnErr, Some};
 ghost use Rattle.mc_values.specs.Heap.{IsLive, height, value_at, values_at, Extends, StandsFor};
 ghost use Rattle.mc_values.specs.Parts.{IsState, taken_of, with_written};
 ghost use Rattle.mc_model.specs.Outcomes.{writes};

@@ -16,10 +16,15 @@ enum Did {
     Int(i64),
     Char(char),
     Length(u32),
+    /// A constructor with so many arguments.
+    Cell(usize),
     Holds,
     Fails,
     Throws,
-    Other,
+    /// A text of so many bytes is written.
+    Wrote(u32),
+    /// A line is wanted from this byte of the input on.
+    Reads(u64),
 }
 
 /// A program without symbols.
@@ -31,7 +36,7 @@ fn no_program(alloc: Global) -> Program {
     }
 }
 
-/// What an output is: a number, a character, or a text by its length.
+/// What an output is: a number, a character, a text by its length, or a constructor.
 fn told(heap: &Heap, output: Ref) -> Did
     requires { IsLive heap.now output }
 {
@@ -43,7 +48,7 @@ fn told(heap: &Heap, output: Ref) -> Did
     }
     match heap.text_at(output) {
         Some(text) => Did::Length(text.len()),
-        None => Did::Other,
+        None => Did::Cell(heap.args(output).len()),
     }
 }
 
@@ -62,8 +67,8 @@ fn answered(
         Applied::Gives(Some(output)) => Ok(told(heap, output)),
         Applied::Fails => Ok(Did::Fails),
         Applied::Throws(_) => Ok(Did::Throws),
-        Applied::Wrote(_, _) => Ok(Did::Other),
-        Applied::Reads(_) => Ok(Did::Other),
+        Applied::Wrote(text, _) => Ok(Did::Wrote(text.len())),
+        Applied::Reads(from) => Ok(Did::Reads(from)),
     }
 }
 
@@ -97,6 +102,57 @@ fn at_text(alloc: Global, op: Builtin, text: &str) -> Result<Did, Memory> {
     answered(alloc, op, &[x], &mut heap, &Library::of(&program))
 }
 
+fn at_texts(alloc: Global, op: Builtin, s: &str, t: &str) -> Result<Did, Memory> {
+    let program = no_program(alloc);
+    let mut heap = Heap::new(alloc);
+    let left = Text::new(alloc, s.as_bytes())?;
+    let right = Text::new(alloc, t.as_bytes())?;
+    let x = heap.text(&left)?;
+    let y = heap.text(&right)?;
+    answered(alloc, op, &[x, y], &mut heap, &Library::of(&program))
+}
+
+/// What stands before the state of io among the inputs.
+#[derive(Clone, Copy)]
+enum Before {
+    Nothing,
+    Int(i64),
+    Text(&'static str),
+}
+
+/// At a state of io at which three bytes of the input are taken, behind another input or alone.
+fn at_state(alloc: Global, op: Builtin, before: Before) -> Result<Did, Memory> {
+    match before {
+        Before::Nothing => state_alone(alloc, op),
+        Before::Int(a) => integer_written(alloc, op, a),
+        Before::Text(text) => text_written(alloc, op, text),
+    }
+}
+
+fn state_alone(alloc: Global, op: Builtin) -> Result<Did, Memory> {
+    let program = no_program(alloc);
+    let mut heap = Heap::new(alloc);
+    let state = heap.io(&Text::empty(alloc), 3)?;
+    answered(alloc, op, &[state], &mut heap, &Library::of(&program))
+}
+
+fn integer_written(alloc: Global, op: Builtin, a: i64) -> Result<Did, Memory> {
+    let program = no_program(alloc);
+    let mut heap = Heap::new(alloc);
+    let x = heap.int(a)?;
+    let state = heap.io(&Text::empty(alloc), 3)?;
+    answered(alloc, op, &[x, state], &mut heap, &Library::of(&program))
+}
+
+fn text_written(alloc: Global, op: Builtin, text: &str) -> Result<Did, Memory> {
+    let program = no_program(alloc);
+    let mut heap = Heap::new(alloc);
+    let bytes = Text::new(alloc, text.as_bytes())?;
+    let x = heap.text(&bytes)?;
+    let state = heap.io(&Text::empty(alloc), 3)?;
+    answered(alloc, op, &[x, state], &mut heap, &Library::of(&program))
+}
+
 /// Sums, differences and products wrap at 64 bits; quotients are rounded toward zero, `div` is rounded down.
 #[test]
 fn two_integers(rt: HostRuntime) -> Result<(), Fail> {
@@ -119,8 +175,12 @@ fn two_integers(rt: HostRuntime) -> Result<(), Fail> {
         (Builtin::IntRem, -7, 2, Did::Int(-1)),
         (Builtin::IntRem, i64::MIN, -1, Did::Int(0)),
         (Builtin::IntRem, 1, 0, Did::Throws),
+        (Builtin::IntRem, 7, -2, Did::Int(1)),
+        (Builtin::IntQuotient, 7, -2, Did::Int(-3)),
+        (Builtin::IntTimes, i64::MAX, 2, Did::Int(-2)),
         (Builtin::IntLess, i64::MIN, i64::MAX, Did::Holds),
         (Builtin::IntLess, 3, 3, Did::Fails),
+        (Builtin::StringJoin, 1, 2, Did::Fails),
         (Builtin::IntGreater, 3, 3, Did::Fails),
         (Builtin::IntAtMost, 3, 3, Did::Holds),
         (Builtin::IntAtLeast, i64::MIN, i64::MAX, Did::Fails),
@@ -176,6 +236,8 @@ fn one_text(rt: HostRuntime) -> Result<(), Fail> {
         (Builtin::StringToInt, "+", Did::Fails),
         (Builtin::StringToInt, "", Did::Fails),
         (Builtin::StringToInt, " 7", Did::Fails),
+        (Builtin::ToCharList, "", Did::Cell(0)),
+        (Builtin::ToCharList, "\u{1F600}b", Did::Cell(2)),
         (Builtin::Error, "no", Did::Throws),
     ];
     for (op, text, wanted) in &table {
@@ -200,6 +262,45 @@ fn one_character(rt: HostRuntime) -> Result<(), Fail> {
     ];
     for (op, c, wanted) in &table {
         assert_eq!(rt; at_character(alloc, *op, *c)?, *wanted);
+    }
+    Ok(())
+}
+
+/// Two strings are joined by their bytes.
+#[test]
+fn two_texts(rt: HostRuntime) -> Result<(), Fail> {
+    let alloc = rt.alloc();
+    let table = [
+        (Builtin::StringJoin, "\u{E4}", "\u{1F600}", Did::Length(6)),
+        (Builtin::StringJoin, "", "", Did::Length(0)),
+        (Builtin::IntPlus, "1", "2", Did::Fails),
+    ];
+    for (op, s, t, wanted) in &table {
+        assert_eq!(rt; at_texts(alloc, *op, *s, *t)?, *wanted);
+    }
+    Ok(())
+}
+
+/// A line is read behind the bytes that are taken; integers are written in decimal, and strings in UTF-8 or in quotes.
+#[test]
+fn states(rt: HostRuntime) -> Result<(), Fail> {
+    let alloc = rt.alloc();
+    let table = [
+        (Builtin::ReadLine, Before::Nothing, Did::Reads(3)),
+        (Builtin::Nl, Before::Nothing, Did::Wrote(1)),
+        (Builtin::WriteInt, Before::Int(i64::MIN), Did::Wrote(20)),
+        (Builtin::Write, Before::Int(i64::MIN), Did::Wrote(20)),
+        (Builtin::WriteString, Before::Int(7), Did::Fails),
+        (
+            Builtin::WriteString,
+            Before::Text("\u{E4}\n"),
+            Did::Wrote(3),
+        ),
+        (Builtin::Write, Before::Text("\u{E4}\n"), Did::Wrote(6)),
+        (Builtin::WriteInt, Before::Text("7"), Did::Fails),
+    ];
+    for (op, before, wanted) in &table {
+        assert_eq!(rt; at_state(alloc, *op, *before)?, *wanted);
     }
     Ok(())
 }
