@@ -10,3 +10,4 @@ pub mod Cases
 pub mod Views
 pub mod Goals
 pub mod Bodies
+pub mod Mentioning

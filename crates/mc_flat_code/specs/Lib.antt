@@ -3,3 +3,4 @@ pub mod Ticked
 pub mod Running
 pub mod Standing
 pub mod SourceRuns
+pub mod Mentions

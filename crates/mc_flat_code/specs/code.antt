@@ -1,3 +1,4 @@
 pub mod Building
 pub mod Openings
 pub mod Bodies
+pub mod Mentioning

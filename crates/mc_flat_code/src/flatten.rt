@@ -6,6 +6,8 @@ ghost use Rattle.mc_flat_code.specs.Running.{IsCode, Lower, EachBelow, value_at,
 ghost use Rattle.mc_flat_code.specs.Standing.{At, Holds, Chain, Cased, Stands, StandsOf, StandsAll, StandsEach, StandsArms, StandsFor};
 ghost use Rattle.mc_flat_code.specs.code.Building.{Grows, Laid, IsKeyed, IsChosen};
 ghost use Rattle.mc_flat_code.specs.code.Openings.{opening_label as told_label};
+ghost use Rattle.mc_flat_code.specs.Mentions.{Mention, of_constant, Mentions, MentionsIn, AnyMentions, ArmsMention, MentionsAt, CodeMentions};
+ghost use Rattle.mc_flat_code.specs.code.Mentioning.{Brings, Nothing, LabelMentions};
 
 use crate::code::{Body, Branch, Code, Instr, Key, Part};
 use crate::opening::{Opening, first_test};
@@ -22,7 +24,8 @@ const END: u32 = 0;
 impl Code {
     /// Code that is an answer.
     pub(crate) fn new(alloc: Global) -> Result<Code, Memory>
-        ensures { IfOk result (λ code. IsCode code) }
+        ensures code { IfOk result (λ code. IsCode code) }
+        ensures mentions { IfOk result (λ code. (m : Mention) → CodeMentions code m → ⊥) }
     {
         let mut instrs = Vec::new(alloc);
         instrs.push(Instr::Done)?;
@@ -40,6 +43,7 @@ impl Code {
         requires lower { Lower self.old (length self.old.instrs.items) goal }
         ensures laid { IfOk result (λ place. Laid self.old self.new place) }
         ensures at { IfOk result (λ place. At self.new place goal) }
+        ensures brings { OnOk result (Brings self.old self.new (MentionsAt goal)) }
     {
         let place = self.instrs.len();
         if place >= u32::MAX as usize {
@@ -71,6 +75,8 @@ impl Code {
         ensures grows { OnOk result (Grows self.old self.new) }
         ensures others { OnOk result (self.new ≡ record self.old { values = self.new.values }) }
         ensures value { IfOk result (λ k. value_at self.new k ≡ Some (plain_value value.now)) }
+        ensures brings { OnOk result (Brings self.old self.new
+            (λ m. m ≡ of_constant (plain_value value.now))) }
     {
         let k = self.values.len();
         if k >= u32::MAX as usize {
@@ -91,6 +97,8 @@ impl Code {
         ensures laid { IfOk result (λ place. Laid self.old self.new place) }
         ensures stands { IfOk result (λ place.
             StandsOf self.new (Build variable symbol args.now) next place) }
+        ensures brings { OnOk result (Brings self.old self.new
+            (MentionsIn (Build variable symbol args.now))) }
     {
         let args = self.add_variables(args)?;
         self.add(Instr::Made(variable, symbol, args, next))
@@ -109,6 +117,8 @@ impl Code {
         ensures laid { IfOk result (λ place. Laid self.old self.new place) }
         ensures stands { IfOk result (λ place.
             StandsOf self.new (Const variable (plain_value value.now)) next place) }
+        ensures brings { OnOk result (Brings self.old self.new
+            (MentionsIn (Const variable (plain_value value.now)))) }
     {
         let value = self.add_value(alloc, value)?;
         self.add(Instr::Constant(variable, value, next))
@@ -121,6 +131,7 @@ impl Code {
         ensures laid { IfOk result (λ place. Laid self.old self.new place) }
         ensures stands { IfOk result (λ place. (implied : List ℕ)
             → StandsOf self.new (Call procedure args.now implied false) next place) }
+        ensures brings { OnOk result (Brings self.old self.new Nothing) }
     {
         let args = self.add_variables(args)?;
         self.add(Instr::Call(procedure, args, false, next))
@@ -139,6 +150,8 @@ impl Code {
         ensures laid { IfOk result (λ place. Laid self.old self.new place) }
         ensures stands { IfOk result (λ place.
             StandsOf self.new (Apply builtin inputs.now outputs.now) next place) }
+        ensures brings { OnOk result (Brings self.old self.new
+            (MentionsIn (Apply builtin inputs.now outputs.now))) }
     {
         let inputs = self.add_variables(inputs)?;
         let outputs = self.add_variables(outputs)?;
@@ -151,6 +164,7 @@ impl Code {
         requires below { EachBelow (length self.old.instrs.items) places.now }
         ensures laid { IfOk result (λ place. Laid self.old self.new place) }
         ensures chain { IfOk result (λ place. Chain self.new places.now place) }
+        ensures brings { OnOk result (Brings self.old self.new Nothing) }
     {
         match places {
             [] => self.add(Instr::Fail),
@@ -165,6 +179,7 @@ impl Code {
         requires last { last < length self.old.instrs.items }
         ensures laid { IfOk result (λ place. Laid self.old self.new place) }
         ensures chain { IfOk result (λ place. Chain self.new (places.now ++ last ∷ []) place) }
+        ensures brings { OnOk result (Brings self.old self.new Nothing) }
     {
         let mut choice = last;
         let mut rest = places;
@@ -180,6 +195,8 @@ impl Code {
         ensures grows { OnOk result (Grows self.old self.new) }
         ensures others { OnOk result (self.new ≡ record self.old { values = self.new.values }) }
         ensures key { IfOk result (λ key. label_of self.new key ≡ Some (told_label test.entry)) }
+        ensures brings { OnOk result (Brings self.old self.new
+            (LabelMentions (told_label test.entry))) }
     {
         match test {
             Opening::Symbol(symbol) => Ok(Key::Symbol(symbol)),
@@ -200,6 +217,8 @@ impl Code {
         ensures goals { OnOk result (self.new.instrs.items ≡ self.old.instrs.items) }
         ensures keyed { IfOk result (λ found. IfSome found (λ part. IsKeyed self.new variable
             (arms_of (map plain_arm arms.now)) places.now part)) }
+        ensures brings { OnOk result (Brings self.old self.new
+            (ArmsMention (arms_of (map plain_arm arms.now)))) }
     {
         let start = self.branches.len();
         if start >= u32::MAX as usize || arms.len() >= u32::MAX as usize {
@@ -238,6 +257,8 @@ impl Code {
         ensures laid { IfOk result (λ place. Laid self.old self.new place) }
         ensures chosen { IfOk result (λ place. IsChosen self.new variable
             (arms_of (map plain_arm arms.now)) places.now place) }
+        ensures brings { OnOk result (Brings self.old self.new
+            (ArmsMention (arms_of (map plain_arm arms.now)))) }
     {
         let other = self.choice(places)?;
         match self.branches_of(alloc, variable, arms, places)? {
@@ -257,6 +278,7 @@ impl Code {
         requires next { next < length self.old.instrs.items }
         ensures laid { IfOk result (λ place. Laid self.old self.new place) }
         ensures stands { IfOk result (λ place. Stands self.new (plain_node goal.now) next place) }
+        ensures brings { OnOk result (Brings self.old self.new (Mentions (plain_node goal.now))) }
     {
         if goal.pruned {
             let inner = self.scheduled(alloc, &goal.goal, END)?;
@@ -272,6 +294,8 @@ impl Code {
         ensures laid { IfOk result (λ place. Laid self.old self.new place) }
         ensures stands { IfOk result (λ place.
             StandsOf self.new (plain_sched goal.now) next place) }
+        ensures brings { OnOk result (Brings self.old self.new
+            (MentionsIn (plain_sched goal.now))) }
     {
         match goal {
             Sched::Conj(goals) => self.conjunction(alloc, goals.as_slice(), next),
@@ -310,6 +334,8 @@ impl Code {
         ensures laid { IfOk result (λ place. Laid self.old self.new place) }
         ensures stands { IfOk result (λ place.
             StandsAll self.new (nodes (map plain_node goals.now)) next place) }
+        ensures brings { OnOk result (Brings self.old self.new
+            (AnyMentions (nodes (map plain_node goals.now)))) }
     {
         let mut place = next;
         let mut rest = goals;
@@ -327,6 +353,8 @@ impl Code {
         ensures laid { IfOk result (λ place. Laid self.old self.new place) }
         ensures stands { IfOk result (λ place.
             StandsOf self.new (Disj (nodes (map plain_node goals.now))) next place) }
+        ensures brings { OnOk result (Brings self.old self.new
+            (AnyMentions (nodes (map plain_node goals.now)))) }
     {
         let mut places = Vec::new(alloc);
         for goal in goals {
@@ -348,6 +376,8 @@ impl Code {
         ensures laid { IfOk result (λ place. Laid self.old self.new place) }
         ensures stands { IfOk result (λ place.
             StandsOf self.new (Switch variable (arms_of (map plain_arm arms.now))) next place) }
+        ensures brings { OnOk result (Brings self.old self.new
+            (ArmsMention (arms_of (map plain_arm arms.now)))) }
     {
         let mut places = Vec::new(alloc);
         for arm in arms {
@@ -363,6 +393,7 @@ impl Code {
         ensures laid { IfOk result (λ place. Laid self.old self.new place) }
         ensures stands { IfOk result (λ place.
             StandsOf self.new (Not (plain_node goal.now)) next place) }
+        ensures brings { OnOk result (Brings self.old self.new (Mentions (plain_node goal.now))) }
     {
         let inner = self.node(alloc, goal, END)?;
         self.add(Instr::Not(inner, next))
@@ -379,6 +410,7 @@ impl Code {
         ensures laid { IfOk result (λ place. Laid self.old self.new place) }
         ensures stands { IfOk result (λ place. Stands self.new
             (node (Exists [] (plain_node body.now)) [] (inferred det) is_committed) 0 place) }
+        ensures brings { OnOk result (Brings self.old self.new (Mentions (plain_node body.now))) }
     {
         let begin = self.node(alloc, body, END)?;
         if is_committed {
@@ -394,6 +426,8 @@ impl Code {
         ensures is_code { OnOk result (IsCode self.new) }
         ensures stands { IfOk result (λ body.
             StandsFor self.new body (plain_proc procedure.now)) }
+        ensures brings { OnOk result (Brings self.old self.new
+            (Mentions (plain_node procedure.now.body))) }
     {
         let head = self.add_variables(procedure.head.as_slice())?;
         let first = self.add_variables(procedure.first.as_slice())?;

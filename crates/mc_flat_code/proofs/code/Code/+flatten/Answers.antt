@@ -1,17 +1,21 @@
-use Rattle.std.proofs.Common.{◌-◌, ◌+◌, sym, ap, ◌∙◌, subst, ℕ, List, [], ◌∷◌, ◌++◌, length, length-append, take, get_or, map, append_assoc, false, arith}
-use Rattle.mc_model.specs.Scheduled.{node, nodes, Disj, Switch, Not, Call, Arms}
+use Rattle.std.proofs.Common.{◌≡◌, inl, inr, ◌-◌, ◌+◌, sym, ap, ◌∙◌, subst, ℕ, List, [], ◌∷◌, ◌++◌, length, length-append, take, get_or, map, append_assoc, false, arith}
+use Rattle.mc_program.specs.Values.{plain_value}
+use Rattle.mc_model.specs.Scheduled.{node, nodes, Disj, Switch, Ite, Not, Call, Arms}
 use Rattle.mc_model.specs.PlainGoals.{plain_node, plain_sched, plain_arm, arms_of}
 use Rattle.mc_model.specs.declared.sched.GoalNode.{GoalNode}
 use Rattle.mc_model.specs.declared.sched.Arm.{Arm}
 use Rattle.mc_flat_code.specs.Running.{EachBelow}
 use Rattle.mc_flat_code.specs.Standing.{At, Chain, Stands, StandsOf, StandsEach, StandsArms}
+use Rattle.mc_flat_code.specs.Mentions.{Mention, of_symbol, of_constant, Mentions, MentionsIn, AnyMentions, ArmsMention}
 use Rattle.mc_flat_code.specs.code.Building.{Grows, Laid, IsChosen}
+use Rattle.mc_flat_code.specs.code.Mentioning.{Nothing}
 use Rattle.mc_flat_code.specs.declared.code.Instr.TheVariants as I
 use Rattle.mc_flat_code.specs.declared.code.Code.{Code}
 use Rattle.mc_flat_code.proofs.Growth.{grows_then, stands_grows, of_grows, all_grows, each_grows, arms_grow, continues_length}
 use Rattle.mc_flat_code.proofs.Building.{ok_laid_after, ok_by}
 use Rattle.mc_flat_code.proofs.PlaceLists.{below_both, below_more, by_last}
-use Rattle.mc_flat_code.proofs.Views.{node_open, ite_open, call_open}
+use Rattle.mc_flat_code.proofs.Mentioning.{brings_then, on_brings, on_more, goal_mentions, arm_mentions, last_mentions}
+use Rattle.mc_flat_code.proofs.Views.{node_open, conj_open, disj_open, switch_open, ite_open, not_open, some_open, take_open, test_const_open, call_open}
 use Rattle.mc_flat_code.proofs.Goals.{each_step, each_whole, arms_step, arms_whole}
 use Rattle.mc_flat_code.proofs.code.Code.+flatten.Goals as goal
 
@@ -32,6 +36,9 @@ conjunction-loop-rest-preserved t c =
           (c.loop-rest.place, (subst (λ (g : GoalNode). Stands new (plain_node g) c.loop-rest.place c.in_ok-place.place) c.last-item.is c.in_ok-place.ensures.stands, all_grows c.loop-rest.self new c.in_ok-place.ensures.laid.grows (nodes (map plain_node old.0)) c.args.next c.loop-rest.place old.1.1)),
         ),
       );
+      brings =
+          brings_then c.args.self.now c.loop-rest.self new (AnyMentions (nodes (map plain_node c.args.goals.now))) (Mentions (plain_node c.last-item.result)) (AnyMentions (nodes (map plain_node c.args.goals.now))) c.loop-rest.invariant.brings c.in_ok-place.ensures.brings (λ m x. x)
+          (λ m x. last_mentions c.args.goals.now xs old.0 c.last-item.result m old.1.0 c.in-len1-up.len_at_least (subst (λ (g : GoalNode). Mentions (plain_node g) m) c.last-item.is x));
     }
 
 pub disjunction-loop-goal-preserved : goal.disjunction-loop-goal-preserved
@@ -49,6 +56,9 @@ disjunction-loop-goal-preserved t c =
           (each_step new c.args.goals.now c.loop-goal.goal-index c.goal-item.result c.args.next ps c.in_ok-node.field-0 c.loop-goal-test.true
           (each_grows c.loop-goal.self new g (nodes (map plain_node (take c.loop-goal.goal-index c.args.goals.now))) c.args.next ps c.loop-goal.invariant.stands)
           (subst (λ (g : GoalNode). Stands new (plain_node g) c.args.next c.in_ok-node.field-0) c.goal-item.is c.in_ok-node.ensures.stands));
+      brings =
+          brings_then c.args.self.now c.loop-goal.self new (AnyMentions (nodes (map plain_node c.args.goals.now))) (Mentions (plain_node c.goal-item.result)) (AnyMentions (nodes (map plain_node c.args.goals.now))) c.loop-goal.invariant.brings c.in_ok-node.ensures.brings (λ m x. x)
+          (λ m x. goal_mentions c.args.goals.now c.loop-goal.goal-index c.goal-item.result m c.loop-goal-test.true (subst (λ (g : GoalNode). Mentions (plain_node g) m) c.goal-item.is x));
     }
 
 pub disjunction-returns-clause-laid : goal.disjunction-returns-clause-laid
@@ -133,6 +143,9 @@ switch-loop-arm-preserved t c =
           (arms_step new c.args.arms.now c.loop-arm.arm-index c.arm-item.result c.args.next ps c.in_ok-node.field-0 c.loop-arm-test.true
           (arms_grow c.loop-arm.self new g (arms_of (map plain_arm (take c.loop-arm.arm-index c.args.arms.now))) c.args.next ps c.loop-arm.invariant.stands)
           (subst (λ (a : Arm). Stands new (plain_node a.body) c.args.next c.in_ok-node.field-0) c.arm-item.is c.in_ok-node.ensures.stands));
+      brings =
+          brings_then c.args.self.now c.loop-arm.self new (ArmsMention (arms_of (map plain_arm c.args.arms.now))) (Mentions (plain_node c.arm-item.result.body)) (ArmsMention (arms_of (map plain_arm c.args.arms.now))) c.loop-arm.invariant.brings c.in_ok-node.ensures.brings (λ m x. x)
+          (λ m x. arm_mentions c.args.arms.now c.loop-arm.arm-index c.arm-item.result m c.loop-arm-test.true (subst (λ (a : Arm). Mentions (plain_node a.body) m) c.arm-item.is x));
     }
 
 pub switch-returns-clause-laid : goal.switch-returns-clause-laid
@@ -153,3 +166,87 @@ switch-returns-clause-stands t c =
         subst (λ qs. IsChosen new c.args.variable arms qs place) c.as_slice.ensures.value h,
       ),
     ))
+
+pub disjunction-returns-clause-brings : goal.disjunction-returns-clause-brings
+disjunction-returns-clause-brings t c =
+    let all : Mention → Type 0 = AnyMentions (nodes (map plain_node c.args.goals.now)) in
+    on_brings c.choice.result c.args.self.now c.loop-goal.self c.choice.new.self all Nothing all c.loop-goal.invariant.brings c.choice.ensures.brings (λ m x. x) (λ m x. absurd x)
+
+pub switch-returns-clause-brings : goal.switch-returns-clause-brings
+switch-returns-clause-brings t c =
+    let all : Mention → Type 0 = ArmsMention (arms_of (map plain_arm c.args.arms.now)) in
+    on_brings c.case.result c.args.self.now c.loop-arm.self c.case.new.self all all all c.loop-arm.invariant.brings c.case.ensures.brings (λ m x. x) (λ m x. x)
+
+pub negation-returns-clause-brings : goal.negation-returns-clause-brings
+negation-returns-clause-brings t c =
+    on_brings c.add.result c.args.self.now c.node.new.self c.add.new.self (Mentions (plain_node c.args.goal.now)) Nothing (Mentions (plain_node c.args.goal.now)) c.in_ok-inner.ensures.brings c.add.ensures.brings (λ m x. x) (λ m x. absurd x)
+
+pub node-returns-then-goal-clause-brings : goal.node-returns-then-goal-clause-brings
+node-returns-then-goal-clause-brings t c =
+    on_brings c.add.result c.args.self.now c.scheduled.new.self c.add.new.self (MentionsIn (plain_sched c.args.goal.now.goal)) Nothing (Mentions (plain_node c.args.goal.now)) c.in_ok-inner.ensures.brings c.add.ensures.brings
+    (λ m x. subst (λ n. Mentions n m) (sym (node_open c.args.goal.now)) x) (λ m x. absurd x)
+
+pub scheduled-returns-in_ok-else_part-in-Ite-clause-brings : goal.scheduled-returns-in_ok-else_part-in-Ite-clause-brings
+scheduled-returns-in_ok-else_part-in-Ite-clause-brings t c =
+    let all : Mention → Type 0 = MentionsIn (plain_sched c.args.goal.now) in
+    let part : (m : Mention) → MentionsIn (Ite c.in-Ite.field-0 (plain_node c.in-Ite.condition.value) (plain_node c.in-Ite.then_part.value) (plain_node c.in-Ite.else_part.value)) m → all m = λ m x. subst (λ s. MentionsIn s m) (sym (ap plain_sched c.in-Ite.is ∙ ite_open c.in-Ite.field-0 c.in-Ite.condition c.in-Ite.then_part c.in-Ite.else_part)) x in
+    on_brings c.add.result c.args.self.now c.node-in-Ite-2.new.self c.add.new.self all Nothing all
+    (brings_then c.args.self.now c.node-in-Ite.new.self c.node-in-Ite-2.new.self all (Mentions (plain_node c.deref-in-Ite-2.result.now)) all
+    (brings_then c.args.self.now c.node.new.self c.node-in-Ite.new.self (Mentions (plain_node c.deref.result.now)) (Mentions (plain_node c.deref-in-Ite.result.now)) all c.in_ok-condition-in-Ite.ensures.brings c.in_ok-then_part-in-Ite.ensures.brings
+    (λ m x. part m (inl (subst (λ (g : GoalNode). Mentions (plain_node g) m) c.deref.ensures x)))
+    (λ m x. part m (inr (inl (subst (λ (g : GoalNode). Mentions (plain_node g) m) c.deref-in-Ite.ensures x)))))
+    c.in_ok-else_part-in-Ite.ensures.brings (λ m x. x)
+    (λ m x. part m (inr (inr (subst (λ (g : GoalNode). Mentions (plain_node g) m) c.deref-in-Ite-2.ensures x)))))
+    c.add.ensures.brings (λ m x. x) (λ m x. absurd x)
+
+pub node-returns-clause-brings : goal.node-returns-clause-brings
+node-returns-clause-brings t c =
+    on_more c.scheduled-2.result c.args.self.now c.scheduled-2.new.self (MentionsIn (plain_sched c.args.goal.now.goal)) (Mentions (plain_node c.args.goal.now)) c.scheduled-2.ensures.brings
+    (λ m x. subst (λ n. Mentions n m) (sym (node_open c.args.goal.now)) x)
+
+pub scheduled-returns-in-Conj-clause-brings : goal.scheduled-returns-in-Conj-clause-brings
+scheduled-returns-in-Conj-clause-brings t c =
+    on_more c.conjunction.result c.args.self.now c.conjunction.new.self _ (MentionsIn (plain_sched c.args.goal.now)) c.conjunction.ensures.brings
+    (λ m x. subst (λ s. MentionsIn s m) (sym (ap plain_sched c.in-Conj.is ∙ conj_open c.in-Conj.goals)) (subst (λ (gs : List GoalNode). AnyMentions (nodes (map plain_node gs)) m) c.as_slice.ensures.items x))
+
+pub scheduled-returns-in-Disj-clause-brings : goal.scheduled-returns-in-Disj-clause-brings
+scheduled-returns-in-Disj-clause-brings t c =
+    on_more c.disjunction.result c.args.self.now c.disjunction.new.self _ (MentionsIn (plain_sched c.args.goal.now)) c.disjunction.ensures.brings
+    (λ m x. subst (λ s. MentionsIn s m) (sym (ap plain_sched c.in-Disj.is ∙ disj_open c.in-Disj.goals)) (subst (λ (gs : List GoalNode). AnyMentions (nodes (map plain_node gs)) m) c.as_slice-in-Disj.ensures.items x))
+
+pub scheduled-returns-in-Switch-clause-brings : goal.scheduled-returns-in-Switch-clause-brings
+scheduled-returns-in-Switch-clause-brings t c =
+    on_more c.switch.result c.args.self.now c.switch.new.self _ (MentionsIn (plain_sched c.args.goal.now)) c.switch.ensures.brings
+    (λ m x. subst (λ s. MentionsIn s m) (sym (ap plain_sched c.in-Switch.is ∙ switch_open c.in-Switch.variable c.in-Switch.arms)) (subst (λ (as2 : List Arm). ArmsMention (arms_of (map plain_arm as2)) m) c.as_slice-in-Switch.ensures.items x))
+
+pub scheduled-returns-in-Not-clause-brings : goal.scheduled-returns-in-Not-clause-brings
+scheduled-returns-in-Not-clause-brings t c =
+    on_more c.negation.result c.args.self.now c.negation.new.self _ (MentionsIn (plain_sched c.args.goal.now)) c.negation.ensures.brings
+    (λ m x. subst (λ s. MentionsIn s m) (sym (ap plain_sched c.in-Not.is ∙ not_open c.in-Not.inner)) (subst (λ (g : GoalNode). Mentions (plain_node g) m) c.deref-in-Not.ensures x))
+
+pub scheduled-returns-in-Some-clause-brings : goal.scheduled-returns-in-Some-clause-brings
+scheduled-returns-in-Some-clause-brings t c =
+    on_more c.node-in-Some.result c.args.self.now c.node-in-Some.new.self _ (MentionsIn (plain_sched c.args.goal.now)) c.node-in-Some.ensures.brings
+    (λ m x. subst (λ s. MentionsIn s m) (sym (ap plain_sched c.in-Some.is ∙ some_open c.in-Some.field-0 c.in-Some.inner)) (subst (λ (g : GoalNode). Mentions (plain_node g) m) c.deref-in-Some.ensures x))
+
+pub scheduled-returns-in-Assign-clause-brings : goal.scheduled-returns-in-Assign-clause-brings
+scheduled-returns-in-Assign-clause-brings t c =
+    on_more c.add-in-Assign.result c.args.self.now c.add-in-Assign.new.self Nothing (MentionsIn (plain_sched c.args.goal.now)) c.add-in-Assign.ensures.brings (λ m x. absurd x)
+
+pub scheduled-returns-in-Test-clause-brings : goal.scheduled-returns-in-Test-clause-brings
+scheduled-returns-in-Test-clause-brings t c =
+    on_more c.add-in-Test.result c.args.self.now c.add-in-Test.new.self Nothing (MentionsIn (plain_sched c.args.goal.now)) c.add-in-Test.ensures.brings (λ m x. absurd x)
+
+pub scheduled-returns-in-Take-clause-brings : goal.scheduled-returns-in-Take-clause-brings
+scheduled-returns-in-Take-clause-brings t c =
+    on_more c.made-in-Take.result c.args.self.now c.made-in-Take.new.self (λ m. m ≡ of_symbol c.in-Take.symbol) (MentionsIn (plain_sched c.args.goal.now)) c.made-in-Take.ensures.brings
+    (λ m x. subst (λ s. MentionsIn s m) (sym (ap plain_sched c.in-Take.is ∙ take_open c.in-Take.variable c.in-Take.symbol c.in-Take.args)) (x))
+
+pub scheduled-returns-in-TestConst-clause-brings : goal.scheduled-returns-in-TestConst-clause-brings
+scheduled-returns-in-TestConst-clause-brings t c =
+    on_more c.constant-in-TestConst.result c.args.self.now c.constant-in-TestConst.new.self (λ m. m ≡ of_constant (plain_value c.in-TestConst.value)) (MentionsIn (plain_sched c.args.goal.now)) c.constant-in-TestConst.ensures.brings
+    (λ m x. subst (λ s. MentionsIn s m) (sym (ap plain_sched c.in-TestConst.is ∙ test_const_open c.in-TestConst.variable c.in-TestConst.value)) (x))
+
+pub scheduled-returns-in-Call-clause-brings : goal.scheduled-returns-in-Call-clause-brings
+scheduled-returns-in-Call-clause-brings t c =
+    on_more c.call.result c.args.self.now c.call.new.self Nothing (MentionsIn (plain_sched c.args.goal.now)) c.call.ensures.brings (λ m x. absurd x)

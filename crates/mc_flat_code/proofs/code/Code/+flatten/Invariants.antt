@@ -4,7 +4,9 @@ use Rattle.mc_model.specs.Scheduled.{nodes}
 use Rattle.mc_model.specs.declared.sched.GoalNode.{GoalNode}
 use Rattle.mc_flat_code.specs.Running.{IsCode, EachBelow}
 use Rattle.mc_flat_code.specs.Standing.{StandsAll, StandsEach, StandsArms}
+use Rattle.mc_flat_code.specs.Mentions.{AnyMentions, ArmsMention}
 use Rattle.mc_flat_code.specs.code.Building.{Grows}
+use Rattle.mc_flat_code.specs.code.Mentioning.{Brings}
 use Rattle.mc_flat_code.proofs.code.Code.+flatten.Given as goal
 
 abbrev pub invariant-conjunction-loop-rest : goal.invariant-conjunction-loop-rest
@@ -17,6 +19,7 @@ invariant-conjunction-loop-rest l =
           (done : List GoalNode)
           × ((l.fn.goals ≡ l.rest ++ done)
           × StandsAll l.self (nodes (map plain_node done)) l.fn.next l.place);
+      brings : Brings l.fn.self l.self (AnyMentions (nodes (map plain_node l.fn.goals)));
     }
 
 abbrev pub decreases-conjunction-loop-rest : goal.decreases-conjunction-loop-rest
@@ -30,6 +33,7 @@ invariant-disjunction-loop-goal l =
       below : EachBelow (length l.self.instrs.items) l.places.items;
       stands :
           StandsEach l.self (nodes (map plain_node (take l.goal-index l.goals))) l.next l.places.items;
+      brings : Brings l.fn.self l.self (AnyMentions (nodes (map plain_node l.goals)));
     }
 
 abbrev pub invariant-switch-loop-arm : goal.invariant-switch-loop-arm
@@ -41,4 +45,5 @@ invariant-switch-loop-arm l =
       count : length l.places.items ≡ l.arm-index;
       stands :
           StandsArms l.self (arms_of (map plain_arm (take l.arm-index l.arms))) l.next l.places.items;
+      brings : Brings l.fn.self l.self (ArmsMention (arms_of (map plain_arm l.arms)));
     }

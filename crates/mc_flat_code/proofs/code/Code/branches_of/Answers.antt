@@ -3,11 +3,14 @@ use Rattle.mc_model.specs.PlainGoals.{plain_node, plain_arm, arms_of}
 use Rattle.mc_model.specs.declared.sched.Arm.{Arm}
 use Rattle.mc_model.specs.Scheduled.{Label, Node}
 use Rattle.mc_flat_code.specs.Standing.{opening}
+use Rattle.mc_flat_code.specs.Mentions.{Mention, ArmsMention}
 use Rattle.mc_flat_code.specs.code.Building.{Grows}
+use Rattle.mc_flat_code.specs.code.Mentioning.{LabelMentions}
 use Rattle.mc_flat_code.specs.code.Openings.{opening_label}
 use Rattle.mc_flat_code.specs.declared.code.Branch.{Branch}
 use Rattle.mc_flat_code.specs.declared.code.Code.{Code}
 use Rattle.mc_flat_code.proofs.Growth.{grows_then, keyed_grows, label_grows}
+use Rattle.mc_flat_code.proofs.Mentioning.{brings_then, arm_mentions, opening_mentions}
 use Rattle.mc_flat_code.proofs.Views.{arm_open}
 use Rattle.mc_flat_code.proofs.Cases.{keyed_step, keyed_whole, keyed_length, end_holds, branch_grows}
 use Rattle.mc_flat_code.proofs.code.Code.branches_of.Goals as goal
@@ -18,11 +21,18 @@ loop-k-preserved c =
     let new : Code = record c.key.new.self { branches = c.push.new.self } in
     let b : Branch = record { key = c.in_ok-key-in-Some.key; place = get_or c.args.places.now c.loop-k.k 0 } in
     let keyed = c.loop-k.invariant.keyed in
+    let all : Mention → Type 0 = ArmsMention (arms_of (map plain_arm c.args.arms.now)) in
     let pushed : Grows key new = branch_grows key c.push.new.self b c.in_ok-push-in-Some.ensures.items in
     let more : Grows c.loop-k.self new = grows_then c.loop-k.self key new c.in_ok-key-in-Some.ensures.grows pushed in
     record {
       grows = grows_then c.args.self.now c.loop-k.self new c.loop-k.invariant.grows more;
       goals = ap (λ k. k.instrs.items) c.in_ok-key-in-Some.ensures.others ∙ c.loop-k.invariant.goals;
+      brings =
+          brings_then c.args.self.now c.loop-k.self new all (LabelMentions (opening_label c.in-Some.test)) all c.loop-k.invariant.brings
+          (record { only = λ m x. c.in_ok-key-in-Some.ensures.brings.only m x }) (λ m x. x)
+          (λ m x.
+          arm_mentions c.args.arms.now c.loop-k.k c.index-arms-k.result m c.loop-k-test.true
+          (opening_mentions c.args.variable (plain_node (get_or c.args.arms.now c.loop-k.k c.index-arms-k.result).body) (opening_label c.in-Some.test) m (sym c.in-Some.ensures) x));
       keyed = (
         keyed.0 ++ b ∷ [],
         (

@@ -7,6 +7,9 @@ use Rattle.mc_flat_code.proofs.Growth.{grows_then, chain_grows, continues_length
 use Rattle.mc_flat_code.proofs.Building.{code_kept, ok_stands}
 use Rattle.mc_flat_code.proofs.PlaceLists.{below_more}
 use Rattle.mc_flat_code.proofs.Cases.{keyed_found, case_lower, case_chosen}
+use Rattle.mc_flat_code.specs.Mentions.{Mention, ArmsMention}
+use Rattle.mc_flat_code.specs.code.Mentioning.{Nothing}
+use Rattle.mc_flat_code.proofs.Mentioning.{brings_then, on_brings}
 use Rattle.mc_flat_code.proofs.code.Code.case.Goals as goal
 
 pub add-requires-clause-is_code : goal.add-requires-clause-is_code
@@ -46,3 +49,15 @@ returns-in-Some-clause-chosen c =
     (λ place g at.
     inr (case_chosen c.choice.new.self c.branches_of.new.self c.add.new.self c.args.variable arms c.args.places.now c.in-Some.part c.in_ok-other.other place c.in_ok-branches_of.ensures.grows g c.in_ok-other.ensures.chain
     (keyed_found c.branches_of.new.self c.args.variable arms c.args.places.now c.in_ok-branches_of.field-0 c.in-Some.part c.in-Some.is c.in_ok-branches_of.ensures.keyed) at))
+
+pub returns-in-None-clause-brings : goal.returns-in-None-clause-brings
+returns-in-None-clause-brings c =
+    let all : Mention → Type 0 = ArmsMention (arms_of (map plain_arm c.args.arms.now)) in
+    brings_then c.args.self.now c.choice.new.self c.branches_of.new.self Nothing all all c.in_ok-other.ensures.brings c.in_ok-branches_of.ensures.brings (λ m x. absurd x) (λ m x. x)
+
+pub returns-in-Some-clause-brings : goal.returns-in-Some-clause-brings
+returns-in-Some-clause-brings c =
+    let all : Mention → Type 0 = ArmsMention (arms_of (map plain_arm c.args.arms.now)) in
+    on_brings c.add.result c.args.self.now c.branches_of.new.self c.add.new.self all Nothing all
+    (brings_then c.args.self.now c.choice.new.self c.branches_of.new.self Nothing all all c.in_ok-other.ensures.brings c.in_ok-branches_of.ensures.brings (λ m x. absurd x) (λ m x. x))
+    c.add.ensures.brings (λ m x. x) (λ m x. absurd x)

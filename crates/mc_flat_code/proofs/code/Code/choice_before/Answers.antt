@@ -1,5 +1,7 @@
 use Rattle.std.proofs.Common.{◌≡◌, ◌≤◌, ◌-◌, refl, ap, ◌∙◌, subst, inl, inr, List, [], ◌∷◌, ◌++◌, ℕ, length, take, get_or, append_assoc}
 use Rattle.mc_flat_code.specs.Running.{EachBelow}
+use Rattle.mc_flat_code.specs.code.Mentioning.{Nothing}
+use Rattle.mc_flat_code.proofs.Mentioning.{brings_same, brings_then}
 use Rattle.mc_flat_code.proofs.Growth.{grows_same, grows_then, chain_grows, continues_length}
 use Rattle.mc_flat_code.proofs.PlaceLists.{below_front, below_back, below_more, by_last}
 use Rattle.mc_flat_code.proofs.code.Code.choice_before.Goals as goal
@@ -12,6 +14,7 @@ loop-rest-init c =
       within = c.requires.last;
       below = c.requires.below;
       chain = (c.args.last ∷ [], (refl, inl (refl, refl)));
+      brings = brings_same c.args.self.now Nothing;
     }
 
 pub add-requires-clause-lower : goal.add-requires-clause-lower
@@ -42,4 +45,5 @@ loop-rest-preserved c =
           inr (c.loop-rest.choice, (c.in_ok-choice.ensures.at, chain_grows c.loop-rest.self c.add.new.self c.in_ok-choice.ensures.laid.grows old.0 c.loop-rest.choice old.1.1)),
         ),
       );
+      brings = brings_then c.args.self.now c.loop-rest.self c.add.new.self Nothing Nothing Nothing c.loop-rest.invariant.brings c.in_ok-choice.ensures.brings (λ m x. x) (λ m x. x);
     }
