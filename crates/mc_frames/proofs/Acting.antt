@@ -46,9 +46,9 @@ module _ (P : Program) (h : Heap) where
   output_held (Some r) live are = record { live = live; value = are.0 }
 
 -- the outputs of a builtin at values of a program are values of it
-module _ (l : Library) (h k : Heap) (lists : HasLists l) (op : Builtin) (refs : List ℕ) (held : All (IsHeld l.program.now h) refs) where
+module _ (l : Library) (h k : Heap) (op : Builtin) (lists : HasLists l op) (refs : List ℕ) (held : All (IsHeld l.program.now h) refs) where
   given_values : (o : Outcome) → outcome (known l) [] op (values_at h refs) ≡ o → GivesValues l.program.now o
-  given_values o e = subst (GivesValues l.program.now) e (outcome_gives l.program.now (known l) lists.nil lists.cons [] op (values_at h refs) (are_values l.program.now h refs held))
+  given_values o e = subst (GivesValues l.program.now) e (outcome_gives l.program.now (known l) [] op lists (values_at h refs) (are_values l.program.now h refs held))
 
   pub gives_held : (output : Option ℕ) → IfSome output (IsLive k) → ((input : List ℕ) → outcome (known l) input op (values_at h refs) ≡ gives (output_at k output)) → IfSome output (IsHeld l.program.now k)
   gives_held output live e = output_held l.program.now k output live (given_values (gives (output_at k output)) (e []))

@@ -1,5 +1,5 @@
 -- What a builtin gives at values of a program are values of it.
-use Rattle.std.proofs.Common.{◌≡◌, ℕ, ◌<◌, ℤ, pos, Bool, true, false, ◌&&◌, List, [], ◌∷◌, ◌++◌, length, refl, arith, FitsSigned}
+use Rattle.std.proofs.Common.{◌≡◌, ℕ, ℤ, pos, Bool, true, false, ◌&&◌, List, [], ◌∷◌, ◌++◌, length, refl, arith, FitsSigned}
 use Rattle.std.specs.Prelude.{negsuc, neg_ℤ, ◌+ℤ◌, ◌-ℤ◌, ◌*ℤ◌, int_lt, int_le, nat_lt, nat_le, encode_utf8, drop, if◌then◌else◌}
 use Rattle.std.specs.Int.RustNames.{int_div, int_rem}
 use Rattle.std.specs.Ordering.{int_eq}
@@ -20,7 +20,7 @@ use Rattle.mc_program.specs.declared.builtin.Builtin.TheVariants as B
 use Rattle.mc_model.specs.Outcomes.{Outcome, fails, gives, throws, writes, reads, reads_and_throws}
 use Rattle.mc_model.specs.Builtins.{Library, outcome, on_int, on_char, on_str, on_state, on_any, at_end, gives_int, int_floor, int_mod, fits_64, parsed_int, char_list, char_of_code, is_scalar, write_at, line_of, line_outcome, read_from, line_limit}
 use Rattle.mc_model.specs.EventList.{zero_divide, error}
-use Rattle.mc_frames.specs.Values.{IsProper, IsValue}
+use Rattle.mc_frames.specs.Values.{IsProper, IsValue, ListsAreNamed}
 
 -- an integer that is wrapped at 64 bits has them
 fits : (z : ℤ) → FitsSigned w64 z → fits_64 z ≡ true
@@ -120,17 +120,18 @@ module _ (P : Program) where
   scalar_parts true b e = (refl, e)
   scalar_parts false b e = cc
 
-  module _ (L : Library) (nil : L.nil < length P.symbols) (cons : L.cons < length P.symbols) where
-    list_named : (cs : List ℕ) → SymbolsBelow (length P.symbols) (char_list L cs)
-    list_named [] = (nil, tt)
-    list_named (c ∷ cs) = (cons, (tt, (list_named cs, tt)))
-
+  module _ (L : Library) where
     list_proper : (cs : List ℕ) → scalars cs ≡ true → IsProper (char_list L cs)
     list_proper [] e = tt
     list_proper (c ∷ cs) e = let p = scalar_parts (scalar c) (scalars cs) e in (p.0, (list_proper cs p.1, tt))
 
-    a_list : (s : List ℕ) → IsUtf8 s → GivesValues (gives (char_list L (chars s) ∷ []))
-    a_list s is = one (char_list L (chars s)) (record { named = list_named (chars s); proper = list_proper (chars s) (scalars-chars s is) })
+    module _ (named : ListsAreNamed (length P.symbols) L B.ToCharList) where
+      list_named : (cs : List ℕ) → SymbolsBelow (length P.symbols) (char_list L cs)
+      list_named [] = (named.0, tt)
+      list_named (c ∷ cs) = (named.1, (tt, (list_named cs, tt)))
+
+      a_list : (s : List ℕ) → IsUtf8 s → GivesValues (gives (char_list L (chars s) ∷ []))
+      a_list s is = one (char_list L (chars s)) (record { named = list_named (chars s); proper = list_proper (chars s) (scalars-chars s is) })
 
     a_parsed : (s : List ℕ) → GivesValues (parsed_int s)
     a_parsed s =
@@ -155,37 +156,37 @@ module _ (P : Program) where
     a_line limit taken written (b ∷ bs) = a_read limit taken written (line_of (b ∷ bs))
 
     -- what a builtin gives at values of the program are values of it
-    pub outcome_gives : (input : List ℕ) (op : Builtin) (vs : List Val) → AreValues vs → GivesValues (outcome L input op vs)
-    outcome_gives input B.IntPlus vs are = two_ints (λ a b. gives_int (a +ℤ b)) (λ a b. a_number (a +ℤ b)) vs are
-    outcome_gives input B.IntMinus vs are = two_ints (λ a b. gives_int (a -ℤ b)) (λ a b. a_number (a -ℤ b)) vs are
-    outcome_gives input B.IntTimes vs are = two_ints (λ a b. gives_int (a *ℤ b)) (λ a b. a_number (a *ℤ b)) vs are
-    outcome_gives input B.IntQuotient vs are = two_ints _ (a_quotient int_div) vs are
-    outcome_gives input B.IntDiv vs are = two_ints _ (a_quotient int_floor) vs are
-    outcome_gives input B.IntMod vs are = two_ints _ (a_quotient int_mod) vs are
-    outcome_gives input B.IntRem vs are = two_ints _ (a_quotient int_rem) vs are
-    outcome_gives input B.IntNegate vs are = int_gives (λ a. at_end (gives_int (neg_ℤ a))) (λ a ws p more. end_gives (gives_int (neg_ℤ a)) ws (a_number (neg_ℤ a))) vs are
-    outcome_gives input B.IntLess vs are = two_ints (λ a b. if int_lt a b then gives [] else fails) (λ a b. a_test (int_lt a b)) vs are
-    outcome_gives input B.IntGreater vs are = two_ints (λ a b. if int_lt b a then gives [] else fails) (λ a b. a_test (int_lt b a)) vs are
-    outcome_gives input B.IntAtMost vs are = two_ints (λ a b. if int_le a b then gives [] else fails) (λ a b. a_test (int_le a b)) vs are
-    outcome_gives input B.IntAtLeast vs are = two_ints (λ a b. if int_le b a then gives [] else fails) (λ a b. a_test (int_le b a)) vs are
-    outcome_gives input B.StringJoin vs are =
+    pub outcome_gives : (input : List ℕ) (op : Builtin) → ListsAreNamed (length P.symbols) L op → (vs : List Val) → AreValues vs → GivesValues (outcome L input op vs)
+    outcome_gives input B.IntPlus named vs are = two_ints (λ a b. gives_int (a +ℤ b)) (λ a b. a_number (a +ℤ b)) vs are
+    outcome_gives input B.IntMinus named vs are = two_ints (λ a b. gives_int (a -ℤ b)) (λ a b. a_number (a -ℤ b)) vs are
+    outcome_gives input B.IntTimes named vs are = two_ints (λ a b. gives_int (a *ℤ b)) (λ a b. a_number (a *ℤ b)) vs are
+    outcome_gives input B.IntQuotient named vs are = two_ints _ (a_quotient int_div) vs are
+    outcome_gives input B.IntDiv named vs are = two_ints _ (a_quotient int_floor) vs are
+    outcome_gives input B.IntMod named vs are = two_ints _ (a_quotient int_mod) vs are
+    outcome_gives input B.IntRem named vs are = two_ints _ (a_quotient int_rem) vs are
+    outcome_gives input B.IntNegate named vs are = int_gives (λ a. at_end (gives_int (neg_ℤ a))) (λ a ws p more. end_gives (gives_int (neg_ℤ a)) ws (a_number (neg_ℤ a))) vs are
+    outcome_gives input B.IntLess named vs are = two_ints (λ a b. if int_lt a b then gives [] else fails) (λ a b. a_test (int_lt a b)) vs are
+    outcome_gives input B.IntGreater named vs are = two_ints (λ a b. if int_lt b a then gives [] else fails) (λ a b. a_test (int_lt b a)) vs are
+    outcome_gives input B.IntAtMost named vs are = two_ints (λ a b. if int_le a b then gives [] else fails) (λ a b. a_test (int_le a b)) vs are
+    outcome_gives input B.IntAtLeast named vs are = two_ints (λ a b. if int_le b a then gives [] else fails) (λ a b. a_test (int_le b a)) vs are
+    outcome_gives input B.StringJoin named vs are =
         str_gives (λ s. on_str (λ t. at_end (gives (str (s ++ t) ∷ [])))) (λ s ws p more.
         str_gives (λ t. at_end (gives (str (s ++ t) ∷ []))) (λ t us q rest. end_gives (gives (str (s ++ t) ∷ [])) us (a_text (s ++ t) (IsUtf8-append s t p q))) ws more) vs are
-    outcome_gives input B.StringLength vs are = str_gives (λ s. at_end (gives_int (pos (length s)))) (λ s ws p more. end_gives (gives_int (pos (length s))) ws (a_number (pos (length s)))) vs are
-    outcome_gives input B.StringCodePoints vs are = str_gives (λ s. at_end (gives_int (pos (length (chars s))))) (λ s ws p more. end_gives (gives_int (pos (length (chars s)))) ws (a_number (pos (length (chars s))))) vs are
-    outcome_gives input B.IntToString vs are = int_gives (λ a. at_end (gives (str (signed_decimal a) ∷ []))) (λ a ws p more. end_gives (gives (str (signed_decimal a) ∷ [])) ws (a_text (signed_decimal a) (decimal_text a p))) vs are
-    outcome_gives input B.CharToString vs are = char_gives (λ c. at_end (gives (str (encode_utf8 c) ∷ []))) (λ c ws p more. end_gives (gives (str (encode_utf8 c) ∷ [])) ws (a_text (encode_utf8 c) (IsUtf8-encode c p))) vs are
-    outcome_gives input B.ToCharList vs are = str_gives (λ s. at_end (gives (char_list L (chars s) ∷ []))) (λ s ws p more. end_gives (gives (char_list L (chars s) ∷ [])) ws (a_list s p)) vs are
-    outcome_gives input B.StringToInt vs are = str_gives (λ s. at_end (parsed_int s)) (λ s ws p more. end_gives (parsed_int s) ws (a_parsed s)) vs are
-    outcome_gives input B.CharToInt vs are = char_gives (λ c. at_end (gives_int (pos c))) (λ c ws p more. end_gives (gives_int (pos c)) ws (a_number (pos c))) vs are
-    outcome_gives input B.CharFromInt vs are = int_gives (λ a. at_end (char_of_code a)) (λ a ws p more. end_gives (char_of_code a) ws (a_code a)) vs are
-    outcome_gives input B.CharIsDigit vs are = char_gives (λ c. at_end (if nat_le 48 c && nat_le c 57 then gives [] else fails)) (λ c ws p more. end_gives (if nat_le 48 c && nat_le c 57 then gives [] else fails) ws (a_test (nat_le 48 c && nat_le c 57))) vs are
-    outcome_gives input B.WriteString vs are = str_gives (λ s. write_at s) (λ s ws p more. writing s ws) vs are
-    outcome_gives input B.WriteChar vs are = char_gives (λ c. write_at (encode_utf8 c)) (λ c ws p more. writing (encode_utf8 c) ws) vs are
-    outcome_gives input B.WriteInt vs are = int_gives (λ a. write_at (signed_decimal a)) (λ a ws p more. writing (signed_decimal a) ws) vs are
-    outcome_gives input B.Write vs are = any_gives (λ v. write_at (L.text_of v)) (λ v ws. writing (L.text_of v) ws) vs
-    outcome_gives input B.Nl vs are = writing (10 ∷ []) vs
-    outcome_gives input B.ReadLine vs are =
+    outcome_gives input B.StringLength named vs are = str_gives (λ s. at_end (gives_int (pos (length s)))) (λ s ws p more. end_gives (gives_int (pos (length s))) ws (a_number (pos (length s)))) vs are
+    outcome_gives input B.StringCodePoints named vs are = str_gives (λ s. at_end (gives_int (pos (length (chars s))))) (λ s ws p more. end_gives (gives_int (pos (length (chars s)))) ws (a_number (pos (length (chars s))))) vs are
+    outcome_gives input B.IntToString named vs are = int_gives (λ a. at_end (gives (str (signed_decimal a) ∷ []))) (λ a ws p more. end_gives (gives (str (signed_decimal a) ∷ [])) ws (a_text (signed_decimal a) (decimal_text a p))) vs are
+    outcome_gives input B.CharToString named vs are = char_gives (λ c. at_end (gives (str (encode_utf8 c) ∷ []))) (λ c ws p more. end_gives (gives (str (encode_utf8 c) ∷ [])) ws (a_text (encode_utf8 c) (IsUtf8-encode c p))) vs are
+    outcome_gives input B.ToCharList named vs are = str_gives (λ s. at_end (gives (char_list L (chars s) ∷ []))) (λ s ws p more. end_gives (gives (char_list L (chars s) ∷ [])) ws (a_list named s p)) vs are
+    outcome_gives input B.StringToInt named vs are = str_gives (λ s. at_end (parsed_int s)) (λ s ws p more. end_gives (parsed_int s) ws (a_parsed s)) vs are
+    outcome_gives input B.CharToInt named vs are = char_gives (λ c. at_end (gives_int (pos c))) (λ c ws p more. end_gives (gives_int (pos c)) ws (a_number (pos c))) vs are
+    outcome_gives input B.CharFromInt named vs are = int_gives (λ a. at_end (char_of_code a)) (λ a ws p more. end_gives (char_of_code a) ws (a_code a)) vs are
+    outcome_gives input B.CharIsDigit named vs are = char_gives (λ c. at_end (if nat_le 48 c && nat_le c 57 then gives [] else fails)) (λ c ws p more. end_gives (if nat_le 48 c && nat_le c 57 then gives [] else fails) ws (a_test (nat_le 48 c && nat_le c 57))) vs are
+    outcome_gives input B.WriteString named vs are = str_gives (λ s. write_at s) (λ s ws p more. writing s ws) vs are
+    outcome_gives input B.WriteChar named vs are = char_gives (λ c. write_at (encode_utf8 c)) (λ c ws p more. writing (encode_utf8 c) ws) vs are
+    outcome_gives input B.WriteInt named vs are = int_gives (λ a. write_at (signed_decimal a)) (λ a ws p more. writing (signed_decimal a) ws) vs are
+    outcome_gives input B.Write named vs are = any_gives (λ v. write_at (L.text_of v)) (λ v ws. writing (L.text_of v) ws) vs
+    outcome_gives input B.Nl named vs are = writing (10 ∷ []) vs
+    outcome_gives input B.ReadLine named vs are =
         state_gives (λ written taken. at_end (read_from L line_limit taken written (drop taken input)))
         (λ written taken ws. end_gives (read_from L line_limit taken written (drop taken input)) ws (a_line line_limit taken written (drop taken input))) vs
-    outcome_gives input B.Error vs are = str_gives (λ s. at_end (throws (error s))) (λ s ws p more. end_gives (throws (error s)) ws tt) vs are
+    outcome_gives input B.Error named vs are = str_gives (λ s. at_end (throws (error s))) (λ s ws p more. end_gives (throws (error s)) ws tt) vs are

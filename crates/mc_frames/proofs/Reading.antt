@@ -1,5 +1,5 @@
 -- What a builtin that reads does, by what it gives.
-use Rattle.std.proofs.Common.{◌≡◌, ℕ, ◌<◌, Bool, true, false, List, [], ◌∷◌, Option, Some, None, length, get_or, ◌≤◌, ◌+◌, drop, map, refl, ap, sym, subst, ◌∙◌, arith, inl, inr}
+use Rattle.std.proofs.Common.{◌≡◌, ℕ, ◌<◌, Bool, true, false, List, [], ◌∷◌, Some, None, length, get_or, ◌≤◌, ◌+◌, drop, map, refl, ap, sym, subst, ◌∙◌, arith, inl, inr}
 use Rattle.std.specs.Prelude.{nat_lt, if◌then◌else◌}
 use Rattle.std.specs.Str.{is_utf8}
 use Rattle.mc_program.specs.Values.{Val, int, char, str, con, state, no_vals, val_then}
@@ -8,17 +8,17 @@ use Rattle.mc_program.specs.declared.builtin.Builtin.TheVariants.{ReadLine}
 use Rattle.mc_values.specs.declared.heap.Heap.{Heap}
 use Rattle.mc_values.specs.Heap.{value_at}
 use Rattle.mc_values.specs.Parts.{IsState, taken_of}
-use Rattle.mc_model.specs.EventList.{Items, End, Stuck, Stopped, Read, thrown, of_option, Exc}
-use Rattle.mc_model.specs.Outcomes.{Outcome, reads, reads_and_throws}
+use Rattle.mc_model.specs.EventList.{Items, Stopped, Read, thrown, of_option, Exc}
+use Rattle.mc_model.specs.Outcomes.{Outcome, fails, reads, reads_and_throws}
 use Rattle.mc_model.specs.Builtins.{Library, outcome, read_from, line_of, line_limit}
-use Rattle.mc_model.specs.Stream.{Bindings, unify, outcome_items, apply_items}
+use Rattle.mc_model.specs.Stream.{Bindings, unify, outcome_items}
 use Rattle.mc_builtins.specs.Answers.{known}
 use Rattle.mc_builtins.specs.Reading.{TellsRead, IsResult, GivesResult}
 use Rattle.mc_builtins.specs.declared.library.Library.{Library as Held}
 use Rattle.mc_builtins.specs.declared.reading.Got.{Got}
 use Rattle.mc_builtins.specs.declared.reading.Got.TheVariants as G
 use Rattle.mc_frames.specs.Values.{IsValue, IsHeld, HasResults}
-use Rattle.mc_frames.specs.Atoms.{ReadsFrom}
+use Rattle.mc_frames.specs.Atoms.{ReadsFrom, IsUnread}
 use Rattle.mc_frames.specs.code.Steps.{got_items}
 
 -- a reading reads from the byte on at which its state stands
@@ -59,28 +59,26 @@ module _ (ys : List ℕ) (e : Bindings) where
       let at : from ≡ k = line_at L line_limit k w (drop k input) from (subst (λ (x : Val). ReadsFrom from (items_of (outcome L input ReadLine (x ∷ [])))) is r) in
       told_items h k (outcome L input ReadLine (v ∷ [])) g (tells at) ∙ ap (λ j. Read j (got_items h ys e g)) (sym at)
 
-  -- where the inputs aren't one state, nothing is read
-  pub none_read : (L : Library) (input : List ℕ) (v : Val) → taken_of v ≡ None → (from : ℕ) → ReadsFrom from (items_of (outcome L input ReadLine (v ∷ []))) → ⊥
-  none_read L input (int n) is from r = let e : End ≡ Read from r.0 = r.1 in cc
-  none_read L input (char c) is from r = let e : End ≡ Read from r.0 = r.1 in cc
-  none_read L input (str t) is from r = let e : End ≡ Read from r.0 = r.1 in cc
-  none_read L input (con f vs) is from r = let e : End ≡ Read from r.0 = r.1 in cc
-  none_read L input (state w k) is from r = cc
+  -- a reading reads at a state
+  abbrev Reads : Outcome → Type 0
+  Reads o = IsUnread (items_of o) → ⊥
 
-  pub no_inputs_read : (L : Library) (input : List ℕ) (from : ℕ) → ReadsFrom from (items_of (outcome L input ReadLine [])) → ⊥
-  no_inputs_read L input from r = let e : End ≡ Read from r.0 = r.1 in cc
+  either_reads : (b : Bool) (o p : Outcome) → Reads o → Reads p → Reads (if b then o else p)
+  either_reads true o p x y = x
+  either_reads false o p x y = y
 
-  pub more_inputs_read : (L : Library) (input : List ℕ) (v u : Val) (vs : List Val) (from : ℕ) → ReadsFrom from (items_of (outcome L input ReadLine (v ∷ u ∷ vs))) → ⊥
-  more_inputs_read L input (int n) u vs from r = let e : End ≡ Read from r.0 = r.1 in cc
-  more_inputs_read L input (char c) u vs from r = let e : End ≡ Read from r.0 = r.1 in cc
-  more_inputs_read L input (str t) u vs from r = let e : End ≡ Read from r.0 = r.1 in cc
-  more_inputs_read L input (con f ws) u vs from r = let e : End ≡ Read from r.0 = r.1 in cc
-  more_inputs_read L input (state w k) u vs from r = let e : End ≡ Read from r.0 = r.1 in cc
+  pub line_reads : (L : Library) (limit k : ℕ) (w left : List ℕ) → Reads (read_from L limit k w left)
+  line_reads L limit k w [] = λ u. u
+  line_reads L limit k w (b ∷ bs) =
+      either_reads (nat_lt limit (length (line_of (b ∷ bs)))) _ _ (λ u. u) (either_reads (is_utf8 (line_of (b ∷ bs))) _ _ (λ u. u) (λ u. u))
 
--- where the inputs aren't all bound, nothing is read
-pub unbound_read : (does : List Val → Outcome) (ys : List ℕ) (e : Bindings) (o : Option (List Val)) → o ≡ None → (from : ℕ) → ReadsFrom from (apply_items does ys e o) → ⊥
-unbound_read does ys e None is from r = let q : Stuck ≡ Read from r.0 = r.1 in cc
-unbound_read does ys e (Some vs) is from r = cc
+-- at a value that is no state, a reading fails
+pub no_state_read : (L : Library) (input : List ℕ) (v : Val) → taken_of v ≡ None → outcome L input ReadLine (v ∷ []) ≡ fails
+no_state_read L input (int n) is = refl
+no_state_read L input (char c) is = refl
+no_state_read L input (str t) is = refl
+no_state_read L input (con f vs) is = refl
+no_state_read L input (state w k) is = cc
 
 -- the one element of a list
 pub only_one : (refs : List ℕ) → 1 ≤ length refs → length refs < 2 → refs ≡ get_or refs 0 0 ∷ []

@@ -21,6 +21,11 @@ went_items W.Stuck e = Stuck
 abbrev pub ReadsFrom : ℕ → Items Bindings → Type 0
 ReadsFrom from items = (rest : Items Bindings) × (items ≡ Read from rest)
 
+-- the list doesn't begin with a wish for input
+abbrev pub IsUnread : Items Bindings → Type 0
+IsUnread (Read from rest) = ⊥
+IsUnread _ = Unit {0}
+
 -- over every input, this is the list of a builtin that acted so, with the bindings that it left
 abbrev pub ActedItems : ((input : List ℕ) → Items Bindings) → Acted → Bindings → Type 0
 ActedItems items (A.Went went) e = (input : List ℕ) → items input ≡ went_items went e
@@ -36,7 +41,7 @@ WaitsToRead (A.Reads from) old new = new ≡ old
 WaitsToRead _ old new = Unit {0}
 
 -- what follows the wish for input in the list of a builtin that did so, with the bindings that it
--- left
+-- left; the list itself, where it has no such wish
 abbrev pub fed_items : Fed → Bindings → Items Bindings
 fed_items (F.Went went) e = went_items went e
 fed_items (F.Throws x) e = Stopped (thrown (plain_exception x))

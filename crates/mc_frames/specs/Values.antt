@@ -5,9 +5,13 @@ use Rattle.std.specs.Str.{IsUtf8}
 use Rattle.mc_program.specs.Values.{Val, int, char, str, con, state, Vals, no_vals, val_then}
 use Rattle.mc_program.specs.Printed.{Names}
 use Rattle.mc_program.specs.declared.program.Program.{Program}
+use Rattle.mc_program.specs.declared.builtin.Builtin.{Builtin}
+use Rattle.mc_program.specs.declared.builtin.Builtin.TheVariants.{ToCharList, ReadLine}
 use Rattle.mc_model.specs.Builtins.{fits_64, is_scalar}
+use Rattle.mc_model.specs.Builtins.{Library as Known}
 use Rattle.mc_values.specs.Heap.{IsLive, value_at}
 use Rattle.mc_values.specs.declared.heap.Heap.{Heap}
+use Rattle.mc_builtins.specs.Answers.{known}
 use Rattle.mc_builtins.specs.declared.library.Library.{Library}
 
 abbrev mutual
@@ -48,10 +52,19 @@ AreLive h refs = All (λ ref. IfSome ref (IsLive h)) refs
 abbrev pub AreHeld : Program → Heap → List (Option ℕ) → Type 0
 AreHeld P h refs = All (λ ref. IfSome ref (IsHeld P h)) refs
 
--- the program has the symbols of lists
-pub record HasLists (l : Library) : Type 0 where
-  pub nil : l.nil < length l.program.now.symbols
-  pub cons : l.cons < length l.program.now.symbols
+-- where a builtin makes lists, their symbols are among so many
+abbrev pub ListsAreNamed : (count : ℕ) → Known → Builtin → Type 0
+ListsAreNamed n L ToCharList = (L.nil < n) × (L.cons < n)
+ListsAreNamed n L _ = Unit {0}
+
+-- where a builtin reads, the symbols of what a reading gives are among so many
+abbrev pub ResultsAreNamed : (count : ℕ) → Known → Builtin → Type 0
+ResultsAreNamed n L ReadLine = (L.ok < n) × (L.eof < n)
+ResultsAreNamed n L _ = Unit {0}
+
+-- the program has the symbols of lists, where the builtin makes some
+abbrev pub HasLists : Library → Builtin → Type 0
+HasLists l op = ListsAreNamed (length l.program.now.symbols) (known l) op
 
 -- the program has the symbols of what a reading gives
 pub record HasResults (l : Library) : Type 0 where

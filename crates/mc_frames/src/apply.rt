@@ -1,4 +1,4 @@
-ghost use Rattle.std.specs.Prelude.{◌≡◌, ◌<◌, ℕ, All, IfOk, IfSome, Some, length, map};
+ghost use Rattle.std.specs.Prelude.{◌≡◌, ◌<◌, All, IfOk, IfSome, Some, length, map};
 ghost use Rattle.mc_program.specs.declared.program.Program.{Program};
 ghost use Rattle.mc_values.specs.Heap.{IsLive, Extends};
 ghost use Rattle.mc_model.specs.Builtins.{outcome};
@@ -46,7 +46,7 @@ pub fn applied(
         (λ acted. WaitsToRead acted frame.old.items frame.new.items) }
     ensures size { length frame.new.items ≡ length frame.old.items }
     ensures live { AreLive heap.new frame.new.items }
-    ensures held { HasLists library.now
+    ensures held { HasLists library.now call.now.op
         → AreHeld library.now.program.now heap.new frame.new.items }
     ensures keeps { Extends heap.old heap.new }
 {

@@ -1,4 +1,4 @@
-ghost use Rattle.std.specs.Prelude.{◌≡◌, ◌<◌, ℕ, [], ◌∷◌, ◌++◌, All, IfOk, IfSome, OnOk, length, map};
+ghost use Rattle.std.specs.Prelude.{◌≡◌, ◌<◌, [], ◌∷◌, ◌++◌, All, IfOk, IfSome, OnOk, length, map};
 ghost use Rattle.mc_program.specs.Values.{plain_value};
 ghost use Rattle.mc_program.specs.declared.program.Program.{Program};
 ghost use Rattle.mc_values.specs.Heap.{IsLive};
@@ -40,7 +40,21 @@ pub fn unbound(alloc: Global, size: usize) -> Result<Frame, Memory>
     ensures live { IfOk result (λ frame. (h : TheHeap) → AreLive h frame.items) }
     ensures held { IfOk result (λ frame. (P : Program) (h : TheHeap) → AreHeld P h frame.items) }
 {
-    let mut frame = Vec::with_capacity(alloc, size)?;
+    let frame = cleared(Vec::new(alloc), size)?;
+    Ok(frame)
+}
+
+/// The same in the room of a frame that is done with.
+fn cleared(spare: Frame, size: usize) -> Result<Frame, Memory>
+    ensures size { IfOk result (λ frame. length frame.items ≡ size) }
+    ensures nothing { IfOk result (λ frame. (h : TheHeap)
+        → bindings h frame.items ≡ nothing_bound) }
+    ensures live { IfOk result (λ frame. (h : TheHeap) → AreLive h frame.items) }
+    ensures held { IfOk result (λ frame. (P : Program) (h : TheHeap) → AreHeld P h frame.items) }
+{
+    let mut frame = spare;
+    frame.clear();
+    frame.reserve(size)?;
     while frame.len() < size {
         frame.push(None)?;
     }
@@ -48,9 +62,9 @@ pub fn unbound(alloc: Global, size: usize) -> Result<Frame, Memory>
 }
 
 /// The variables of a called body: its head variables are bound to the inputs among the arguments, which are variables
-/// of the caller.
+/// of the caller. They stand in the room of a frame that is done with.
 pub fn enter(
-    alloc: Global,
+    spare: Frame,
     size: usize,
     head: &[u32],
     first: &[InstId],
@@ -67,7 +81,7 @@ pub fn enter(
     ensures held { IfOk result (λ frame. (P : Program) (h : TheHeap)
         → AreHeld P h caller.now.items → AreHeld P h frame.items) }
 {
-    let mut frame = unbound(alloc, size)?;
+    let mut frame = cleared(spare, size)?;
     let mut k = head.len().min(first.len()).min(args.len());
     while k > 0 {
         k -= 1;

@@ -7,7 +7,7 @@ ghost use Rattle.mc_builtins.specs.Answers.{known};
 ghost use Rattle.mc_builtins.specs.Reading.{IsNext, GivesResult};
 ghost use Rattle.mc_frames.specs.Values.{HasResults, AreLive, AreHeld};
 ghost use Rattle.mc_frames.specs.Frames.{bindings};
-ghost use Rattle.mc_frames.specs.Atoms.{ReadsFrom, fed_items};
+ghost use Rattle.mc_frames.specs.Atoms.{ReadsFrom, IsUnread, fed_items};
 ghost use Rattle.mc_frames.specs.code.Steps.{got_items};
 
 use crate::frame::{Frame, gather, unify_refs};
@@ -20,7 +20,7 @@ use mc_values::{Heap, Ref};
 use std::alloc::Global;
 
 /// `read_line_as_string` with the variables of its inputs and outputs, where it is fed what comes next in the input: the
-/// outputs meet what it gives. `refs` is room to work in.
+/// outputs meet what it gives. Where it reads nothing at its inputs, it goes as it goes without. `refs` is room to work in.
 pub fn feed(
     alloc: Global,
     inputs: &[u32],
@@ -40,7 +40,13 @@ pub fn feed(
         outputs.now e (gather inputs.now e) in
         ReadsFrom from items → IsNext (drop from input) line.now
         → items ≡ Read from (fed_items fed (bindings heap.new frame.new.items))) }
+    ensures unread { IfOk result (λ fed. (input : List ℕ)
+        → let e = bindings heap.old frame.old.items in
+        let items = apply_items (outcome (known library.now) input Builtin.ReadLine)
+        outputs.now e (gather inputs.now e) in
+        IsUnread items → items ≡ fed_items fed (bindings heap.new frame.new.items)) }
     ensures size { length frame.new.items ≡ length frame.old.items }
+    ensures live { AreLive heap.new frame.new.items }
     ensures held { HasResults library.now
         → AreHeld library.now.program.now heap.new frame.new.items }
     ensures keeps { Extends heap.old heap.new }
@@ -77,7 +83,13 @@ fn fed_at(
         (value_at heap.old before ∷ [])) in
         ReadsFrom from items → IsNext (drop from input) line.now
         → items ≡ Read from (fed_items fed (bindings heap.new frame.new.items))) }
+    ensures unread { IfOk result (λ fed. (input : List ℕ)
+        → let items = outcome_items outputs.now (bindings heap.old frame.old.items)
+        (outcome (known library.now) input Builtin.ReadLine
+        (value_at heap.old before ∷ [])) in
+        IsUnread items → items ≡ fed_items fed (bindings heap.new frame.new.items)) }
     ensures size { length frame.new.items ≡ length frame.old.items }
+    ensures live { AreLive heap.new frame.new.items }
     ensures held { HasResults library.now
         → AreHeld library.now.program.now heap.new frame.new.items }
     ensures keeps { Extends heap.old heap.new }
@@ -107,6 +119,7 @@ fn met(
         got_items heap.now outputs.now (bindings heap.now frame.old.items) answer
         ≡ fed_items fed (bindings heap.now frame.new.items)) }
     ensures size { length frame.new.items ≡ length frame.old.items }
+    ensures live { AreLive heap.now frame.new.items }
     ensures held { HasResults library.now
         → AreHeld library.now.program.now heap.now frame.old.items
         → AreHeld library.now.program.now heap.now frame.new.items }

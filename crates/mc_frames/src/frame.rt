@@ -1,4 +1,4 @@
-ghost use Rattle.std.specs.Prelude.{◌≡◌, ◌<◌, ℕ, All, Some, None, IfOk, IfSome, length, map};
+ghost use Rattle.std.specs.Prelude.{◌≡◌, ◌<◌, ◌↔◌, IsTrue, All, Some, None, IfOk, IfSome, length, map};
 ghost use Rattle.mc_program.specs.declared.program.Program.{Program};
 ghost use Rattle.mc_values.specs.Heap.{IsLive, value_at, values_at};
 ghost use Rattle.mc_values.specs.declared.heap.Heap.{Heap as TheHeap};
@@ -32,8 +32,21 @@ pub fn meet(heap: &Heap, x: u32, r: Ref, frame: &mut Frame) -> Result<bool, Memo
             frame[x as usize] = Some(r);
             Ok(true)
         }
-        Some(bound) => heap.equal(bound, r),
+        Some(bound) => equal(heap, bound, r),
     }
+}
+
+/// Whether two Refs stand for equal values. An input of a call that comes back is the same Ref: the heap needn't be asked.
+fn equal(heap: &Heap, a: Ref, b: Ref) -> Result<bool, Memory>
+    requires left { IsLive heap.now a }
+    requires right { IsLive heap.now b }
+    ensures { IfOk result
+        (λ same. IsTrue same ↔ (value_at heap.now a ≡ value_at heap.now b)) }
+{
+    if a == b {
+        return Ok(true);
+    }
+    heap.equal(a, b)
 }
 
 /// A variable meets a value that may be there. Answers whether they are one.

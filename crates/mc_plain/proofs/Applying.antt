@@ -13,8 +13,8 @@ use Rattle.mc_frames.specs.Frames.{bindings}
 use Rattle.mc_frames.specs.Values.{AreHeld}
 use Rattle.mc_frames.specs.Atoms.{went_items, ReadsFrom}
 use Rattle.mc_frames.specs.declared.went.Went.{Went}
-use Rattle.mc_plain.specs.Views.{machine, plain_now}
-use Rattle.mc_plain.specs.Held.{AllHeld}
+use Rattle.mc_plain.specs.code.Views.{machine, plain_now}
+use Rattle.mc_plain.specs.code.Held.{AllHeld}
 use Rattle.mc_plain.specs.code.Atoms.{ActedAfter, Applied, now_of}
 use Rattle.mc_plain.specs.declared.atoms.Shown.TheVariants as S
 use Rattle.mc_plain.specs.declared.state.Now.{Now}

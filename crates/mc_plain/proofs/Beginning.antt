@@ -1,5 +1,5 @@
 -- What is left of a run that begins is the run that was asked for.
-use Rattle.std.proofs.Common.{◌≡◌, ℕ, zero, suc, ◌<◌, Bool, true, false, refl, sym, ap, subst, ◌∙◌, Option, Some, None, List, [], ◌∷◌, map, nat_eq, if◌then◌else◌}
+use Rattle.std.proofs.Common.{◌≡◌, ℕ, zero, suc, Bool, true, false, refl, sym, ap, subst, ◌∙◌, Option, None, List, [], ◌∷◌, map, nat_eq, if◌then◌else◌}
 use Rattle.std.proofs.Math.Path.{fun_ext}
 use Rattle.mc_program.specs.Values.{Val}
 use Rattle.mc_program.specs.declared.builtin.Builtin.{Builtin}
@@ -12,9 +12,8 @@ use Rattle.mc_flat_code.specs.Running.{variables_at, body_at, IsCode}
 use Rattle.mc_flat_code.specs.Standing.{StandsFor, StandsForAll}
 use Rattle.mc_flat_code.specs.declared.code.Body.{Body}
 use Rattle.mc_flat_code.specs.declared.code.FlatProgram.{FlatProgram}
-use Rattle.mc_plain.specs.Machine.{Machine, left}
+use Rattle.mc_plain.specs.code.Machine.{Machine, left}
 use Rattle.mc_plain.specs.code.Beginnings.{first_machine, called_machine, first_now}
-use Rattle.mc_plain.specs.Rest as R
 use Rattle.mc_plain.specs.Rest.{Rest, rest_of, IsFine, Gives}
 use Rattle.mc_model.specs.declared.run.Step.{Step}
 use Rattle.mc_model.specs.declared.run.Step.TheVariants as S

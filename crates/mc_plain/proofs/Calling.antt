@@ -1,20 +1,20 @@
 -- A call enters its body, and an answer of it comes back.
-use Rattle.std.proofs.Common.{◌≡◌, ℕ, zero, suc, ◌+◌, ◌-◌, ◌<◌, ◌≤◌, Bool, true, false, refl, sym, ap, subst, ◌∙◌, Option, Some, None, List, [], ◌∷◌, ◌++◌, length, map, reverse, arith, if◌then◌else◌, Vec, Global}
+use Rattle.std.proofs.Common.{◌≡◌, ℕ, zero, suc, ◌-◌, ◌<◌, Bool, true, false, refl, sym, ap, subst, ◌∙◌, Option, Some, List, [], ◌∷◌, ◌++◌, length, map, arith, if◌then◌else◌}
 use Rattle.mc_program.specs.Values.{Val}
 use Rattle.mc_program.specs.declared.builtin.Builtin.{Builtin}
 use Rattle.mc_model.specs.EventList.{budget, too_deep, of_option}
 use Rattle.mc_model.specs.Outcomes.{Outcome}
 use Rattle.mc_model.specs.Stream.{Bindings, ready, enter, leave, unify}
 use Rattle.mc_values.specs.declared.heap.Heap.{Heap}
-use Rattle.mc_frames.specs.Frames.{bindings, seen_at, given}
-use Rattle.mc_flat_code.specs.Ticked.{Ticked, End, Stuck, Answer, append, bind, first, follow, at_height}
+use Rattle.mc_frames.specs.Frames.{given}
+use Rattle.mc_flat_code.specs.Ticked.{Ticked, End, Answer, append, follow, at_height}
 use Rattle.mc_flat_code.specs.Running.{instr_at, variables_at, body_at, IsCode}
 use Rattle.mc_flat_code.specs.declared.code.Instr.{Instr}
 use Rattle.mc_flat_code.specs.declared.code.Instr.TheVariants as I
 use Rattle.mc_flat_code.specs.declared.code.Part.{Part}
 use Rattle.mc_flat_code.specs.declared.code.FlatProgram.{FlatProgram}
-use Rattle.mc_plain.specs.Machine.{Around, condition, answered, negated, pruned, called, Segment, Point, Now, at, failing, stuck, stopped, go, back, answers, said, is_ended, Machine, Whole, Moved, Holding}
-use Rattle.mc_plain.specs.Views.{machine, segment_in, plain_now}
+use Rattle.mc_plain.specs.code.Machine.{Around, called, Segment, Point, Now, at, failing, stuck, stopped, go, back, answers, said, is_ended, Machine, Whole, Moved, Holding}
+use Rattle.mc_plain.specs.code.Views.{machine, segment_in, plain_now}
 use Rattle.mc_plain.specs.declared.state.Now.TheVariants as N
 use Rattle.mc_plain.specs.declared.state.Control.{Control}
 use Rattle.mc_plain.specs.declared.state.Segment.{Segment as TheSegment}
@@ -33,10 +33,6 @@ within false (suc h) x g = ap g (omega arith)
 
 pub predecessor : (n : ℕ) → 0 < n → n ≡ suc (n - 1)
 predecessor n x = omega arith
-
--- a run whose variables have more room stands for the same
-pub roomier : (h : Heap) (c : Control) (frame : Vec (Option ℕ) Global) → bindings h frame.items ≡ bindings h c.frame.items → machine h (record c { frame = frame }) ≡ machine h c
-roomier h c frame e = ap (λ b. record (machine h c) { bindings = b }) e
 
 module _ (outcome : Builtin → List Val → Outcome) (f : FlatProgram) (o : IsCode f.code) (head last : List ℕ) (M : Machine) (w : Whole M) (pc : ℕ) (n : M.now ≡ at pc) (p : ℕ) (xs : Part) (is_last : Bool) (next : ℕ) (q : instr_at f.code pc ≡ Some (I.Call p xs is_last next)) where
   pub too_deep_moved : is_last ≡ false → M.height ≡ 0 → Moved outcome f head last M (record M { now = stopped too_deep })
@@ -108,19 +104,3 @@ module _ (outcome : Builtin → List Val → Outcome) (f : FlatProgram) (m h : �
   came p xs is_last next i x e a e2 false u now y =
       ap (λ j. back outcome f m h j e a) x ∙ ap (λ r. follow (of_option r) (go outcome f m h next)) u
       ∙ ap (λ k. said outcome f (go outcome f m h) k e2) (sym y)
-
-  -- a goal that is no call has nothing that comes back
-  pub not_back : (i : Option Instr) → ((p : ℕ) (xs : Part) (is_last : Bool) (next : ℕ) → i ≡ Some (I.Call p xs is_last next) → ⊥) → (e a : Bindings) → back outcome f m h i e a ≡ Stuck
-  not_back None x e a = refl
-  not_back (Some I.Done) x e a = refl
-  not_back (Some I.Fail) x e a = refl
-  not_back (Some (I.Same y z next)) x e a = refl
-  not_back (Some (I.Made y g ys next)) x e a = refl
-  not_back (Some (I.Constant y k next)) x e a = refl
-  not_back (Some (I.Or l r)) x e a = refl
-  not_back (Some (I.If c t u)) x e a = refl
-  not_back (Some (I.Not g next)) x e a = refl
-  not_back (Some (I.Once g next)) x e a = refl
-  not_back (Some (I.Call p xs is_last next)) x e a = absurd (x p xs is_last next refl)
-  not_back (Some (I.Apply op xs ys next)) x e a = refl
-  not_back (Some (I.Case y bs other)) x e a = refl

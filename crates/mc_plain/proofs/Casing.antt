@@ -1,43 +1,27 @@
 -- A switch goes on at the branch that its variable's value fits.
 use Rattle.std.proofs.Common.{◌≡◌, ℕ, ◌+◌, ◌<◌, Bool, true, false, refl, sym, ap, ◌∙◌, Option, Some, None, List, [], ◌∷◌, ◌++◌, length, take, drop, get_or, Bor}
-use Rattle.std.specs.Prelude.{nat_eq, slice_get, option_map, if◌then◌else◌}
+use Rattle.std.specs.Prelude.{slice_get, option_map, if◌then◌else◌}
 use Rattle.std.proofs.lemmas.List.{take_more, take-append-drop, append-nil}
 use Rattle.std.proofs.lemmas.Option.{slice_get-map, slice_get_read, slice_get_past}
 use Rattle.std.specs.Slice.{IsItemAt}
-use Rattle.mc_program.specs.Values.{Val, int, char, str, con, state, same_value}
+use Rattle.mc_program.specs.Values.{Val, same_value}
 use Rattle.mc_program.specs.declared.builtin.Builtin.{Builtin}
 use Rattle.mc_values.specs.declared.heap.Heap.{Heap}
 use Rattle.mc_values.specs.Heap.{value_at}
-use Rattle.mc_values.specs.Parts.{symbol_of}
 use Rattle.mc_model.specs.Outcomes.{Outcome}
-use Rattle.mc_model.specs.Scheduled.{for_symbol}
 use Rattle.mc_model.specs.Stream.{Bindings}
 use Rattle.mc_flat_code.specs.Ticked.{Ticked}
-use Rattle.mc_flat_code.specs.Running.{instr_at, part_of, fits, fits_label, label_of, constant_label, fitting, branch_items, case_items, IsCode}
+use Rattle.mc_flat_code.specs.Running.{instr_at, part_of, fits_label, label_of, constant_label, fitting, branch_items, case_items, IsCode}
 use Rattle.mc_flat_code.specs.declared.code.Instr.TheVariants as I
 use Rattle.mc_flat_code.specs.declared.code.Part.{Part}
 use Rattle.mc_flat_code.specs.declared.code.Key.TheVariants as K
 use Rattle.mc_flat_code.specs.declared.code.Branch.{Branch}
 use Rattle.mc_flat_code.specs.declared.code.Code.{Code}
 use Rattle.mc_flat_code.specs.declared.code.FlatProgram.{FlatProgram}
-use Rattle.mc_plain.specs.Constants.{AreConstants}
-use Rattle.mc_plain.specs.Machine.{Machine, Whole, at, go, said, is_ended, Moved}
+use Rattle.mc_plain.specs.code.Constants.{AreConstants}
+use Rattle.mc_plain.specs.code.Machine.{Machine, Whole, at, go, said, is_ended, Moved}
 use Rattle.mc_plain.specs.code.Cases.{only_of, case_now}
 use Rattle.mc_plain.proofs.Steps.{alone_moved}
-
-pub fits_symbol : (w : Val) (s g : ℕ) → symbol_of w ≡ Some g → fits (for_symbol s) w ≡ nat_eq s g
-fits_symbol (int n) s g e = cc
-fits_symbol (char c) s g e = cc
-fits_symbol (str t) s g e = cc
-fits_symbol (con f vs) s g e = cc
-fits_symbol (state t k) s g e = cc
-
-pub fits_no_symbol : (w : Val) (s : ℕ) → symbol_of w ≡ None → fits (for_symbol s) w ≡ false
-fits_no_symbol (int n) s e = refl
-fits_no_symbol (char c) s e = refl
-fits_no_symbol (str t) s e = refl
-fits_no_symbol (con f vs) s e = cc
-fits_no_symbol (state t k) s e = refl
 
 -- the constants of a code, by their Refs
 module _ (h : Heap) (code : Code) (refs : List ℕ) (are : AreConstants h code refs) (w : Val) (k : ℕ) where

@@ -11,7 +11,7 @@ use Rattle.mc_flat_code.specs.declared.code.FlatProgram.{FlatProgram}
 use Rattle.mc_frames.specs.Atoms.{went_items}
 use Rattle.mc_frames.specs.declared.went.Went.{Went}
 use Rattle.mc_frames.specs.declared.went.Went.TheVariants as W
-use Rattle.mc_plain.specs.Machine.{Machine, stopped, said, is_ended}
+use Rattle.mc_plain.specs.code.Machine.{Machine, stopped, said, is_ended}
 use Rattle.mc_plain.specs.code.Atoms.{Acted, ActedAfter, now_of}
 use Rattle.mc_plain.proofs.TickedLaws.{append_end}
 

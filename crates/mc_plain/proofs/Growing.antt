@@ -6,9 +6,9 @@ use Rattle.mc_values.specs.Heap.{Extends}
 use Rattle.mc_frames.specs.Frames.{bindings}
 use Rattle.mc_frames.specs.Values.{AreHeld}
 use Rattle.mc_frames.proofs.Growth.{bindings_grow, are_held_grow, live_from_held}
-use Rattle.mc_plain.specs.Machine as M
-use Rattle.mc_plain.specs.Views.{plain_around, plain_now, segment_in, point_in, machine}
-use Rattle.mc_plain.specs.Held.{PointHeld, SegmentsHeld, PointsHeld, AllHeld}
+use Rattle.mc_plain.specs.code.Machine as M
+use Rattle.mc_plain.specs.code.Views.{plain_around, plain_now, segment_in, point_in, machine}
+use Rattle.mc_plain.specs.code.Held.{PointHeld, SegmentsHeld, PointsHeld, AllHeld}
 use Rattle.mc_plain.specs.declared.state.Segment.{Segment}
 use Rattle.mc_plain.specs.declared.state.Point.{Point}
 use Rattle.mc_plain.specs.declared.state.Point.TheVariants as P
@@ -46,22 +46,6 @@ module _ (program : Program) (h k : Heap) (grows : Extends h k) where
   pub points_stay : (ps : List Point) → PointsHeld program h ps → PointsHeld program k ps
   points_stay [] x = tt
   points_stay (p ∷ ps) x = (point_stays p x.0, points_stay ps x.1)
-
-  pub machine_grows : (c : Control) → AllHeld program h c → machine k c ≡ machine h c
-  machine_grows c x =
-      λ i. record (machine h c) {
-        points = reverse (points_grow c.points.items x.points i);
-        segments = reverse (segments_grow c.segments.items x.segments i);
-        bindings = bindings_grow h k grows c.frame.items (live_from_held program h c.frame.items x.frame) i;
-      }
-
-  pub all_stay : (c : Control) → AllHeld program h c → AllHeld program k c
-  all_stay c x =
-      record {
-        frame = are_held_grow h k grows program c.frame.items x.frame;
-        segments = segments_stay c.segments.items x.segments;
-        points = points_stay c.points.items x.points;
-      }
 
   -- variables and what is done next change alone
   pub atom_kept : (c : Control) (frame : Vec (Option ℕ) Global) (now : Now) → AllHeld program h c → machine k (record c { frame = frame; now = now }) ≡ record (machine h c) { bindings = bindings k frame.items; now = plain_now now }

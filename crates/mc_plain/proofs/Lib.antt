@@ -11,6 +11,9 @@ mod Keeping
 mod Looking
 mod Strays
 mod Calling
+mod OnlyReading
+mod Waiting
 mod Working
 mod Beginning
 mod Opening
+mod Mentioned

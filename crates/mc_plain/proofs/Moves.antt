@@ -15,7 +15,7 @@ use Rattle.mc_flat_code.specs.declared.code.Part.{Part}
 use Rattle.mc_flat_code.specs.declared.code.Body.{Body}
 use Rattle.mc_flat_code.specs.declared.code.FlatProgram.{FlatProgram}
 use Rattle.mc_flat_code.proofs.Places.{at_goal}
-use Rattle.mc_plain.specs.Machine.{Around, condition, answered, negated, pruned, called, Segment, Point, resume, held, Now, at, failing, ended, stuck, stopped, cut, go, back, answers, resumed, close, said, outputs, left_of, Ordered, is_ended}
+use Rattle.mc_plain.specs.code.Machine.{Around, condition, answered, negated, pruned, called, Segment, Point, resume, held, Now, at, failing, ended, stuck, stopped, cut, go, back, answers, resumed, close, said, outputs, left_of, Ordered, is_ended}
 use Rattle.mc_plain.proofs.TickedLaws.{append_end, append_append, bind_one_bind}
 
 pub leb_above : (n m : ℕ) → m < n → leb n m ≡ false

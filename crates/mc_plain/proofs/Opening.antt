@@ -1,11 +1,11 @@
 -- A run that begins is one, and what is left of it is what was asked for.
-use Rattle.std.proofs.Common.{◌≡◌, ℕ, zero, suc, ◌≤◌, ◌<◌, Bool, true, false, if◌then◌else◌, refl, sym, ap, subst, ◌∙◌, Option, Some, None, List, [], ◌∷◌, length, map, get_or, drop, arith}
+use Rattle.std.proofs.Common.{◌≡◌, ℕ, zero, suc, Bool, true, false, if◌then◌else◌, sym, ap, subst, ◌∙◌, Option, Some, None, List, [], ◌∷◌, map, get_or, drop, arith}
 use Rattle.std.specs.Prelude.{All}
 use Rattle.std.proofs.lemmas.List.Elements.{All-nil, All-cons, All-tail}
-use Rattle.mc_program.specs.Values.{Val, plain_value, state}
+use Rattle.mc_program.specs.Values.{plain_value, state}
 use Rattle.mc_program.specs.declared.value.Value.{Value}
 use Rattle.mc_program.specs.declared.program.Program.{Program}
-use Rattle.mc_values.specs.Heap.{IsLive, value_at, values_at}
+use Rattle.mc_values.specs.Heap.{IsLive, values_at}
 use Rattle.mc_values.specs.declared.heap.Heap.{Heap}
 use Rattle.mc_model.specs.Builtins.{outcome}
 use Rattle.mc_model.specs.Worlds.{library_of}
@@ -18,9 +18,7 @@ use Rattle.mc_flat_code.specs.Ticked.{events}
 use Rattle.mc_flat_code.specs.Running.{variables_at, body_at, IsCode}
 use Rattle.mc_flat_code.specs.Standing.{StandsForAll}
 use Rattle.mc_flat_code.specs.declared.code.Body.{Body}
-use Rattle.mc_flat_code.specs.declared.program.FlatQuery.{FlatQuery}
-use Rattle.mc_plain.specs.Machine.{Machine, Now, Whole, left}
-use Rattle.mc_plain.specs.Constants.{AreConstants}
+use Rattle.mc_plain.specs.code.Machine.{Machine, Now, Whole, left}
 use Rattle.mc_plain.specs.Names.{NamesAll}
 use Rattle.mc_plain.specs.Rest.{Rest, rest_of, IsFine, IsGood, GivesIf, FollowsIf}
 use Rattle.mc_model.specs.declared.run.Step.{Step}
@@ -30,6 +28,7 @@ use Rattle.mc_plain.specs.code.Work.{IsSetting, HasConstants, rest_in, machine_o
 use Rattle.mc_plain.specs.declared.state.Setting.{Setting}
 use Rattle.mc_plain.specs.declared.state.Work.{Work}
 use Rattle.mc_plain.proofs.Beginning.{query_begins, main_begins}
+use Rattle.mc_plain.proofs.Looking.{constant_value}
 
 pub first_whole : (M : Machine) (n h m : ℕ) (e : Bindings) (now : Now) → M ≡ first_machine n h m e now → Whole M
 first_whole M n h m e now x = subst Whole (sym x) (record { base = omega arith; ordered = tt })
@@ -59,10 +58,7 @@ module _ (t : Setting) (P : Program) (same : t.library.program.now ≡ P) (knows
   is_setting =
       record {
         code = o;
-        lists = record {
-          nil = subst (λ p. t.library.nil < length p.symbols) (sym same) (subst (λ k. k < length P.symbols) (sym (ap (λ k. k.nil) knows)) names.nil);
-          cons = subst (λ p. t.library.cons < length p.symbols) (sym same) (subst (λ k. k < length P.symbols) (sym (ap (λ k. k.cons) knows)) names.cons);
-        };
+        knows = knows ∙ ap library_of (sym same);
         names = subst (λ p. NamesAll p t.flat.code) (sym same) names;
       }
 
@@ -70,7 +66,7 @@ module _ (t : Setting) (P : Program) (same : t.library.program.now ≡ P) (knows
   has_constants h e live =
       record {
         refs = record { live = live; values = e };
-        held = subst (λ p. All (IsHeld p h) t.constants.items) (sym same) (held_at P h t.constants.items t.flat.code.values.items e live names.values);
+        held = subst (λ p. All (IsHeld p h) t.constants.items) (sym same) (held_at P h t.constants.items t.flat.code.values.items e live (λ k v lt. constant_value P (plain_value (get_or t.flat.code.values.items k v)) (names.constants k v lt) (names.proper k v lt)));
       }
 
   by_library : (w : Work) (input : List ℕ) → rest_in t w input ≡ rest_of (events (left (outcome (library_of P) input) t.flat (variables_at t.flat.code t.head) (variables_at t.flat.code t.last) (machine_of t w)))

@@ -1,18 +1,18 @@
 -- What is left of a run that begins is the run of the definitions, but for its ticks.
-use Rattle.std.proofs.Common.{◌≡◌, ℕ, zero, suc, refl, sym, ap, ◌∙◌, true, List, [], map, Option, None, if◌then◌else◌}
+use Rattle.std.proofs.Common.{◌≡◌, ℕ, zero, suc, refl, sym, ap, ◌∙◌, true, List, [], Option, if◌then◌else◌}
 use Rattle.mc_program.specs.Values.{Val}
 use Rattle.mc_program.specs.declared.builtin.Builtin.{Builtin}
 use Rattle.mc_model.specs.EventList as L
 use Rattle.mc_model.specs.Outcomes.{Outcome}
 use Rattle.mc_model.specs.Scheduled.{Procedure}
-use Rattle.mc_model.specs.Stream.{Bindings, ready, enter, leave, calls, body_items, run_query}
+use Rattle.mc_model.specs.Stream.{Bindings, ready, enter, leave, calls, body_items}
 use Rattle.mc_flat_code.specs.Ticked.{Ticked, End, Stuck, Stopped, Answer, Called, Wrote, Read, Tick, events, bind}
 use Rattle.mc_flat_code.specs.Running.{variables_at, body_list, call_list, IsCode}
 use Rattle.mc_flat_code.specs.Standing.{StandsFor, StandsForAll}
 use Rattle.mc_flat_code.specs.declared.code.Body.{Body}
 use Rattle.mc_flat_code.specs.declared.code.FlatProgram.{FlatProgram}
 use Rattle.mc_flat_code.proofs.Source.{bodies_run_as_source}
-use Rattle.mc_plain.specs.Machine.{at, cut, go, Machine, left}
+use Rattle.mc_plain.specs.code.Machine.{at, cut, go, Machine, left}
 use Rattle.mc_plain.proofs.TickedLaws.{append_end}
 
 events_cut : {A : Type 0} (n : ℕ) (xs : Ticked A) → events (cut n xs) ≡ L.cut n (events xs)
@@ -49,7 +49,3 @@ module _ (outcome : Builtin → List Val → Outcome) (f : FlatProgram) (procs :
       ∙ ap (λ t. events (cut n (if t then bind (go outcome f m h body.entry e) gives else Stuck))) (sym r)
       ∙ events_cut n (body_list outcome f.code (call_list outcome f m) h body vs)
       ∙ ap (L.cut n) (bodies_run_as_source outcome f procs o s m h body p b vs)
-
-  -- the run of a query
-  pub query_begun : (n h : ℕ) → ready (variables_at f.code body.first) (map (λ (x : ℕ). None) p.head) ≡ true → events (left outcome f (variables_at f.code body.head) (variables_at f.code body.last) (begun f body n (suc n) h (map (λ x. None) p.head))) ≡ run_query outcome procs n h p
-  query_begun n h r = body_begun n (suc n) h (map (λ x. None) p.head) r

@@ -11,7 +11,7 @@ use Rattle.mc_flat_code.specs.declared.code.Instr.{Instr}
 use Rattle.mc_flat_code.specs.declared.code.Instr.TheVariants as I
 use Rattle.mc_flat_code.specs.declared.code.Part.{Part}
 use Rattle.mc_flat_code.specs.declared.code.FlatProgram.{FlatProgram}
-use Rattle.mc_plain.specs.Machine.{Around, condition, answered, negated, pruned, called, Segment, Point, resume, held, Now, at, failing, stuck, stopped, shown, ticks, go, answers, said, left_of, Ordered, is_ended, after, GoesApart, Machine, Whole, left, Moved, Holding}
+use Rattle.mc_plain.specs.code.Machine.{Around, condition, answered, negated, pruned, called, Segment, Point, resume, held, Now, at, failing, stuck, stopped, shown, ticks, go, answers, said, left_of, Ordered, is_ended, after, GoesApart, Machine, Whole, left, Moved, Holding}
 use Rattle.mc_plain.proofs.TickedLaws.{append_end}
 use Rattle.mc_plain.proofs.Moves as V
 
@@ -182,9 +182,6 @@ module _ (outcome : Builtin → List Val → Outcome) (f : FlatProgram) (o : IsC
           ∙ V.again_left outcome f head last M.budget pts M.segments M.base M.level M.height M.bindings k e m h lo b c w.ordered
           ∙ ap (λ l. left_of outcome f head last M.budget pts (record { around = k; bindings = e; level = M.level; height = M.height; below = M.base } ∷ M.segments) lo m h M.bindings l) (sym n))
           (omega arith) (record { base = c; ordered = (b, w.ordered) })
-
-      pub end_shown : M.segments ≡ [] → length M.points ≤ M.base → rest M ≡ End
-      end_shown z x = at_now failing n ∙ V.end_left outcome f head last M.budget M.points M.segments M.base M.level M.height M.bindings z x
 
       after_going : (k : Around) → is_ended (after k) ≡ false
       after_going (condition t u) = refl

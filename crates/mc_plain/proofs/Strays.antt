@@ -1,16 +1,15 @@
 -- Steps of a run that is stuck, and a resume point that is taken, whichever it is.
-use Rattle.std.proofs.Common.{◌≡◌, ℕ, suc, ◌+◌, ◌*◌, ◌<◌, ◌≤◌, ◌⊎◌, inl, inr, Bool, true, false, refl, sym, ap, subst, ◌∙◌, cond, leb, ltb, ◌&&◌, Option, None, List, [], ◌∷◌, length, arith}
-use Rattle.std.proofs.lemmas.Bool.{le-leb, le-ltb}
+use Rattle.std.proofs.Common.{◌≡◌, ℕ, suc, ◌<◌, ◌≤◌, ◌⊎◌, inl, inr, Bool, true, false, refl, sym, ap, subst, ◌∙◌, cond, leb, ◌&&◌, Option, None, List, [], ◌∷◌, length, arith}
 use Rattle.std.proofs.lemmas.Bool.Decides.{leb_tells}
 use Rattle.mc_program.specs.Values.{Val}
 use Rattle.mc_program.specs.declared.builtin.Builtin.{Builtin}
 use Rattle.mc_model.specs.Outcomes.{Outcome}
 use Rattle.mc_model.specs.Stream.{Bindings}
-use Rattle.mc_flat_code.specs.Ticked.{Ticked, End, Stuck, Tick, append}
+use Rattle.mc_flat_code.specs.Ticked.{End, Stuck, Tick, append}
 use Rattle.mc_flat_code.specs.Running.{instr_at, list_at, list_to, call_list, IsCode}
 use Rattle.mc_flat_code.specs.declared.code.Instr.{Instr}
 use Rattle.mc_flat_code.specs.declared.code.FlatProgram.{FlatProgram}
-use Rattle.mc_plain.specs.Machine.{Around, Segment, Point, resume, held, at, failing, stuck, shown, ticks, go, resumed, close, answers, cut, outputs, Machine, Whole, left, left_of, Moved, went_back, went_out}
+use Rattle.mc_plain.specs.code.Machine.{Around, Segment, Point, resume, held, at, failing, stuck, resumed, close, Machine, Whole, left, left_of, Moved, went_back, went_out}
 use Rattle.mc_plain.proofs.Moves as V
 use Rattle.mc_plain.proofs.Steps as S
 

@@ -1,18 +1,20 @@
 -- Each step of a run with its heap, from what its stacks and atoms do.
-use Rattle.std.proofs.Common.{◌≡◌, ℕ, ◌<◌, false, refl, sym, ap, subst, ◌∙◌, Option, Some, None, List, [], ◌∷◌, length, map, reverse, get_or, arith}
-use Rattle.std.specs.Prelude.{All, slice_get, option_map}
+use Rattle.std.proofs.Common.{◌≡◌, ℕ, false, refl, sym, ap, subst, ◌∙◌, Option, Some, None, List, [], ◌∷◌, length, map, reverse, get_or}
+use Rattle.std.specs.Prelude.{slice_get, option_map}
 use Rattle.std.proofs.lemmas.Option.{slice_get-map, get_or_from_slice_get, slice_get_within}
 use Rattle.mc_values.specs.declared.heap.Heap.{Heap}
-use Rattle.mc_values.specs.Heap.{Extends, value_at, values_at}
+use Rattle.mc_values.specs.Heap.{Extends, value_at}
 use Rattle.std.specs.Prelude.{Vec}
 use Rattle.std.specs.Global.{Global}
 use Rattle.mc_frames.specs.Frames.{bindings}
 use Rattle.mc_frames.specs.Values.{IsHeld, AreHeld}
 use Rattle.mc_frames.proofs.Growth.{held_grows}
-use Rattle.mc_program.specs.Values.{Val, plain_value}
+use Rattle.mc_program.specs.Values.{Val}
 use Rattle.mc_program.specs.declared.builtin.Builtin.{Builtin}
+use Rattle.mc_program.specs.declared.builtin.Builtin.TheVariants.{ReadLine}
+use Rattle.mc_builtins.specs.Answers.{known}
 use Rattle.mc_model.specs.EventList as L
-use Rattle.mc_model.specs.EventList.{Items, of_option}
+use Rattle.mc_model.specs.EventList.{Items}
 use Rattle.mc_model.specs.Events.{bound_values}
 use Rattle.mc_model.specs.Outcomes.{Outcome}
 use Rattle.mc_model.specs.Stream.{Bindings, leave, made_items, apply_items, gather}
@@ -22,14 +24,14 @@ use Rattle.mc_flat_code.specs.declared.code.Part.{Part}
 use Rattle.mc_flat_code.specs.declared.code.Instr.{Instr}
 use Rattle.mc_flat_code.specs.declared.code.Instr.TheVariants as I
 use Rattle.mc_flat_code.specs.declared.code.FlatProgram.{FlatProgram}
-use Rattle.mc_plain.specs.Machine.{Around, resume, resumed, close, Now, at, failing, stuck, stopped, ended, shown, go, said, is_ended, left_of, Machine, Whole, left, Moved, GoesApart}
-use Rattle.mc_plain.specs.Views.{machine, segment_in, plain_now, plain_around, plain_halt}
-use Rattle.mc_plain.specs.Held.{AllHeld}
-use Rattle.mc_plain.specs.Rest.{Rest, rest_of}
+use Rattle.mc_plain.specs.code.Machine.{Around, resume, resumed, close, at, stuck, shown, go, said, is_ended, left_of, Machine, Whole, left, Moved, GoesApart}
+use Rattle.mc_plain.specs.code.Views.{machine, segment_in, plain_now}
+use Rattle.mc_plain.specs.code.Held.{AllHeld}
+use Rattle.mc_plain.specs.Rest.{Rest, rest_of, plain_halt}
 use Rattle.mc_plain.specs.Rest as R
 use Rattle.mc_plain.specs.code.Atoms.{Acted, ActedAfter}
 use Rattle.mc_plain.specs.code.Cases.{case_now}
-use Rattle.mc_plain.specs.code.Work.{Steps, StepsIn, HasEnded, IsAtAnswer, meaning, head_of, last_of, machine_of, left_in, rest_in, IsSetting, HasConstants, IsReady, Moves, IsAt}
+use Rattle.mc_plain.specs.code.Work.{StepsIn, HasEnded, meaning, head_of, last_of, machine_of, left_in, rest_in, IsSetting, HasConstants, IsReady, Moves, IsAt, IsWaiting}
 use Rattle.mc_plain.specs.declared.state.Control.{Control}
 use Rattle.mc_plain.specs.declared.state.Now.{Now as TheNow}
 use Rattle.mc_plain.specs.declared.state.Now.TheVariants as N
@@ -42,6 +44,8 @@ use Rattle.mc_plain.proofs.Steps as S
 use Rattle.mc_plain.proofs.Looking.{values_stay, live_stay}
 use Rattle.mc_plain.proofs.Strays.{absent_moved}
 use Rattle.mc_plain.proofs.Casing.{case_moved}
+use Rattle.mc_plain.proofs.OnlyReading.{only_reading}
+use Rattle.mc_plain.proofs.Waiting.{goes_at}
 
 -- what is left shows the same to its first answer, text or reading and on
 pub rest_shown : (xs : Ticked (List (Option Val))) → rest_of (events (shown xs)) ≡ rest_of (events xs)
@@ -254,6 +258,27 @@ module _ (t : Setting) (w v : Work) (place : ℕ) (op : Builtin) (xs ys : Part) 
       ap (λ N. rest_of (events (left (meaning t input) t.flat (head_of t) (last_of t) N))) same,
     ),
   )
+
+  -- a run that wants a line stands at a goal that reads
+  pub wants_waits : (from : ℕ) → machine_of t v ≡ machine_of t w → ((input : List ℕ) → ReadsFrom from (list input)) → IsWaiting t v from
+  wants_waits from same reads =
+      let is : op ≡ ReadLine = only_reading (variables_at t.flat.code ys) (machine_of t w).bindings from (known t.library) [] op (gather (variables_at t.flat.code xs) (machine_of t w).bindings) (reads []) in
+      record {
+        place = place;
+        inputs = xs;
+        outputs = ys;
+        next = next;
+        stands = record {
+          setting = a.setting;
+          ready = (wants_gives from same reads).0;
+          now = goes_at v.control.now place (ap (λ (N : Machine). N.now) same ∙ ap plain_now a.now);
+          goal_is = a.goal_is ∙ ap (λ (o : Builtin). Some (I.Apply o xs ys next)) is;
+        };
+        reads = λ input.
+            subst (λ (p : Builtin × Machine). ReadsFrom from (apply_items (meaning t input p.0) (variables_at t.flat.code ys) p.1.bindings (gather (variables_at t.flat.code xs) p.1.bindings))) (λ i. (is i, sym same i))
+            (reads input);
+        shows = λ input. let g = (wants_gives from same reads).1 input in (g.0.0, g.1 ∙ g.0.1);
+      }
 
   -- a line of the input is read
   pub read_gives : (from : ℕ) (input : List ℕ) → ActedAfter (Read from) (list input) next (machine_of t w) (machine_of t v) → rest_in t w input ≡ R.reads from (rest_in t v input)

@@ -1,9 +1,6 @@
 pub mod code
-pub mod Machine
-pub mod Views
-pub mod Held
-pub mod Constants
 pub mod Names
+pub mod Mentioned
 pub mod Rest
 pub mod Runs
 pub mod Running

@@ -1,5 +1,5 @@
 -- The runs that are asked for: what is left of each when it begins.
-use Rattle.std.specs.Prelude.{◌≡◌, ℕ, List, [], ◌∷◌, Some, None}
+use Rattle.std.specs.Prelude.{ℕ, List, [], ◌∷◌, Some, None}
 use Rattle.mc_program.specs.Values.{state}
 use Rattle.mc_program.specs.declared.program.Program.{Program}
 use Rattle.mc_model.specs.Builtins.{outcome}
@@ -7,9 +7,7 @@ use Rattle.mc_model.specs.Worlds.{library_of}
 use Rattle.mc_model.specs.Scheduled.{Procedure}
 use Rattle.mc_model.specs.Stream.{run_call, run_query}
 use Rattle.mc_model.specs.declared.run.Limits.{Limits}
-use Rattle.mc_flat_code.specs.Running.{IsCode}
 use Rattle.mc_flat_code.specs.Standing.{StandsFor, StandsForAll}
-use Rattle.mc_flat_code.specs.declared.code.FlatProgram.{FlatProgram}
 use Rattle.mc_flat_code.specs.declared.program.FlatQuery.{FlatQuery}
 use Rattle.mc_plain.specs.Rest.{Rest, rest_of}
 

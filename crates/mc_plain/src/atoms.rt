@@ -7,8 +7,8 @@ ghost use Rattle.mc_model.specs.Builtins.{outcome};
 ghost use Rattle.mc_builtins.specs.Answers.{known};
 ghost use Rattle.mc_frames.specs.Frames.{bindings};
 ghost use Rattle.mc_frames.specs.Values.{HasLists, HasResults, IsHeld, AreLive};
-ghost use Rattle.mc_plain.specs.Held.{AllHeld};
-ghost use Rattle.mc_plain.specs.Views.{machine, plain_now};
+ghost use Rattle.mc_plain.specs.code.Held.{AllHeld};
+ghost use Rattle.mc_plain.specs.code.Views.{machine, plain_now};
 ghost use Rattle.mc_plain.specs.code.Atoms.{Acted as ActedSo, ActedAfter, Applied, now_of};
 ghost use Rattle.mc_flat_code.specs.Ticked.{Read};
 ghost use Rattle.mc_frames.specs.Atoms.{ReadsFrom};
@@ -120,7 +120,7 @@ impl Control {
             Applied (λ input. apply_items (outcome (known library.now) input call.now.op)
             call.now.outputs.now e (gather call.now.inputs.now e)) next
             (machine heap.old self.old) shown (machine heap.new self.new)) }
-        ensures held { OnOk result (HasLists library.now
+        ensures held { OnOk result (HasLists library.now call.now.op
             → AllHeld library.now.program.now heap.new self.new) }
         ensures keeps { Extends heap.old heap.new }
     {

@@ -1,12 +1,12 @@
-ghost use Rattle.std.specs.Prelude.{◌≡◌, ◌<◌, ◌∷◌, [], ℕ, List, Some, None, All, IfOk, OnOk, length, map};
+ghost use Rattle.std.specs.Prelude.{◌≡◌, ◌<◌, ◌∷◌, [], Some, None, All, IfOk, OnOk, length, map};
 ghost use Rattle.mc_program.specs.Values.{state, plain_value};
 ghost use Rattle.mc_program.specs.declared.program.Program.{Program};
 ghost use Rattle.mc_values.specs.Heap.{IsLive, values_at, Extends};
 ghost use Rattle.mc_values.specs.declared.heap.Heap.{Heap as TheHeap};
 ghost use Rattle.mc_frames.specs.Frames.{bindings, seen_at};
 ghost use Rattle.mc_frames.specs.Values.{IsConstant, AreHeld};
-ghost use Rattle.mc_plain.specs.Held.{AllHeld};
-ghost use Rattle.mc_plain.specs.Views.{machine, plain_now};
+ghost use Rattle.mc_plain.specs.code.Held.{AllHeld};
+ghost use Rattle.mc_plain.specs.code.Views.{machine, plain_now};
 ghost use Rattle.mc_plain.specs.code.Beginnings.{first_machine, called_machine, first_now};
 
 use crate::state::{Control, Now};
@@ -35,6 +35,7 @@ impl Control {
             height: limits.depth,
             budget: limits.budget,
             now,
+            spare: Vec::new(alloc),
         }
     }
 

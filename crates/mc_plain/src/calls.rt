@@ -9,9 +9,9 @@ ghost use Rattle.mc_flat_code.specs.Running.{instr_at};
 ghost use Rattle.mc_flat_code.specs.declared.code.FlatProgram.{FlatProgram as TheProgram};
 ghost use Rattle.mc_frames.specs.Frames.{bindings};
 ghost use Rattle.mc_frames.specs.Values.{AreLive, AreHeld};
-ghost use Rattle.mc_plain.specs.Machine.{go, back, said, is_ended};
-ghost use Rattle.mc_plain.specs.Views.{plain_now};
-ghost use Rattle.mc_plain.specs.Held.{AllHeld};
+ghost use Rattle.mc_plain.specs.code.Machine.{go, back, said, is_ended};
+ghost use Rattle.mc_plain.specs.code.Views.{plain_now};
+ghost use Rattle.mc_plain.specs.code.Held.{AllHeld};
 ghost use Rattle.mc_plain.specs.declared.state.Segment.{Segment as TheSegment};
 ghost use Rattle.mc_plain.specs.code.Work.{Steps, StepsIn, HasEnded, IsAtAnswer};
 
@@ -23,6 +23,7 @@ use mc_frames::{Frame, enter, ready, returned};
 use mc_model::run::Stop;
 use mc_values::Heap;
 use std::alloc::Global;
+use std::mem::replace;
 
 /// So many, or as many more as these variables need.
 pub fn room(count: usize, variables: &[u32]) -> usize
@@ -30,8 +31,7 @@ pub fn room(count: usize, variables: &[u32]) -> usize
 {
     let mut room = count;
     for variable in variables {
-        let next = greater(room, *variable as usize + 1);
-        room = next;
+        room = room.max(*variable as usize + 1);
     }
     room
 }
@@ -44,12 +44,23 @@ fn is_too_deep(height: u32, is_last: bool) -> bool
     if is_last { false } else { height == 0 }
 }
 
-/// The greater of two.
-fn greater(a: usize, b: usize) -> usize
-    ensures first { a ≤ result }
-    ensures second { b ≤ result }
-{
-    if a < b { b } else { a }
+/// How many frames that are done with are kept at most.
+const MOST_SPARE: usize = 4096;
+
+/// Keeps a frame that is done with, for a later call.
+fn keep_spare(spare: &mut Vec<Frame>, done: Frame) -> Result<(), Memory> {
+    if spare.len() < MOST_SPARE {
+        spare.push(done)?;
+    }
+    Ok(())
+}
+
+/// The room of a frame that is done with, if there is one.
+fn spare_frame(alloc: Global, spare: &mut Vec<Frame>) -> Frame {
+    match spare.pop() {
+        Some(frame) => frame,
+        None => Vec::new(alloc),
+    }
 }
 
 impl Control {
@@ -75,6 +86,8 @@ impl Control {
             self.now = Now::Stopped(Stop::TooDeep);
             return Ok(());
         }
+        // Never so: the levels are more than what is left of the budget, since a call takes one of each and its end gives
+        // back levels alone. The test is what lets `enter` take one.
         if self.level == 0 {
             self.now = Now::Stopped(Stop::Budget);
             return Ok(());
@@ -91,7 +104,8 @@ impl Control {
         let is_ready = ready(first, variables, &self.frame);
         if is_ready {
             let size = room(body.size as usize, head);
-            let inner = enter(alloc, size, head, first, variables, &self.frame)?;
+            let spare = spare_frame(alloc, &mut self.spare);
+            let inner = enter(spare, size, head, first, variables, &self.frame)?;
             self.enter(inner, body.entry, place, is_last)?;
             return Ok(());
         }
@@ -178,8 +192,9 @@ impl Control {
                 let mut outer = frame;
                 self.keep(alloc, around, &outer, level, height, below, Now::Failing)?;
                 let now = came_back(heap, flat, place, &mut self.frame, &mut outer)?;
-                self.frame = outer;
+                let done = replace(&mut self.frame, outer);
                 self.now = now;
+                keep_spare(&mut self.spare, done)?;
                 Ok(())
             }
         }

@@ -6,8 +6,8 @@ ghost use Rattle.mc_frames.specs.Frames.{bindings};
 ghost use Rattle.mc_frames.specs.Values.{AreLive};
 ghost use Rattle.mc_flat_code.specs.Running.{part_of, fitting, fits_label, label_of};
 ghost use Rattle.mc_flat_code.specs.declared.code.Code.{Code as TheCode};
-ghost use Rattle.mc_plain.specs.Constants.{AreConstants};
-ghost use Rattle.mc_plain.specs.Views.{machine, plain_now};
+ghost use Rattle.mc_plain.specs.code.Constants.{AreConstants};
+ghost use Rattle.mc_plain.specs.code.Views.{machine, plain_now};
 ghost use Rattle.mc_plain.specs.code.Cases.{case_now, only_of};
 
 use crate::state::{Control, Now};

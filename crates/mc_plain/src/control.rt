@@ -1,11 +1,11 @@
-ghost use Rattle.std.specs.Prelude.{◌≡◌, ◌<◌, ◌≤◌, ◌-◌, ◌∷◌, ◌++◌, ℕ, List, IfOk, OnOk, All, length, take, if◌then◌else◌, false};
+ghost use Rattle.std.specs.Prelude.{◌≡◌, ◌<◌, ◌≤◌, ◌-◌, ◌∷◌, ◌++◌, List, IfOk, OnOk, All, length, take, if◌then◌else◌, false};
 ghost use Rattle.mc_values.specs.declared.heap.Heap.{Heap as TheHeap};
 ghost use Rattle.mc_program.specs.declared.program.Program.{Program};
 ghost use Rattle.mc_frames.specs.Frames.{bindings};
 ghost use Rattle.mc_frames.specs.Values.{AreLive, AreHeld};
-ghost use Rattle.mc_plain.specs.Held.{AllHeld, PointsHeld};
-ghost use Rattle.mc_plain.specs.Machine.{Machine, Point as PlainPoint, Holding, resume, held, at, called, went_back, went_out, after as after_of};
-ghost use Rattle.mc_plain.specs.Views.{machine, plain_around, plain_now};
+ghost use Rattle.mc_plain.specs.code.Held.{AllHeld, PointsHeld};
+ghost use Rattle.mc_plain.specs.code.Machine.{Point as PlainPoint, Holding, resume, held, at, called, went_back, went_out, after as after_of};
+ghost use Rattle.mc_plain.specs.code.Views.{machine, plain_around, plain_now};
 
 use crate::state::{Around, Control, Now, Point, Segment};
 use mc_base::Memory;
@@ -17,9 +17,7 @@ use std::mem::replace;
 fn copied(alloc: Global, frame: &Frame) -> Result<Frame, Memory>
     ensures { IfOk result (λ copy. copy.items ≡ frame.now.items) }
 {
-    let mut copy = Vec::with_capacity(alloc, frame.len())?;
-    copy.extend_from_slice(frame.as_slice())?;
-    Ok(copy)
+    Ok(frame.to_vec(alloc)?)
 }
 
 impl Control {

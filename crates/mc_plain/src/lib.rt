@@ -13,6 +13,6 @@ mod reading;
 mod state;
 mod step;
 
-pub use law::good_runs;
+pub use law::{good_runs, made_code_is_named};
 pub use names::names_all;
 pub use plain::Plain;

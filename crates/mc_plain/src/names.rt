@@ -1,106 +1,85 @@
-ghost use Rattle.std.specs.Prelude.{◌≡◌, ◌<◌, ℕ, Some, All, IsTrue};
+ghost use Rattle.std.specs.Prelude.{◌<◌, ◌↔◌, All, IsTrue};
 ghost use Rattle.mc_program.specs.Values.{plain_value};
-ghost use Rattle.mc_model.specs.Builtins.{fits_64, is_scalar as has_scalar};
-ghost use Rattle.mc_flat_code.specs.declared.code.Instr.{Instr as TheInstr};
-ghost use Rattle.mc_flat_code.specs.declared.code.Part.{Part as ThePart};
-ghost use Rattle.mc_frames.specs.Values.{IsConstant, IsProper};
-ghost use Rattle.mc_plain.specs.Names.{NamesAll};
+ghost use Rattle.mc_builtins.specs.Answers.{known};
+ghost use Rattle.mc_frames.specs.Values.{IsConstant, IsProper, ListsAreNamed, ResultsAreNamed};
+ghost use Rattle.mc_plain.specs.Names.{IsNamed, NamesAll};
 
 use mc_builtins::Library;
 use mc_flat_code::code::{Code, Instr};
+use mc_model::builtin::Builtin;
 use mc_model::program::Program;
 use mc_program::value::Value;
 
-/// Whether the program has all that the code names, and the symbols of lists.
+/// Whether the program has all that the code names.
 pub fn names_all(program: &Program, code: &Code) -> bool
-    ensures { IsTrue result → NamesAll program.now code.now }
+    ensures { IsTrue result ↔ NamesAll program.now code.now }
 {
-    let count = program.symbols.len();
     let library = Library::of(program);
-    if library.nil >= count {
-        return false;
-    }
-    if library.cons >= count {
-        return false;
-    }
-    if !are_below(count, &code.instrs) {
-        return false;
-    }
-    are_constants(&code.values)
+    are_named(program.symbols.len(), &library, &code.instrs) && are_constants(&code.values)
 }
 
-/// Whether each symbol that the goals name is one of so many.
-fn are_below(count: u32, goals: &Vec<Instr>) -> bool
-    ensures { IsTrue result → All (λ goal. (x f : ℕ) (ys : ThePart) (next : ℕ)
-        → goal ≡ Instr.Made x f ys next → f < count) goals.now.items }
+/// Whether the symbols that goals make are among so many.
+fn are_named(count: u32, library: &Library<'_>, goals: &Vec<Instr>) -> bool
+    ensures { IsTrue result ↔ All (IsNamed count (known library.now)) goals.now.items }
 {
-    for goal in goals {
-        let fits = is_below(count, *goal);
-        if !fits {
-            return false;
-        }
-    }
-    true
+    goals.iter().all(|goal| is_named(count, library, *goal))
 }
 
-fn is_below(count: u32, goal: Instr) -> bool
-    ensures { IsTrue result → (x f : ℕ) (ys : ThePart) (next : ℕ)
-        → goal ≡ Instr.Made x f ys next → f < count }
+fn is_named(count: u32, library: &Library<'_>, goal: Instr) -> bool
+    ensures { IsTrue result ↔ IsNamed count (known library.now) goal }
 {
     match goal {
         Instr::Made(_, symbol, _, _) => symbol < count,
+        Instr::Apply(op, _, _, _) => {
+            lists_are_named(count, library, op) && results_are_named(count, library, op)
+        }
+        _ => true,
+    }
+}
+
+/// Whether the symbols of lists are among so many, where a builtin makes lists.
+fn lists_are_named(count: u32, library: &Library<'_>, op: Builtin) -> bool
+    ensures { IsTrue result ↔ ListsAreNamed count (known library.now) op }
+{
+    match op {
+        Builtin::ToCharList => library.nil < count && library.cons < count,
+        _ => true,
+    }
+}
+
+/// Whether the symbols of what a reading gives are among so many, where a builtin reads.
+fn results_are_named(count: u32, library: &Library<'_>, op: Builtin) -> bool
+    ensures { IsTrue result ↔ ResultsAreNamed count (known library.now) op }
+{
+    match op {
+        Builtin::ReadLine => library.ok < count && library.eof < count,
         _ => true,
     }
 }
 
 /// Whether each value is an integer, a character or a string of UTF-8.
 fn are_constants(values: &Vec<Value>) -> bool
-    ensures constants { IsTrue result → All (λ v. IsConstant (plain_value v)) values.now.items }
-    ensures proper { IsTrue result → All (λ v. IsProper (plain_value v)) values.now.items }
+    ensures { IsTrue result
+        ↔ All (λ v. IsConstant (plain_value v) × IsProper (plain_value v)) values.now.items }
 {
-    for value in values {
-        let fits = is_constant(value);
-        if !fits {
-            return false;
-        }
-    }
-    true
+    values.iter().all(|value| is_constant(value))
 }
 
+/// Whether a value is such a constant. That integers have 64 bits and characters are scalar values, their types say.
 fn is_constant(value: &Value) -> bool
-    ensures constant { IsTrue result → IsConstant (plain_value value.now) }
-    ensures proper { IsTrue result → IsProper (plain_value value.now) }
+    ensures { IsTrue result
+        ↔ IsConstant (plain_value value.now) × IsProper (plain_value value.now) }
 {
     match value {
         Value::Int(number) => {
-            let fits = has_64_bits(*number);
-            fits
+            let _number = *number;
+            true
         }
         Value::Char(character) => {
-            let fits = is_scalar(*character);
-            fits
+            let _character = *character;
+            true
         }
         Value::Str(text) => str::from_utf8(text.bytes()).is_ok(),
         _ => false,
-    }
-}
-
-/// An integer has 64 bits, as its type says.
-fn has_64_bits(number: i64) -> bool
-    ensures { result ≡ fits_64 number }
-{
-    let _ = number;
-    true
-}
-
-/// A character is a Unicode scalar value.
-fn is_scalar(character: char) -> bool
-    ensures { result ≡ has_scalar character }
-{
-    let code = character as u32;
-    if code < 0xD800 {
-        true
-    } else {
-        0xE000 <= code && code < 0x11_0000
     }
 }

@@ -7,7 +7,7 @@ use mc_flat_code::FlatQuery;
 use mc_flat_code::code::FlatProgram;
 use mc_frames::{enter, ready, unbound};
 use mc_model::program::Program;
-use mc_model::run::{Limits, Step};
+use mc_model::run::{Input, Limits, Step};
 use mc_values::Heap;
 use std::alloc::Global;
 
@@ -21,12 +21,12 @@ pub struct Plain<'p> {
 }
 
 impl<'p> Plain<'p> {
-    ghost use Rattle.std.specs.Prelude.{◌≡◌, ◌<◌, ℕ, List, Some, None, IfOk, OnErr};
+    ghost use Rattle.std.specs.Prelude.{◌≡◌, ◌<◌, ℕ, Some, None, IfOk, OnOk, OnErr};
     ghost use Rattle.mc_model.specs.Scheduled.{Procedure};
     ghost use Rattle.mc_flat_code.specs.Running.{IsCode};
     ghost use Rattle.mc_flat_code.specs.Standing.{StandsForAll};
     ghost use Rattle.mc_plain.specs.Names.{NamesAll};
-    ghost use Rattle.mc_plain.specs.Rest.{Follows, FollowsIf, IsGood, Begins};
+    ghost use Rattle.mc_plain.specs.Rest.{Follows, FollowsIf, IsGood, Begins, WantsLine, WantsIf, IsFed};
     ghost use Rattle.mc_plain.specs.Running.{run_of, IsRun};
     ghost use Rattle.mc_plain.specs.Runs.{StandsForQuery, query_rest, main_rest};
 
@@ -99,7 +99,7 @@ impl<'p> Plain<'p> {
         let head = flat.code.variables(body.head);
         let first = flat.code.variables(body.first);
         let size = room(body.size as usize, head);
-        let frame = enter(alloc, size, head, first, &[0, 1], &caller)?;
+        let frame = enter(Vec::new(alloc), size, head, first, &[0, 1], &caller)?;
         let is_ready = ready(first, &[0, 1], &caller);
         let now = first_now(body.entry, is_ready);
         let control = Control::begin_call(alloc, frame, limits, now);
@@ -132,6 +132,7 @@ impl<'p> Plain<'p> {
         requires good { IsGood (run_of self.old) }
         ensures is_run { IsRun self.new }
         ensures next { IfOk result (λ step. Follows step (run_of self.old) (run_of self.new)) }
+        ensures wants { IfOk result (λ step. WantsIf (Some step) (run_of self.new)) }
         ensures err { OnErr result (run_of self.new ≡ None) }
     {
         match self.next_if_bound()? {
@@ -145,6 +146,7 @@ impl<'p> Plain<'p> {
         requires { IsRun self.old }
         ensures is_run { IsRun self.new }
         ensures next { IfOk result (λ step. FollowsIf step (run_of self.old) (run_of self.new)) }
+        ensures wants { IfOk result (λ step. WantsIf step (run_of self.new)) }
         ensures err { OnErr result (run_of self.new ≡ None) }
     {
         if self.broken {
@@ -152,6 +154,28 @@ impl<'p> Plain<'p> {
         }
         match self.work.next(self.alloc, &self.setting) {
             Ok(step) => Ok(step),
+            Err(Memory) => {
+                self.broken = true;
+                Err(Memory)
+            }
+        }
+    }
+
+    /// Feeds a run that wants a line of the input with what comes next in it, at the byte from which it wants it. Over
+    /// each such input, what is left then is what was left, without the wish. More than 2^64 - 1 bytes of the input in
+    /// all find no room.
+    pub fn feed(&mut self, got: Input) -> Result<(), Memory>
+        requires is_run { IsRun self.old }
+        requires wants { WantsLine (run_of self.old) }
+        ensures is_run { IsRun self.new }
+        ensures fed { OnOk result (IsFed got (run_of self.old) (run_of self.new)) }
+        ensures err { OnErr result (run_of self.new ≡ None) }
+    {
+        if self.broken {
+            return Err(Memory);
+        }
+        match self.work.feed(self.alloc, &self.setting, &got) {
+            Ok(()) => Ok(()),
             Err(Memory) => {
                 self.broken = true;
                 Err(Memory)

@@ -50,7 +50,8 @@ pub enum Now {
 }
 
 /// What is run now and what is around it, but for the heap: the dump of goals that are run apart, the resume points, and
-/// the variables, levels, height and budget of the goal that is run.
+/// the variables, levels, height and budget of the goal that is run. `spare` has frames that are done with, whose room is
+/// taken again by calls.
 #[derive(Drop)]
 pub struct Control {
     pub segments: Vec<Segment>,
@@ -61,6 +62,7 @@ pub struct Control {
     pub height: u32,
     pub budget: u32,
     pub now: Now,
+    pub spare: Vec<Frame>,
 }
 
 /// What stays as it is while a run goes on: the program, its code, Refs of the code's constants, and the head variables of

@@ -1,8 +1,4 @@
-ghost use Rattle.std.specs.Prelude.{◌≡◌, ℕ, List, Some, None, IfOk, OnOk, map};
-ghost use Rattle.mc_program.specs.Values.{plain_value};
-ghost use Rattle.mc_model.specs.Events.{bound_values};
-ghost use Rattle.mc_model.specs.Stream.{leave};
-ghost use Rattle.mc_flat_code.specs.Running.{instr_at};
+ghost use Rattle.std.specs.Prelude.{◌≡◌, Some, None, IfOk, OnOk};
 ghost use Rattle.mc_plain.specs.code.Work.{IsSetting, IsReady, Moves, Stepped, Came, IsAt};
 
 use crate::atoms::Shown;

@@ -10,7 +10,7 @@ use Rattle.mc_flat_code.specs.declared.code.FlatProgram.{FlatProgram}
 use Rattle.mc_frames.specs.declared.went.Went.{Went}
 use Rattle.mc_frames.specs.declared.went.Went.TheVariants as W
 use Rattle.mc_frames.specs.Atoms.{ReadsFrom}
-use Rattle.mc_plain.specs.Machine.{Machine, Now, at, failing, stuck, said, is_ended}
+use Rattle.mc_plain.specs.code.Machine.{Machine, Now, at, failing, stuck, said, is_ended}
 use Rattle.mc_plain.specs.declared.atoms.Shown.{Shown}
 use Rattle.mc_plain.specs.declared.atoms.Shown.TheVariants as S
 

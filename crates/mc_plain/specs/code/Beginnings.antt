@@ -2,7 +2,7 @@
 use Rattle.std.specs.Prelude.{ℕ, zero, suc, [], Bool, if◌then◌else◌}
 use Rattle.mc_model.specs.EventList.{budget, too_deep}
 use Rattle.mc_model.specs.Stream.{Bindings}
-use Rattle.mc_plain.specs.Machine.{Machine, Now, at, stuck, stopped}
+use Rattle.mc_plain.specs.code.Machine.{Machine, Now, at, stuck, stopped}
 
 abbrev pub first_machine : (n h m : ℕ) → Bindings → Now → Machine
 first_machine n h m e now =

@@ -4,7 +4,7 @@ use Rattle.mc_program.specs.Values.{Val}
 use Rattle.mc_flat_code.specs.Running.{fitting}
 use Rattle.mc_flat_code.specs.declared.code.Branch.{Branch}
 use Rattle.mc_flat_code.specs.declared.code.Code.{Code}
-use Rattle.mc_plain.specs.Machine.{Now, at, failing}
+use Rattle.mc_plain.specs.code.Machine.{Now, at, failing}
 
 -- the one place, or the other one where there are several
 abbrev pub only_of : ℕ → List ℕ → Now

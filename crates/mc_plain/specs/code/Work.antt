@@ -1,25 +1,31 @@
 -- A run with its heap: what it stands for over each input, and what each step of it does.
-use Rattle.std.specs.Prelude.{◌≡◌, ◌<◌, ℕ, List, map, length, All, Option, Some, None}
+use Rattle.std.specs.Prelude.{◌≡◌, ℕ, List, All, Option, Some, None}
 use Rattle.mc_program.specs.Values.{Val}
 use Rattle.mc_program.specs.declared.builtin.Builtin.{Builtin}
-use Rattle.mc_program.specs.declared.program.Program.{Program}
+use Rattle.mc_program.specs.declared.builtin.Builtin.TheVariants.{ReadLine}
 use Rattle.mc_values.specs.declared.heap.Heap.{Heap}
 use Rattle.mc_model.specs.Builtins.{outcome}
 use Rattle.mc_model.specs.Outcomes.{Outcome}
+use Rattle.mc_model.specs.Stream.{apply_items, gather}
+use Rattle.mc_model.specs.Worlds.{library_of}
 use Rattle.mc_model.specs.declared.run.Step.{Step}
+use Rattle.mc_model.specs.declared.run.Step.TheVariants.{Wants}
 use Rattle.mc_builtins.specs.Answers.{known}
-use Rattle.mc_frames.specs.Values.{IsHeld, HasLists}
+use Rattle.mc_frames.specs.Values.{IsHeld}
+use Rattle.mc_frames.specs.Atoms.{ReadsFrom}
 use Rattle.mc_flat_code.specs.Ticked.{Ticked, End, events}
 use Rattle.mc_flat_code.specs.Running.{instr_at, variables_at, IsCode}
 use Rattle.mc_flat_code.specs.declared.code.Instr.{Instr}
-use Rattle.mc_flat_code.specs.declared.code.Instr.TheVariants.{Done}
+use Rattle.mc_flat_code.specs.declared.code.Instr.TheVariants.{Done, Apply}
+use Rattle.mc_flat_code.specs.declared.code.Part.{Part}
 use Rattle.mc_flat_code.specs.declared.code.FlatProgram.{FlatProgram}
-use Rattle.mc_plain.specs.Machine.{Machine, Whole, Moved, left, cost}
-use Rattle.mc_plain.specs.Views.{machine}
-use Rattle.mc_plain.specs.Held.{AllHeld}
-use Rattle.mc_plain.specs.Constants.{AreConstants}
+use Rattle.mc_plain.specs.code.Machine.{Machine, Whole, Moved, left, cost}
+use Rattle.mc_plain.specs.code.Views.{machine}
+use Rattle.mc_plain.specs.code.Held.{AllHeld}
+use Rattle.mc_plain.specs.code.Constants.{AreConstants}
 use Rattle.mc_plain.specs.Names.{NamesAll}
 use Rattle.mc_plain.specs.Rest.{Rest, rest_of, Gives, GivesIf}
+use Rattle.mc_plain.specs.Rest.{reads as wish}
 use Rattle.mc_plain.specs.declared.state.Now.TheVariants.{At}
 use Rattle.mc_plain.specs.declared.state.Control.{Control}
 use Rattle.mc_plain.specs.declared.state.Setting.{Setting}
@@ -76,7 +82,7 @@ module _ (t : Setting) where
   -- what holds of a setting, whatever is run
   pub record IsSetting : Type 0 where
     pub code : IsCode t.flat.code
-    pub lists : HasLists t.library
+    pub knows : known t.library ≡ library_of t.library.program.now
     pub names : NamesAll t.library.program.now t.flat.code
 
   -- Refs of the code's constants, which are values of the program
@@ -95,24 +101,51 @@ module _ (t : Setting) where
     pub moved :
         (input : List ℕ) → Moved (meaning input) t.flat head_of last_of (machine_of old) (machine_of new)
 
-  -- a step moves, or shows something, or none is taken, since an unbound variable would be read
-  abbrev pub Stepped : Work → Took → Work → Type 0
-  Stepped old T.Moved new = Moves old new
-  Stepped old (T.Showed s) new =
-      IsReady new × ((input : List ℕ) → Gives s (rest_in old input) (rest_in new input))
-  Stepped old T.Stuck new =
-      IsReady new × ((input : List ℕ) → GivesIf None (rest_in old input) (rest_in new input))
-
-  abbrev pub Came : Work → Option Step → Work → Type 0
-  Came old step new =
-      IsReady new × ((input : List ℕ) → GivesIf step (rest_in old input) (rest_in new input))
-
   -- a run that goes on at a place with this goal
   pub record IsAt (w : Work) (place : ℕ) (goal : Instr) : Type 0 where
     pub setting : IsSetting
     pub ready : IsReady w
     pub now : w.control.now ≡ At place
     pub goal_is : instr_at t.flat.code place ≡ Some goal
+
+  -- a run that stands at a goal that reads, and wants a line of the input from a byte on
+  pub record IsWaiting (w : Work) (from : ℕ) : Type 0 where
+    pub place : ℕ
+    pub inputs : Part
+    pub outputs : Part
+    pub next : ℕ
+    pub stands : IsAt w place (Apply ReadLine inputs outputs next)
+    pub reads :
+        (input : List ℕ) →
+        ReadsFrom from
+        (apply_items (meaning input ReadLine) (variables_at t.flat.code outputs) (machine_of w).bindings
+        (gather (variables_at t.flat.code inputs) (machine_of w).bindings))
+    pub shows : (input : List ℕ) → (later : Rest) × (rest_in w input ≡ wish from later)
+
+  -- where a run shows that it wants a line, it stands so
+  abbrev pub Waits : Step → Work → Type 0
+  Waits (Wants from) w = IsWaiting w from
+  Waits _ w = Unit {0}
+
+  abbrev pub WaitsIf : Option Step → Work → Type 0
+  WaitsIf None w = Unit {0}
+  WaitsIf (Some s) w = Waits s w
+
+  -- a step moves, or shows something, or none is taken, since an unbound variable would be read
+  abbrev pub Stepped : Work → Took → Work → Type 0
+  Stepped old T.Moved new = Moves old new
+  Stepped old (T.Showed s) new =
+      IsReady new
+      × ((input : List ℕ) → Gives s (rest_in old input) (rest_in new input))
+      × Waits s new
+  Stepped old T.Stuck new =
+      IsReady new × ((input : List ℕ) → GivesIf None (rest_in old input) (rest_in new input))
+
+  abbrev pub Came : Work → Option Step → Work → Type 0
+  Came old step new =
+      IsReady new
+      × ((input : List ℕ) → GivesIf step (rest_in old input) (rest_in new input))
+      × WaitsIf step new
 
   -- what holds of a run that has not wanted memory
   pub record IsRunning (w : Work) : Type 0 where

@@ -39,7 +39,7 @@ returns-in_ok-gave-in-Gives-clause-held c lists =
     let refs = c.as_slice.result.now in
     let tells = subst (λ a. Tells k (λ input. outcome (known c.args.library.now) input c.args.call.now.op (values_at h refs)) a) c.in-Gives.is (c.in_ok-output.ensures {u = tt}).tells in
     let held = subst (λ (l : List ℕ). All (IsHeld P h) l) (sym c.as_slice.ensures.value) (c.gather.ensures.held P h c.requires.frame) in
-    c.gave.ensures.held P (gives_held c.args.library.now h k lists c.args.call.now.op refs held c.in-Gives.output tells.0 tells.1) (are_held_grow h k c.apply.ensures.keeps P frame c.requires.frame)
+    c.gave.ensures.held P (gives_held c.args.library.now h k c.args.call.now.op lists refs held c.in-Gives.output tells.0 tells.1) (are_held_grow h k c.apply.ensures.keeps P frame c.requires.frame)
 
 pub returns-in_err-gave-in-Gives-clause-held : goal.returns-in_err-gave-in-Gives-clause-held
 returns-in_err-gave-in-Gives-clause-held c lists =
@@ -51,7 +51,7 @@ returns-in_err-gave-in-Gives-clause-held c lists =
     let refs = c.as_slice.result.now in
     let tells = subst (λ a. Tells k (λ input. outcome (known c.args.library.now) input c.args.call.now.op (values_at h refs)) a) c.in-Gives.is (c.in_ok-output.ensures {u = tt}).tells in
     let held = subst (λ (l : List ℕ). All (IsHeld P h) l) (sym c.as_slice.ensures.value) (c.gather.ensures.held P h c.requires.frame) in
-    c.gave.ensures.held P (gives_held c.args.library.now h k lists c.args.call.now.op refs held c.in-Gives.output tells.0 tells.1) (are_held_grow h k c.apply.ensures.keeps P frame c.requires.frame)
+    c.gave.ensures.held P (gives_held c.args.library.now h k c.args.call.now.op lists refs held c.in-Gives.output tells.0 tells.1) (are_held_grow h k c.apply.ensures.keeps P frame c.requires.frame)
 
 pub returns-in_err-went-in-Wrote-clause-held : goal.returns-in_err-went-in-Wrote-clause-held
 returns-in_err-went-in-Wrote-clause-held c lists =
@@ -63,7 +63,7 @@ returns-in_err-went-in-Wrote-clause-held c lists =
     let refs = c.as_slice.result.now in
     let tells = subst (λ a. Tells k (λ input. outcome (known c.args.library.now) input c.args.call.now.op (values_at h refs)) a) c.in-Wrote.is (c.in_ok-output.ensures {u = tt}).tells in
     let held = subst (λ (l : List ℕ). All (IsHeld P h) l) (sym c.as_slice.ensures.value) (c.gather.ensures.held P h c.requires.frame) in
-    c.gave-in-Wrote.ensures.held P (writes_held c.args.library.now h k lists c.args.call.now.op refs held c.in-Wrote.text c.in-Wrote.after tells.0 tells.1) (are_held_grow h k c.apply.ensures.keeps P frame c.requires.frame)
+    c.gave-in-Wrote.ensures.held P (writes_held c.args.library.now h k c.args.call.now.op lists refs held c.in-Wrote.text c.in-Wrote.after tells.0 tells.1) (are_held_grow h k c.apply.ensures.keeps P frame c.requires.frame)
 
 pub returns-in-Fails-clause-does : goal.returns-in-Fails-clause-does
 returns-in-Fails-clause-does c =
@@ -114,7 +114,7 @@ returns-in_ok-went-in-Wrote-clause-held c lists =
     let refs = c.as_slice.result.now in
     let tells = subst (λ a. Tells k (λ input. outcome (known c.args.library.now) input c.args.call.now.op (values_at h refs)) a) c.in-Wrote.is (c.in_ok-output.ensures {u = tt}).tells in
     let held = subst (λ (l : List ℕ). All (IsHeld P h) l) (sym c.as_slice.ensures.value) (c.gather.ensures.held P h c.requires.frame) in
-    c.gave-in-Wrote.ensures.held P (writes_held c.args.library.now h k lists c.args.call.now.op refs held c.in-Wrote.text c.in-Wrote.after tells.0 tells.1) (are_held_grow h k c.apply.ensures.keeps P frame c.requires.frame)
+    c.gave-in-Wrote.ensures.held P (writes_held c.args.library.now h k c.args.call.now.op lists refs held c.in-Wrote.text c.in-Wrote.after tells.0 tells.1) (are_held_grow h k c.apply.ensures.keeps P frame c.requires.frame)
 
 pub returns-in-Reads-clause-does : goal.returns-in-Reads-clause-does
 returns-in-Reads-clause-does c =

@@ -1,12 +1,11 @@
-use Rattle.std.proofs.Common.{◌≡◌, ◌∷◌, [], ℕ, Some, None, refl, sym, ap, ◌∙◌, map, arith}
-use Rattle.mc_program.specs.Values.{state}
+use Rattle.std.proofs.Common.{◌≡◌, ap, ◌∙◌}
 use Rattle.mc_values.specs.declared.heap.Heap.{Heap}
 use Rattle.mc_model.specs.Stream.{Bindings, ready, enter}
 use Rattle.mc_frames.specs.Frames.{bindings}
 use Rattle.mc_flat_code.specs.Running.{variables_at, body_at}
 use Rattle.mc_flat_code.specs.declared.code.Body.{Body}
 use Rattle.mc_plain.specs.code.Beginnings.{called_machine, first_now}
-use Rattle.mc_plain.specs.Views.{plain_now}
+use Rattle.mc_plain.specs.code.Views.{plain_now}
 use Rattle.mc_plain.specs.code.Work.{machine_of}
 use Rattle.mc_plain.specs.declared.state.Setting.{Setting}
 use Rattle.mc_plain.specs.declared.state.Work.{Work}

@@ -1,5 +1,7 @@
-use Rattle.mc_plain.specs.code.Work.{rest_in, IsRunning}
+use Rattle.mc_plain.specs.code.Work.{rest_in}
+use Rattle.mc_plain.specs.Running.{run_of}
 use Rattle.mc_plain.proofs.Opening.{follows_run}
+use Rattle.mc_plain.proofs.Waiting.{follows_wants}
 use Rattle.mc_plain.proofs.plain.Plain.next_if_bound.Goals as goal
 
 pub next-requires-clause-setting : goal.next-requires-clause-setting
@@ -15,3 +17,8 @@ returns-in-Ok-clause-is_run c =
 pub returns-in-Ok-clause-next : goal.returns-in-Ok-clause-next
 returns-in-Ok-clause-next c =
     follows_run c.args.self.now.broken c.if-self.false c.in-Ok.step (rest_in c.args.self.now.setting c.args.self.now.work) (rest_in c.args.self.now.setting c.next.new.self) c.in-Ok.ensures.1
+
+pub returns-in-Ok-clause-wants : goal.returns-in-Ok-clause-wants
+returns-in-Ok-clause-wants c =
+    follows_wants c.in-Ok.step (run_of c.args.self.now) (run_of (record c.args.self.now { work = c.next.new.self }))
+    (follows_run c.args.self.now.broken c.if-self.false c.in-Ok.step (rest_in c.args.self.now.setting c.args.self.now.work) (rest_in c.args.self.now.setting c.next.new.self) c.in-Ok.ensures.1)

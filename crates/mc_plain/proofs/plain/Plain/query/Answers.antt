@@ -1,11 +1,9 @@
-use Rattle.std.proofs.Common.{◌≡◌, ◌+◌, ℕ, suc, refl, sym, ap, ◌∙◌, map, arith}
-use Rattle.mc_program.specs.declared.program.Program.{Program}
+use Rattle.std.proofs.Common.{◌≡◌, ◌+◌, suc, refl, ◌∙◌, map, arith}
 use Rattle.mc_values.specs.declared.heap.Heap.{Heap}
-use Rattle.mc_model.specs.Stream.{Bindings, nothing_bound, ready}
+use Rattle.mc_model.specs.Stream.{nothing_bound, ready}
 use Rattle.mc_frames.specs.Frames.{bindings}
-use Rattle.mc_flat_code.specs.Running.{variables_at}
-use Rattle.mc_plain.specs.code.Beginnings.{first_machine, first_now}
-use Rattle.mc_plain.specs.Views.{plain_now}
+use Rattle.mc_plain.specs.code.Beginnings.{first_machine}
+use Rattle.mc_plain.specs.code.Views.{plain_now}
 use Rattle.mc_plain.specs.code.Work.{machine_of}
 use Rattle.mc_plain.specs.declared.state.Setting.{Setting}
 use Rattle.mc_plain.specs.declared.state.Work.{Work}

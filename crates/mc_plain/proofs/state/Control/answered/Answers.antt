@@ -1,15 +1,12 @@
-use Rattle.std.proofs.Common.{rules, ◌≡◌, ℕ, refl, sym, ap, subst, ◌∙◌, List, [], ◌∷◌, ◌++◌, Option, Vec, Global}
-use Rattle.mc_program.specs.Values.{Val}
-use Rattle.mc_program.specs.declared.builtin.Builtin.{Builtin}
-use Rattle.mc_model.specs.Outcomes.{Outcome}
+use Rattle.std.proofs.Common.{rules, ℕ, refl, sym, ap, subst, ◌∙◌, Option, Vec, Global}
 use Rattle.mc_model.specs.Stream.{Bindings}
 use Rattle.mc_values.specs.declared.heap.Heap.{Heap}
-use Rattle.mc_flat_code.specs.Ticked.{Ticked, End, Answer, append, bind}
+use Rattle.mc_flat_code.specs.Ticked.{Answer, append, bind}
 use Rattle.mc_flat_code.specs.Running.{instr_at}
 use Rattle.mc_frames.specs.Frames.{bindings}
-use Rattle.mc_frames.specs.Values.{AreLive}
-use Rattle.mc_plain.specs.Machine.{Machine, Moved, answered, called, at, failing, answers, back, said, go}
-use Rattle.mc_plain.specs.Views.{machine, plain_around, plain_now}
+use Rattle.mc_frames.specs.Values.{AreLive, AreHeld}
+use Rattle.mc_plain.specs.code.Machine.{Machine, Moved, answered, called, at, failing, answers, back, go}
+use Rattle.mc_plain.specs.code.Views.{machine, plain_around, plain_now}
 use Rattle.mc_plain.specs.declared.state.Around.{Around}
 use Rattle.mc_plain.specs.declared.state.Control.{Control}
 use Rattle.mc_plain.proofs.Calling.{kept, cut}
@@ -83,8 +80,8 @@ returns-in-Pruned-clause-steps c =
 pub returns-in-Pruned-clause-held : goal.returns-in-Pruned-clause-held
 returns-in-Pruned-clause-held c = λ p y x. c.give_up-in-Pruned.ensures.held p c.args.heap.now x
 
-pub returns-in_ok-now-in-Called-clause-steps : goal.returns-in_ok-now-in-Called-clause-steps
-returns-in_ok-now-in-Called-clause-steps c =
+pub returns-in_ok-keep_spare-in-Called-clause-steps : goal.returns-in_ok-keep_spare-in-Called-clause-steps
+returns-in_ok-keep_spare-in-Called-clause-steps c =
     λ vs e a outcome head last o w.
     let h : Heap = c.args.heap.now in
     let d : Control = record c.args.self.now { segments = vs } in
@@ -93,21 +90,22 @@ returns-in_ok-now-in-Called-clause-steps c =
     let outer : Bindings = bindings h s.frame.items in
     let f = c.args.flat.now in
     let place : ℕ = c.in-Called.place in
-    subst (λ (N : Machine). Moved outcome f head last (machine h d) (record N { bindings = e2; now = plain_now c.in_ok-now-in-Called.now })) (sym (c.in_ok-keep-in-Called.ensures.goes_on h))
+    subst (λ (g : Vec (Option ℕ) Global). Moved outcome f head last (machine h d) (record (machine h c.keep-in-Called.new.self) { bindings = bindings h g.items; now = plain_now c.in_ok-now-in-Called.now })) (sym c.replace-done.ensures.after)
+    (subst (λ (N : Machine). Moved outcome f head last (machine h d) (record N { bindings = e2; now = plain_now c.in_ok-now-in-Called.now })) (sym (c.in_ok-keep-in-Called.ensures.goes_on h))
     (kept outcome f o head last h c.args.self.now d s refl e a.0 a.1.0 a.1.1 w
     (called place) outer (plain_now c.in_ok-now-in-Called.now) e2 c.in_ok-now-in-Called.ensures.going
     (λ xs. ap (λ (k : Around). answers outcome f s.level s.height (plain_around k) outer (Answer (machine h d).bindings xs)) c.in-Called.is
     ∙ ap (λ l. append l (bind xs (back outcome f s.level s.height (instr_at f.code place) outer)))
     (ap (λ (g : Vec (Option ℕ) Global). back outcome f s.level s.height (instr_at f.code place) outer (bindings h g.items)) (sym c.in_ok-keep-in-Called.ensures.frame)
     ∙ c.in_ok-now-in-Called.ensures.says outcome s.level s.height))
-    refl (machine h c.keep-in-Called.new.self).points (c.in_ok-keep-in-Called.ensures.held h))
+    refl (machine h c.keep-in-Called.new.self).points (c.in_ok-keep-in-Called.ensures.held h)))
 
-pub returns-in_ok-now-in-Called-clause-held : goal.returns-in_ok-now-in-Called-clause-held
-returns-in_ok-now-in-Called-clause-held c =
+pub returns-in_ok-keep_spare-in-Called-clause-held : goal.returns-in_ok-keep_spare-in-Called-clause-held
+returns-in_ok-keep_spare-in-Called-clause-held c =
     λ p y x.
     let r = c.in_ok-keep-in-Called.ensures.refs p c.args.heap.now y x in
     record {
-      frame = c.in_ok-now-in-Called.ensures.held p r.frame y;
+      frame = subst (λ (g : Vec (Option ℕ) Global). AreHeld p c.args.heap.now g.items) (sym c.replace-done.ensures.after) (c.in_ok-now-in-Called.ensures.held p r.frame y);
       segments = r.segments;
       points = r.points;
     }

@@ -1,10 +1,10 @@
-use Rattle.std.proofs.Common.{◌≡◌, ◌<◌, ◌-◌, ◌∷◌, ℕ, true, false, length, sym, ap, subst, ◌∙◌, map, arith}
+use Rattle.std.proofs.Common.{◌≡◌, ◌-◌, ◌∷◌, true, length, sym, ap, subst, ◌∙◌, map, arith}
 use Rattle.mc_model.specs.Stream.{Bindings, ready, enter}
 use Rattle.mc_frames.specs.Frames.{bindings}
 use Rattle.mc_flat_code.specs.Running.{variables_at, body_at}
 use Rattle.mc_flat_code.specs.declared.code.Body.{Body}
-use Rattle.mc_plain.specs.Machine.{Machine, Moved, at, called, stuck}
-use Rattle.mc_plain.specs.Views.{machine, plain_now}
+use Rattle.mc_plain.specs.code.Machine.{Machine, Moved, at, called, stuck}
+use Rattle.mc_plain.specs.code.Views.{machine, plain_now}
 use Rattle.mc_plain.proofs.Calling.{inner_height, too_deep_moved, no_levels_moved, used_up_moved, not_ready_moved, call_moved}
 use Rattle.mc_plain.proofs.state.Control.call.Goals as goal
 

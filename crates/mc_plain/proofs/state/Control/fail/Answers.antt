@@ -1,6 +1,6 @@
-use Rattle.std.proofs.Common.{◌∷◌, ◌≡◌, ◌<◌, ◌≤◌, ℕ, refl, sym, ap, subst, List, [], length, map, reverse, arith}
-use Rattle.mc_plain.specs.Machine.{Moved}
-use Rattle.mc_plain.specs.Views.{machine, plain_now, point_in, segment_in}
+use Rattle.std.proofs.Common.{◌∷◌, ◌≡◌, ◌<◌, refl, sym, ap, subst, List, [], length, map, reverse, arith}
+use Rattle.mc_plain.specs.code.Machine.{Moved}
+use Rattle.mc_plain.specs.code.Views.{machine, plain_now, point_in, segment_in}
 use Rattle.mc_plain.specs.declared.state.Segment.{Segment}
 use Rattle.mc_plain.proofs.Pushing.{seen_length}
 use Rattle.mc_plain.proofs.Strays.{back_moved, out_moved, end_left}

@@ -1,10 +1,10 @@
 use Rattle.std.proofs.Common.{sym, ap, subst, ◌∙◌, ◌++◌, length, drop, reverse, map}
 use Rattle.mc_frames.specs.Values.{AreHeld}
-use Rattle.mc_plain.specs.Held.{SegmentsHeld, PointsHeld}
+use Rattle.mc_plain.specs.code.Held.{SegmentsHeld, PointsHeld}
 use Rattle.mc_plain.specs.declared.state.Control.{Control}
 use Rattle.mc_plain.proofs.Keeping.{points_cut}
 use Rattle.std.proofs.lemmas.List.{length-take-le}
-use Rattle.mc_plain.specs.Views.{point_in}
+use Rattle.mc_plain.specs.code.Views.{point_in}
 use Rattle.mc_plain.proofs.Pushing.{seen_length, seen_split}
 use Rattle.mc_plain.proofs.state.Control.give_up.Goals as goal
 

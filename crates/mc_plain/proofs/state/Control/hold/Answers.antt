@@ -1,6 +1,6 @@
 use Rattle.std.proofs.Common.{sym, subst}
 use Rattle.mc_frames.specs.Values.{AreHeld}
-use Rattle.mc_plain.specs.Held.{PointsHeld}
+use Rattle.mc_plain.specs.code.Held.{PointsHeld}
 use Rattle.mc_plain.specs.declared.state.Control.{Control}
 use Rattle.mc_plain.specs.declared.state.Point.TheVariants as P
 use Rattle.mc_plain.proofs.Keeping.{points_pushed}

@@ -2,8 +2,8 @@ use Rattle.std.proofs.Common.{sym, ap, ◌∙◌, reverse}
 use Rattle.mc_model.specs.Stream.{Bindings, made_items}
 use Rattle.mc_values.specs.declared.heap.Heap.{Heap}
 use Rattle.mc_frames.specs.Frames.{bindings}
-use Rattle.mc_plain.specs.Machine.{Machine}
-use Rattle.mc_plain.specs.Views.{machine}
+use Rattle.mc_plain.specs.code.Machine.{Machine}
+use Rattle.mc_plain.specs.code.Views.{machine}
 use Rattle.mc_plain.proofs.Growing.{points_grow, segments_grow, points_stay, segments_stay}
 use Rattle.mc_plain.proofs.Going.{acted}
 use Rattle.mc_plain.proofs.state.Control.make.Goals as goal

@@ -1,5 +1,4 @@
 use Rattle.std.proofs.Common.{ap, ◌∙◌, [], ◌∷◌, ◌++◌}
-use Rattle.mc_frames.specs.Values.{AreHeld}
 use Rattle.mc_plain.specs.declared.state.Point.{Point}
 use Rattle.mc_plain.specs.declared.state.Point.TheVariants as P
 use Rattle.mc_plain.proofs.Keeping.{segments_pushed, points_popped}

@@ -1,4 +1,4 @@
-use Rattle.std.proofs.Common.{◌≡◌, ℕ, List, Vec, Global, Option, refl, sym, ap, subst, ◌∙◌, map}
+use Rattle.std.proofs.Common.{◌≡◌, ℕ, List, Vec, Global, Option, sym, ap, subst, ◌∙◌, map}
 use Rattle.mc_program.specs.Values.{Val, plain_value}
 use Rattle.mc_model.specs.Events.{bound_values}
 use Rattle.mc_model.specs.Stream.{leave}
@@ -25,8 +25,10 @@ returns c =
     let e : c.exit.new.self ≡ w.control = (c.in_ok-apart.ensures.stays c.if-apart.false).1 in
     let frame : Vec (Option ℕ) Global = c.widen_all.new.frame in
     let vs : List Val = map plain_value c.in_ok-values.values in
+    let given =
     subst (λ (k : Control). IsReady t (record w { control = record k { frame = frame; now = N.Failing } }) × ((input : List ℕ) → rest_in t w input ≡ R.answered vs (rest_in t (record w { control = record k { frame = frame; now = N.Failing } }) input))) (sym e)
     (answer_gives t w c.args._place c.requires frame vs (c.in_ok-apart.ensures.stays c.if-apart.false).0
     (c.in_ok-widen_all.ensures.same w.heap ∙ ap (λ (k : Control). bindings w.heap k.frame.items) e)
     (c.in_ok-widen_all.ensures.held t.library.program.now w.heap (subst (λ (k : Control). AreHeld t.library.program.now w.heap k.frame.items) (sym e) c.requires.ready.held.frame))
-    (c.in_ok-values.ensures ∙ (λ i. bound_values (leave (c.variables-head.ensures i) (c.variables-last.ensures i) (bindings w.heap frame.items)))))
+    (c.in_ok-values.ensures ∙ (λ i. bound_values (leave (c.variables-head.ensures i) (c.variables-last.ensures i) (bindings w.heap frame.items))))) in
+    (given.0, given.1, tt)

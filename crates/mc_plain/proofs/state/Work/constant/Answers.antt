@@ -1,5 +1,5 @@
 use Rattle.std.specs.Slice.{IsItemAt}
-use Rattle.std.proofs.Common.{List, subst, ℕ, Option, None, Some, refl, ap, ◌∙◌}
+use Rattle.std.proofs.Common.{List, subst, ℕ, Option, None, Some, refl, ap}
 use Rattle.mc_program.specs.Values.{Val}
 use Rattle.mc_values.specs.Heap.{value_at}
 use Rattle.mc_model.specs.EventList.{of_option}
@@ -9,7 +9,7 @@ use Rattle.mc_frames.proofs.Growth.{live_from_held}
 use Rattle.mc_flat_code.specs.Ticked.{follow}
 use Rattle.mc_flat_code.specs.Running.{constant_items}
 use Rattle.mc_flat_code.specs.declared.code.Instr.TheVariants as I
-use Rattle.mc_plain.specs.Machine.{go}
+use Rattle.mc_plain.specs.code.Machine.{go}
 use Rattle.mc_plain.specs.code.Work.{meaning}
 use Rattle.mc_plain.specs.declared.state.Setting.{Setting}
 use Rattle.mc_plain.specs.declared.state.Work.{Work}

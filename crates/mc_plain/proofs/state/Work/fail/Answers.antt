@@ -8,4 +8,5 @@ returns-then-goes_on c =
 
 pub returns : goal.returns
 returns c =
-    end_gives c.args.t.now c.args.self.now c.fail.new.self (c.in_ok-goes_on.ensures.ends c.if-goes_on.false).0 ((c.in_ok-goes_on.ensures.ends c.if-goes_on.false).1 c.args.t.now.flat) c.requires.ready
+    let ends = end_gives c.args.t.now c.args.self.now c.fail.new.self (c.in_ok-goes_on.ensures.ends c.if-goes_on.false).0 ((c.in_ok-goes_on.ensures.ends c.if-goes_on.false).1 c.args.t.now.flat) c.requires.ready in
+    (ends.0, ends.1, tt)

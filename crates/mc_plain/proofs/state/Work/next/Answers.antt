@@ -1,10 +1,8 @@
-use Rattle.std.proofs.Common.{◌≡◌, ℕ, List, [], sym, subst, ◌∙◌}
-use Rattle.mc_model.specs.declared.run.Step.{Step}
-use Rattle.mc_plain.specs.Rest.{Rest, Gives, GivesIf}
+use Rattle.std.proofs.Common.{[], sym, subst, ◌∙◌}
+use Rattle.mc_plain.specs.Rest.{Rest, Gives}
 use Rattle.mc_plain.specs.code.Work.{Moves, Stepped, left_in, rest_in}
 use Rattle.mc_plain.specs.declared.step.Took.{Took}
 use Rattle.mc_plain.specs.declared.step.Took.TheVariants as T
-use Rattle.mc_plain.specs.declared.state.Work.{Work}
 use Rattle.mc_plain.proofs.Working.{same_rest}
 use Rattle.mc_plain.proofs.state.Work.next.Goals as goal
 
@@ -24,9 +22,9 @@ loop-took-smaller c =
 pub returns-in-Showed : goal.returns-in-Showed
 returns-in-Showed c =
     let m : Stepped c.args.t.now c.loop-took.self (T.Showed c.in-Showed.step) c.step.new.self = subst (λ (s : Took). Stepped c.args.t.now c.loop-took.self s c.step.new.self) c.in-Showed.is c.in_ok-took.ensures in
-    (m.0, λ input. subst (λ (r : Rest). Gives c.in-Showed.step r (rest_in c.args.t.now c.step.new.self input)) (sym (c.loop-took.invariant.shows input)) (m.1 input))
+    (m.0, λ input. subst (λ (r : Rest). Gives c.in-Showed.step r (rest_in c.args.t.now c.step.new.self input)) (sym (c.loop-took.invariant.shows input)) (m.1 input), m.2)
 
 pub returns-in-Stuck : goal.returns-in-Stuck
 returns-in-Stuck c =
     let m : Stepped c.args.t.now c.loop-took.self T.Stuck c.step.new.self = subst (λ (s : Took). Stepped c.args.t.now c.loop-took.self s c.step.new.self) c.in-Stuck.is c.in_ok-took.ensures in
-    (m.0, λ input. (c.loop-took.invariant.shows input ∙ (m.1 input).0, (m.1 input).1 ∙ sym (c.loop-took.invariant.shows input)))
+    (m.0, λ input. (c.loop-took.invariant.shows input ∙ (m.1 input).0, (m.1 input).1 ∙ sym (c.loop-took.invariant.shows input)), tt)

@@ -1,12 +1,11 @@
-use Rattle.std.proofs.Common.{ℕ, List, subst, sym, ap, ◌∙◌, ◌≡◌}
+use Rattle.std.proofs.Common.{ℕ, List, subst, sym}
 use Rattle.mc_program.specs.declared.builtin.Builtin.TheVariants.{ReadLine}
 use Rattle.mc_model.specs.EventList.{Items}
 use Rattle.mc_model.specs.Stream.{Bindings, apply_items, gather}
 use Rattle.mc_frames.specs.Atoms.{ReadsFrom}
 use Rattle.mc_frames.specs.Frames.{bindings}
 use Rattle.mc_flat_code.specs.Ticked.{Read}
-use Rattle.mc_flat_code.specs.Running.{variables_at}
-use Rattle.mc_plain.specs.Views.{machine}
+use Rattle.mc_plain.specs.code.Views.{machine}
 use Rattle.mc_plain.specs.code.Atoms.{ActedAfter}
 use Rattle.mc_plain.specs.code.Work.{meaning}
 use Rattle.mc_plain.specs.declared.state.Setting.{Setting}

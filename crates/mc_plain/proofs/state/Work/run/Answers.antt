@@ -1,15 +1,12 @@
 use Rattle.std.proofs.Common.{ℕ, refl, sym, subst}
-use Rattle.mc_plain.specs.Constants.{AreConstants}
-use Rattle.mc_program.specs.declared.program.Program.{Program}
-use Rattle.mc_values.specs.Heap.{value_at}
-use Rattle.mc_model.specs.EventList.{of_option}
+use Rattle.mc_plain.specs.code.Constants.{AreConstants}
 use Rattle.mc_model.specs.Stream.{Bindings, same_items}
 use Rattle.mc_flat_code.specs.declared.code.Instr.{Instr}
 use Rattle.mc_flat_code.specs.declared.code.Instr.TheVariants as I
 use Rattle.mc_frames.proofs.Growth.{live_from_held}
 use Rattle.mc_frames.specs.Frames.{bindings}
 use Rattle.mc_frames.specs.Values.{AreLive}
-use Rattle.mc_plain.specs.Machine.{condition, negated, pruned}
+use Rattle.mc_plain.specs.code.Machine.{condition, negated, pruned}
 use Rattle.mc_plain.specs.code.Work.{IsAt}
 use Rattle.mc_plain.specs.declared.state.Setting.{Setting}
 use Rattle.mc_plain.specs.declared.state.Work.{Work}

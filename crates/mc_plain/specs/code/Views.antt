@@ -1,13 +1,10 @@
 -- What the parts of the executor stand for over a heap.
 use Rattle.std.specs.Prelude.{map, reverse}
-use Rattle.mc_model.specs.EventList.{Halt, budget, too_deep, thrown}
-use Rattle.mc_model.specs.declared.run.Stop.{Stop}
-use Rattle.mc_model.specs.declared.run.Stop.TheVariants as W
 use Rattle.mc_values.specs.declared.heap.Heap.{Heap}
-use Rattle.mc_builtins.specs.Answers.{plain_exception}
 use Rattle.mc_frames.specs.Frames.{bindings}
-use Rattle.mc_plain.specs.Machine as M
-use Rattle.mc_plain.specs.Machine.{Machine}
+use Rattle.mc_plain.specs.Rest.{plain_halt}
+use Rattle.mc_plain.specs.code.Machine as M
+use Rattle.mc_plain.specs.code.Machine.{Machine}
 use Rattle.mc_plain.specs.declared.state.Around.{Around}
 use Rattle.mc_plain.specs.declared.state.Around.TheVariants as A
 use Rattle.mc_plain.specs.declared.state.Segment.{Segment}
@@ -23,11 +20,6 @@ plain_around (A.Answered t) = M.answered t
 plain_around (A.Negated next) = M.negated next
 plain_around (A.Pruned next) = M.pruned next
 plain_around (A.Called place) = M.called place
-
-abbrev pub plain_halt : Stop → Halt
-plain_halt W.Budget = budget
-plain_halt W.TooDeep = too_deep
-plain_halt (W.Throw x) = thrown (plain_exception x)
 
 abbrev pub plain_now : Now → M.Now
 plain_now (N.At place) = M.at place

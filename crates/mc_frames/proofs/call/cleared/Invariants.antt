@@ -1,5 +1,5 @@
 use Rattle.std.proofs.Common.{◌≡◌, ℕ, ◌≤◌, ◌-◌, length, get_or, None}
-use Rattle.mc_frames.proofs.call.unbound.Given as goal
+use Rattle.mc_frames.proofs.call.cleared.Given as goal
 
 abbrev pub invariant-loop-frame : goal.invariant-loop-frame
 invariant-loop-frame l = record {
