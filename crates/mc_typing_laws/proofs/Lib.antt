@@ -1,12 +1,6 @@
 pub mod Typing
-pub mod Taking
 pub mod General
-pub mod FlatTypings
-pub mod WalkedTerms
-pub mod WalkedGoals
 pub mod WalkedClauses
-pub mod TypedTerms
-pub mod TypedGoals
 pub mod TypedClauses
-pub mod PickedWalks
 pub mod WalksAndGoals
+pub mod Flags

@@ -1,3 +1,2 @@
-pub mod TypingLaws
 pub mod WalkLaws
 pub mod code

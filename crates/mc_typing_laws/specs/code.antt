@@ -1,3 +1,4 @@
 pub mod Examples
 pub mod ExamplesOfTypes
 pub mod ExamplesOfWalks
+pub mod ExamplesOfFlags

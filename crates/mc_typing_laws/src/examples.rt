@@ -1,5 +1,6 @@
 //! Computed examples of resolving. Each is the contract of a function that does nothing.
 ghost use Rattle.mc_typing_laws.specs.code.Examples.{Typings, LiveAtOnce, ResolvedClauses};
+ghost use Rattle.mc_typing_laws.specs.code.ExamplesOfFlags.{MadeVariables};
 ghost use Rattle.mc_typing_laws.specs.code.ExamplesOfTypes.{ListsOfAny, AskedList};
 ghost use Rattle.mc_typing_laws.specs.code.ExamplesOfWalks.{CharactersAreBare, ConstructorsAreListed};
 
@@ -28,4 +29,9 @@ pub fn most_general()
 pub fn walks_apart()
     ensures characters { CharactersAreBare }
     ensures constructors { ConstructorsAreListed }
+{}
+
+/// Which occurrences in a clause have variables of their own in its normal goal.
+pub fn made_variables()
+    ensures { MadeVariables }
 {}

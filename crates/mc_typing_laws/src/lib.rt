@@ -1,4 +1,4 @@
-//! Typing: the law that ties the types that candidates take to those of flat goals, and computed examples of resolving.
+//! Typing: the laws that tie the walk of a clause to the typing of its normal goal, and computed examples of resolving.
 #![tactic(auto)]
 
 pub mod examples;

@@ -1,5 +1,5 @@
-use Rattle.mc_typing_laws.proofs.Taking.{constructors_take, constructors_are_taken}
-use Rattle.mc_typing_laws.proofs.laws.constructors_take.Goals as goal
+use Rattle.mc_made_types.proofs.Taking.{constructors_take, constructors_are_taken}
+use Rattle.mc_made_types.proofs.laws.constructors_take.Goals as goal
 
 pub returns-clause-takes : goal.returns-clause-takes
 returns-clause-takes c = constructors_take

@@ -9,7 +9,7 @@ use Rattle.mc_model.specs.Lists.{is_in}
 use Rattle.mc_accepted.specs.ProperTypes.{Below, AllBelow, EachBelow, count_types}
 use Rattle.mc_accepted.specs.Typing.{constructor_types}
 use Rattle.mc_accepted.specs.Resolving.{parameters_from, declared_type}
-use Rattle.mc_typing_laws.specs.TypingLaws.{ConstructorsTake, ConstructorsAreTaken}
+use Rattle.mc_made_types.specs.Constructors.{ConstructorsTake, ConstructorsAreTaken}
 
 -- types for variables that agree below a number
 mutual

@@ -5,8 +5,9 @@ use Rattle.mc_accepted.specs.ProperTypes.{Parameters}
 use Rattle.mc_accepted.specs.Resolving.{Unresolved, any_variable, any_number, any_text, any_name, Unresolved_terms, no_terms, term_then, count, Unresolved_goal, equation, atom, all_of, one_of, choice, negation, exists, Unresolved_goals, no_goals, goal_then, Step, choose, call, equate, close_head, term_steps, terms_steps, goal_steps, goals_steps, Walks, below, Takes}
 use Rattle.mc_source.specs.declared.name.Candidate.{Candidate}
 use Rattle.mc_source.specs.declared.name.Candidate.TheVariants as C
-use Rattle.mc_typing_laws.specs.WalkLaws.{Bare, Picked, WalksArePicked}
-use Rattle.mc_typing_laws.proofs.FlatTypings.{topmost_is, below_is}
+use Rattle.mc_made_types.specs.Known.{Bare, Picked}
+use Rattle.mc_made_types.specs.MadeTypes.{WalksArePicked}
+use Rattle.mc_made_types.proofs.FlatTypings.{topmost_is, below_is}
 
 module _ (P : Source) (D : Parameters) (τ : ℕ → TypeTerm) where
   -- steps were walked, and left so many types on the stack; their picks fit where the picks that are left do

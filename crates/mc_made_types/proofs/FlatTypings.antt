@@ -7,11 +7,7 @@ use Rattle.mc_model.specs.Flat.{Flat_goal, Flat_goals, no_flat, flat_then, flats
 use Rattle.mc_accepted.specs.Typing.{TypedGoal, TypedGoals}
 use Rattle.mc_accepted.specs.Normal.{listed_flats, conjuncts, all_conjuncts, one_or_and, conjunction, disjuncts, all_disjuncts, disjunction, around}
 use Rattle.mc_accepted.specs.Resolving.{topmost, below}
-
--- the variables from n on have these types
-abbrev pub HasTypes : (ℕ → TypeTerm) → ℕ → List TypeTerm → Type 0
-HasTypes T n [] = Unit {0}
-HasTypes T n (t ∷ ts) = (T n ≡ t) × HasTypes T (suc n) ts
+use Rattle.mc_made_types.specs.Traced.{HasTypes}
 
 pub has_first : (T : ℕ → TypeTerm) (n : ℕ) (ts us : List TypeTerm) → HasTypes T n (ts ++ us) → HasTypes T n ts
 has_first T n [] us h = tt
@@ -20,6 +16,10 @@ has_first T n (t ∷ ts) us h = (h.0, has_first T (suc n) ts us h.1)
 pub has_second : (T : ℕ → TypeTerm) (n m : ℕ) (ts us : List TypeTerm) → m ≡ n + length ts → HasTypes T n (ts ++ us) → HasTypes T m us
 has_second T n m [] us e h = let s : n ≡ m = omega (arith, e) in subst (λ k. HasTypes T k us) s h
 has_second T n m (t ∷ ts) us e h = has_second T (suc n) m ts us (omega (arith, e)) h.1
+
+pub has_both : (T : ℕ → TypeTerm) (n m : ℕ) (ts us : List TypeTerm) → m ≡ n + length ts → HasTypes T n ts → HasTypes T m us → HasTypes T n (ts ++ us)
+has_both T n m [] us e h k = let s : m ≡ n = omega (arith, e) in subst (λ j. HasTypes T j us) s k
+has_both T n m (t ∷ ts) us e h k = (h.0, has_both T (suc n) m ts us (omega (arith, e)) h.1 k)
 
 pub has_none : (T : ℕ → TypeTerm) (n : ℕ) (ts : List TypeTerm) → length ts ≡ 0 → HasTypes T n ts
 has_none T n [] e = tt

@@ -1,0 +1,16 @@
+pub mod ClauseVariables
+pub mod Keeping
+pub mod Taking
+pub mod FlatTypings
+pub mod PickedWalks
+pub mod Tracing
+pub mod TracedTerms
+pub mod TracedGoals
+pub mod TracedClauses
+pub mod TypedTerms
+pub mod TypedGoals
+pub mod TypedClauses
+pub mod NamedVariables
+pub mod OthersOnce
+pub mod Generals
+pub mod KnownPicks

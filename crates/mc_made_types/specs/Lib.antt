@@ -1,0 +1,5 @@
+pub mod Makes
+pub mod Traced
+pub mod Constructors
+pub mod Known
+pub mod MadeTypes
