@@ -1,20 +1,20 @@
 -- What is answered of a clause.
-use Rattle.std.proofs.Common.{◌≡◌, ℕ, zero, suc, ◌+◌, ◌<◌, Option, Some, None, List, [], ◌∷◌, ◌++◌, map, length, get_or, Vec, Global, refl, sym, ap, ap₂, subst, ◌∙◌, arith}
-use Rattle.std.specs.Prelude.{slice_get, Ok, Err}
-use Rattle.mc_program.specs.Programs.{TypeTerm, Source}
-use Rattle.mc_program.specs.PlainPrograms.{plain_type}
+use Rattle.std.proofs.Common.{◌≡◌, ℕ, zero, suc, ◌+◌, ◌<◌, ◌≤◌, Option, Some, None, Bool, true, false, List, [], ◌∷◌, ◌++◌, map, drop, length, get_or, Vec, Global, refl, sym, ap, ap₂, subst, ◌∙◌, arith}
+use Rattle.std.specs.Prelude.{slice_get, replicate, Ok, Err}
+use Rattle.std.proofs.lemmas.List.{drop-map}
+use Rattle.mc_program.specs.Programs.{TypeTerm, variable_type, ClauseForm, Source}
+use Rattle.mc_program.specs.PlainPrograms.{plain_type, plain_clause}
 use Rattle.mc_program.specs.declared.program.Resolved.{Resolved}
-use Rattle.mc_program.specs.declared.ty.Ty.{Ty}
 use Rattle.mc_accepted.specs.ProperTypes.{Parameters}
-use Rattle.mc_accepted.specs.Resolving.{Step, terms_steps, goal_steps, steps_of, resolved, FirstTwo, close_head, assignments_limit, count}
-use Rattle.mc_accepted.specs.MostGeneral.{rigid_count}
+use Rattle.mc_accepted.specs.Resolving.{Step, Unresolved_clause, terms_steps, goal_steps, steps_of, resolved, FirstTwo, close_head, assignments_limit, count}
+use Rattle.mc_accepted.specs.MostGeneral.{rigid_count, generalised, type_at, MostGeneral}
 use Rattle.mc_source.specs.declared.name.Candidate.{Candidate}
 use Rattle.mc_type_search.specs.declared.signature.Signature.{Signature}
 use Rattle.mc_type_search.specs.declared.outcome.Outcome.TheVariants as O
 use Rattle.mc_type_search.specs.declared.written_types.Written.{Written, Free}
 use Rattle.mc_typecheck.specs.Ties.{of_head, declared, tied, picks_of, Declared}
 use Rattle.mc_typecheck.specs.Searched.{VariablesBelow, plain_signature}
-use Rattle.mc_typecheck.specs.WrittenTypes.{AreTypes}
+use Rattle.mc_typecheck.specs.WrittenTypes.{type_written, AreTypes}
 use Rattle.mc_typecheck.specs.Outcomes.{ClauseSays}
 use Rattle.mc_typecheck.specs.Walked.{IsAt, WasWalked, Shows, ShowsAll, after_all, start, entry}
 use Rattle.mc_typecheck.specs.declared.table.Signatures.{Signatures}
@@ -23,11 +23,16 @@ use Rattle.mc_unresolved.specs.Unresolved.{plain_unresolved_clause}
 use Rattle.mc_unresolved.specs.Steps.{plain_walk_step}
 use Rattle.mc_unresolved.specs.declared.clause.UnresolvedClause.{UnresolvedClause}
 use Rattle.mc_unresolved.specs.declared.steps.WalkStep.{WalkStep}
-use Rattle.mc_check_clause.specs.VariableTypes.{AreVariableTypes, ArePlain}
+use Rattle.mc_made_types.specs.Makes.{makes, kept}
+use Rattle.mc_made_types.specs.MadeTypes.{AreVariableTypes}
+use Rattle.mc_made_types.proofs.Generals.{types_are_general}
+use Rattle.mc_check_clause.specs.VariableTypes.{ArePlain}
+use Rattle.mc_check_clause.specs.code.Marking.{first_marking, after_all as all_marked}
 use Rattle.mc_check_clause.specs.code.Shown.{AreShown}
 use Rattle.mc_check_clause.specs.Checked.{Answers}
 use Rattle.mc_check_clause.specs.code.Made.{IsMade}
 use Rattle.mc_check_clause.proofs.ProperVariables.{are_proper}
+use Rattle.mc_check_clause.proofs.Marking.{clause_marked}
 use Rattle.mc_check_clause.specs.declared.checking.TypeFault.{TypeFault}
 use Rattle.mc_check_clause.specs.declared.checking.TypeFault.TheVariants as F
 
@@ -69,20 +74,69 @@ head_counted P D t pred place number s d shows at lt is counted =
 
 -- THE TYPES
 
-pub variable_types : (P : Source) (D : Parameters) (walk : List Step) (picks : List Candidate) (r vars : ℕ) (ws : List Written) (ts : List TypeTerm) → AreTypes P D walk vars picks ws → ArePlain r ws ts → AreVariableTypes P D walk picks r ts
-variable_types P D walk picks r vars ws ts are plain =
-    let long = are.as_many in
+map_as : {A B : Type 0} (f : A → TypeTerm) (g : B → TypeTerm) (a : A) (b : ℕ → B) (xs : List A) (ys : List B) → length ys ≡ length xs → ((v : ℕ) → v < length xs → f (get_or xs v a) ≡ g (get_or ys v (b v))) → map f xs ≡ map g ys
+map_as f g a b [] [] long h = refl
+map_as f g a b [] (y ∷ ys) long h = absurd (omega (arith, long))
+map_as f g a b (x ∷ xs) [] long h = absurd (omega (arith, long))
+map_as f g a b (x ∷ xs) (y ∷ ys) long h = ap₂ (λ t ts. t ∷ ts) (h 0 (omega arith)) (map_as f g a (λ v. b (suc v)) xs ys (omega (arith, long)) (λ v lt. h (suc v) (omega (arith, lt))))
+
+kept-mapped : (f : Written → TypeTerm) (flags : List Bool) (ws : List Written) → map f (kept flags ws) ≡ kept flags (map f ws)
+kept-mapped f [] ws = refl
+kept-mapped f (b ∷ bs) [] = refl
+kept-mapped f (true ∷ bs) (w ∷ ws) = ap (λ us. f w ∷ us) (kept-mapped f bs ws)
+kept-mapped f (false ∷ bs) (w ∷ ws) = kept-mapped f bs ws
+
+-- the flags of a clause's own variables are set
+module _ (bs : List Bool) (d : Written) where
+  own_at : (n v : ℕ) (ws : List Written) → n ≤ length ws → v < n → get_or (kept (replicate n true ++ bs) ws) v d ≡ get_or ws v d
+  own_at zero v ws le lt = absurd (omega (arith, lt))
+  own_at (suc n) v [] le lt = absurd (omega (arith, le))
+  own_at (suc n) zero (w ∷ ws) le lt = refl
+  own_at (suc n) (suc v) (w ∷ ws) le lt = own_at n v ws (omega (arith, le)) (omega (arith, lt))
+
+  behind_own : (n : ℕ) (ws : List Written) → n ≤ length ws → drop n (kept (replicate n true ++ bs) ws) ≡ kept bs (drop n ws)
+  behind_own zero ws le = refl
+  behind_own (suc n) [] le = absurd (omega (arith, le))
+  behind_own (suc n) (w ∷ ws) le = behind_own n ws (omega (arith, le))
+
+  own_many : (n : ℕ) (ws : List Written) → n ≤ length ws → n ≤ length (kept (replicate n true ++ bs) ws)
+  own_many zero ws le = omega arith
+  own_many (suc n) [] le = absurd (omega (arith, le))
+  own_many (suc n) (w ∷ ws) le = omega (arith, own_many n ws (omega (arith, le)))
+
+pub variable_types : (P : Source) (D : Parameters) (clause : Unresolved_clause) (picks : List Candidate) (vars : ℕ) (ws : List Written) (ts : List TypeTerm) → AreTypes P D (steps_of clause) vars picks ws → ArePlain (rigid_count (P.preds clause.pred).types) (kept (replicate vars true ++ makes clause) ws) ts → AreVariableTypes P D clause picks vars ts
+variable_types P D clause picks vars ws ts are plain =
+    let r = rigid_count (P.preds clause.pred).types in
+    let flags = makes clause in
+    let long : vars ≤ length ws = omega (arith, are.as_many) in
     let many = plain.as_many in
     let d = Free 0 in
+    let chosen = kept (replicate vars true ++ flags) ws in
+    let low : vars ≤ length chosen = own_many flags d vars ws long in
+    let made : (σ τ : ℕ → TypeTerm) → ((v : ℕ) (e : Written) → v < length chosen → type_written σ (get_or chosen v e) ≡ generalised r τ (type_at ts v)) → kept flags (map (type_written σ) (drop vars ws)) ≡ map (generalised r τ) (drop vars ts) =
+    λ σ τ same.
+    let all : map (type_written σ) chosen ≡ map (generalised r τ) ts = map_as (type_written σ) (generalised r τ) d variable_type chosen ts many (λ v lt. same v d lt) in
+    sym (kept-mapped (type_written σ) flags (drop vars ws))
+    ∙ ap (map (type_written σ)) (sym (behind_own flags d vars ws long))
+    ∙ sym (drop-map (type_written σ) vars chosen) ∙ ap (drop vars) all ∙ drop-map (generalised r τ) vars ts in
     record {
-      general = λ τ h.
-          let g = are.general τ h in
-          let p = plain.general g.0 in
-          (p.0, (λ v lt. g.1 v d (omega (arith, long, many)) ∙ p.1 v d (omega (arith, many))));
+      own = omega (arith, low, many);
+      general = λ τ trace h.
+          let g = are.general τ trace h in
+          let p = plain.general g.0 in (
+            p.0,
+            (λ v lt. g.1 v d lt ∙ ap (type_written g.0) (sym (own_at flags d vars v ws long lt)) ∙ p.1 v d (omega (arith, low, lt))),
+            ap (kept flags) g.2 ∙ made g.0 p.0 p.1,
+          );
       typed = λ σ.
           let p = plain.typed σ in
-          let g = are.typed p.0 in
-          (g.0, g.1, (λ v lt. g.2 v d (omega (arith, long, many)) ∙ p.1 v d (omega (arith, many))));
+          let g = are.typed p.0 in (
+            g.0,
+            map (type_written p.0) (drop vars ws),
+            g.1,
+            (λ v lt. g.2 v d lt ∙ ap (type_written p.0) (sym (own_at flags d vars v ws long lt)) ∙ p.1 v d (omega (arith, low, lt))),
+            made p.0 σ p.1,
+          );
       numbered = plain.numbered;
     }
 
@@ -101,8 +155,9 @@ module _ (t : Signatures) (clause : UnresolvedClause) (steps : List WalkStep) (a
       let R : List Step → Type 0 = λ xs. ShowsAll P D t xs in
       subst Q are (walked P D (subst R (sym are) shows))
 
-  pub was_walked : AreShown t whole → WasWalked t walk vars
+  pub was_walked : AreShown t whole → WasWalked t walk
   was_walked s = record {
+    vars = vars;
     source = s.source;
     parameters = s.parameters;
     steps = whole;
@@ -114,10 +169,6 @@ pub shown_steps : (P : Source) (D : Parameters) (t : Signatures) (clause : Unres
 shown_steps P D t clause steps are shows = let Q : List Step → Type 0 = λ xs. ShowsAll P D t xs in subst Q (sym are) shows
 
 -- THE ANSWERS
-
-mapped_long : (xs : List Ty) → length xs ≡ length (map plain_type xs)
-mapped_long [] = refl
-mapped_long (x ∷ xs) = ap suc (mapped_long xs)
 
 module _ (P : Source) (D : Parameters) (clause : UnresolvedClause) (steps : List WalkStep) (are : map plain_walk_step steps ≡ steps_of (plain_unresolved_clause clause)) (vars : ℕ) (all : vars ≡ length clause.names) where
   abbrev ties_for : (n : ℕ) → List ℕ → List Candidate
@@ -134,18 +185,25 @@ module _ (P : Source) (D : Parameters) (clause : UnresolvedClause) (steps : List
   pub answered_one : (v : Vec ℕ Global) (types : Vec Written Global) (made : Resolved) → IsMade P D clause (map plain_walk_step steps) v.items types.items made → ClauseSays P D (plain_unresolved_clause clause) assignments_limit vars (O.One v types) → Answers P D clause (Ok made)
   answered_one v types made m h =
       let w = h.0 in
-      let picks : picks_of (tied P D (map plain_walk_step steps) (length clause.names) []) v.items ≡ w.picks = same_picks v.items (length clause.names) (sym all) ∙ sym h.1 in
-      let are_types = h.2 in
-      let plain = m.are_plain in
-      let types_are = variable_types P D (steps_of (plain_unresolved_clause clause)) w.picks (rigid_count (P.preds clause.pred).types) vars types.items (map plain_type made.var_types) are_types plain in (
+      let plain_clause' = plain_unresolved_clause clause in
+      let n = length clause.names in
+      let picks : picks_of (tied P D (map plain_walk_step steps) n []) v.items ≡ w.picks = same_picks v.items n (sym all) ∙ sym h.1 in
+      let ts = map plain_type made.var_types in
+      let Q : ℕ → Type 0 = λ k. AreTypes P D (steps_of plain_clause') k w.picks types.items in
+      let S : List Bool → Type 0 = λ bs. ArePlain (rigid_count (P.preds clause.pred).types) (kept bs types.items) ts in
+      let flags : (all_marked (map plain_walk_step steps) (first_marking n)).flags ≡ replicate n true ++ makes plain_clause' = ap (λ (xs : List Step). (all_marked xs (first_marking n)).flags) are ∙ clause_marked plain_clause' n in
+      let types_are = variable_types P D plain_clause' w.picks n types.items ts (subst Q all h.2) (subst S flags m.are_plain) in
+      let form : plain_clause made.clause ≡ resolved plain_clause' w.picks = m.form ∙ ap (resolved plain_clause') picks in (
         record {
           typed = w;
-          form = m.form ∙ ap (resolved (plain_unresolved_clause clause)) picks;
+          form = form;
           vars = m.vars;
           place = m.place;
-          as_many = mapped_long made.var_types ∙ plain.as_many ∙ are_types.as_many ∙ all;
           types = types_are;
-          proper = are_proper P D (steps_of (plain_unresolved_clause clause)) w.picks (rigid_count (P.preds clause.pred).types) (map plain_type made.var_types) types_are;
+          most_general = λ known values named.
+              let R : ClauseForm → ℕ → Type 0 = λ c k. MostGeneral P D (P.preds clause.pred).types (record { clause = c; variables = k; types = ts; names = made.var_names }) in
+              subst (λ c. R c made.clause.vars) (sym form) (subst (λ k. R (resolved plain_clause' w.picks) k) (sym m.vars) (types_are_general P D plain_clause' w.picks n ts made.var_names known values named types_are));
+          proper = are_proper P D plain_clause' w.picks n ts types_are;
           names = m.names;
         },
         h.3,

@@ -7,3 +7,4 @@ pub mod Written
 pub mod WhatFits
 pub mod ProperVariables
 pub mod Checked
+pub mod Marking

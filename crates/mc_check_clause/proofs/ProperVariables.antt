@@ -1,18 +1,21 @@
--- The most general types of a clause's variables are well formed where its names are declared so.
+-- The most general types of a clause's variables, and of those that its normal goal makes, are well formed where its names
+-- are declared so.
 --
 -- Where a part of such a type weren't well formed, types with an integer there would type the walk
 -- too, and they are no instance of it.
-use Rattle.std.proofs.Common.{◌≡◌, ℕ, suc, zero, ◌-◌, ◌<◌, Bool, true, false, nat_eq, nat_lt, Option, Some, None, List, [], ◌∷◌, ◌++◌, map, length, take, drop, refl, sym, ap, ap₂, subst, ◌∙◌, arith, get_or}
+use Rattle.std.proofs.Common.{◌≡◌, ℕ, suc, zero, ◌-◌, ◌<◌, ◌≤◌, Bool, true, false, nat_eq, nat_lt, Option, Some, None, List, [], ◌∷◌, ◌++◌, map, length, take, drop, refl, sym, ap, ap₂, subst, ◌∙◌, arith, get_or}
 use Rattle.std.specs.Prelude.{if◌then◌else◌}
 use Rattle.std.proofs.lemmas.Bool.{eqb-true, eq-eqb}
 use Rattle.std.proofs.lemmas.List.{map-append, length-map, take-map, drop-map}
 use Rattle.mc_program.specs.Programs.{TypeTerm, int_type, char_type, string_type, state_type, variable_type, union_type, TypeTerms, no_types, type_then, Source}
 use Rattle.mc_model.specs.Types.{instance_of, instances_of}
 use Rattle.mc_accepted.specs.ProperTypes.{Parameters, ProperType, ProperTypes, EachProper, count_types}
-use Rattle.mc_accepted.specs.Resolving.{Step, push_variable, push_number, push_text, choose, equate, call, close_head, signature, Walks, Takes, topmost, below}
-use Rattle.mc_accepted.specs.MostGeneral.{generalised, type_at}
+use Rattle.mc_accepted.specs.Resolving.{Step, push_variable, push_number, push_text, choose, equate, call, close_head, signature, Takes, topmost, below, Unresolved_clause, steps_of}
+use Rattle.mc_accepted.specs.MostGeneral.{rigid_count, generalised, type_at}
 use Rattle.mc_source.specs.declared.name.Candidate.{Candidate}
-use Rattle.mc_check_clause.specs.VariableTypes.{AreVariableTypes}
+use Rattle.mc_made_types.specs.Makes.{makes, kept}
+use Rattle.mc_made_types.specs.Traced.{Traces}
+use Rattle.mc_made_types.specs.MadeTypes.{AreVariableTypes}
 use Rattle.mc_check_clause.specs.WellFormed.{WalkIsDeclared}
 
 abbrev is_count : Option ℕ → ℕ → Bool
@@ -140,46 +143,48 @@ module _ (D : Parameters) where
     takes-mended : (c : Candidate) (ts : List TypeTerm) → EachProper D (signature P D c) → Takes P D c ts → Takes P D c (map mended ts)
     takes-mended c ts declared taken = ((λ v. mended (taken.0 v)), mended-each taken.0 (signature P D c) declared ∙ ap (map mended) taken.1)
 
-    walks-mended : (τ : ℕ → TypeTerm) (steps : List Step) (stack : List TypeTerm) (picks : List Candidate) → WalkIsDeclared P D steps → Walks P D τ steps stack picks → Walks P D (λ v. mended (τ v)) steps (map mended stack) picks
-    walks-mended τ [] stack picks d w = w
-    walks-mended τ (push_variable v ∷ steps) stack picks d w =
-        let Q : List TypeTerm → Type 0 = λ s. Walks P D (λ v. mended (τ v)) steps s picks in
-        subst Q (one_more stack (τ v)) (walks-mended τ steps (stack ++ τ v ∷ []) picks d w)
-    walks-mended τ (push_number ∷ steps) stack picks d w =
-        let Q : List TypeTerm → Type 0 = λ s. Walks P D (λ v. mended (τ v)) steps s picks in
-        subst Q (one_more stack int_type) (walks-mended τ steps (stack ++ int_type ∷ []) picks d w)
-    walks-mended τ (push_text ∷ steps) stack picks d w =
-        let Q : List TypeTerm → Type 0 = λ s. Walks P D (λ v. mended (τ v)) steps s picks in
-        subst Q (one_more stack string_type) (walks-mended τ steps (stack ++ string_type ∷ []) picks d w)
-    walks-mended τ (choose cs n ∷ steps) stack [] d w = w
-    walks-mended τ (choose cs n ∷ steps) stack (c ∷ picks) d (among, names, t, taken, w) =
-        let Q : List TypeTerm → Type 0 = λ s. Walks P D (λ v. mended (τ v)) steps s picks in
+    traces-mended : (τ : ℕ → TypeTerm) (steps : List Step) (stack : List TypeTerm) (picks : List Candidate) (trace : List TypeTerm) → WalkIsDeclared P D steps → Traces P D τ steps stack picks trace → Traces P D (λ v. mended (τ v)) steps (map mended stack) picks (map mended trace)
+    traces-mended τ [] stack picks trace d w = (w.0, ap (map mended) w.1)
+    traces-mended τ (push_variable v ∷ steps) stack picks trace d w =
+        let Q : List TypeTerm → Type 0 = λ s. Traces P D (λ v. mended (τ v)) steps s picks (map mended trace) in
+        subst Q (one_more stack (τ v)) (traces-mended τ steps (stack ++ τ v ∷ []) picks trace d w)
+    traces-mended τ (push_number ∷ steps) stack picks trace d (more, is, w) =
+        let Q : List TypeTerm → Type 0 = λ s. Traces P D (λ v. mended (τ v)) steps s picks (map mended more) in
+        (map mended more, ap (map mended) is, subst Q (one_more stack int_type) (traces-mended τ steps (stack ++ int_type ∷ []) picks more d w))
+    traces-mended τ (push_text ∷ steps) stack picks trace d (more, is, w) =
+        let Q : List TypeTerm → Type 0 = λ s. Traces P D (λ v. mended (τ v)) steps s picks (map mended more) in
+        (map mended more, ap (map mended) is, subst Q (one_more stack string_type) (traces-mended τ steps (stack ++ string_type ∷ []) picks more d w))
+    traces-mended τ (choose cs n ∷ steps) stack [] trace d w = w
+    traces-mended τ (choose cs n ∷ steps) stack (c ∷ picks) trace d (among, names, t, more, is, taken, w) =
+        let Q : List TypeTerm → Type 0 = λ s. Traces P D (λ v. mended (τ v)) steps s picks (map mended more) in
         let R : List TypeTerm → Type 0 = λ ts. Takes P D c ts in (
           among,
           names,
           mended t,
+          map mended more,
+          ap (map mended) is,
           subst R (one_more (topmost n stack) t ∙ ap (λ ts. ts ++ mended t ∷ []) (sym (topmost-mended n stack))) (takes-mended c (topmost n stack ++ t ∷ []) (d.0 c among) taken),
-          subst Q (one_more (below n stack) t ∙ ap (λ ts. ts ++ mended t ∷ []) (sym (below-mended n stack))) (walks-mended τ steps (below n stack ++ t ∷ []) picks d.1 w),
+          subst Q (one_more (below n stack) t ∙ ap (λ ts. ts ++ mended t ∷ []) (sym (below-mended n stack))) (traces-mended τ steps (below n stack ++ t ∷ []) picks more d.1 w),
         )
-    walks-mended τ (equate ∷ steps) stack picks d (t, same, w) =
-        let Q : List TypeTerm → Type 0 = λ s. Walks P D (λ v. mended (τ v)) steps s picks in (
+    traces-mended τ (equate ∷ steps) stack picks trace d (t, same, w) =
+        let Q : List TypeTerm → Type 0 = λ s. Traces P D (λ v. mended (τ v)) steps s picks (map mended trace) in (
           mended t,
           topmost-mended 2 stack ∙ ap (map mended) same,
-          subst Q (sym (below-mended 2 stack)) (walks-mended τ steps (below 2 stack) picks d w),
+          subst Q (sym (below-mended 2 stack)) (traces-mended τ steps (below 2 stack) picks trace d w),
         )
-    walks-mended τ (call cs n ∷ steps) stack [] d w = w
-    walks-mended τ (call cs n ∷ steps) stack (c ∷ picks) d (among, names, taken, w) =
-        let Q : List TypeTerm → Type 0 = λ s. Walks P D (λ v. mended (τ v)) steps s picks in
+    traces-mended τ (call cs n ∷ steps) stack [] trace d w = w
+    traces-mended τ (call cs n ∷ steps) stack (c ∷ picks) trace d (among, names, taken, w) =
+        let Q : List TypeTerm → Type 0 = λ s. Traces P D (λ v. mended (τ v)) steps s picks (map mended trace) in
         let R : List TypeTerm → Type 0 = λ ts. Takes P D c ts in (
           among,
           names,
           subst R (sym (topmost-mended n stack)) (takes-mended c (topmost n stack) (d.0 c among) taken),
-          subst Q (sym (below-mended n stack)) (walks-mended τ steps (below n stack) picks d.1 w),
+          subst Q (sym (below-mended n stack)) (traces-mended τ steps (below n stack) picks trace d.1 w),
         )
-    walks-mended τ (close_head p n ∷ steps) stack picks d (same, w) =
-        let Q : List TypeTerm → Type 0 = λ s. Walks P D (λ v. mended (τ v)) steps s picks in (
+    traces-mended τ (close_head p n ∷ steps) stack picks trace d (same, w) =
+        let Q : List TypeTerm → Type 0 = λ s. Traces P D (λ v. mended (τ v)) steps s picks (map mended trace) in (
           topmost-mended n stack ∙ ap (map mended) same ∙ mended-all_same (P.preds p).types d.0,
-          subst Q (sym (below-mended n stack)) (walks-mended τ steps (below n stack) picks d.1 w),
+          subst Q (sym (below-mended n stack)) (traces-mended τ steps (below n stack) picks trace d.1 w),
         )
 
 -- THE TYPES
@@ -201,9 +206,15 @@ mutual
   own_types r no_types = refl
   own_types r (type_then t ts) = ap₂ type_then (own_type r t) (own_types r ts)
 
-each_proper : (D : Parameters) (types : List TypeTerm) → ((v : ℕ) → v < length types → ProperType D (type_at types v)) → EachProper D types
-each_proper D [] h = tt
-each_proper D (t ∷ ts) h = (h 0 (omega arith), each_proper D ts (λ v lt. same v lt (h (suc v) (omega (arith, lt)))))
+each_own : (r : ℕ) (ts : List TypeTerm) → map (generalised r variable_type) ts ≡ ts
+each_own r [] = refl
+each_own r (t ∷ ts) = ap₂ (λ x xs. x ∷ xs) (own_type r t) (each_own r ts)
+
+-- the first types, and those behind them
+each_proper : (D : Parameters) (n : ℕ) (types : List TypeTerm) → n ≤ length types → ((v : ℕ) → v < n → ProperType D (type_at types v)) → EachProper D (drop n types) → EachProper D types
+each_proper D zero types le h rest = rest
+each_proper D (suc n) [] le h rest = absurd (omega (arith, le))
+each_proper D (suc n) (t ∷ ts) le h rest = (h 0 (omega arith), each_proper D n ts (omega (arith, le)) (λ v lt. same v (omega (arith, lt, le)) (h (suc v) (omega (arith, lt)))) rest)
   where
     same : (v : ℕ) → v < length ts → ProperType D (get_or ts v (variable_type (suc v))) → ProperType D (type_at ts v)
     same v lt p = subst (ProperType D) (there ts v (variable_type (suc v)) (variable_type v) lt) p
@@ -213,12 +224,35 @@ each_proper D (t ∷ ts) h = (h 0 (omega arith), each_proper D ts (λ v lt. same
         there (x ∷ xs) zero a b lt = refl
         there (x ∷ xs) (suc v) a b lt = there xs v a b (omega (arith, lt))
 
-pub are_proper : (P : Source) (D : Parameters) (walk : List Step) (picks : List Candidate) (r : ℕ) (types : List TypeTerm)
-    → AreVariableTypes P D walk picks r types → WalkIsDeclared P D walk → EachProper D types
-are_proper P D walk picks r types are declared =
+abbrev first_type : List TypeTerm → TypeTerm
+first_type [] = int_type
+first_type (t ∷ ts) = t
+
+abbrev other_types : List TypeTerm → List TypeTerm
+other_types [] = []
+other_types (t ∷ ts) = ts
+
+-- types that are instances of their own mended forms
+instances_proper : (D : Parameters) (σ : ℕ → TypeTerm) (ts : List TypeTerm) → map (mended D) ts ≡ map (instance_of σ) ts → EachProper D ts
+instances_proper D σ [] e = tt
+instances_proper D σ (t ∷ ts) e = (proper D σ t (ap first_type e), instances_proper D σ ts (ap other_types e))
+
+kept-mapped : (f : TypeTerm → TypeTerm) (flags : List Bool) (ts : List TypeTerm) → map f (kept flags ts) ≡ kept flags (map f ts)
+kept-mapped f [] ts = refl
+kept-mapped f (b ∷ bs) [] = refl
+kept-mapped f (true ∷ bs) (t ∷ ts) = ap (λ us. f t ∷ us) (kept-mapped f bs ts)
+kept-mapped f (false ∷ bs) (t ∷ ts) = kept-mapped f bs ts
+
+pub are_proper : (P : Source) (D : Parameters) (clause : Unresolved_clause) (picks : List Candidate) (vars : ℕ) (types : List TypeTerm)
+    → AreVariableTypes P D clause picks vars types → WalkIsDeclared P D (steps_of clause) → EachProper D types
+are_proper P D clause picks vars types are declared =
+    let r = rigid_count (P.preds clause.pred).types in
     let typed = are.typed variable_type in
-    let general = are.general (λ v. mended D (typed.0 v)) (walks-mended D P typed.0 walk [] picks declared typed.1) in
-    each_proper D types
-    (λ v lt.
-    proper D (λ k. if nat_lt k r then variable_type k else general.0 k) (type_at types v)
-    (ap (mended D) (sym (typed.2 v lt ∙ own_type r (type_at types v))) ∙ general.1 v lt))
+    let mends = mended D in
+    let general = are.general (λ v. mends (typed.0 v)) (map mends typed.1) (traces-mended D P typed.0 (steps_of clause) [] picks typed.1 declared typed.2) in
+    let σ : ℕ → TypeTerm = λ k. if nat_lt k r then variable_type k else general.0 k in
+    let made : map mends (drop vars types) ≡ map (instance_of σ) (drop vars types) =
+    ap (map mends) (sym (typed.4 ∙ each_own r (drop vars types))) ∙ kept-mapped mends (makes clause) typed.1 ∙ general.2 in
+    each_proper D vars types are.own
+    (λ v lt. proper D σ (type_at types v) (ap mends (sym (typed.3 v lt ∙ own_type r (type_at types v))) ∙ general.1 v lt))
+    (instances_proper D σ (drop vars types) made)

@@ -2,7 +2,7 @@
 use Rattle.std.proofs.Common.{◌≡◌, ℕ, zero, suc, ◌+◌, ◌-◌, ◌<◌, ◌≤◌, Bool, true, false, cond, nat_eq, ◌||◌, List, [], ◌∷◌, ◌++◌, map, take, length, get_or, refl, sym, ap, ap₂, ◌∙◌, subst, arith, append_assoc, append-nil}
 use Rattle.std.specs.Prelude.{nat_lt}
 use Rattle.std.proofs.lemmas.Bool.{lt-ltb, le-ltb}
-use Rattle.std.proofs.lemmas.List.{map-append, map_push, take_more, take_all}
+use Rattle.std.proofs.lemmas.List.{map-append, map_push, take_all}
 use Rattle.mc_program.specs.Programs.{TypeTerm, variable_type, union_type, TypeTerms, no_types, type_then}
 use Rattle.mc_program.specs.PlainPrograms.{plain_type, type_terms}
 use Rattle.mc_program.specs.declared.ty.Ty as T
@@ -16,9 +16,10 @@ use Rattle.mc_type_graph.specs.declared.cells.TypeName.TheVariants as N
 use Rattle.mc_type_search.specs.declared.written_types.Written.{Written, Free, Rigid, Named, App'}
 use Rattle.mc_typecheck.specs.WrittenTypes.{type_written}
 use Rattle.mc_goals.proofs.Lists.{itself, is_in-append}
+use Rattle.mc_made_types.specs.Makes.{kept}
 use Rattle.mc_check_clause.specs.VariableTypes.{free_of, free_in, number_of, ArePlain}
 use Rattle.mc_check_clause.specs.code.Numbering.{Knows}
-use Rattle.mc_check_clause.specs.code.WrittenOut.{IsWrittenOut, IsApplied}
+use Rattle.mc_check_clause.specs.code.WrittenOut.{IsWrittenOut, IsApplied, AllOut, OutSoFar, asked_for}
 use Rattle.mc_check_clause.specs.declared.numbers.Numbers.{Numbers}
 use Rattle.mc_check_clause.proofs.Bounds.{plain-Var, plain-Union}
 use Rattle.mc_check_clause.proofs.Numbering.{number_stays, of_number, are_numbered}
@@ -169,12 +170,6 @@ applied_made r seen w p q f x tf tx t mid now is mf mx ap' =
 
 -- ALL TYPES
 
-abbrev pub AllOut : (r : ℕ) (f : ℕ → ℕ) → List Written → List TypeTerm → Type 0
-AllOut r f [] [] = Unit {0}
-AllOut r f [] (t ∷ ts) = ⊥
-AllOut r f (w ∷ ws) [] = ⊥
-AllOut r f (w ∷ ws) (t ∷ ts) = IsWrittenOut r f w t × AllOut r f ws ts
-
 all_as : (r : ℕ) (f g : ℕ → ℕ) (ws : List Written) (ts : List TypeTerm) → ((k : ℕ) → is_in k (free_in ws) ≡ true → f k ≡ g k) → AllOut r f ws ts → AllOut r g ws ts
 all_as r f g [] [] same h = tt
 all_as r f g [] (t ∷ ts) same h = h
@@ -194,32 +189,51 @@ free_push : (ws : List Written) (w : Written) → free_in (ws ++ w ∷ []) ≡ f
 free_push [] w = append-nil (free_of w)
 free_push (x ∷ ws) w = ap (λ l. free_of x ++ l) (free_push ws w) ∙ sym (append_assoc (free_of x) (free_in ws) (free_of w))
 
-pub record OutSoFar (r : ℕ) (ws : List Written) (k : ℕ) (types : List Ty) (n : Numbers) : Type 0 where
-  pub knows : Knows r (free_in (take k ws)) n
-  pub out : AllOut r (number_of r (free_in (take k ws))) (take k ws) (map plain_type types)
-
-pub out_first : (r : ℕ) (ws : List Written) (types : List Ty) (n : Numbers) → types ≡ [] → Knows r [] n → OutSoFar r ws 0 types n
-out_first r ws types n none k =
+pub out_first : (r : ℕ) (types : List Ty) (n : Numbers) → types ≡ [] → Knows r [] n → OutSoFar r [] (map plain_type types) n
+out_first r types n none k =
     let Q : List Ty → Type 0 = λ ts. AllOut r (number_of r []) [] (map plain_type ts) in
     record { knows = k; out = subst Q (sym none) tt }
 
-pub out_more : (r : ℕ) (ws : List Written) (k : ℕ) (d : Written) (types more : List Ty) (t : Ty) (n m : Numbers) → k < length ws → more ≡ types ++ t ∷ [] → Made r (free_in (take k ws)) (get_or ws k d) (plain_type t) m → OutSoFar r ws k types n → OutSoFar r ws (k + 1) more m
-out_more r ws k d types more t n m lt grown made so =
-    let front = take k ws in
-    let w = get_or ws k d in
+-- one type more, or none where it isn't asked for
+pub out_more : (r : ℕ) (front : List Written) (w : Written) (types more : List Ty) (t : Ty) (n m : Numbers) → more ≡ types ++ t ∷ [] → Made r (free_in front) w (plain_type t) m → OutSoFar r front (map plain_type types) n → OutSoFar r (front ++ w ∷ []) (map plain_type more) m
+out_more r front w types more t n m grown made so =
     let all = free_in front ++ free_of w in
-    let met : free_in (take (k + 1) ws) ≡ all = ap free_in (take_more ws k d lt) ∙ free_push front w in
+    let met : free_in (front ++ w ∷ []) ≡ all = free_push front w in
     let S : List ℕ → Type 0 = λ l. Knows r l m in
     let Q : List ℕ → Type 0 = λ l. AllOut r (number_of r l) (front ++ w ∷ []) (map plain_type types ++ plain_type t ∷ []) in
-    let R : List Written → List TypeTerm → Type 0 = λ xs ts. AllOut r (number_of r (free_in (take (k + 1) ws))) xs ts in
-    let kept = all_as r (number_of r (free_in front)) (number_of r all) front (map plain_type types) (λ j i. sym (number_stays r j (free_in front) (free_of w) i)) so.out in
+    let R : List TypeTerm → Type 0 = λ ts. AllOut r (number_of r (free_in (front ++ w ∷ []))) (front ++ w ∷ []) ts in
+    let kept_so = all_as r (number_of r (free_in front)) (number_of r all) front (map plain_type types) (λ j i. sym (number_stays r j (free_in front) (free_of w) i)) so.out in
     record {
       knows = subst S (sym met) made.0;
       out =
-          subst (λ xs. R xs (map plain_type more)) (sym (take_more ws k d lt))
-          (subst (λ ts. R (front ++ w ∷ []) ts) (sym (ap (map plain_type) grown ∙ map_push plain_type types t))
-          (subst Q (sym met) (all_push r (number_of r all) front (map plain_type types) w (plain_type t) kept made.1)));
+          subst R (sym (ap (map plain_type) grown ∙ map_push plain_type types t))
+          (subst Q (sym met) (all_push r (number_of r all) front (map plain_type types) w (plain_type t) kept_so made.1));
     }
+
+pub out_asked : (r : ℕ) (front : List Written) (asked : Bool) (w : Written) (types more : List Ty) (t : Ty) (n m : Numbers) → asked ≡ true → more ≡ types ++ t ∷ [] → Made r (free_in front) w (plain_type t) m → OutSoFar r front (map plain_type types) n → OutSoFar r (front ++ asked_for asked w) (map plain_type more) m
+out_asked r front asked w types more t n m e grown made so =
+    let Q : List Written → Type 0 = λ ws. OutSoFar r ws (map plain_type more) m in
+    subst Q (sym (ap (λ b. front ++ asked_for b w) e)) (out_more r front w types more t n m grown made so)
+
+pub kept_none : (bs : List Bool) → kept {A = Written} bs [] ≡ []
+kept_none [] = refl
+kept_none (b ∷ bs) = refl
+
+-- one place more
+kept_next : (flags : List Bool) (ws : List Written) (k : ℕ) (d : Written) → k < length ws → kept flags (take (suc k) ws) ≡ kept flags (take k ws) ++ asked_for (get_or flags k false) (get_or ws k d)
+kept_next flags [] k d lt = absurd (omega (arith, lt))
+kept_next [] (w ∷ ws) zero d lt = refl
+kept_next [] (w ∷ ws) (suc k) d lt = refl
+kept_next (true ∷ bs) (w ∷ ws) zero d lt = ap (λ us. w ∷ us) (kept_none bs)
+kept_next (false ∷ bs) (w ∷ ws) zero d lt = kept_none bs
+kept_next (true ∷ bs) (w ∷ ws) (suc k) d lt = ap (λ us. w ∷ us) (kept_next bs ws k d (omega (arith, lt)))
+kept_next (false ∷ bs) (w ∷ ws) (suc k) d lt = kept_next bs ws k d (omega (arith, lt))
+
+pub out_next : (r : ℕ) (flags : List Bool) (ws : List Written) (k : ℕ) (w : Written) (asked : Bool) (types : List Ty) (n : Numbers) → k < length ws → asked ≡ get_or flags k false → w ≡ get_or ws k w → OutSoFar r (kept flags (take k ws) ++ asked_for asked w) (map plain_type types) n → OutSoFar r (kept flags (take (k + 1) ws)) (map plain_type types) n
+out_next r flags ws k w asked types n lt flag is so =
+    let Q : List Written → Type 0 = λ us. OutSoFar r us (map plain_type types) n in
+    let e : k + 1 ≡ suc k = omega arith in
+    subst Q (ap (λ us. kept flags (take k ws) ++ us) (ap₂ asked_for flag is) ∙ sym (kept_next flags ws k w lt) ∙ ap (λ j. kept flags (take j ws)) (sym e)) so
 
 -- WHAT THEY SAY
 
@@ -290,7 +304,10 @@ module _ (r : ℕ) (ws : List Written) (ts : List TypeTerm) (h : AllOut r (numbe
         typed = are_typed;
       }
 
-pub plain_whole : (r : ℕ) (ws : List Written) (k : ℕ) (types : List Ty) (n : Numbers) → length ws ≤ k → OutSoFar r ws k types n → ArePlain r ws (map plain_type types)
-plain_whole r ws k types n le so =
-    let Q : List Written → Type 0 = λ xs. AllOut r (number_of r (free_in xs)) xs (map plain_type types) in
-    are_plain r ws (map plain_type types) (subst Q (take_all k ws le) so.out)
+pub plain_whole : (r : ℕ) (ws : List Written) (types : List Ty) (n : Numbers) → OutSoFar r ws (map plain_type types) n → ArePlain r ws (map plain_type types)
+plain_whole r ws types n so = are_plain r ws (map plain_type types) so.out
+
+pub plain_kept : (r : ℕ) (flags : List Bool) (ws : List Written) (k : ℕ) (types : List Ty) (n : Numbers) → length ws ≤ k → OutSoFar r (kept flags (take k ws)) (map plain_type types) n → ArePlain r (kept flags ws) (map plain_type types)
+plain_kept r flags ws k types n le so =
+    let Q : List Written → Type 0 = λ us. OutSoFar r (kept flags us) (map plain_type types) n in
+    plain_whole r (kept flags ws) types n (subst Q (take_all k ws le) so)

@@ -7,15 +7,18 @@ use Rattle.mc_program.specs.declared.program.Resolved.{Resolved}
 use Rattle.mc_source.specs.declared.name.Candidate.{Candidate}
 use Rattle.mc_accepted.specs.ProperTypes.{Parameters, EachProper}
 use Rattle.mc_accepted.specs.Resolving.{steps_of, resolved, Resolves, WellTyped, TooMany, FirstTwo, assignments_limit}
-use Rattle.mc_accepted.specs.MostGeneral.{rigid_count}
+use Rattle.mc_accepted.specs.MostGeneral.{MostGeneral}
 use Rattle.mc_unresolved.specs.Unresolved.{plain_unresolved_clause}
 use Rattle.mc_unresolved.specs.declared.clause.UnresolvedClause.{UnresolvedClause}
-use Rattle.mc_check_clause.specs.VariableTypes.{AreVariableTypes}
+use Rattle.mc_goals.specs.Resolved.{typed_clause}
+use Rattle.mc_made_types.specs.Known.{AllKnown, ClauseHasValues, ClauseHasNames}
+use Rattle.mc_made_types.specs.MadeTypes.{AreVariableTypes}
 use Rattle.mc_check_clause.specs.WellFormed.{WalkIsDeclared}
 use Rattle.mc_check_clause.specs.declared.checking.TypeFault.{TypeFault}
 use Rattle.mc_check_clause.specs.declared.checking.TypeFault.TheVariants as F
 
--- the clause has one resolution, and this is the clause that it makes, with its variables' types
+-- The clause has one resolution, and this is the clause that it makes, with the types of its variables
+-- and, behind them, of those that its normal goal makes.
 pub record IsResolved
     (P : Source) (D : Parameters) (clause : UnresolvedClause) (made : Resolved)
     : Type 0 where
@@ -23,10 +26,16 @@ pub record IsResolved
   pub form : plain_clause made.clause ≡ resolved (plain_unresolved_clause clause) typed.picks
   pub vars : made.clause.vars ≡ length clause.names
   pub place : made.clause.place ≡ clause.place
-  pub as_many : length made.var_types ≡ length clause.names
   pub types :
-      AreVariableTypes P D (steps_of (plain_unresolved_clause clause)) typed.picks
-      (rigid_count (P.preds clause.pred).types) (map plain_type made.var_types)
+      AreVariableTypes P D (plain_unresolved_clause clause) typed.picks (length clause.names)
+      (map plain_type made.var_types)
+  -- The most general types of the normal goal, where the constructors that are picked are declared,
+  -- texts and characters are values, and each variable has a name.
+  pub most_general :
+      AllKnown P D typed.picks
+      → ClauseHasValues P (plain_unresolved_clause clause)
+      → ClauseHasNames (length clause.names) (plain_unresolved_clause clause)
+      → MostGeneral P D (P.preds clause.pred).types (typed_clause made)
   -- well formed where what the clause may speak of is declared with well-formed types
   pub proper :
       WalkIsDeclared P D (steps_of (plain_unresolved_clause clause))

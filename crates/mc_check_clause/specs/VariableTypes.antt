@@ -1,34 +1,11 @@
--- The types of a clause's variables, with numbers for their type variables. (Milner, A Theory of Type
--- Polymorphism in Programming: most general types; this project's profile: the numbers.)
+-- Types over free places, with numbers for these. (Milner, A Theory of Type Polymorphism in
+-- Programming: most general types; this project's profile: the numbers.)
 use Rattle.std.specs.Prelude.{◌≡◌, ℕ, ◌+◌, ◌<◌, List, [], ◌∷◌, ◌++◌, length, slice_index_or}
-use Rattle.mc_program.specs.Programs.{TypeTerm, Source}
+use Rattle.mc_program.specs.Programs.{TypeTerm}
 use Rattle.mc_model.specs.Lists.{once, place_in}
-use Rattle.mc_accepted.specs.ProperTypes.{Parameters}
-use Rattle.mc_accepted.specs.Resolving.{Step, Walks}
 use Rattle.mc_accepted.specs.MostGeneral.{AreNumbered, generalised, type_at}
-use Rattle.mc_source.specs.declared.name.Candidate.{Candidate}
 use Rattle.mc_type_search.specs.declared.written_types.Written.{Written, Free, Rigid, Named, App'}
 use Rattle.mc_typecheck.specs.WrittenTypes.{type_written}
-
--- The types that any types come of with which the picks type a walk, by types for the variables that
--- are not rigid, which are those from r on; and each choice of types for these gives such types.
-pub record AreVariableTypes
-    (P : Source) (D : Parameters) (walk : List Step) (picks : List Candidate) (r : ℕ)
-    (types : List TypeTerm)
-    : Type 0 where
-  pub general :
-      (τ : ℕ → TypeTerm)
-      → Walks P D τ walk [] picks
-      → (σ : ℕ → TypeTerm)
-      × ((v : ℕ) → v < length types → τ v ≡ generalised r σ (type_at types v))
-  pub typed :
-      (σ : ℕ → TypeTerm)
-      → (τ : ℕ → TypeTerm)
-      × Walks P D τ walk [] picks
-      × ((v : ℕ) → v < length types → τ v ≡ generalised r σ (type_at types v))
-  pub numbered : AreNumbered r types
-
--- THE SAME TYPES, OVER FREE PLACES
 
 -- the free places of a type, in the order in which they occur
 abbrev pub free_of : Written → List ℕ

@@ -6,3 +6,4 @@ pub mod Numbering
 pub mod WrittenOut
 pub mod Made
 pub mod Shown
+pub mod Marking

@@ -11,6 +11,7 @@ ghost use Rattle.mc_check_clause.specs.Fitting.{IsSomeTable, clause_fits};
 ghost use Rattle.mc_check_clause.specs.Checked.{Answers};
 ghost use Rattle.mc_check_clause.specs.code.Made.{IsMade};
 
+use crate::marks::marked;
 use crate::picking::picked;
 use crate::rigid::rigid_count;
 use crate::types::types_of;
@@ -50,8 +51,9 @@ impl From<Memory> for TypeFault {
     }
 }
 
-/// The one resolution of a clause, with the most general types of its variables, or the rule that it breaks. (Mercury
-/// Language Reference Manual: Types; this project's profile: the order of candidates and of the walk, and the limit.)
+/// The one resolution of a clause, with the most general types of its variables and of those that its normal goal makes,
+/// or the rule that it breaks. (Mercury Language Reference Manual: Types; this project's profile: the order of candidates
+/// and of the walk, and the limit.)
 pub fn check_clause(
     alloc: Global,
     signatures: &Signatures,
@@ -67,7 +69,7 @@ pub fn check_clause(
     let steps = steps.as_slice();
     let vars = clause.names.len() as usize;
     let walk = walked(alloc, signatures, steps, vars)?;
-    match resolve_walk(alloc, signatures, &walk, vars, LIMIT)? {
+    match resolve_walk(alloc, signatures, &walk, LIMIT)? {
         Outcome::None => Err(TypeFault::None),
         Outcome::TooMany => Err(TypeFault::TooMany),
         Outcome::Two(first, second) => {
@@ -97,7 +99,7 @@ fn pick(
     Ok(Row::of(picks)?)
 }
 
-/// The clause that is picked by choices, with these types of its variables.
+/// The clause that is picked by choices, with those of these types that are its variables' or its normal goal's.
 fn resolve(
     alloc: Global,
     signatures: &Signatures,
@@ -114,7 +116,8 @@ fn resolve(
     let picks = pick(alloc, signatures, steps, choices)?;
     let rigid = head_count(signatures, clause.pred)?;
     let made = resolved_clause(alloc, clause, picks.as_slice())?;
-    let var_types = types_of(alloc, types.as_slice(), rigid)?;
+    let flags = marked(alloc, steps, clause.names.len() as usize)?;
+    let var_types = types_of(alloc, types.as_slice(), flags.as_slice(), rigid)?;
     let var_names = clause.names.copied(alloc)?;
     Ok(Resolved {
         clause: made,

@@ -3,6 +3,7 @@
 
 mod checking;
 mod fitting;
+mod marks;
 mod numbers;
 mod picking;
 mod rigid;

@@ -1,9 +1,10 @@
-ghost use Rattle.std.specs.Prelude.{◌≡◌, ℕ, List, ◌++◌, Some, map, IfOk};
+ghost use Rattle.std.specs.Prelude.{◌≡◌, ℕ, List, ◌++◌, Some, false, map, slice_index_or, IfOk, OnOk};
 ghost use Rattle.mc_program.specs.PlainPrograms.{plain_type};
 ghost use Rattle.mc_types.specs.Trees.{of_name};
+ghost use Rattle.mc_made_types.specs.Makes.{kept};
 ghost use Rattle.mc_check_clause.specs.VariableTypes.{free_of, number_of, ArePlain};
 ghost use Rattle.mc_check_clause.specs.code.Numbering.{Knows};
-ghost use Rattle.mc_check_clause.specs.code.WrittenOut.{IsWrittenOut, IsApplied};
+ghost use Rattle.mc_check_clause.specs.code.WrittenOut.{IsWrittenOut, IsApplied, OutSoFar, asked_for};
 
 use crate::numbers::Numbers;
 use mc_base::{Memory, Row};
@@ -12,16 +13,56 @@ use mc_type_graph::TypeName;
 use mc_type_search::Written;
 use std::alloc::Global;
 
-/// Types with numbers for their free places, which are above the rigid type variables, of which there are so many.
-pub fn types_of(alloc: Global, written: &[Written], rigid: u32) -> Result<Row<Ty>, Memory>
-    ensures { IfOk result (λ types. ArePlain rigid written.now (map plain_type types)) }
+/// Types with numbers for their free places, which are above the rigid type variables, of which there are so many: the
+/// types whose flag is set.
+pub fn types_of(
+    alloc: Global,
+    written: &[Written],
+    flags: &[bool],
+    rigid: u32,
+) -> Result<Row<Ty>, Memory>
+    ensures { IfOk result (λ types.
+        ArePlain rigid (kept flags.now written.now) (map plain_type types)) }
 {
     let mut numbers = Numbers::new(alloc, rigid);
-    let mut types = Vec::with_capacity(alloc, written.len())?;
-    for next in written {
-        types.push(type_of(alloc, next, &mut numbers)?)?;
+    let mut types = Vec::new(alloc);
+    for k in 0..written.len() {
+        put_type(
+            alloc,
+            is_set(flags, k),
+            &written[k],
+            &mut numbers,
+            &mut types,
+        )?;
     }
     Ok(Row::of(types)?)
+}
+
+/// Whether the flag at a place is set.
+fn is_set(flags: &[bool], place: usize) -> bool
+    ensures { result ≡ slice_index_or flags.now place false }
+{
+    place < flags.len() && flags[place]
+}
+
+/// Puts a type behind others, where it is asked for.
+fn put_type(
+    alloc: Global,
+    asked: bool,
+    written: &Written,
+    numbers: &mut Numbers,
+    types: &mut Vec<Ty>,
+) -> Result<(), Memory>
+    ensures { (r : ℕ) (front : List Written)
+        → OutSoFar r front (map plain_type types.old.items) numbers.old
+        → OnOk result (OutSoFar r (front ++ asked_for asked written.now)
+        (map plain_type types.new.items) numbers.new) }
+{
+    if !asked {
+        return Ok(());
+    }
+    types.push(type_of(alloc, written, numbers)?)?;
+    Ok(())
 }
 
 /// A type with numbers for its free places. What is applied is a union type, and a rigid type variable is one of those

@@ -1,9 +1,11 @@
 -- What the search's answers say of a clause.
-use Rattle.std.proofs.Common.{◌≡◌, ℕ, zero, suc, ◌<◌, ◌≤◌, ◌⊎◌, Bool, List, [], ◌∷◌, ◌++◌, length, take, get_or, refl, sym, ap, ap₂, subst, ◌∙◌, inl, inr, arith, take_all}
+use Rattle.std.proofs.Common.{◌≡◌, ℕ, zero, suc, ◌+◌, ◌<◌, ◌≤◌, ◌⊎◌, Bool, List, [], ◌∷◌, ◌++◌, map, length, take, drop, get_or, refl, sym, ap, ap₂, subst, ◌∙◌, inl, inr, arith, take_all}
+use Rattle.std.proofs.Math.Seq.{drop-cons}
+use Rattle.std.proofs.lemmas.List.{drop_all}
 use Rattle.std.proofs.lemmas.Bool.{cases_lt}
 use Rattle.mc_program.specs.Programs.{TypeTerm, Source}
 use Rattle.mc_accepted.specs.ProperTypes.{Parameters}
-use Rattle.mc_accepted.specs.Resolving.{Walks, Step as WalkStep, push_variable, push_number, push_text, choose, equate, call, close_head, names_of, Before, Earlier, Live, TooMany, Unresolved_clause, steps_of, Resolves as ClauseResolves}
+use Rattle.mc_accepted.specs.Resolving.{Step as WalkStep, push_variable, push_number, push_text, choose, equate, call, close_head, names_of, Before, Earlier, Live, TooMany, Unresolved_clause, steps_of, Resolves as ClauseResolves}
 use Rattle.mc_source.specs.declared.name.Candidate.{Candidate}
 use Rattle.mc_type_search.specs.declared.signature.Signature.{Signature}
 use Rattle.mc_type_search.specs.declared.steps.Step.{Step}
@@ -11,7 +13,7 @@ use Rattle.mc_type_search.specs.declared.outcome.Outcome.{Outcome}
 use Rattle.mc_type_search.specs.declared.outcome.Outcome.TheVariants as O
 use Rattle.mc_type_search.specs.Typed.{Typed, LiveAt}
 use Rattle.mc_type_search.specs.Resolved.{Resolves, MostGeneral, Exceeds, OutcomeSays, Earlier as EarlierChoice}
-use Rattle.mc_typecheck.specs.Ties.{Meaning, of_name, of_number, of_text, of_equation, of_head, Tie, names_term, names_atom, topmost, below, offered, sole, tied, ties_in, pick_of, picks_of}
+use Rattle.mc_typecheck.specs.Ties.{Meaning, of_name, of_number, of_text, of_equation, of_head, Tie, names_term, names_atom, topmost, below, offered, sole, tied, ties_in, made_by, pick_of, picks_of}
 use Rattle.mc_typecheck.specs.Searched.{AreTies, VariablesBelow}
 use Rattle.mc_typecheck.specs.Outcomes.{ClauseSays}
 use Rattle.mc_typecheck.specs.WrittenTypes.{type_written, AreTypes}
@@ -20,9 +22,11 @@ use Rattle.mc_types.specs.Trees.{shape, type_of, applied}
 use Rattle.mc_types.proofs.TreeLaws.{exact}
 use Rattle.mc_type_search.specs.declared.written_types.Written.{Written, Free as OfFree, Rigid as OfRigid, Named as OfNamed, App' as OfApp}
 use Rattle.mc_type_search.specs.Writing.{written}
+use Rattle.mc_made_types.specs.Traced.{Traces, HasTypes}
+use Rattle.mc_typecheck.proofs.Walking.{types_from, types_are, types_many}
 use Rattle.mc_typecheck.proofs.Offers.{same_candidate, Offered, offered_at, offered_before, not_before_itself, sole_at}
 use Rattle.mc_typecheck.proofs.Suiting.{Suited, typed_suited, ties_length}
-use Rattle.mc_typecheck.proofs.Moments.{choices_of, walks_by, tied_length, moment_of, live_choices, choices_live}
+use Rattle.mc_typecheck.proofs.Moments.{choices_of, traces_by, traced_long, tied_length, moment_of, live_choices, choices_live}
 
 -- each choice is the number of a meaning
 abbrev pub InRange : List Tie → List ℕ → Type 0
@@ -197,27 +201,50 @@ module _ (P : Source) (D : Parameters) (signatures : List Signature) (walk : Lis
   read_shapes σ (OfNamed n) = refl
   read_shapes σ (OfApp p f q x) = ap₂ applied (read_shapes σ f) (read_shapes σ x)
 
-  pub general_types : (cs : List ℕ) (types : List Written) → Resolves signatures steps cs → MostGeneral signatures steps vars cs types → (τ : ℕ → TypeTerm) → Walks P D τ walk [] (picks_of ties cs) → (σ : ℕ → TypeTerm) × ((v : ℕ) (d : Written) → v < vars → τ v ≡ type_written σ (get_or types v d))
-  general_types cs types r m τ h =
-      let Q : List WalkStep → Type 0 = λ w. Walks P D τ w [] (picks_of ties cs) in
-      let c = choices_of P D signatures walk steps vars own are (length walk) (picks_of ties cs) τ (subst Q (sym whole_walk) h) in
+  abbrev places : ℕ
+  places = vars + made_by walk
+
+  -- the types of the occurrences are those that are written out at their places
+  written_trace : (T : ℕ → TypeTerm) (σ : ℕ → TypeTerm) (types : List Written) (n : ℕ) (trace : List TypeTerm) → HasTypes T n trace → n + length trace ≡ length types → ((i : ℕ) (d : Written) → i < length types → T i ≡ type_written σ (get_or types i d)) → trace ≡ map (type_written σ) (drop n types)
+  written_trace T σ types n [] has long is = ap (map (type_written σ)) (sym (drop_all n types (omega (arith, long))))
+  written_trace T σ types n (t ∷ trace) has long is =
+      let d = OfFree 0 in
+      let here : n < length types = omega (arith, long) in
+      ap₂ (λ u us. u ∷ us) (sym has.0 ∙ is n d here) (written_trace T σ types (suc n) trace has.1 (omega (arith, long)) is)
+      ∙ ap (map (type_written σ)) (sym (drop-cons types n d here))
+
+  pub general_types : (cs : List ℕ) (types : List Written) → Resolves signatures steps cs → MostGeneral signatures steps places cs types → (τ : ℕ → TypeTerm) (trace : List TypeTerm) → Traces P D τ walk [] (picks_of ties cs) trace →
+      (σ : ℕ → TypeTerm) × ((v : ℕ) (d : Written) → v < vars → τ v ≡ type_written σ (get_or types v d)) × (trace ≡ map (type_written σ) (drop vars types))
+  general_types cs types r m τ trace h =
+      let Q : List WalkStep → Type 0 = λ w. Traces P D τ w [] (picks_of ties cs) trace in
+      let c = choices_of P D signatures walk steps vars own are (length walk) (picks_of ties cs) τ trace (subst Q (sym whole_walk) h) in
       let all : ties_in (take (length walk) walk) ≡ length steps = ap ties_in whole_walk ∙ sym steps_are in
       let same : c.choices ≡ cs = same_picks (length steps) c.choices cs (c.long ∙ all, ((λ p. shape (c.types p)), c.typed)) r (sym c.picked) in
-      let T : List ℕ → Type 0 = λ xs. Typed (λ p. shape (c.types p)) signatures steps xs in
-      let g = m.general (λ p. shape (c.types p)) (subst T same c.typed) in (
-        (λ k. type_of (g.0 k)),
-        (λ v d lt. sym (c.own_types v lt) ∙ sym (exact (c.types v)) ∙ ap type_of (g.1 v d lt) ∙ read_written g.0 (get_or types v d)),
+      let S : List ℕ → Type 0 = λ xs. Typed (λ p. shape (c.types p)) signatures steps xs in
+      let g = m.general (λ p. shape (c.types p)) (subst S same c.typed) in
+      let σ : ℕ → TypeTerm = λ k. type_of (g.0 k) in
+      let at : (v : ℕ) (d : Written) → v < places → c.types v ≡ type_written σ (get_or types v d) =
+      λ v d lt. sym (exact (c.types v)) ∙ ap type_of (g.1 v d lt) ∙ read_written g.0 (get_or types v d) in (
+        σ,
+        (λ v d lt. sym (c.own_types v lt) ∙ at v d (omega arith)),
+        written_trace c.types σ types vars trace c.traced (omega (arith, m.as_many, traced_long P D τ walk [] (picks_of ties cs) trace h)) (λ v d lt. at v d (omega (arith, m.as_many))),
       )
 
-  pub typed_so : (cs : List ℕ) (types : List Written) → Resolves signatures steps cs → MostGeneral signatures steps vars cs types → (σ : ℕ → TypeTerm) → (τ : ℕ → TypeTerm) × Walks P D τ walk [] (picks_of ties cs) × ((v : ℕ) (d : Written) → v < vars → τ v ≡ type_written σ (get_or types v d))
+  pub typed_so : (cs : List ℕ) (types : List Written) → Resolves signatures steps cs → MostGeneral signatures steps places cs types → (σ : ℕ → TypeTerm) →
+      (τ : ℕ → TypeTerm) × Traces P D τ walk [] (picks_of ties cs) (map (type_written σ) (drop vars types)) × ((v : ℕ) (d : Written) → v < vars → τ v ≡ type_written σ (get_or types v d))
   typed_so cs types r m σ =
       let g = m.typed (λ k. shape (σ k)) in
       let τ : ℕ → TypeTerm = λ p. type_of (g.0 p) in
-      let Q : List WalkStep → Type 0 = λ w. Walks P D τ w [] (picks_of ties cs) in
+      let trace = types_from τ vars (made_by walk) in
+      let at : (v : ℕ) (d : Written) → v < places → τ v ≡ type_written σ (get_or types v d) = λ v d lt. ap type_of (g.2 v d lt) ∙ read_shapes σ (get_or types v d) in
+      let is : trace ≡ map (type_written σ) (drop vars types) =
+      written_trace τ σ types vars trace (types_are τ vars (made_by walk)) (omega (arith, m.as_many, types_many τ vars (made_by walk))) (λ v d lt. at v d (omega (arith, m.as_many))) in
+      let Q : List WalkStep → Type 0 = λ w. Traces P D τ w [] (picks_of ties cs) (types_from τ vars (made_by w)) in
+      let R : List TypeTerm → Type 0 = λ ts. Traces P D τ walk [] (picks_of ties cs) ts in
       let len : length cs ≡ ties_in (take (length walk) walk) = r.0 ∙ steps_are ∙ sym (ap ties_in whole_walk) in (
         τ,
-        subst Q whole_walk (walks_by P D signatures walk steps vars own are (length walk) cs len τ (typed_suited P D signatures g.0 steps ties cs are g.1)),
-        (λ v d lt. ap type_of (g.2 v d lt) ∙ read_shapes σ (get_or types v d)),
+        subst R is (subst Q whole_walk (traces_by P D signatures walk steps vars own are (length walk) cs len τ (typed_suited P D signatures g.0 steps ties cs are g.1))),
+        (λ v d lt. at v d (omega arith)),
       )
 
   -- WHAT PASSES A LIMIT
@@ -305,14 +332,14 @@ module _ (P : Source) (D : Parameters) (signatures : List Signature) (clause : U
     ]
   ]
 
-  are_types : (cs : List ℕ) (types : List Written) → Resolves signatures steps cs → MostGeneral signatures steps vars cs types → AreTypes P D (steps_of clause) vars (picks_of clause_ties cs) types
+  are_types : (cs : List ℕ) (types : List Written) → Resolves signatures steps cs → MostGeneral signatures steps (vars + made_by (steps_of clause)) cs types → AreTypes P D (steps_of clause) vars (picks_of clause_ties cs) types
   are_types cs types r m = record {
     as_many = m.as_many;
-    general = λ τ h. general_types P D signatures (steps_of clause) steps vars own are cs types r m τ h;
+    general = λ τ trace h. general_types P D signatures (steps_of clause) steps vars own are cs types r m τ trace h;
     typed = λ σ. typed_so P D signatures (steps_of clause) steps vars own are cs types r m σ;
   }
 
-  pub search_decides : (outcome : Outcome) → OutcomeSays signatures steps vars limit outcome → ClauseSays P D clause limit vars outcome
+  pub search_decides : (outcome : Outcome) → OutcomeSays signatures steps (vars + made_by (steps_of clause)) limit outcome → ClauseSays P D clause limit vars outcome
   search_decides O.None h = (
     (λ picks r. let c = resolution picks r in h.0 c.0 c.1),
     (λ m. h.1 (exceeds m)),

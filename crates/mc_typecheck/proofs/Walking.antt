@@ -6,11 +6,12 @@ use Rattle.std.proofs.lemmas.List.{map_push, drop-map, take-map, length-map}
 use Rattle.mc_program.specs.Programs.{TypeTerm, int_type, char_type, string_type, state_type, variable_type, union_type, TypeTerms, no_types, type_then, Source}
 use Rattle.mc_model.specs.Types.{instance_of, instances_of}
 use Rattle.mc_accepted.specs.ProperTypes.{Parameters}
-use Rattle.mc_accepted.specs.Resolving.{Step, push_variable, push_number, push_text, choose, equate, call, close_head, signature, Takes, Walks, topmost as topmost_types, below as types_below}
+use Rattle.mc_accepted.specs.Resolving.{Step, push_variable, push_number, push_text, choose, equate, call, close_head, signature, Takes, topmost as topmost_types, below as types_below}
 use Rattle.mc_accepted.specs.MostGeneral.{variables_of, variables_of_all, variables_of_each, bound_of, rigid_count}
 use Rattle.mc_types.specs.Substitutions.{under}
 use Rattle.mc_source.specs.declared.name.Candidate.{Candidate}
-use Rattle.mc_typecheck.specs.Ties.{Meaning, of_name, of_number, of_text, of_equation, of_head, Tie, names_term, names_atom, topmost, below, declared, offered, sole, tied, pick_of, picks_of}
+use Rattle.mc_typecheck.specs.Ties.{Meaning, of_name, of_number, of_text, of_equation, of_head, Tie, names_term, names_atom, topmost, below, declared, offered, sole, tied, made_by, pick_of, picks_of}
+use Rattle.mc_made_types.specs.Traced.{Traces, HasTypes}
 use Rattle.mc_typecheck.specs.Searched.{VariablesBelow}
 use Rattle.mc_typecheck.proofs.Suiting.{Suits}
 use Rattle.mc_typecheck.proofs.Offers.{names_term_of, of_names_term, names_atom_of, of_names_atom, Offered, offered_at, offered_has, sole_at, sole_has}
@@ -152,6 +153,22 @@ changed_stack : (τ : ℕ → TypeTerm) (n : ℕ) (t : TypeTerm) (ps : List ℕ)
 changed_stack τ n t ps b =
     sym (map_push (changed τ n t) ps n ∙ ap₂ (λ x xs. xs ++ x ∷ []) (changed_same τ n t) (agree τ (changed τ n t) n ps b (λ i lt. changed_other τ n t i lt)))
 
+-- so many types, of the places from a number on
+abbrev pub types_from : (ℕ → TypeTerm) → (next count : ℕ) → List TypeTerm
+types_from τ next zero = []
+types_from τ next (suc n) = τ next ∷ types_from τ (suc next) n
+
+pub types_are : (τ : ℕ → TypeTerm) (next n : ℕ) → HasTypes τ next (types_from τ next n)
+types_are τ next zero = tt
+types_are τ next (suc n) = (refl, types_are τ (suc next) n)
+
+pub types_many : (τ : ℕ → TypeTerm) (next n : ℕ) → length (types_from τ next n) ≡ n
+types_many τ next zero = refl
+types_many τ next (suc n) = ap suc (types_many τ (suc next) n)
+
+first_traced : (T : ℕ → TypeTerm) (next : ℕ) (t : TypeTerm) (trace more : List TypeTerm) → trace ≡ t ∷ more → T next ≡ t → HasTypes T (suc next) more → HasTypes T next trace
+first_traced T next t trace more e same h = subst (HasTypes T next) (sym e) (same, h)
+
 module _ (P : Source) (D : Parameters) where
   -- choices for all ties type them
   abbrev pub AllSuited : (ℕ → TypeTerm) → List Tie → List ℕ → Type 0
@@ -177,78 +194,86 @@ module _ (P : Source) (D : Parameters) where
   named_picks : (test : Candidate → Bool) (cs : List Candidate) (n j : ℕ) (more : List Candidate) (o : Offered P D test n [] cs j) → pick_of (get_or (offered P D test n [] cs) j of_equation) ++ more ≡ o.candidate ∷ more
   named_picks test cs n j more o = ap (λ x. pick_of x ++ more) o.is
 
-  pub walks_of : (τ : ℕ → TypeTerm) (walk : List Step) (next : ℕ) (stack : List ℕ) (cs : List ℕ) → AllSuited τ (tied P D walk next stack) cs → Walks P D τ walk (map τ stack) (picks_of (tied P D walk next stack) cs)
-  walks_of τ [] next stack [] h = refl
-  walks_of τ [] next stack (c ∷ cs) h = absurd h
-  walks_of τ (push_variable v ∷ walk) next stack cs h =
-      let Q : List TypeTerm → Type 0 = λ s. Walks P D τ walk s (picks_of (tied P D walk next (stack ++ v ∷ [])) cs) in
-      subst Q (map_push τ stack v) (walks_of τ walk next (stack ++ v ∷ []) cs h)
-  walks_of τ (push_number ∷ walk) next stack [] h = absurd h
-  walks_of τ (push_number ∷ walk) next stack (c ∷ cs) h =
+  pub traces_of : (τ : ℕ → TypeTerm) (walk : List Step) (next : ℕ) (stack : List ℕ) (cs : List ℕ) → AllSuited τ (tied P D walk next stack) cs → Traces P D τ walk (map τ stack) (picks_of (tied P D walk next stack) cs) (types_from τ next (made_by walk))
+  traces_of τ [] next stack [] h = (refl, refl)
+  traces_of τ [] next stack (c ∷ cs) h = absurd h
+  traces_of τ (push_variable v ∷ walk) next stack cs h =
+      let Q : List TypeTerm → Type 0 = λ s. Traces P D τ walk s (picks_of (tied P D walk next (stack ++ v ∷ [])) cs) (types_from τ next (made_by walk)) in
+      subst Q (map_push τ stack v) (traces_of τ walk next (stack ++ v ∷ []) cs h)
+  traces_of τ (push_number ∷ walk) next stack [] h = absurd h
+  traces_of τ (push_number ∷ walk) next stack (c ∷ cs) h =
       let more = picks_of (tied P D walk (suc next) (stack ++ next ∷ [])) cs in
+      let trace = types_from τ (suc next) (made_by walk) in
       let fit = sole_suits τ of_number (next ∷ []) c h.0 h.1 in
-      let Q : List TypeTerm → List Candidate → Type 0 = λ s ps. Walks P D τ walk s ps in
-      let same : map τ (stack ++ next ∷ []) ≡ map τ stack ++ int_type ∷ [] = map_push τ stack next ∙ ap (λ t. map τ stack ++ t ∷ []) (sym (ap first_type fit.1)) in
-      subst (λ ps. Q (map τ stack ++ int_type ∷ []) ps) (sym (sole_picks of_number (next ∷ []) c more h.0 refl))
-      (subst (λ s. Q s more) same (walks_of τ walk (suc next) (stack ++ next ∷ []) cs h.2))
-  walks_of τ (push_text ∷ walk) next stack [] h = absurd h
-  walks_of τ (push_text ∷ walk) next stack (c ∷ cs) h =
+      let Q : List TypeTerm → Type 0 = λ s. Traces P D τ walk s more trace in
+      let R : List Candidate → Type 0 = λ ps. Traces P D τ (push_number ∷ walk) (map τ stack) ps (τ next ∷ trace) in
+      let is : τ next ≡ int_type = sym (ap first_type fit.1) in
+      let same : map τ (stack ++ next ∷ []) ≡ map τ stack ++ int_type ∷ [] = map_push τ stack next ∙ ap (λ t. map τ stack ++ t ∷ []) is in
+      subst R (sym (sole_picks of_number (next ∷ []) c more h.0 refl))
+      (trace, ap (λ t. t ∷ trace) is, subst Q same (traces_of τ walk (suc next) (stack ++ next ∷ []) cs h.2))
+  traces_of τ (push_text ∷ walk) next stack [] h = absurd h
+  traces_of τ (push_text ∷ walk) next stack (c ∷ cs) h =
       let more = picks_of (tied P D walk (suc next) (stack ++ next ∷ [])) cs in
+      let trace = types_from τ (suc next) (made_by walk) in
       let fit = sole_suits τ of_text (next ∷ []) c h.0 h.1 in
-      let Q : List TypeTerm → List Candidate → Type 0 = λ s ps. Walks P D τ walk s ps in
-      let same : map τ (stack ++ next ∷ []) ≡ map τ stack ++ string_type ∷ [] = map_push τ stack next ∙ ap (λ t. map τ stack ++ t ∷ []) (sym (ap first_type fit.1)) in
-      subst (λ ps. Q (map τ stack ++ string_type ∷ []) ps) (sym (sole_picks of_text (next ∷ []) c more h.0 refl))
-      (subst (λ s. Q s more) same (walks_of τ walk (suc next) (stack ++ next ∷ []) cs h.2))
-  walks_of τ (choose ds n ∷ walk) next stack [] h = absurd h
-  walks_of τ (choose ds n ∷ walk) next stack (c ∷ cs) h =
+      let Q : List TypeTerm → Type 0 = λ s. Traces P D τ walk s more trace in
+      let R : List Candidate → Type 0 = λ ps. Traces P D τ (push_text ∷ walk) (map τ stack) ps (τ next ∷ trace) in
+      let is : τ next ≡ string_type = sym (ap first_type fit.1) in
+      let same : map τ (stack ++ next ∷ []) ≡ map τ stack ++ string_type ∷ [] = map_push τ stack next ∙ ap (λ t. map τ stack ++ t ∷ []) is in
+      subst R (sym (sole_picks of_text (next ∷ []) c more h.0 refl))
+      (trace, ap (λ t. t ∷ trace) is, subst Q same (traces_of τ walk (suc next) (stack ++ next ∷ []) cs h.2))
+  traces_of τ (choose ds n ∷ walk) next stack [] h = absurd h
+  traces_of τ (choose ds n ∷ walk) next stack (c ∷ cs) h =
       let places = topmost n stack ++ next ∷ [] in
       let more = picks_of (tied P D walk (suc next) (below n stack ++ next ∷ [])) cs in
       let o = offered_at P D names_term (length places) [] ds c h.0 in
       let fit = subst (At τ places) o.is h.1 in
       let types : map τ places ≡ topmost_types n (map τ stack) ++ τ next ∷ [] = map_push τ (topmost n stack) next ∙ ap (λ ts. ts ++ τ next ∷ []) (sym (topmost_map τ n stack)) in
       let rest : map τ (below n stack ++ next ∷ []) ≡ types_below n (map τ stack) ++ τ next ∷ [] = map_push τ (below n stack) next ∙ ap (λ ts. ts ++ τ next ∷ []) (sym (below_map τ n stack)) in
-      let Q : List Candidate → Type 0 = λ ps. Walks P D τ (choose ds n ∷ walk) (map τ stack) ps in
-      let R : List TypeTerm → Type 0 = λ s. Walks P D τ walk s more in
+      let trace = types_from τ (suc next) (made_by walk) in
+      let Q : List Candidate → Type 0 = λ ps. Traces P D τ (choose ds n ∷ walk) (map τ stack) ps (τ next ∷ trace) in
+      let R : List TypeTerm → Type 0 = λ s. Traces P D τ walk s more trace in
       let T : List TypeTerm → Type 0 = λ ts. Takes P D o.candidate ts in
       let takes : Takes P D o.candidate (map τ places) = ((λ v. cond (nat_lt v (rigid_count (signature P D o.candidate))) (fit.0 v) (variable_type v)), fit.1) in
       subst Q (sym (named_picks names_term ds (length places) c more o))
-      (o.contained, of_names_term o.candidate o.passing, τ next, subst T types takes, subst R rest (walks_of τ walk (suc next) (below n stack ++ next ∷ []) cs h.2))
-  walks_of τ (equate ∷ walk) next stack [] h = absurd h
-  walks_of τ (equate ∷ walk) next stack (c ∷ cs) h =
+      (o.contained, of_names_term o.candidate o.passing, τ next, trace, refl, subst T types takes, subst R rest (traces_of τ walk (suc next) (below n stack ++ next ∷ []) cs h.2))
+  traces_of τ (equate ∷ walk) next stack [] h = absurd h
+  traces_of τ (equate ∷ walk) next stack (c ∷ cs) h =
       let places = topmost 2 stack in
       let more = picks_of (tied P D walk next (below 2 stack)) cs in
       let fit = sole_suits τ of_equation places c h.0 h.1 in
-      let Q : List Candidate → Type 0 = λ ps. Walks P D τ (equate ∷ walk) (map τ stack) ps in
-      let R : List TypeTerm → Type 0 = λ s. Walks P D τ walk s more in
+      let Q : List Candidate → Type 0 = λ ps. Traces P D τ (equate ∷ walk) (map τ stack) ps (types_from τ next (made_by walk)) in
+      let R : List TypeTerm → Type 0 = λ s. Traces P D τ walk s more (types_from τ next (made_by walk)) in
       subst Q (sym (sole_picks of_equation places c more h.0 refl))
-      (fit.0 0, topmost_map τ 2 stack ∙ sym fit.1, subst R (sym (below_map τ 2 stack)) (walks_of τ walk next (below 2 stack) cs h.2))
-  walks_of τ (call ds n ∷ walk) next stack [] h = absurd h
-  walks_of τ (call ds n ∷ walk) next stack (c ∷ cs) h =
+      (fit.0 0, topmost_map τ 2 stack ∙ sym fit.1, subst R (sym (below_map τ 2 stack)) (traces_of τ walk next (below 2 stack) cs h.2))
+  traces_of τ (call ds n ∷ walk) next stack [] h = absurd h
+  traces_of τ (call ds n ∷ walk) next stack (c ∷ cs) h =
       let places = topmost n stack in
       let more = picks_of (tied P D walk next (below n stack)) cs in
       let o = offered_at P D names_atom (length places) [] ds c h.0 in
       let fit = subst (At τ places) o.is h.1 in
-      let Q : List Candidate → Type 0 = λ ps. Walks P D τ (call ds n ∷ walk) (map τ stack) ps in
-      let R : List TypeTerm → Type 0 = λ s. Walks P D τ walk s more in
+      let Q : List Candidate → Type 0 = λ ps. Traces P D τ (call ds n ∷ walk) (map τ stack) ps (types_from τ next (made_by walk)) in
+      let R : List TypeTerm → Type 0 = λ s. Traces P D τ walk s more (types_from τ next (made_by walk)) in
       let T : List TypeTerm → Type 0 = λ ts. Takes P D o.candidate ts in
       let takes : Takes P D o.candidate (map τ places) = ((λ v. cond (nat_lt v (rigid_count (signature P D o.candidate))) (fit.0 v) (variable_type v)), fit.1) in
       subst Q (sym (named_picks names_atom ds (length places) c more o))
-      (o.contained, of_names_atom o.candidate o.passing, subst T (sym (topmost_map τ n stack)) takes, subst R (sym (below_map τ n stack)) (walks_of τ walk next (below n stack) cs h.2))
-  walks_of τ (close_head p n ∷ walk) next stack [] h = absurd h
-  walks_of τ (close_head p n ∷ walk) next stack (c ∷ cs) h =
+      (o.contained, of_names_atom o.candidate o.passing, subst T (sym (topmost_map τ n stack)) takes, subst R (sym (below_map τ n stack)) (traces_of τ walk next (below n stack) cs h.2))
+  traces_of τ (close_head p n ∷ walk) next stack [] h = absurd h
+  traces_of τ (close_head p n ∷ walk) next stack (c ∷ cs) h =
       let places = topmost n stack in
       let more = picks_of (tied P D walk next (below n stack)) cs in
       let fit = sole_suits τ (of_head p) places c h.0 h.1 in
-      let Q : List Candidate → Type 0 = λ ps. Walks P D τ (close_head p n ∷ walk) (map τ stack) ps in
-      let R : List TypeTerm → Type 0 = λ s. Walks P D τ walk s more in
+      let Q : List Candidate → Type 0 = λ ps. Traces P D τ (close_head p n ∷ walk) (map τ stack) ps (types_from τ next (made_by walk)) in
+      let R : List TypeTerm → Type 0 = λ s. Traces P D τ walk s more (types_from τ next (made_by walk)) in
       subst Q (sym (sole_picks (of_head p) places c more h.0 refl))
-      (topmost_map τ n stack ∙ sym fit.1 ∙ each_rigid fit.0 (P.preds p).types, subst R (sym (below_map τ n stack)) (walks_of τ walk next (below n stack) cs h.2))
+      (topmost_map τ n stack ∙ sym fit.1 ∙ each_rigid fit.0 (P.preds p).types, subst R (sym (below_map τ n stack)) (traces_of τ walk next (below n stack) cs h.2))
 
   -- FROM THE WALK TO THE TIES
 
   -- types of the places that the ties make behind those before, and choices
-  pub record Tied (τ : ℕ → TypeTerm) (walk : List Step) (next : ℕ) (stack : List ℕ) (picks : List Candidate) : Type 0 where
+  pub record Tied (τ : ℕ → TypeTerm) (walk : List Step) (next : ℕ) (stack : List ℕ) (picks : List Candidate) (trace : List TypeTerm) : Type 0 where
     pub types : ℕ → TypeTerm
+    pub traced : HasTypes types next trace
     pub before : (i : ℕ) → i < next → types i ≡ τ i
     pub choices : List ℕ
     pub picked : picks ≡ picks_of (tied P D walk next stack) choices
@@ -285,43 +310,46 @@ module _ (P : Source) (D : Parameters) where
     follows_on : (τ' τ2 : ℕ → TypeTerm) (next : ℕ) → vars ≤ next → ((i : ℕ) → i < next → τ2 i ≡ τ' i) → ((v : ℕ) → v < vars → τ' v ≡ τ v) → (v : ℕ) → v < vars → τ2 v ≡ τ v
     follows_on τ' τ2 next le same f v lt = same v (omega arith) ∙ f v lt
 
-    pub tied_by : (walk : List Step) (τ' : ℕ → TypeTerm) (next : ℕ) (stack : List ℕ) (picks : List Candidate) → AllBelow next stack → VariablesBelow vars walk → vars ≤ next → ((v : ℕ) → v < vars → τ' v ≡ τ v) → Walks P D τ walk (map τ' stack) picks → Tied τ' walk next stack picks
-    tied_by [] τ' next stack picks low own le f h = record { types = τ'; before = λ i lt. refl; choices = []; picked = h; suited = tt }
-    tied_by (push_variable v ∷ walk) τ' next stack picks low own le f h =
-        let Q : List TypeTerm → Type 0 = λ s. Walks P D τ walk s picks in
+    pub tied_by : (walk : List Step) (τ' : ℕ → TypeTerm) (next : ℕ) (stack : List ℕ) (picks : List Candidate) (trace : List TypeTerm) → AllBelow next stack → VariablesBelow vars walk → vars ≤ next → ((v : ℕ) → v < vars → τ' v ≡ τ v) → Traces P D τ walk (map τ' stack) picks trace → Tied τ' walk next stack picks trace
+    tied_by [] τ' next stack picks trace low own le f h =
+        record { types = τ'; traced = subst (HasTypes τ' next) (sym h.1) tt; before = λ i lt. refl; choices = []; picked = h.0; suited = tt }
+    tied_by (push_variable v ∷ walk) τ' next stack picks trace low own le f h =
+        let Q : List TypeTerm → Type 0 = λ s. Traces P D τ walk s picks trace in
         let same : map τ' stack ++ τ v ∷ [] ≡ map τ' (stack ++ v ∷ []) = ap (λ t. map τ' stack ++ t ∷ []) (sym (f v own.0)) ∙ sym (map_push τ' stack v) in
-        let r = tied_by walk τ' next (stack ++ v ∷ []) picks (below_join next stack (v ∷ []) low (omega (arith, own.0), tt)) own.1 le f (subst Q same h) in
-        record { types = r.types; before = r.before; choices = r.choices; picked = r.picked; suited = r.suited }
-    tied_by (push_number ∷ walk) τ' next stack picks low own le f h =
+        let r = tied_by walk τ' next (stack ++ v ∷ []) picks trace (below_join next stack (v ∷ []) low (omega (arith, own.0), tt)) own.1 le f (subst Q same h) in
+        record { types = r.types; traced = r.traced; before = r.before; choices = r.choices; picked = r.picked; suited = r.suited }
+    tied_by (push_number ∷ walk) τ' next stack picks trace low own le f h =
         let τ1 = changed τ' next int_type in
         let same : (i : ℕ) → i < next → τ1 i ≡ τ' i = λ i lt. changed_other τ' next int_type i lt in
-        let Q : List TypeTerm → Type 0 = λ s. Walks P D τ walk s picks in
-        let r = tied_by walk τ1 (suc next) (stack ++ next ∷ []) picks (below_join (suc next) stack (next ∷ []) (below_more next (suc next) stack (omega arith) low) (omega arith, tt)) own (omega arith) (follows_on τ' τ1 next le same f) (subst Q (changed_stack τ' next int_type stack low) h) in
+        let Q : List TypeTerm → Type 0 = λ s. Traces P D τ walk s picks h.0 in
+        let r = tied_by walk τ1 (suc next) (stack ++ next ∷ []) picks h.0 (below_join (suc next) stack (next ∷ []) (below_more next (suc next) stack (omega arith) low) (omega arith, tt)) own (omega arith) (follows_on τ' τ1 next le same f) (subst Q (changed_stack τ' next int_type stack low) h.2) in
         let fit : At τ1 (next ∷ []) of_number = ((λ v. variable_type v), ap (λ t. t ∷ []) (sym (changed_same τ' next int_type))) in
         let s = sole_first τ1 r.types of_number (next ∷ []) (suc next) (omega arith, tt) r.before fit in
         record {
           types = r.types;
+          traced = first_traced r.types next int_type trace h.0 h.1 (r.before next (omega arith) ∙ changed_same τ' next int_type) r.traced;
           before = λ i lt. r.before i (omega arith) ∙ same i lt;
           choices = 0 ∷ r.choices;
           picked = r.picked ∙ sym (sole_picks of_number (next ∷ []) 0 (picks_of (tied P D walk (suc next) (stack ++ next ∷ [])) r.choices) s.0 refl);
           suited = (s.0, s.1, r.suited);
         }
-    tied_by (push_text ∷ walk) τ' next stack picks low own le f h =
+    tied_by (push_text ∷ walk) τ' next stack picks trace low own le f h =
         let τ1 = changed τ' next string_type in
         let same : (i : ℕ) → i < next → τ1 i ≡ τ' i = λ i lt. changed_other τ' next string_type i lt in
-        let Q : List TypeTerm → Type 0 = λ s. Walks P D τ walk s picks in
-        let r = tied_by walk τ1 (suc next) (stack ++ next ∷ []) picks (below_join (suc next) stack (next ∷ []) (below_more next (suc next) stack (omega arith) low) (omega arith, tt)) own (omega arith) (follows_on τ' τ1 next le same f) (subst Q (changed_stack τ' next string_type stack low) h) in
+        let Q : List TypeTerm → Type 0 = λ s. Traces P D τ walk s picks h.0 in
+        let r = tied_by walk τ1 (suc next) (stack ++ next ∷ []) picks h.0 (below_join (suc next) stack (next ∷ []) (below_more next (suc next) stack (omega arith) low) (omega arith, tt)) own (omega arith) (follows_on τ' τ1 next le same f) (subst Q (changed_stack τ' next string_type stack low) h.2) in
         let fit : At τ1 (next ∷ []) of_text = ((λ v. variable_type v), ap (λ t. t ∷ []) (sym (changed_same τ' next string_type))) in
         let s = sole_first τ1 r.types of_text (next ∷ []) (suc next) (omega arith, tt) r.before fit in
         record {
           types = r.types;
+          traced = first_traced r.types next string_type trace h.0 h.1 (r.before next (omega arith) ∙ changed_same τ' next string_type) r.traced;
           before = λ i lt. r.before i (omega arith) ∙ same i lt;
           choices = 0 ∷ r.choices;
           picked = r.picked ∙ sym (sole_picks of_text (next ∷ []) 0 (picks_of (tied P D walk (suc next) (stack ++ next ∷ [])) r.choices) s.0 refl);
           suited = (s.0, s.1, r.suited);
         }
-    tied_by (choose ds n ∷ walk) τ' next stack [] low own le f h = absurd h
-    tied_by (choose ds n ∷ walk) τ' next stack (c ∷ picks) low own le f h =
+    tied_by (choose ds n ∷ walk) τ' next stack [] trace low own le f h = absurd h
+    tied_by (choose ds n ∷ walk) τ' next stack (c ∷ picks) trace low own le f h =
         let t = h.2 in
         let places = topmost n stack ++ next ∷ [] in
         let rest = below n stack ++ next ∷ [] in
@@ -329,58 +357,62 @@ module _ (P : Source) (D : Parameters) where
         let same : (i : ℕ) → i < next → τ1 i ≡ τ' i = λ i lt. changed_other τ' next t i lt in
         let low_top : AllBelow next (topmost n stack) = below_drop next (length stack - n) stack low in
         let low_rest : AllBelow next (below n stack) = below_take next (length stack - n) stack low in
-        let Q : List TypeTerm → Type 0 = λ s. Walks P D τ walk s picks in
+        let Q : List TypeTerm → Type 0 = λ s. Traces P D τ walk s picks h.3 in
         let T : List TypeTerm → Type 0 = λ ts. Takes P D c ts in
-        let r = tied_by walk τ1 (suc next) rest picks (below_join (suc next) (below n stack) (next ∷ []) (below_more next (suc next) (below n stack) (omega arith) low_rest) (omega arith, tt)) own (omega arith) (follows_on τ' τ1 next le same f)
-        (subst Q (ap (λ ts. ts ++ t ∷ []) (below_map τ' n stack) ∙ changed_stack τ' next t (below n stack) low_rest) h.4) in
-        let takes : Takes P D c (map τ1 places) = subst T (ap (λ ts. ts ++ t ∷ []) (topmost_map τ' n stack) ∙ changed_stack τ' next t (topmost n stack) low_top) h.3 in
+        let r = tied_by walk τ1 (suc next) rest picks h.3 (below_join (suc next) (below n stack) (next ∷ []) (below_more next (suc next) (below n stack) (omega arith) low_rest) (omega arith, tt)) own (omega arith) (follows_on τ' τ1 next le same f)
+        (subst Q (ap (λ ts. ts ++ t ∷ []) (below_map τ' n stack) ∙ changed_stack τ' next t (below n stack) low_rest) h.6) in
+        let takes : Takes P D c (map τ1 places) = subst T (ap (λ ts. ts ++ t ∷ []) (topmost_map τ' n stack) ∙ changed_stack τ' next t (topmost n stack) low_top) h.5 in
         let low_places : AllBelow (suc next) places = below_join (suc next) (topmost n stack) (next ∷ []) (below_more next (suc next) (topmost n stack) (omega arith) low_top) (omega arith, tt) in
         let s = named_first τ1 r.types names_term ds places c (suc next) low_places r.before h.0 (names_term_of c h.1) takes in
         record {
           types = r.types;
+          traced = first_traced r.types next t trace h.3 h.4 (r.before next (omega arith) ∙ changed_same τ' next t) r.traced;
           before = λ i lt. r.before i (omega arith) ∙ same i lt;
           choices = s.choice ∷ r.choices;
           picked = ap (λ ps. c ∷ ps) r.picked ∙ s.pick (picks_of (tied P D walk (suc next) rest) r.choices);
           suited = (s.there, s.suits, r.suited);
         }
-    tied_by (equate ∷ walk) τ' next stack picks low own le f h =
+    tied_by (equate ∷ walk) τ' next stack picks trace low own le f h =
         let places = topmost 2 stack in
-        let Q : List TypeTerm → Type 0 = λ s. Walks P D τ walk s picks in
+        let Q : List TypeTerm → Type 0 = λ s. Traces P D τ walk s picks trace in
         let low_top : AllBelow next places = below_drop next (length stack - 2) stack low in
-        let r = tied_by walk τ' next (below 2 stack) picks (below_take next (length stack - 2) stack low) own le f (subst Q (below_map τ' 2 stack) h.2) in
+        let r = tied_by walk τ' next (below 2 stack) picks trace (below_take next (length stack - 2) stack low) own le f (subst Q (below_map τ' 2 stack) h.2) in
         let fit : At τ' places of_equation = ((λ v. h.0), sym h.1 ∙ topmost_map τ' 2 stack) in
         let s = sole_first τ' r.types of_equation places next low_top r.before fit in
         record {
           types = r.types;
+          traced = r.traced;
           before = r.before;
           choices = 0 ∷ r.choices;
           picked = r.picked ∙ sym (sole_picks of_equation places 0 (picks_of (tied P D walk next (below 2 stack)) r.choices) s.0 refl);
           suited = (s.0, s.1, r.suited);
         }
-    tied_by (call ds n ∷ walk) τ' next stack [] low own le f h = absurd h
-    tied_by (call ds n ∷ walk) τ' next stack (c ∷ picks) low own le f h =
+    tied_by (call ds n ∷ walk) τ' next stack [] trace low own le f h = absurd h
+    tied_by (call ds n ∷ walk) τ' next stack (c ∷ picks) trace low own le f h =
         let places = topmost n stack in
-        let Q : List TypeTerm → Type 0 = λ s. Walks P D τ walk s picks in
+        let Q : List TypeTerm → Type 0 = λ s. Traces P D τ walk s picks trace in
         let T : List TypeTerm → Type 0 = λ ts. Takes P D c ts in
         let low_top : AllBelow next places = below_drop next (length stack - n) stack low in
-        let r = tied_by walk τ' next (below n stack) picks (below_take next (length stack - n) stack low) own le f (subst Q (below_map τ' n stack) h.3) in
+        let r = tied_by walk τ' next (below n stack) picks trace (below_take next (length stack - n) stack low) own le f (subst Q (below_map τ' n stack) h.3) in
         let s = named_first τ' r.types names_atom ds places c next low_top r.before h.0 (names_atom_of c h.1) (subst T (topmost_map τ' n stack) h.2) in
         record {
           types = r.types;
+          traced = r.traced;
           before = r.before;
           choices = s.choice ∷ r.choices;
           picked = ap (λ ps. c ∷ ps) r.picked ∙ s.pick (picks_of (tied P D walk next (below n stack)) r.choices);
           suited = (s.there, s.suits, r.suited);
         }
-    tied_by (close_head p n ∷ walk) τ' next stack picks low own le f h =
+    tied_by (close_head p n ∷ walk) τ' next stack picks trace low own le f h =
         let places = topmost n stack in
-        let Q : List TypeTerm → Type 0 = λ s. Walks P D τ walk s picks in
+        let Q : List TypeTerm → Type 0 = λ s. Traces P D τ walk s picks trace in
         let low_top : AllBelow next places = below_drop next (length stack - n) stack low in
-        let r = tied_by walk τ' next (below n stack) picks (below_take next (length stack - n) stack low) own le f (subst Q (below_map τ' n stack) h.1) in
+        let r = tied_by walk τ' next (below n stack) picks trace (below_take next (length stack - n) stack low) own le f (subst Q (below_map τ' n stack) h.1) in
         let fit : At τ' places (of_head p) = (variable_type, each_rigid variable_type (P.preds p).types ∙ sym h.0 ∙ topmost_map τ' n stack) in
         let s = sole_first τ' r.types (of_head p) places next low_top r.before fit in
         record {
           types = r.types;
+          traced = r.traced;
           before = r.before;
           choices = 0 ∷ r.choices;
           picked = r.picked ∙ sym (sole_picks (of_head p) places 0 (picks_of (tied P D walk next (below n stack)) r.choices) s.0 refl);

@@ -41,8 +41,8 @@ WalkIsProper =
 
 module _ (P : Source) (D : Parameters) (clause : Unresolved_clause) where
   -- No resolution types the clause, these picks alone do, with these most general types of its
-  -- variables, or these two are the first; and nowhere are more assignments live than the limit. Or
-  -- somewhere more are.
+  -- variables and its occurrences, or these two are the first; and nowhere are more assignments live
+  -- than the limit. Or somewhere more are.
   abbrev pub ClauseSays : (limit vars : ℕ) → Outcome → Type 0
   ClauseSays limit vars O.None =
       ((picks : List Candidate) → ClauseResolves P D clause picks → ⊥)
@@ -65,5 +65,5 @@ SearchDecides =
     (steps : List Step) (vars limit : ℕ) (outcome : Outcome)
     → VariablesBelow vars (steps_of clause)
     → AreTies P D signatures steps (tied P D (steps_of clause) vars [])
-    → OutcomeSays signatures steps vars limit outcome
+    → OutcomeSays signatures steps (vars + made_by (steps_of clause)) limit outcome
     → ClauseSays P D clause limit vars outcome

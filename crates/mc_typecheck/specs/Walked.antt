@@ -122,8 +122,9 @@ TakesAll t w w' steps =
     (P : Source) (D : Parameters) (s : Stand)
     → ShowsAll P D t steps → IsAt P D t w s → IsAt P D t w' (after_all P D steps s)
 
--- it has taken the steps of some walk, all of whose variables are below a number
-pub record WasWalked (t : Signatures) (w : Walk) (vars : ℕ) : Type 0 where
+-- it has taken the steps of some walk of so many variables
+pub record WasWalked (t : Signatures) (w : Walk) : Type 0 where
+  pub vars : ℕ
   pub source : Source
   pub parameters : Parameters
   pub steps : List Step

@@ -10,7 +10,9 @@ use Rattle.mc_type_search.specs.declared.written_types.Written.{Written}
 use Rattle.mc_typecheck.specs.Ties.{tied, picks_of}
 use Rattle.mc_unresolved.specs.Unresolved.{plain_unresolved_clause}
 use Rattle.mc_unresolved.specs.declared.clause.UnresolvedClause.{UnresolvedClause}
+use Rattle.mc_made_types.specs.Makes.{kept}
 use Rattle.mc_check_clause.specs.VariableTypes.{ArePlain}
+use Rattle.mc_check_clause.specs.code.Marking.{first_marking, after_all}
 
 pub record IsMade
     (P : Source) (D : Parameters) (clause : UnresolvedClause) (steps : List Step)
@@ -23,5 +25,7 @@ pub record IsMade
   pub vars : made.clause.vars ≡ length clause.names
   pub place : made.clause.place ≡ clause.place
   pub are_plain :
-      ArePlain (rigid_count (P.preds clause.pred).types) types (map plain_type made.var_types)
+      ArePlain (rigid_count (P.preds clause.pred).types)
+      (kept (after_all steps (first_marking (length clause.names))).flags types)
+      (map plain_type made.var_types)
   pub names : made.var_names ≡ clause.names

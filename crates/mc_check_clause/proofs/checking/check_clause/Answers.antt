@@ -20,7 +20,7 @@ returns-in-None c = λ P D shows.
     let are = ap (map plain_walk_step) c.as_slice-steps.ensures.value ∙ c.in_ok-steps.ensures in
     let vars = c.len-vars.result in
     let Q : Outcome → Type 0 = λ o. ClauseSays P D (plain_unresolved_clause clause) assignments_limit vars o in
-    let said = c.in_ok-resolve_walk.ensures P D (plain_unresolved_clause clause) (own_below t clause steps are vars c.len-vars.ensures (below_of c.args.signatures.now (length c.args.clause.now.names) (steps_of (plain_unresolved_clause c.args.clause.now)) c.requires.fits) c.in_ok-walk.walk c.in_ok-walk.ensures) (walked_at t clause steps are vars c.len-vars.ensures (below_of c.args.signatures.now (length c.args.clause.now.names) (steps_of (plain_unresolved_clause c.args.clause.now)) c.requires.fits) c.in_ok-walk.walk c.in_ok-walk.ensures P D shows) in
+    let said = c.in_ok-resolve_walk.ensures P D (plain_unresolved_clause clause) vars (own_below t clause steps are vars c.len-vars.ensures (below_of c.args.signatures.now (length c.args.clause.now.names) (steps_of (plain_unresolved_clause c.args.clause.now)) c.requires.fits) c.in_ok-walk.walk c.in_ok-walk.ensures) (walked_at t clause steps are vars c.len-vars.ensures (below_of c.args.signatures.now (length c.args.clause.now.names) (steps_of (plain_unresolved_clause c.args.clause.now)) c.requires.fits) c.in_ok-walk.walk c.in_ok-walk.ensures P D shows) in
     subst Q c.in-None.is said
 
 pub returns-in-TooMany : goal.returns-in-TooMany
@@ -31,7 +31,7 @@ returns-in-TooMany c = λ P D shows.
     let are = ap (map plain_walk_step) c.as_slice-steps.ensures.value ∙ c.in_ok-steps.ensures in
     let vars = c.len-vars.result in
     let Q : Outcome → Type 0 = λ o. ClauseSays P D (plain_unresolved_clause clause) assignments_limit vars o in
-    let said = c.in_ok-resolve_walk.ensures P D (plain_unresolved_clause clause) (own_below t clause steps are vars c.len-vars.ensures (below_of c.args.signatures.now (length c.args.clause.now.names) (steps_of (plain_unresolved_clause c.args.clause.now)) c.requires.fits) c.in_ok-walk.walk c.in_ok-walk.ensures) (walked_at t clause steps are vars c.len-vars.ensures (below_of c.args.signatures.now (length c.args.clause.now.names) (steps_of (plain_unresolved_clause c.args.clause.now)) c.requires.fits) c.in_ok-walk.walk c.in_ok-walk.ensures P D shows) in
+    let said = c.in_ok-resolve_walk.ensures P D (plain_unresolved_clause clause) vars (own_below t clause steps are vars c.len-vars.ensures (below_of c.args.signatures.now (length c.args.clause.now.names) (steps_of (plain_unresolved_clause c.args.clause.now)) c.requires.fits) c.in_ok-walk.walk c.in_ok-walk.ensures) (walked_at t clause steps are vars c.len-vars.ensures (below_of c.args.signatures.now (length c.args.clause.now.names) (steps_of (plain_unresolved_clause c.args.clause.now)) c.requires.fits) c.in_ok-walk.walk c.in_ok-walk.ensures P D shows) in
     subst Q c.in-TooMany.is said
 
 pub returns-in-Two : goal.returns-in-Two
@@ -42,7 +42,7 @@ returns-in-Two c = λ P D shows.
     let are = ap (map plain_walk_step) c.as_slice-steps.ensures.value ∙ c.in_ok-steps.ensures in
     let vars = c.len-vars.result in
     let Q : Outcome → Type 0 = λ o. ClauseSays P D (plain_unresolved_clause clause) assignments_limit vars o in
-    let said = c.in_ok-resolve_walk.ensures P D (plain_unresolved_clause clause) (own_below t clause steps are vars c.len-vars.ensures (below_of c.args.signatures.now (length c.args.clause.now.names) (steps_of (plain_unresolved_clause c.args.clause.now)) c.requires.fits) c.in_ok-walk.walk c.in_ok-walk.ensures) (walked_at t clause steps are vars c.len-vars.ensures (below_of c.args.signatures.now (length c.args.clause.now.names) (steps_of (plain_unresolved_clause c.args.clause.now)) c.requires.fits) c.in_ok-walk.walk c.in_ok-walk.ensures P D shows) in
+    let said = c.in_ok-resolve_walk.ensures P D (plain_unresolved_clause clause) vars (own_below t clause steps are vars c.len-vars.ensures (below_of c.args.signatures.now (length c.args.clause.now.names) (steps_of (plain_unresolved_clause c.args.clause.now)) c.requires.fits) c.in_ok-walk.walk c.in_ok-walk.ensures) (walked_at t clause steps are vars c.len-vars.ensures (below_of c.args.signatures.now (length c.args.clause.now.names) (steps_of (plain_unresolved_clause c.args.clause.now)) c.requires.fits) c.in_ok-walk.walk c.in_ok-walk.ensures P D shows) in
     let there = shown_steps P D t clause steps are shows in
     answered_two P D clause steps are vars c.len-vars.ensures c.in-Two.first c.in-Two.second c.in_ok-first-in-Two.first c.in_ok-second-in-Two.second (c.in_ok-first-in-Two.ensures P D vars there) (c.in_ok-second-in-Two.ensures P D vars there) (subst Q c.in-Two.is said)
 
@@ -54,6 +54,6 @@ returns c = λ P D shows.
     let are = ap (map plain_walk_step) c.as_slice-steps.ensures.value ∙ c.in_ok-steps.ensures in
     let vars = c.len-vars.result in
     let Q : Outcome → Type 0 = λ o. ClauseSays P D (plain_unresolved_clause clause) assignments_limit vars o in
-    let said = c.in_ok-resolve_walk.ensures P D (plain_unresolved_clause clause) (own_below t clause steps are vars c.len-vars.ensures (below_of c.args.signatures.now (length c.args.clause.now.names) (steps_of (plain_unresolved_clause c.args.clause.now)) c.requires.fits) c.in_ok-walk.walk c.in_ok-walk.ensures) (walked_at t clause steps are vars c.len-vars.ensures (below_of c.args.signatures.now (length c.args.clause.now.names) (steps_of (plain_unresolved_clause c.args.clause.now)) c.requires.fits) c.in_ok-walk.walk c.in_ok-walk.ensures P D shows) in
+    let said = c.in_ok-resolve_walk.ensures P D (plain_unresolved_clause clause) vars (own_below t clause steps are vars c.len-vars.ensures (below_of c.args.signatures.now (length c.args.clause.now.names) (steps_of (plain_unresolved_clause c.args.clause.now)) c.requires.fits) c.in_ok-walk.walk c.in_ok-walk.ensures) (walked_at t clause steps are vars c.len-vars.ensures (below_of c.args.signatures.now (length c.args.clause.now.names) (steps_of (plain_unresolved_clause c.args.clause.now)) c.requires.fits) c.in_ok-walk.walk c.in_ok-walk.ensures P D shows) in
     let there = shown_steps P D t clause steps are shows in
     answered_one P D clause steps are vars c.len-vars.ensures c.in-One.choices c.in-One.types c.in_ok-made-in-One.made (c.in_ok-made-in-One.ensures P D there (head_shown P D t clause shows)) (subst Q c.in-One.is said)

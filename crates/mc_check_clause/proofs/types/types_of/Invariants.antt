@@ -1,5 +1,8 @@
-use Rattle.mc_check_clause.proofs.Written.{OutSoFar}
+use Rattle.std.proofs.Common.{map, take}
+use Rattle.mc_program.specs.PlainPrograms.{plain_type}
+use Rattle.mc_made_types.specs.Makes.{kept}
+use Rattle.mc_check_clause.specs.code.WrittenOut.{OutSoFar}
 use Rattle.mc_check_clause.proofs.types.types_of.Given as goal
 
-abbrev pub invariant-loop-next : goal.invariant-loop-next
-invariant-loop-next l = OutSoFar l.rigid l.written l.next-index l.types.items l.numbers
+abbrev pub invariant-loop-k : goal.invariant-loop-k
+invariant-loop-k l = OutSoFar l.rigid (kept l.flags (take l.k l.written)) (map plain_type l.types.items) l.numbers

@@ -1,4 +1,4 @@
-use Rattle.std.proofs.Common.{[], ◌≡◌, ◌+◌, List, sym, subst, arith}
+use Rattle.std.proofs.Common.{[], ◌≡◌, ℕ, ◌+◌, List, sym, subst, arith}
 use Rattle.mc_type_search.specs.declared.signature.Signature.{Signature}
 use Rattle.mc_type_search.specs.declared.steps.Step.{Step}
 use Rattle.mc_type_search.specs.Typed.{AllProper}
@@ -15,7 +15,7 @@ resolve-requires-clause-proper c =
     let h = c.requires.walked in
     let t = c.args.signatures.now in
     let w = c.args.walk.now in
-    let vars = c.args.vars in
+    let vars = h.vars in
     let room : w.next ≡ vars + made_by h.steps = walked_next h.source h.parameters t w vars h.steps h.stands in
     let same : c.deref.result.now ≡ t.all.items = c.deref.ensures.value in
     let same2 : c.deref-2.result.now ≡ w.steps.items = c.deref-2.ensures.value in
@@ -25,18 +25,14 @@ resolve-requires-clause-proper c =
     (walked_ties h.source h.parameters t w vars h.steps h.stands)
     (properness.ties_proper h.source h.parameters w.next vars h.steps vars [] tt h.own (omega arith) (omega (arith, room)))))
 
-pub resolve-requires-clause-room : goal.resolve-requires-clause-room
-resolve-requires-clause-room c =
-    let h = c.requires.walked in
-    let room : c.args.walk.now.next ≡ c.args.vars + made_by h.steps = walked_next h.source h.parameters c.args.signatures.now c.args.walk.now c.args.vars h.steps h.stands in
-    omega (arith, room)
-
 pub returns : goal.returns
-returns c = λ P D clause own at.
-    deciding.search_decides P D c.args.signatures.now.all.items clause c.args.walk.now.steps.items c.args.vars c.args.limit own
-    (walked_ties P D c.args.signatures.now c.args.walk.now c.args.vars (steps_of clause) at)
-    c.in_ok-outcome.outcome
-    (let same : c.deref.result.now ≡ c.args.signatures.now.all.items = c.deref.ensures.value in
-    let same2 : c.deref-2.result.now ≡ c.args.walk.now.steps.items = c.deref-2.ensures.value in
-    let Q : List Signature → List Step → Type 0 = λ ss xs. OutcomeSays ss xs c.args.vars c.args.limit c.in_ok-outcome.outcome in
-    subst (λ ss. Q ss c.args.walk.now.steps.items) same (subst (λ xs. Q c.deref.result.now xs) same2 c.in_ok-outcome.ensures))
+returns c = λ P D clause vars own at.
+    let t = c.args.signatures.now in
+    let w = c.args.walk.now in
+    let same : c.deref.result.now ≡ t.all.items = c.deref.ensures.value in
+    let same2 : c.deref-2.result.now ≡ w.steps.items = c.deref-2.ensures.value in
+    let room : w.next ≡ vars + made_by (steps_of clause) = walked_next P D t w vars (steps_of clause) at in
+    let Q : List Signature → List Step → ℕ → Type 0 = λ ss xs places. OutcomeSays ss xs places c.args.limit c.in_ok-outcome.outcome in
+    deciding.search_decides P D t.all.items clause w.steps.items vars c.args.limit own (walked_ties P D t w vars (steps_of clause) at) c.in_ok-outcome.outcome
+    (subst (λ places. Q t.all.items w.steps.items places) room
+    (subst (λ ss. Q ss w.steps.items w.next) same (subst (λ xs. Q c.deref.result.now xs w.next) same2 c.in_ok-outcome.ensures)))
