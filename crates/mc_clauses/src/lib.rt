@@ -12,3 +12,4 @@ mod view;
 pub use clauses::{unresolved_clause, unresolved_query};
 pub use examples::unresolved_clauses;
 pub use terms::Module;
+pub use variables::Variables;

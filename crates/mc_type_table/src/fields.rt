@@ -16,6 +16,21 @@ pub fn field(term: &Term) -> &Term
     }
 }
 
+/// The types of a constructor's arguments, in order.
+///
+/// # Errors
+///
+/// `Memory` where there is no room.
+pub fn constructor_fields<'a>(alloc: Global, constructor: &'a Term) -> Result<Vec<&'a Term>, Memory>
+    ensures { IfOk result
+        (λ all.
+        map (λ t. plain_term t.now) all.items ≡ constructor_fields (plain_term constructor.now)) }
+{
+    let mut all = Vec::new(alloc);
+    put_constructor_fields(constructor, &mut all)?;
+    Ok(all)
+}
+
 /// The types of the arguments of a union's constructors, in order.
 ///
 /// # Errors

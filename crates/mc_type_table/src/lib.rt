@@ -17,8 +17,9 @@ mod written;
 
 pub use equivalences::{equivalent, home, parameters_of};
 pub use examples::types_of_programs;
+pub use fields::constructor_fields;
 pub use replaced::{Room, with_definitions};
 pub use table::type_table;
 pub use types::types_of;
 pub use variables::stray_variable;
-pub use written::type_of_term;
+pub use written::{named_type, type_of_term};

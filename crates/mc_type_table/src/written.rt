@@ -114,8 +114,12 @@ fn place_of(name: &[u8], names: &[Text]) -> Result<u32, Memory>
     Ok(place)
 }
 
-// A type's name over arguments.
-fn named_type(
+/// A type's name over arguments, in the module of a number.
+///
+/// # Errors
+///
+/// `Memory` where there is no room.
+pub fn named_type(
     alloc: Global,
     names: &Names,
     own: u32,

@@ -1,0 +1,7 @@
+mod Walking
+mod Writing
+mod Views
+mod With
+mod Whole
+mod Libraries
+mod Typed

@@ -1,0 +1,3 @@
+pub mod LibraryNames
+pub mod Walking
+pub mod With
