@@ -1,0 +1,56 @@
+use Rattle.std.proofs.Common.{◌≡◌, ◌∙◌, ℕ, ◌++◌, List, Some, None, map, length, sym, ap, subst}
+use Rattle.std.specs.Prelude.{Option}
+use Rattle.std.specs.Option.{option_map}
+use Rattle.std.proofs.lemmas.List.{length-map, append-nil}
+use Rattle.mc_term_data.specs.Plain.{PlainTerm, plain_term}
+use Rattle.mc_items.specs.Files.{plain_entry}
+use Rattle.mc_linking.specs.Files.{plain_files}
+use Rattle.mc_modules.specs.Linked.{plain_names}
+use Rattle.mc_clause_phase.specs.Items.{Item, items, query_item}
+use Rattle.mc_clause_phase.specs.Judging.{IsJudged}
+use Rattle.mc_clause_phase.proofs.Adding.{adds_both, judged_all}
+use Rattle.mc_clause_phase.proofs.FilesOf.{items_from}
+use Rattle.mc_clause_phase.proofs.phase.judge.Goals as goal
+
+pub returns-in_ok-judge_query-in-Some : goal.returns-in_ok-judge_query-in-Some
+returns-in_ok-judge_query-in-Some c sees k =
+    let l = plain_names c.args.seen.now.names.now in
+    let files = c.args.files.now in
+    let g = plain_term c.in-Some.goal.now in
+    let clauses = items_from l 0 files in
+    let query = query_item l c.in_ok-number.number (Some g) in
+    let asked : Some g ≡ option_map (λ t. plain_term t.now) c.args.goal =
+    ap (option_map (λ t. plain_term t.now)) (sym c.in-Some.is)
+    in
+    let count : c.in_ok-number.number ≡ length (plain_files files) =
+    c.in_ok-number.ensures.number ∙ sym (length-map files (map plain_entry))
+    in
+    let same : clauses ++ query ≡ items l (plain_files files) (option_map (λ t. plain_term t.now) c.args.goal) =
+    ap (λ (n : ℕ). clauses ++ query_item l n (Some g)) count
+    ∙ ap (λ (o : Option PlainTerm). items l (plain_files files) o) asked
+    in
+    let Q : List Item → Type 0 = λ is. IsJudged l sees is c.judge_query.new.self in
+    subst Q same
+    (judged_all l sees (clauses ++ query) c.new-judged.result c.judge_query.new.self
+    c.new-judged.ensures.broken c.new-judged.ensures.clauses
+    (adds_both l sees clauses query c.new-judged.result c.judge_files.new.judged
+    c.judge_query.new.self
+    (c.in_ok-number.ensures.added sees k)
+    (c.in_ok-judge_query-in-Some.ensures l sees (c.in_ok-checker-in-Some.ensures.checks sees k))))
+
+pub returns-in-None : goal.returns-in-None
+returns-in-None c sees k =
+    let l = plain_names c.args.seen.now.names.now in
+    let files = c.args.files.now in
+    let clauses = items_from l 0 files in
+    let asked : None ≡ option_map (λ t. plain_term t.now) c.args.goal =
+    ap (option_map (λ t. plain_term t.now)) (sym c.in-None.is)
+    in
+    let same : clauses ≡ items l (plain_files files) (option_map (λ t. plain_term t.now) c.args.goal) =
+    sym (append-nil clauses) ∙ ap (λ (o : Option PlainTerm). items l (plain_files files) o) asked
+    in
+    let Q : List Item → Type 0 = λ is. IsJudged l sees is c.judge_files.new.judged in
+    subst Q same
+    (judged_all l sees clauses c.new-judged.result c.judge_files.new.judged
+    c.new-judged.ensures.broken c.new-judged.ensures.clauses
+    (c.in_ok-number.ensures.added sees k))

@@ -1,0 +1,61 @@
+-- What typing says of items: the rule that each breaks (T1, T2 or L5), or what each is resolved to.
+-- (Mercury Language Reference Manual: Types, overloading; this project's rules.)
+use Rattle.std.specs.Prelude.{◌≡◌, ℕ, List, [], ◌∷◌, length, Option, Some, slice_get, Vec}
+use Rattle.mc_source.specs.declared.rule.Broken.{Broken}
+use Rattle.mc_source.specs.Rules.{Fault}
+use Rattle.std.specs.declared.alloc.Global.{Global}
+use Rattle.mc_program.specs.Programs.{TypeTerm, Source}
+use Rattle.mc_program.specs.declared.ty.Ty.{Ty}
+use Rattle.mc_program.specs.declared.program.Resolved.{Resolved}
+use Rattle.mc_unresolved.specs.Unresolved.{plain_unresolved_clause}
+use Rattle.mc_unresolved.specs.declared.clause.UnresolvedClause.{UnresolvedClause}
+use Rattle.mc_modules.specs.Linked.{Linked}
+use Rattle.mc_type_table.specs.Expanded.{after_rounds}
+use Rattle.mc_type_table.specs.code.Held.{held}
+use Rattle.mc_clauses.specs.Declarations.{declarations, parameter_counts}
+use Rattle.mc_clauses.specs.Typing.{TypingSays, AreTypingFaults}
+use Rattle.mc_check_clause.specs.Checked.{IsResolved}
+use Rattle.mc_clause_phase.specs.Items.{Item}
+use Rattle.mc_clause_phase.specs.declared.judged.Judged.{Judged}
+
+-- a program, and what each of its modules sees that types are defined as
+module _ (l : Linked) (seen : (own : ℕ) → ℕ → Option TypeTerm) where
+  -- the program's declarations as the module of an item sees them
+  abbrev pub source_of : Item → Source
+  source_of i = declarations l (seen i.own)
+
+  abbrev pub Says : Item → Option Fault → Type 0
+  Says i = TypingSays l (source_of i) (parameter_counts l) i.numbered.clause
+
+  -- the rules that items break, the first of each, in their order
+  abbrev pub AreFaults : List Item → List Broken → Type 0
+  AreFaults = AreTypingFaults (λ (i : Item). i.at) Says
+
+  -- this is what an item is resolved to, with the types of its variables and their names
+  pub record IsTyped (i : Item) (made : Resolved) : Type 0 where
+    pub clause : UnresolvedClause
+    pub is : plain_unresolved_clause clause ≡ i.numbered.clause
+    pub names : clause.names ≡ i.numbered.names
+    pub place : clause.place ≡ i.at
+    pub resolved : IsResolved (source_of i) (parameter_counts l) clause made
+
+  abbrev pub AreTyped : List Item → List Resolved → Type 0
+  AreTyped [] made = made ≡ []
+  AreTyped (i ∷ is) made =
+      (one : Resolved) × (rest : List Resolved)
+      × IsTyped i one × AreTyped is rest × (made ≡ one ∷ rest)
+
+-- each module's row has what types are defined as there, without equivalences
+abbrev pub AreSeen :
+    Linked → (seen : (own : ℕ) → ℕ → Option TypeTerm) → List (Vec (Option Ty) Global) → Type 0
+AreSeen l seen rows =
+    (own : ℕ) (row : Vec (Option Ty) Global)
+    → slice_get rows own ≡ Some row
+    → (u : ℕ) → held row.items u ≡ after_rounds (length l.types) (seen own) u
+
+-- these are the rules that items break; and where they break none, this is what they are resolved to
+pub record IsJudged
+    (l : Linked) (seen : (own : ℕ) → ℕ → Option TypeTerm) (items : List Item) (judged : Judged)
+    : Type 0 where
+  pub faults : AreFaults l seen items judged.broken.items
+  pub typed : judged.broken.items ≡ [] → AreTyped l seen items judged.clauses.items

@@ -1,0 +1,4 @@
+pub mod Items
+pub mod Judging
+pub mod Laws
+pub mod code

@@ -1,0 +1,69 @@
+-- What is judged behind what was judged before.
+use Rattle.std.specs.Prelude.{◌≡◌, ℕ, List, [], ◌∷◌, ◌++◌, Option, Some, None}
+use Rattle.mc_source.specs.declared.rule.Broken.{Broken}
+use Rattle.mc_program.specs.Programs.{TypeTerm, Source}
+use Rattle.mc_program.specs.declared.program.Resolved.{Resolved}
+use Rattle.mc_accepted.specs.ProperTypes.{Parameters}
+use Rattle.mc_unresolved.specs.Unresolved.{plain_unresolved_clause}
+use Rattle.mc_unresolved.specs.declared.clause.UnresolvedClause.{UnresolvedClause}
+use Rattle.mc_modules.specs.Linked.{Linked, plain_names}
+use Rattle.mc_source.specs.declared.place.Place.{Place}
+use Rattle.mc_source.specs.declared.name.Candidate.{Candidate}
+use Rattle.mc_source.specs.declared.name.Candidate.TheVariants as C
+use Rattle.mc_decl_syntax.specs.Plain.{PlainDecl}
+use Rattle.mc_defs_uses.specs.Clauses.{clause_of}
+use Rattle.mc_defs_uses.specs.declared.definition.Kind.{Kind}
+use Rattle.mc_defs_uses.specs.declared.definition.Kind.TheVariants as K
+use Rattle.mc_clauses.specs.Typing.{TypingSays, ModuleClause, clause_predicate, clause_item}
+use Rattle.mc_declarations.specs.Made.{DeclaredAs}
+use Rattle.mc_check_clause.specs.Tables.{IsTable}
+use Rattle.mc_check_clause.specs.Checked.{IsResolved}
+use Rattle.mc_clause_phase.specs.Items.{Item}
+use Rattle.mc_clause_phase.specs.Judging.{AreFaults, AreTyped}
+use Rattle.mc_clause_phase.specs.declared.checker.Checker.{Checker}
+use Rattle.mc_clause_phase.specs.declared.checker.Verdict.{Verdict}
+use Rattle.mc_clause_phase.specs.declared.checker.Verdict.TheVariants as V
+use Rattle.mc_clause_phase.specs.declared.judged.Judged.{Judged}
+
+-- what a checker says of a clause is what typing says of it
+abbrev pub IsVerdict : Linked → Source → Parameters → UnresolvedClause → Verdict → Type 0
+IsVerdict l P D clause (V.Typed made) =
+    TypingSays l P D (plain_unresolved_clause clause) None × IsResolved P D clause made
+IsVerdict l P D clause (V.Faulty rule what) =
+    TypingSays l P D (plain_unresolved_clause clause) (Some (rule, what))
+
+-- this was put behind what was judged before
+abbrev pub WasPut : Place → Verdict → (before after : Judged) → Type 0
+WasPut at (V.Typed made) before after =
+    (after.broken.items ≡ before.broken.items)
+    × (before.broken.items ≡ [] → after.clauses.items ≡ before.clauses.items ++ made ∷ [])
+WasPut at (V.Faulty rule what) before after =
+    after.broken.items ≡ before.broken.items ++ record { rule = rule; at = at; what = what } ∷ []
+
+-- the clause that an item of a file is, where it is one
+abbrev pub entry_clauses : Linked → (own : ℕ) → PlainDecl × Place → List ModuleClause
+entry_clauses l own e = clause_item own (clause_predicate l own (clause_of e.0)) e.0 e.1
+
+-- the number of a candidate, where it is a predicate, or a function
+abbrev pub number_as : Kind → Candidate → Option ℕ
+number_as K.Pred (C.Pred p) = Some p
+number_as K.Func (C.Func f) = Some f
+number_as k c = None
+
+-- the checker has what a module sees that the program declares, and the table of it
+pub record Checks (l : Linked) (D : ℕ → Option TypeTerm) (c : Checker) : Type 0 where
+  pub names : plain_names c.at.names.now ≡ l
+  pub declared : DeclaredAs l D c.program
+  pub table : IsTable c.program c.signatures
+
+-- these items were judged since
+pub record Adds
+    (l : Linked) (seen : (own : ℕ) → ℕ → Option TypeTerm) (items : List Item) (before after : Judged)
+    : Type 0 where
+  pub broken : List Broken
+  pub faults : AreFaults l seen items broken
+  pub is : after.broken.items ≡ before.broken.items ++ broken
+  pub made : after.broken.items ≡ [] → List Resolved
+  pub typed : (none : after.broken.items ≡ []) → AreTyped l seen items (made none)
+  pub added :
+      (none : after.broken.items ≡ []) → after.clauses.items ≡ before.clauses.items ++ made none

@@ -1,0 +1,12 @@
+//! What typing says of a program's clauses and its query: what each is resolved to, or the rules T1, T2 and L5.
+#![tactic(auto)]
+
+mod checker;
+mod difference;
+mod judged;
+mod law;
+mod phase;
+
+pub use judged::Judged;
+pub use law::at_most_one_list;
+pub use phase::{Seen, judge};
