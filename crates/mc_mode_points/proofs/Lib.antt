@@ -13,3 +13,11 @@ pub mod CallOutcomes
 pub mod Implied
 pub mod LeftInsts
 pub mod PickedModes
+pub mod NewVariables
+pub mod Freshening
+pub mod BuiltinOutcomes
+pub mod Returns
+pub mod Leasts
+pub mod Beginnings
+pub mod Joins
+pub mod OneOrMany

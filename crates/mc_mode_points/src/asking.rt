@@ -16,8 +16,14 @@ use mc_model::inst::InstId;
 use mc_program::ty::Ty;
 use std::alloc::Global;
 
+/// The node of `free`.
+pub const FREE: InstId = 0;
+
 /// The node of `ground`.
 pub const GROUND: InstId = 1;
+
+/// The node of `unique`.
+pub const UNIQUE: InstId = 2;
 
 /// The node of `dead`.
 pub const DEAD: InstId = 3;
@@ -53,7 +59,7 @@ fn place_in(row: &[u32], x: u32) -> Option<usize>
 }
 
 /// Puts a number into a row that ascends, where it is wanted and isn't there yet.
-fn place(row: &mut Vec<u32>, x: u32, is_wanted: bool) -> Result<(), Memory>
+pub(crate) fn place(row: &mut Vec<u32>, x: u32, is_wanted: bool) -> Result<(), Memory>
     ensures { OnOk result (row.new.items
         ≡ (if is_wanted then placed x row.old.items else row.old.items)) }
 {

@@ -101,7 +101,7 @@ impl Nodes {
     }
 }
 
-fn place_number(place: usize) -> Result<u32, Memory>
+pub(crate) fn place_number(place: usize) -> Result<u32, Memory>
     ensures { IfOk result (λ number. number ≡ place) }
 {
     if place > u32::MAX as usize {

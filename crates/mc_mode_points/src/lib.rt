@@ -2,12 +2,19 @@
 //! do there.
 #![tactic(auto)]
 
+mod applied;
+mod applying;
 mod asking;
 mod atoms;
+mod branches;
+mod builtin_modes;
 mod call;
 mod calls;
+mod entry;
 mod fault;
 mod finding;
+mod fresh;
+mod joining;
 mod leaving;
 mod made;
 mod modes;
@@ -15,11 +22,13 @@ mod nodes;
 mod over;
 mod part;
 mod picking;
+mod returning;
 mod state;
 mod table;
 
 pub use fault::{Failed, ModeFault};
+pub use joining::differs;
 pub use nodes::Nodes;
-pub use part::Part;
+pub use part::{Part, alone};
 pub use state::{Mark, State};
 pub use table::NodeTable;

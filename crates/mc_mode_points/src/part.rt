@@ -1,6 +1,7 @@
-ghost use Rattle.std.specs.Prelude.{◌≡◌, [], map, IfOk};
+ghost use Rattle.std.specs.Prelude.{◌≡◌, ◌∷◌, [], length, map, IfOk};
 ghost use Rattle.mc_model.specs.Scheduled.{nodes, node_then, no_nodes};
 ghost use Rattle.mc_model.specs.PlainGoals.{plain_node, plain_sched};
+ghost use Rattle.mc_accepted.specs.Arranged.{alone};
 ghost use Rattle.mc_accepted.specs.Unmarked.{unmarked};
 
 use mc_base::{Memory, Row};
@@ -47,4 +48,28 @@ pub fn one(alloc: Global, goal: Sched, reachable: bool) -> Result<Part, Memory>
         reachable,
         freshened: Vec::new(alloc),
     })
+}
+
+/// The one goal of a row that holds no other.
+fn only(row: Row<GoalNode>) -> GoalNode
+    requires { length row ≡ 1 }
+    ensures { row ≡ result ∷ [] }
+{
+    let mut row = row;
+    match row.pop() {
+        Some(goal) => goal,
+        None => unreachable!(),
+    }
+}
+
+/// One goal stands alone, others are a conjunction.
+pub fn alone(alloc: Global, goals: Vec<GoalNode>) -> Result<GoalNode, Memory>
+    ensures { IfOk result (λ goal. plain_node goal ≡ alone (nodes (map plain_node goals.items))) }
+{
+    let row = Row::of(goals)?;
+    if row.len() == 1 {
+        return Ok(only(row));
+    }
+    let goal = unmarked(alloc, Sched::Conj(row));
+    Ok(goal)
 }

@@ -1,0 +1,22 @@
+use Rattle.std.proofs.Common.{◌∙◌, List, not, ap, subst}
+use Rattle.mc_model.specs.Scheduled.{Scheduled, node_then, no_nodes}
+use Rattle.mc_accepted.specs.Ordered.{Mode}
+use Rattle.mc_accepted.specs.Unmarked.{unmarked}
+use Rattle.mc_mode_points.specs.States.{point_of}
+use Rattle.mc_mode_points.proofs.BuiltinOutcomes.{Leaves, ran-plainly}
+use Rattle.mc_mode_points.proofs.state.State.apply_plainly.Goals as goal
+
+pub returns : goal.returns
+returns c = λ declared.
+    let q = c.args.procs.now in
+    let r = c.leave_arguments.new.procs in
+    let s = c.args.self.now in
+    let t = c.leave_arguments.new.self in
+    let xs = c.args.xs.now in
+    let e = c.in_ok-leave_arguments.ensures in
+    let p = c.in_ok-part.ensures in
+    ran-plainly q r s t declared c.args.op xs c.in_ok-part.part e.stepped
+    (subst (λ (ms : List Mode). Leaves q r ms xs (point_of s.insts.items) t) c.requires.modes e.after)
+    e.count
+    (p.goals ∙ ap (λ (z : Scheduled). node_then (unmarked z) no_nodes) c.in_ok-goal.ensures)
+    (p.reachable ∙ ap not c.never_returns.ensures) p.freshened
