@@ -1,6 +1,6 @@
 -- Procedures as data and as they are declared, and where a walk over a body begins.
 use Rattle.std.proofs.Math.Path.{fun_ext}
-use Rattle.std.proofs.Common.{◌≡◌, ⊎_elim, ℕ, zero, suc, ◌+◌, ◌<◌, ◌≤◌, nat_eq, List, [], ◌∷◌, ◌++◌, length, get_or, map, Option, None, Bool, true, false, refl, sym, ap, ◌∙◌, subst, arith, if◌then◌else◌, Result, Ok, Err, IfOk}
+use Rattle.std.proofs.Common.{◌≡◌, ⊎_elim, ℕ, zero, suc, ◌+◌, ◌<◌, ◌≤◌, nat_eq, List, [], ◌∷◌, ◌++◌, length, get_or, map, Option, refl, sym, ap, ◌∙◌, subst, arith, Result, Ok, Err, IfOk}
 use Rattle.std.proofs.lemmas.List.{length-map}
 use Rattle.std.proofs.lemmas.Bool.{cases_eq}
 use Rattle.mc_program.specs.Values.{Val}
@@ -14,18 +14,16 @@ use Rattle.mc_model.specs.Scheduled.{Procedure, Label}
 use Rattle.mc_model.specs.PlainGoals.{plain_proc, plain_node}
 use Rattle.mc_model.specs.declared.sched.Proc.{Proc}
 use Rattle.mc_accepted.specs.Accepted.{entered}
-use Rattle.mc_accepted.specs.Determined.{nothing_known}
-use Rattle.mc_accepted.specs.Inferred.{LeastClosed}
 use Rattle.mc_insts.specs.Graphs.{count_of}
 use Rattle.mc_procs.specs.Named.{NumbersBelow, Named}
 use Rattle.mc_procs.specs.Fitting.{AllFit, ProcedureFits}
-use Rattle.mc_procs.specs.Procedures.{PlainProcs, procedure_at, as_system, no_procedure}
+use Rattle.mc_procs.specs.Procedures.{PlainProcs, procedure_at, as_system}
 use Rattle.mc_skeletons.specs.declared.skeleton.Step.{Step}
 use Rattle.mc_skeletons.specs.Least as L
 use Rattle.mc_skeletons.specs.Least.{body_at, assigned, Least}
 use Rattle.mc_det.specs.SkeletonLaws.{AreBodies, as_they_stand, skeleton_of}
 use Rattle.mc_det.specs.Bodies.{skeleton}
-use Rattle.mc_det.specs.Determinisms.{as_declared, none_declared, declared_procedure, declared_system, AreDeterminisms}
+use Rattle.mc_det.specs.Determinisms.{declared_procedure, declared_system, AreDeterminisms}
 use Rattle.mc_det.specs.declared.walk.Walk.{Walk}
 use Rattle.mc_det.specs.declared.facts.Fact.{Fact}
 use Rattle.mc_det.specs.code.Facts.{known_in}

@@ -7,3 +7,8 @@ pub mod Walking
 pub mod Declaring
 pub mod Naming
 pub mod Marking
+pub mod Telling
+pub mod Copies
+pub mod MarkedNames
+pub mod Replacing
+pub mod Depending

@@ -3,15 +3,15 @@ use Rattle.std.proofs.Math.Path.{fun_ext}
 use Rattle.std.proofs.Common.{◌≡◌, ℕ, nat_eq, List, Bool, not, ◌||◌, Option, Some, None, refl, sym, ap, ap₂, ◌∙◌, subst, if◌then◌else◌}
 use Rattle.std.specs.List.{list_all}
 use Rattle.mc_program.specs.Programs.{TypeTerm}
-use Rattle.mc_source.specs.Determinism.{Determinism, inferred, row_of, conj, disj, ite, negated, pruned, greater}
+use Rattle.mc_source.specs.Determinism.{Determinism, inferred, conj, disj, ite, negated, pruned, greater}
 use Rattle.mc_source.specs.declared.det.Det.{Det}
-use Rattle.mc_model.specs.Scheduled.{Node, node, Scheduled, Conj, Disj, Switch, Ite, Not, Exists, Assign, Test, Build, Take, Const, TestConst, Call, Apply, Nodes, no_nodes, node_then, Arms, no_arms, arm_then, Label, for_symbol, for_constant, Procedure}
+use Rattle.mc_model.specs.Scheduled.{Node, node, Scheduled, Conj, Disj, Switch, Ite, Not, Exists, Assign, Test, Build, Take, Const, TestConst, Call, Apply, Nodes, no_nodes, node_then, Arms, no_arms, arm_then, for_symbol, for_constant, Procedure}
 use Rattle.mc_model.specs.Good.{System}
 use Rattle.mc_accepted.specs.Ordered.{Insts}
 use Rattle.mc_accepted.specs.Determined.{Known, nothing_known, learned, insts_after, has_arm, misses, allowed_in, determined, determined_in, determined_all, determined_any, determined_arms}
 use Rattle.mc_accepted.specs.Fits.{type_of}
 use Rattle.mc_accepted.specs.Accepted.{entered, KeepsDeterminism, KeepsInside, AllKeep, EachKeeps, ArmsKeep}
-use Rattle.mc_det.specs.Marked.{marked, marked_in, marked_all, marked_each, marked_arms, marked_body, with_marks, MarksAreKept}
+use Rattle.mc_det.specs.Marked.{marked, marked_in, marked_all, marked_each, marked_arms, with_marks, MarksAreKept}
 
 module _ (S : System) (type : ℕ → TypeTerm) where
   pub after_marks : (b : Insts) (known : Known) (n : Node) (c : Insts) → insts_after (marked S type b known n) c ≡ insts_after n c

@@ -42,7 +42,7 @@ more_tests : (ks : List ℕ) (d : Determinism) → then_tests ks (conj d semidet
 more_tests [] d = refl
 more_tests (k ∷ ks) d = ap (then_tests ks) (tested_twice d.can_fail d.most) ∙ more_tests ks d
 
-tests_tell : (ks : List ℕ) (d : Determinism) → (if not (is_empty ks) then conj d semidet else d) ≡ then_tests ks d
+pub tests_tell : (ks : List ℕ) (d : Determinism) → (if not (is_empty ks) then conj d semidet else d) ≡ then_tests ks d
 tests_tell [] d = refl
 tests_tell (k ∷ ks) d = sym (more_tests ks d)
 

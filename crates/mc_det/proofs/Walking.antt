@@ -6,7 +6,7 @@ use Rattle.std.specs.Option.{option_or}
 use Rattle.mc_program.specs.Programs.{TypeTerm}
 use Rattle.mc_program.specs.declared.ty.Ty.{Ty}
 use Rattle.mc_source.specs.Determinism.{erroneous, failure, det}
-use Rattle.mc_model.specs.Scheduled.{Ite, Node, node, nodes, node_then, Nodes, no_nodes, Label, Arms, arm_then, no_arms}
+use Rattle.mc_model.specs.Scheduled.{Ite, Node, nodes, Label}
 use Rattle.mc_program.specs.Values.{Val}
 use Rattle.mc_program.specs.declared.builtin.Builtin.{Builtin}
 use Rattle.mc_model.specs.Outcomes.{Outcome}

@@ -2,4 +2,5 @@ pub mod Bodies
 pub mod SkeletonLaws
 pub mod Determinisms
 pub mod Marked
+pub mod MarkedProcedures
 pub mod code

@@ -1,6 +1,6 @@
 -- Bodies with the determinism of each goal, as the table has it. (Mercury Language Reference Manual:
 -- Determinism, inference.)
-use Rattle.std.specs.Prelude.{◌≡◌, ℕ, ◌<◌, List, length}
+use Rattle.std.specs.Prelude.{ℕ}
 use Rattle.mc_program.specs.Programs.{TypeTerm}
 use Rattle.mc_source.specs.Determinism.{inferred}
 use Rattle.mc_source.specs.declared.det.Det.{Det}

@@ -3,3 +3,4 @@ pub mod Points
 pub mod Testing
 pub mod Facts
 pub mod Walks
+pub mod Marks

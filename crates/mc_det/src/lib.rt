@@ -4,10 +4,13 @@
 mod facts;
 mod inference;
 mod law;
+mod mark;
 mod point;
+mod procedures;
 mod symbols;
 mod tested;
 mod walk;
 
 pub use inference::determinisms;
 pub use law::{least_by_skeletons, marks_are_kept, skeletons_tell};
+pub use procedures::infer;

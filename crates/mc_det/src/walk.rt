@@ -35,25 +35,25 @@ pub(crate) struct Walk<'a> {
     pub(crate) steps: Vec<Step>,
 }
 
-const DET: Det = Det {
+pub(crate) const DET: Det = Det {
     can_fail: false,
     most: Most::One,
     committed: false,
 };
 
-const SEMIDET: Det = Det {
+pub(crate) const SEMIDET: Det = Det {
     can_fail: true,
     most: Most::One,
     committed: false,
 };
 
-const FAILURE: Det = Det {
+pub(crate) const FAILURE: Det = Det {
     can_fail: true,
     most: Most::Zero,
     committed: false,
 };
 
-const ERRONEOUS: Det = Det {
+pub(crate) const ERRONEOUS: Det = Det {
     can_fail: false,
     most: Most::Zero,
     committed: false,
@@ -131,7 +131,7 @@ pub(crate) fn misses_symbol(
 }
 
 /// That a goal of a list names what is there, where each of them does. It only says so.
-fn is_named(procs: &Procs, types: &[Ty], goals: &[GoalNode], goal: &GoalNode)
+pub(crate) fn is_named(procs: &Procs, types: &[Ty], goals: &[GoalNode], goal: &GoalNode)
     requires all { EachNamed (bounds_in procs.now (length types.now)) (nodes (map plain_node goals.now)) }
     requires among { IsAmong goals.now goal.now }
     ensures { Named (bounds_in procs.now (length types.now)) (plain_node goal.now) }
@@ -140,7 +140,7 @@ fn is_named(procs: &Procs, types: &[Ty], goals: &[GoalNode], goal: &GoalNode)
 }
 
 /// That the goal of an arm of a list names what is there, where each of them does. It only says so.
-fn arm_is_named(procs: &Procs, types: &[Ty], arms: &[Arm], arm: &Arm)
+pub(crate) fn arm_is_named(procs: &Procs, types: &[Ty], arms: &[Arm], arm: &Arm)
     requires all { EachArmNamed (bounds_in procs.now (length types.now)) (arms_of (map plain_arm arms.now)) }
     requires among { IsAmong arms.now arm.now }
     ensures { Named (bounds_in procs.now (length types.now)) (plain_node arm.now.body) }
@@ -168,7 +168,7 @@ impl<'a> Walk<'a> {
     }
 
     /// Enters the changes of a goal; what each of them found is put behind what was found before.
-    fn enter(
+    pub(crate) fn enter(
         &mut self,
         goal: &GoalNode,
         found: &mut Vec<(u32, InstId)>,

@@ -1,4 +1,4 @@
-use Rattle.std.proofs.Common.{List, Option, sym, subst, IfOk}
+use Rattle.std.proofs.Common.{List, Option, subst}
 use Rattle.mc_source.specs.declared.det.Det.{Det}
 use Rattle.mc_skeletons.specs.declared.skeleton.Step.{Step}
 use Rattle.mc_skeletons.specs.Least.{assigned, Least}

@@ -1,14 +1,12 @@
-use Rattle.std.proofs.Common.{◌≡◌, List, IfOk, sym, subst, ap, ◌∙◌}
+use Rattle.std.proofs.Common.{◌≡◌, List, sym, subst, ap, ◌∙◌}
 use Rattle.mc_program.specs.declared.ty.Ty.{Ty}
 use Rattle.mc_model.specs.PlainGoals.{plain_proc, plain_node}
 use Rattle.mc_accepted.specs.Accepted.{entered}
-use Rattle.mc_skeletons.specs.declared.skeleton.Step.{Step}
 use Rattle.mc_det.specs.Bodies.{skeleton}
 use Rattle.mc_det.specs.declared.walk.Walk.{Walk}
 use Rattle.mc_det.specs.SkeletonLaws.{skeleton_of}
-use Rattle.mc_det.specs.code.Points.{insts_in}
 use Rattle.mc_det.specs.code.Walks.{typed, Ready, InSystems, Puts}
-use Rattle.mc_det.proofs.Declaring.{ready_first, body_named, whole_body, if_ok_as}
+use Rattle.mc_det.proofs.Declaring.{ready_first, whole_body, if_ok_as}
 use Rattle.mc_det.proofs.inference.skeleton_of.Goals as goal
 
 pub goal-requires-clause-ready : goal.goal-requires-clause-ready

@@ -1,6 +1,5 @@
-use Rattle.std.proofs.Common.{ℕ, ◌+◌, ◌<◌, ◌≡◌, ◌∷◌, [], List, length, length-append, get_or, sym, ap, subst, ◌∙◌, arith}
+use Rattle.std.proofs.Common.{ℕ, ◌+◌, ◌<◌, ◌≡◌, ◌∷◌, [], List, length, length-append, sym, ap, subst, arith}
 use Rattle.mc_model.specs.PlainGoals.{plain_proc}
-use Rattle.mc_model.specs.Scheduled.{Procedure}
 use Rattle.mc_model.specs.declared.sched.Proc.{Proc}
 use Rattle.mc_procs.specs.Fitting.{ProcedureFits}
 use Rattle.mc_procs.specs.Procedures.{procedure_at}

@@ -1,23 +1,20 @@
-use Rattle.std.proofs.Common.{rules, ◌≡◌, ◌++◌, ◌∷◌, [], List, length, map, get_or, refl, sym, ap, ◌∙◌, subst, arith, ℕ, if◌then◌else◌}
+use Rattle.std.proofs.Common.{◌++◌, ◌∷◌, [], List, length, map, refl, sym, ap, ◌∙◌, subst, arith, ℕ, if◌then◌else◌}
 use Rattle.std.proofs.lemmas.Result.{on_ok_weaker}
 use Rattle.mc_source.specs.Determinism.{det, failure, erroneous}
 use Rattle.mc_model.specs.Scheduled.{nodes, Ite}
 use Rattle.mc_model.specs.PlainGoals.{plain_node, plain_sched, plain_arm, arms_of}
-use Rattle.mc_model.specs.Good.{System}
 use Rattle.mc_model.specs.declared.sched.GoalNode.{GoalNode}
 use Rattle.mc_model.specs.declared.sched.Arm.{Arm}
 use Rattle.mc_accepted.specs.Determined.{insts_after}
-use Rattle.mc_procs.specs.Named.{Named, NamedIn, EachNamed, EachArmNamed}
+use Rattle.mc_procs.specs.Named.{Named, NamedIn}
 use Rattle.mc_procs.specs.Procedures.{as_system}
-use Rattle.mc_procs.proofs.Views.{plain_node-open, plain_sched-Conj, plain_sched-Disj, plain_sched-Switch, plain_sched-Ite, plain_sched-Not, plain_sched-Some}
-use Rattle.mc_skeletons.specs.declared.skeleton.Step.{Step}
+use Rattle.mc_procs.proofs.Views.{plain_sched-Conj, plain_sched-Disj, plain_sched-Switch, plain_sched-Ite, plain_sched-Not}
 use Rattle.mc_skeletons.specs.declared.skeleton.Step.TheVariants as T
 use Rattle.mc_det.specs.Bodies.{fixed, skeleton, skeleton_in, skeleton_all, skeleton_any, skeleton_arms}
 use Rattle.mc_det.specs.declared.walk.Walk.{Walk}
-use Rattle.mc_det.specs.declared.facts.Fact.{Fact}
 use Rattle.mc_det.specs.code.Facts.{known_in}
-use Rattle.mc_det.specs.code.Points.{insts_in, undone, ChangesBelow}
-use Rattle.mc_det.specs.code.Walks.{typed, bounds_in, Ready, times, missed, InSystems, PutSteps, Puts}
+use Rattle.mc_det.specs.code.Points.{insts_in, undone}
+use Rattle.mc_det.specs.code.Walks.{typed, bounds_in, Ready, times, missed, Puts}
 use Rattle.mc_det.proofs.Walking.{each_named_at, all_done, any_done, arms_done, then_steps, then_puts, as_seen, ends, one_run, one_tried, one_chosen, then_put, ite_put, node_seen, taken_off}
 use Rattle.mc_det.proofs.Naming.{ready_same}
 use Rattle.mc_det.proofs.walk.Walk.+walk.Goals as goal

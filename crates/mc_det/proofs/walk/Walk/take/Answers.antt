@@ -1,11 +1,10 @@
-use Rattle.std.proofs.Common.{◌∷◌, [], List, ap, sym, ◌∙◌}
+use Rattle.std.proofs.Common.{◌∷◌, [], List, ap, ◌∙◌}
 use Rattle.std.proofs.lemmas.Result.{on_ok_weaker}
 use Rattle.mc_source.specs.declared.det.Det.{Det}
 use Rattle.mc_model.specs.Scheduled.{Take}
 use Rattle.mc_accepted.specs.Determined.{take_determinism}
 use Rattle.mc_source.specs.Determinism.{inferred}
 use Rattle.mc_procs.specs.Procedures.{as_system}
-use Rattle.mc_skeletons.specs.declared.skeleton.Step.{Step}
 use Rattle.mc_skeletons.specs.declared.skeleton.Step.TheVariants as T
 use Rattle.mc_det.specs.Bodies.{skeleton_in}
 use Rattle.mc_det.specs.declared.facts.Fact.{Fact}

@@ -1,0 +1,33 @@
+use Rattle.std.proofs.Math.Seq.{drop-length}
+use Rattle.std.proofs.Common.{◌≡◌, suc, ◌-◌, ◌<◌, List, length, get_or, drop, map, sym, ap, ◌∙◌, arith}
+use Rattle.mc_source.specs.Determinism.{inferred, row_of, disj}
+use Rattle.mc_source.specs.declared.det.Det.{Det}
+use Rattle.mc_model.specs.Scheduled.{nodes}
+use Rattle.mc_model.specs.PlainGoals.{plain_node}
+use Rattle.mc_model.specs.declared.sched.GoalNode.{GoalNode}
+use Rattle.mc_det.specs.code.Marks.{any_told}
+use Rattle.mc_det.proofs.Telling.{any_from}
+use Rattle.mc_det.proofs.mark.any_told.Goals as goal
+
+pub loop-n-init : goal.loop-n-init
+loop-n-init c =
+    record {
+      left = omega arith;
+      told = ap (λ (l : List GoalNode). inferred (any_told (nodes (map plain_node l)))) (sym (drop-length c.args.goals.now));
+    }
+
+pub loop-n-preserved : goal.loop-n-preserved
+loop-n-preserved c =
+    let gs = c.args.goals.now in
+    let k = c.loop-n.n - 1 in
+    let n : c.loop-n.n ≡ suc k = omega arith in
+    let h = c.loop-n.invariant.left in
+    let lt : k < length gs = omega arith in
+    let g : GoalNode = c.index-goals-n.result in
+    record {
+      left = omega arith;
+      told =
+          c.disj-det.ensures
+          ∙ ap (λ (d : Det). inferred (disj (row_of (get_or gs k g).det) (row_of d))) (c.loop-n.invariant.told ∙ ap (λ m. inferred (any_told (nodes (map plain_node (drop m gs))))) n)
+          ∙ ap inferred (any_from gs k g lt);
+    }

@@ -1,0 +1,16 @@
+use Rattle.std.proofs.Common.{List, map, ap, ◌∙◌}
+use Rattle.mc_source.specs.Determinism.{inferred}
+use Rattle.mc_model.specs.Scheduled.{nodes}
+use Rattle.mc_model.specs.PlainGoals.{plain_node, plain_sched}
+use Rattle.mc_model.specs.declared.sched.GoalNode.{GoalNode}
+use Rattle.mc_procs.proofs.Views.{plain_sched-Disj}
+use Rattle.mc_det.specs.code.Marks.{any_told}
+use Rattle.mc_det.proofs.mark.disj_told.Goals as goal
+
+pub returns-clause-goal : goal.returns-clause-goal
+returns-clause-goal c = ap plain_sched c.atom.ensures.goal ∙ plain_sched-Disj c.args.copies
+
+pub returns-clause-det : goal.returns-clause-det
+returns-clause-det c =
+    c.atom.ensures.det ∙ c.any_told-det.ensures
+    ∙ ap (λ (gs : List GoalNode). inferred (any_told (nodes (map plain_node gs)))) c.as_slice.ensures.items

@@ -1,0 +1,3 @@
+pub mod IoTold
+pub mod Finding
+pub mod Faulting
