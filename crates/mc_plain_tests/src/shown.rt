@@ -53,7 +53,7 @@ fn written_down(alloc: Global, mut run: Plain<'_>) -> Result<Vec<u8>, Memory>
 }
 
 /// Shows a step. Answers whether it is an end.
-fn show(alloc: Global, text: &mut Vec<u8>, step: Option<Step>) -> Result<bool, Memory> {
+pub fn show(alloc: Global, text: &mut Vec<u8>, step: Option<Step>) -> Result<bool, Memory> {
     match step {
         Some(Step::Answer(values)) => {
             show_answer(alloc, text, &values)?;
@@ -64,7 +64,7 @@ fn show(alloc: Global, text: &mut Vec<u8>, step: Option<Step>) -> Result<bool, M
             Ok(false)
         }
         Some(Step::Stopped(stop)) => {
-            text.extend_from_slice(why(&stop).as_bytes())?;
+            text.extend_from_slice(why(&stop))?;
             Ok(true)
         }
         Some(Step::End) => {
@@ -82,13 +82,13 @@ fn show(alloc: Global, text: &mut Vec<u8>, step: Option<Step>) -> Result<bool, M
     }
 }
 
-/// Why a run stopped, as the tables name it.
-fn why(stop: &Stop) -> &'static str {
+/// Why a run stopped, as the tables name it: an error by its text.
+fn why(stop: &Stop) -> &[u8] {
     match stop {
-        Stop::Budget => "budget",
-        Stop::TooDeep => "depth",
-        Stop::Throw(Exception::ZeroDivide) => "zero divisor",
-        Stop::Throw(Exception::Error(_)) => "error",
+        Stop::Budget => b"budget",
+        Stop::TooDeep => b"depth",
+        Stop::Throw(Exception::ZeroDivide) => b"zero divisor",
+        Stop::Throw(Exception::Error(message)) => message.bytes(),
     }
 }
 

@@ -1,3 +1,4 @@
+use crate::lines::{ECHOES, echoed};
 use crate::runs::{MAIN, NESTED, RUNS, WHOLE};
 use crate::shown::{agrees, expected, main_shown, nesting, shown};
 use mc_model::run::Limits;
@@ -41,5 +42,15 @@ fn limits(rt: HostRuntime) -> Result<(), Fail> {
 #[test]
 fn deep_values(rt: HostRuntime) -> Result<(), Fail> {
     assert!(rt; nesting(rt.alloc(), &NESTED)? == 1_000_001);
+    Ok(())
+}
+
+/// A procedure that writes the lines of its input.
+#[test]
+fn lines_that_are_fed(rt: HostRuntime) -> Result<(), Fail> {
+    for (given, budget, wanted) in ECHOES {
+        let text = echoed(rt.alloc(), given, *budget)?;
+        assert!(rt; text.as_slice() == wanted.as_bytes());
+    }
     Ok(())
 }
