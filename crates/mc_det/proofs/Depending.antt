@@ -37,7 +37,7 @@ module _ (world : World) (insts : Graph) (m n : ℕ) (f g : ℕ → Procedure) (
 
   module _ (type : ℕ → TypeTerm) where
     mutual
-      same_told : (b : Insts) (known : Known) (t : Node) → determined A type b known t ≡ determined B type b known t
+      pub same_told : (b : Insts) (known : Known) (t : Node) → determined A type b known t ≡ determined B type b known t
       same_told b known (node s changes d p) = ap (λ (r : Determinism). if p then pruned r else r) (same_in b known s)
 
       same_in : (b : Insts) (known : Known) (s : Scheduled) → determined_in A type b known s ≡ determined_in B type b known s

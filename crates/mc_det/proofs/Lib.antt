@@ -12,3 +12,4 @@ pub mod Copies
 pub mod MarkedNames
 pub mod Replacing
 pub mod Depending
+pub mod Closing

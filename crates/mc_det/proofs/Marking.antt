@@ -13,16 +13,17 @@ use Rattle.mc_accepted.specs.Fits.{type_of}
 use Rattle.mc_accepted.specs.Accepted.{entered, KeepsDeterminism, KeepsInside, AllKeep, EachKeeps, ArmsKeep}
 use Rattle.mc_det.specs.Marked.{marked, marked_in, marked_all, marked_each, marked_arms, with_marks, MarksAreKept}
 
-module _ (S : System) (type : ℕ → TypeTerm) where
+-- `R` is where determinisms are told, `S` where marks were made
+module _ (R S : System) (type : ℕ → TypeTerm) where
   pub after_marks : (b : Insts) (known : Known) (n : Node) (c : Insts) → insts_after (marked S type b known n) c ≡ insts_after n c
   after_marks b known (node s changes d m) c = refl
 
-  arm_stays : (b : Insts) (known : Known) (x s : ℕ) (arms : Arms) → has_arm S type s (marked_arms S type b known x arms) ≡ has_arm S type s arms
+  arm_stays : (b : Insts) (known : Known) (x s : ℕ) (arms : Arms) → has_arm R type s (marked_arms S type b known x arms) ≡ has_arm R type s arms
   arm_stays b known x s no_arms = refl
   arm_stays b known x s (arm_then (for_symbol f) n arms) = ap (λ (r : Bool). nat_eq f s || r) (arm_stays b known x s arms)
   arm_stays b known x s (arm_then (for_constant v) n arms) = arm_stays b known x s arms
 
-  pub misses_stay : (b : Insts) (known : Known) (x : ℕ) (arms : Arms) (ss : Option (List ℕ)) → misses S type ss (marked_arms S type b known x arms) ≡ misses S type ss arms
+  pub misses_stay : (b : Insts) (known : Known) (x : ℕ) (arms : Arms) (ss : Option (List ℕ)) → misses R type ss (marked_arms S type b known x arms) ≡ misses R type ss arms
   misses_stay b known x arms None = refl
   misses_stay b known x arms (Some ss) = ap (λ (f : ℕ → Bool). not (list_all f ss)) (fun_ext (λ s. arm_stays b known x s arms))
 
@@ -33,18 +34,18 @@ module _ (S : System) (type : ℕ → TypeTerm) where
   armed d e = record { can_fail = d.can_fail || e.can_fail; most = greater d.most e.most }
 
   mutual
-    pub told_same : (b : Insts) (known : Known) (n : Node) → determined S type b known (marked S type b known n) ≡ determined S type b known n
+    pub told_same : (b : Insts) (known : Known) (n : Node) → determined R type b known (marked S type b known n) ≡ determined R type b known n
     told_same b known (node s changes d m) = ap (λ (r : Determinism). if m then pruned r else r) (same_in b known s)
 
-    same_in : (b : Insts) (known : Known) (s : Scheduled) → determined_in S type b known (marked_in S type b known s) ≡ determined_in S type b known s
+    same_in : (b : Insts) (known : Known) (s : Scheduled) → determined_in R type b known (marked_in S type b known s) ≡ determined_in R type b known s
     same_in b known (Conj ns) = same_all b known ns
     same_in b known (Disj ns) = same_any b known ns
     same_in b known (Switch x arms) =
-        ap₂ switched (misses_stay b known x arms (allowed_in S type (type x) (b x))) (same_arms b known x arms)
+        ap₂ switched (misses_stay b known x arms (allowed_in R type (type x) (b x))) (same_arms b known x arms)
     same_in b known (Ite vs c t e) =
-        ap (λ (i : Insts). ite (determined S type b known (marked S type b known c)) (determined S type i known (marked S type (insts_after c b) known t)) (determined S type b known (marked S type b known e))) (after_marks b known c b)
-        ∙ ap (λ (r : Determinism). ite r (determined S type (insts_after c b) known (marked S type (insts_after c b) known t)) (determined S type b known (marked S type b known e))) (told_same b known c)
-        ∙ ap₂ (ite (determined S type b known c)) (told_same (insts_after c b) known t) (told_same b known e)
+        ap (λ (i : Insts). ite (determined R type b known (marked S type b known c)) (determined R type i known (marked S type (insts_after c b) known t)) (determined R type b known (marked S type b known e))) (after_marks b known c b)
+        ∙ ap (λ (r : Determinism). ite r (determined R type (insts_after c b) known (marked S type (insts_after c b) known t)) (determined R type b known (marked S type b known e))) (told_same b known c)
+        ∙ ap₂ (ite (determined R type b known c)) (told_same (insts_after c b) known t) (told_same b known e)
     same_in b known (Not n) = ap negated (told_same b known n)
     same_in b known (Exists vs n) = told_same b known n
     same_in b known (Assign x y) = refl
@@ -56,17 +57,17 @@ module _ (S : System) (type : ℕ → TypeTerm) where
     same_in b known (Call p xs implied last) = refl
     same_in b known (Apply op xs ys) = refl
 
-    same_all : (b : Insts) (known : Known) (ns : Nodes) → determined_all S type b known (marked_all S type b known ns) ≡ determined_all S type b known ns
+    same_all : (b : Insts) (known : Known) (ns : Nodes) → determined_all R type b known (marked_all S type b known ns) ≡ determined_all R type b known ns
     same_all b known no_nodes = refl
     same_all b known (node_then n ns) =
-        ap (λ (i : Insts). conj (determined S type b known (marked S type b known n)) (determined_all S type i known (marked_all S type (insts_after n b) known ns))) (after_marks b known n b)
+        ap (λ (i : Insts). conj (determined R type b known (marked S type b known n)) (determined_all R type i known (marked_all S type (insts_after n b) known ns))) (after_marks b known n b)
         ∙ ap₂ conj (told_same b known n) (same_all (insts_after n b) known ns)
 
-    same_any : (b : Insts) (known : Known) (ns : Nodes) → determined_any S type b known (marked_each S type b known ns) ≡ determined_any S type b known ns
+    same_any : (b : Insts) (known : Known) (ns : Nodes) → determined_any R type b known (marked_each S type b known ns) ≡ determined_any R type b known ns
     same_any b known no_nodes = refl
     same_any b known (node_then n ns) = ap₂ disj (told_same b known n) (same_any b known ns)
 
-    same_arms : (b : Insts) (known : Known) (x : ℕ) (arms : Arms) → determined_arms S type b known x (marked_arms S type b known x arms) ≡ determined_arms S type b known x arms
+    same_arms : (b : Insts) (known : Known) (x : ℕ) (arms : Arms) → determined_arms R type b known x (marked_arms S type b known x arms) ≡ determined_arms R type b known x arms
     same_arms b known x no_arms = refl
     same_arms b known x (arm_then l n arms) = ap₂ armed (told_same b (learned x l known) n) (same_arms b known x arms)
 
@@ -80,14 +81,14 @@ module _ (S : System) (p : Procedure) (d : Det) where
   mutual
     keeps : (b : Insts) (known : Known) (n : Node) → KeepsDeterminism S P b known (marked S T b known n)
     keeps b known (node s changes e m) =
-        (ap inferred (sym (told_same S T b known (node s changes e m))), keeps_in b known s)
+        (ap inferred (sym (told_same S S T b known (node s changes e m))), keeps_in b known s)
 
     keeps_in : (b : Insts) (known : Known) (s : Scheduled) → KeepsInside S P b known (marked_in S T b known s)
     keeps_in b known (Conj ns) = keeps_all b known ns
     keeps_in b known (Disj ns) = keeps_each b known ns
     keeps_in b known (Switch x arms) = keeps_arms b known x arms
     keeps_in b known (Ite vs c t e) =
-        (keeps b known c, subst (λ (i : Insts). KeepsDeterminism S P i known (marked S T (insts_after c b) known t)) (sym (after_marks S T b known c b)) (keeps (insts_after c b) known t), keeps b known e)
+        (keeps b known c, subst (λ (i : Insts). KeepsDeterminism S P i known (marked S T (insts_after c b) known t)) (sym (after_marks S S T b known c b)) (keeps (insts_after c b) known t), keeps b known e)
     keeps_in b known (Not n) = keeps b known n
     keeps_in b known (Exists vs n) = keeps b known n
     keeps_in b known (Assign x y) = tt
@@ -102,7 +103,7 @@ module _ (S : System) (p : Procedure) (d : Det) where
     keeps_all : (b : Insts) (known : Known) (ns : Nodes) → AllKeep S P b known (marked_all S T b known ns)
     keeps_all b known no_nodes = tt
     keeps_all b known (node_then n ns) =
-        (keeps b known n, subst (λ (i : Insts). AllKeep S P i known (marked_all S T (insts_after n b) known ns)) (sym (after_marks S T b known n b)) (keeps_all (insts_after n b) known ns))
+        (keeps b known n, subst (λ (i : Insts). AllKeep S P i known (marked_all S T (insts_after n b) known ns)) (sym (after_marks S S T b known n b)) (keeps_all (insts_after n b) known ns))
 
     keeps_each : (b : Insts) (known : Known) (ns : Nodes) → EachKeeps S P b known (marked_each S T b known ns)
     keeps_each b known no_nodes = tt

@@ -3,7 +3,8 @@ ghost use Rattle.mc_model.specs.PlainGoals.{plain_node, plain_proc};
 ghost use Rattle.mc_model.specs.declared.sched.Proc.{Proc};
 ghost use Rattle.mc_procs.specs.Fitting.{ProcedureFits};
 ghost use Rattle.mc_procs.specs.Procedures.{with_procs};
-ghost use Rattle.mc_det.specs.MarkedProcedures.{IsMarked, Inferred, MarksHold};
+ghost use Rattle.mc_det.specs.Determinisms.{AreDeterminisms};
+ghost use Rattle.mc_det.specs.MarkedProcedures.{IsMarked, Inferred, MarksHold, determinisms_of};
 ghost use Rattle.mc_det.specs.Marked.{marked_body};
 ghost use Rattle.mc_det.specs.code.Marks.{under, AllStand};
 ghost use Rattle.mc_det.specs.code.Walks.{InSystems};
@@ -25,6 +26,7 @@ use std::alloc::Global;
 pub fn infer(alloc: Global, procs: &mut Procs) -> Result<(), Memory>
     ensures inferred { OnOk result (Inferred procs.old procs.new) }
     ensures marks { OnOk result (MarksHold procs.new) }
+    ensures least { OnOk result (AreDeterminisms procs.new (determinisms_of procs.new)) }
     ensures err { OnErr result (procs.new ≡ procs.old) }
 {
     procs.fit();

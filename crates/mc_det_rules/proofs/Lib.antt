@@ -1,3 +1,4 @@
 pub mod IoTold
 pub mod Finding
+pub mod Entering
 pub mod Faulting

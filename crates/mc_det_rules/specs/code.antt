@@ -1,1 +1,2 @@
 pub mod Io
+pub mod Entry
