@@ -30,6 +30,26 @@ fn long_values(rt: HostRuntime) -> Result<(), Memory> {
     Ok(())
 }
 
+/// `f(f(.. [] .., 0), 0)`, n times f of two arguments, the first of which is nested.
+fn nested_first(alloc: Global, n: u32) -> Result<Value, Memory> {
+    let mut value = Value::Con(0, Row::new(alloc));
+    for k in 0..n {
+        let mut args = Row::new(alloc);
+        args.push(value)?;
+        args.push(Value::Int(i64::from(k)))?;
+        value = Value::Con(1, args);
+    }
+    Ok(value)
+}
+
+/// A value that is nested in first arguments takes no stack when it is dropped.
+#[test]
+fn deep_first_arguments(rt: HostRuntime) -> Result<(), Memory> {
+    let value = nested_first(rt.alloc(), 1_000_000)?;
+    drop(value);
+    Ok(())
+}
+
 #[test]
 fn values_that_differ(rt: HostRuntime) -> Result<(), Memory> {
     let three = list_of_numbers(rt.alloc(), 3)?;

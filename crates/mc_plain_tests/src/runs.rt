@@ -371,6 +371,19 @@ pub const NESTED: Query = Query {
     ],
 };
 
+/// `nest_first(1000000, X), nest_first(1000000, Y), X = Y`
+pub const NESTED_FIRST: Query = Query {
+    variables: 3,
+    head: &[1],
+    goal: &[
+        Word::Int(0, 1_000_000),
+        Word::Call(16, &[0, 1]),
+        Word::Call(16, &[0, 2]),
+        Word::Same(1, 2),
+        Word::All(4),
+    ],
+};
+
 /// Queries with a budget and a depth, and what their runs show. A call that finds no height is told before one that finds
 /// no budget.
 pub const WHOLE: &[(Query, Limits, &str)] = &[

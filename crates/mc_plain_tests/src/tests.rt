@@ -1,5 +1,5 @@
 use crate::lines::{ECHOES, echoed};
-use crate::runs::{MAIN, NESTED, RUNS, WHOLE};
+use crate::runs::{MAIN, NESTED, NESTED_FIRST, RUNS, WHOLE};
 use crate::shown::{agrees, expected, main_shown, nesting, shown};
 use mc_model::run::Limits;
 use std::test::Fail;
@@ -52,5 +52,13 @@ fn lines_that_are_fed(rt: HostRuntime) -> Result<(), Fail> {
         let text = echoed(rt.alloc(), given, *budget)?;
         assert!(rt; text.as_slice() == wanted.as_bytes());
     }
+    Ok(())
+}
+
+/// Two equal values of 1,000,000 constructors, each in the first argument of another: the last argument of the outermost
+/// is a constant, and the rest is dropped with no stack for each.
+#[test]
+fn deep_first_arguments(rt: HostRuntime) -> Result<(), Fail> {
+    assert!(rt; nesting(rt.alloc(), &NESTED_FIRST)? == 2);
     Ok(())
 }

@@ -221,6 +221,19 @@ const MAIN: &[Word] = &[
     Word::All(17),
 ];
 
+/// 16: `nest_first(N, T)`: if N = 0 then T = ann else nest_first(N - 1, T0), T = [T0 | ann].
+const NEST_FIRST: &[Word] = &[
+    Word::Int(0, 0),
+    Word::Made(1, 2, &[]),
+    Word::Int(2, 1),
+    Word::Apply(Builtin::IntMinus, &[0, 2], &[3]),
+    Word::Call(16, &[3, 4]),
+    Word::Made(5, 2, &[]),
+    Word::Made(1, 1, &[4, 5]),
+    Word::All(5),
+    Word::If,
+];
+
 /// The procedures.
 pub const PROCEDURES: &[Written] = &[
     Written {
@@ -318,5 +331,11 @@ pub const PROCEDURES: &[Written] = &[
         head: &[0, 1],
         inputs: &[1, 0],
         body: MAIN,
+    },
+    Written {
+        variables: 6,
+        head: &[0, 1],
+        inputs: &[1, 0],
+        body: NEST_FIRST,
     },
 ];

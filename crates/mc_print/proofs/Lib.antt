@@ -1,1 +1,2 @@
+pub mod Pendings
 pub mod Written

@@ -1,6 +1,6 @@
 -- How the text of a value falls into what is written from its front.
-use Rattle.std.proofs.Common.{◌≡◌, ℕ, ◌<◌, List, [], ◌∷◌, ◌++◌, Bool, true, false, refl, ap, sym, ◌∙◌, nat_eq, reverse, append_assoc, map, subst, if◌then◌else◌}
-use Rattle.std.proofs.lemmas.List.{append-nil, map-append, reverse-append}
+use Rattle.std.proofs.Common.{◌≡◌, ℕ, ◌<◌, List, [], ◌∷◌, ◌++◌, Bool, true, false, refl, ap, sym, ◌∙◌, nat_eq, append_assoc, map, subst, if◌then◌else◌}
+use Rattle.std.proofs.lemmas.List.{append-nil, map-append}
 use Rattle.mc_program.specs.Values.{plain_value}
 use Rattle.mc_program.specs.declared.value.Value.{Value, Con}
 use Rattle.mc_program.proofs.Views.{plain_value-Con}
@@ -81,39 +81,6 @@ at_place-con names Tail s (x ∷ y ∷ ws) w =
     let rest = vals ((y ∷ ws) ++ (w ∷ [])) in
     ap (λ b. if b then codes ", " ++ (printed names x ++ printed_tails names rest) else codes " | " ++ (name_text name ++ (codes "(" ++ (printed names x ++ (printed_more names rest ++ codes ")"))))) (no_cell name y ws w)
     ∙ bracketed_at names Tail name x (y ∷ ws) w
-
-closing-reverse : (place : Place) (is_list : Bool) → reverse (closing place is_list) ≡ closing place is_list
-closing-reverse Whole true = refl
-closing-reverse Whole false = refl
-closing-reverse Tail true = refl
-closing-reverse Tail false = refl
-
-regrouped : (out o f a c r : List ℕ) → ((out ++ o) ++ f) ++ (a ++ (c ++ r)) ≡ out ++ ((o ++ (f ++ (a ++ c))) ++ r)
-regrouped out o f a c r = simp append_assoc
-
--- one turn of the loop: what is written and what is still to be written are together what they were
-pub turned : (names : List (List ℕ)) (out out1 out2 goal name closers closers' : List ℕ) (place place' : Place) (s : ℕ) (ws : List Val) (w v : Val) (is_list : Bool)
-    → v ≡ con s (vals (ws ++ (w ∷ []))) → name ≡ name_at names s → is_list ≡ is_list_front name ws
-    → out1 ≡ out ++ opening place name is_list → out2 ≡ out1 ++ fronts_text names is_list ws
-    → closers' ≡ closers ++ closing place is_list → place' ≡ last_place is_list
-    → out ++ (at_place names place v ++ reverse closers) ≡ goal
-    → out2 ++ (at_place names place' w ++ reverse closers') ≡ goal
-turned names out out1 out2 goal name closers closers' place place' s ws w v is_list is at lists e1 e2 e3 e4 before =
-    let O = opening place name is_list in
-    let F = fronts_text names is_list ws in
-    let A = at_place names (last_place is_list) w in
-    let C = closing place is_list in
-    let R = reverse closers in
-    let after : reverse closers' ≡ C ++ R = ap reverse e3 ∙ reverse-append closers C ∙ ap (λ l. l ++ R) (closing-reverse place is_list) in
-    let whole : at_place names place v ≡ O ++ (F ++ (A ++ C)) =
-    ap (at_place names place) is ∙ at_place-con names place s ws w ∙ ap (λ n. parts names place n (is_list_front n ws) ws w) (sym at) ∙ ap (λ b. parts names place name b ws w) (sym lists) in
-    let written : out2 ≡ (out ++ O) ++ F = e2 ∙ ap (λ l. l ++ F) e1 in
-    let left : at_place names place' w ++ reverse closers' ≡ A ++ (C ++ R) = ap (λ p. at_place names p w ++ reverse closers') e4 ∙ ap (λ l. A ++ l) after in
-    ap (λ l. l ++ (at_place names place' w ++ reverse closers')) written
-    ∙ ap (λ l. ((out ++ O) ++ F) ++ l) left
-    ∙ regrouped out O F A C R
-    ∙ ap (λ l. out ++ (l ++ R)) (sym whole)
-    ∙ before
 
 -- the symbols of the parts
 pub symbols_fronts : (n : ℕ) (ws : List Val) (w : Val) → AllSymbolsBelow n (vals (ws ++ (w ∷ []))) → AllSymbolsBelow n (vals ws)

@@ -1,9 +1,10 @@
 ghost use Rattle.std.specs.Prelude.{◌≡◌, ◌<◌, ◌++◌, ◌∷◌, [], ℕ, length, map, slice_index_or, OnOk, IfOk, MatchOption};
-ghost use Rattle.mc_program.specs.Values.{Val, plain_value, vals};
-ghost use Rattle.mc_program.specs.Printed.{Names, names_of, name_at, printed, AllSymbolsBelow};
+ghost use Rattle.mc_program.specs.Values.{plain_value};
+ghost use Rattle.mc_program.specs.Printed.{Names, names_of, name_at, printed};
 ghost use Rattle.mc_values.specs.Heap.{IsLive, value_at};
 ghost use Rattle.mc_print.specs.code.Splits.{IsSplit};
-ghost use Rattle.mc_print.specs.code.Places.{lead, at_place, opening, separator, fronts_text, last_place, closing, last_constant, IsEnd, is_list_front};
+ghost use Rattle.mc_print.specs.code.Places.{lead, at_place, opening, last_place, last_constant, IsEnd, is_list_front};
+ghost use Rattle.mc_print.specs.code.Tasks.{IsNamed, Writes, Opens, PutFront, separators, closings};
 
 use crate::name::{is_nil, write_constant, write_name, write_quoted};
 use itoa::Buffer;
@@ -36,63 +37,89 @@ pub fn printed(alloc: Global, v: &Value, program: &Program) -> Result<Text, Memo
     ensures { IfOk result (λ text. text ≡ printed (names_of program.now) (plain_value v.now)) }
 {
     let mut out = Text::empty(alloc);
-    write_value(alloc, &mut out, v, program)?;
+    let mut tasks = Vec::new(alloc);
+    tasks.push(Task::Value(Place::Whole, v))?;
+    while let Some(task) = tasks.pop() {
+        write_task(&mut out, task, &mut tasks, program)?;
+    }
     Ok(out)
 }
 
-/// Writes a value of a program. Its last argument is written by the loop, so that a long list takes no stack for each
-/// element.
-#[cycle(write)]
-fn write_value(alloc: Global, out: &mut Text, v: &Value, program: &Program) -> Result<(), Memory>
-    requires { Names program.now (plain_value v.now) }
-    ensures { OnOk result
-        (out.new ≡ out.old ++ printed (names_of program.now) (plain_value v.now)) }
-{
-    let mut closers = Vec::new(alloc);
-    let mut place = Place::Whole;
-    let mut rest = v;
-    while let Some((symbol, front, last)) = split(rest) {
-        let name = symbol_name(program, symbol);
-        let is_list = is_list_front(name, front);
-        write_opening(out, place, name, is_list)?;
-        write_fronts(alloc, out, front, is_list, program)?;
-        push_closing(&mut closers, place, is_list)?;
-        place = last_place(is_list);
-        rest = last;
-    }
-    write_end(out, place, rest, program)?;
-    while let Some(closer) = closers.pop() {
-        out.push(closer)?;
-    }
-    Ok(())
+/// What is still to be written: a value where it stands, what stands between two arguments, or what closes them.
+#[derive(Clone, Copy)]
+enum Task<'v> {
+    Value(Place, &'v Value),
+    Separator,
+    Close(u8),
 }
 
-/// Writes arguments, each with what stands after it.
-#[cycle(write)]
-fn write_fronts(
-    alloc: Global,
+/// Writes what is to be written next, of a value its front; the rest of it is put before what is still to be written.
+fn write_task<'v>(
     out: &mut Text,
-    front: &[Value],
-    is_list: bool,
+    task: Task<'v>,
+    tasks: &mut Vec<Task<'v>>,
     program: &Program,
 ) -> Result<(), Memory>
-    requires { AllSymbolsBelow (length program.now.symbols) (vals (map plain_value front.now)) }
+    requires { IsNamed (length program.now.symbols) task }
     ensures { OnOk result
-        (out.new
-        ≡ out.old ++ fronts_text (names_of program.now) is_list (map plain_value front.now)) }
+        (Writes program.now out.old out.new task.entry tasks.old.items tasks.new.items) }
 {
-    for v in front {
-        write_value(alloc, out, v, program)?;
-        write_separator(out, is_list)?;
+    match task {
+        Task::Value(place, v) => write_front(out, place, v, tasks, program),
+        Task::Separator => out.extend(b", "),
+        Task::Close(byte) => out.push(byte),
+    }
+}
+
+/// Writes what stands before the first argument of a value, and puts the rest before what is still to be written. So no
+/// value takes stack for its depth.
+fn write_front<'v>(
+    out: &mut Text,
+    place: Place,
+    v: &'v Value,
+    tasks: &mut Vec<Task<'v>>,
+    program: &Program,
+) -> Result<(), Memory>
+    requires { Names program.now (plain_value v.now) }
+    ensures { OnOk result
+        (Opens program.now out.old out.new place (plain_value v.now) tasks.old.items tasks.new.items) }
+{
+    match split(v) {
+        None => write_end(out, place, v, program),
+        Some((symbol, front, last)) => {
+            let name = symbol_name(program, symbol);
+            let is_list = is_list_front(name, front);
+            write_opening(out, place, name, is_list)?;
+            put_closing(tasks, place, is_list)?;
+            tasks.push(Task::Value(last_place(is_list), last))?;
+            put_front(tasks, front, is_list)?;
+            Ok(())
+        }
+    }
+}
+
+/// Puts arguments, each with what stands after it, before what is still to be written.
+fn put_front<'v>(tasks: &mut Vec<Task<'v>>, front: &'v [Value], is_list: bool) -> Result<(), Memory>
+    ensures { OnOk result
+        (PutFront is_list (map plain_value front.now) tasks.old.items tasks.new.items) }
+{
+    let mut k = front.len();
+    'front: while k > 0 {
+        k -= 1;
+        put_separator(tasks, is_list)?;
+        tasks.push(Task::Value(Place::Whole, &front[k]))?;
     }
     Ok(())
 }
 
-/// Writes what stands after an argument that isn't the last.
-fn write_separator(out: &mut Text, is_list: bool) -> Result<(), Memory>
-    ensures { OnOk result (out.new ≡ out.old ++ separator is_list) }
+/// Puts what stands after an argument that isn't the last before what is still to be written.
+fn put_separator<'v>(tasks: &mut Vec<Task<'v>>, is_list: bool) -> Result<(), Memory>
+    ensures { OnOk result (tasks.new.items ≡ tasks.old.items ++ separators is_list) }
 {
-    if is_list { Ok(()) } else { out.extend(b", ") }
+    if !is_list {
+        tasks.push(Task::Separator)?;
+    }
+    Ok(())
 }
 
 /// A constructor that has arguments, as its symbol, the arguments before the last one, and the last one.
@@ -141,14 +168,15 @@ fn write_opening(out: &mut Text, place: Place, name: &[u8], is_list: bool) -> Re
     out.push(b'(')
 }
 
-/// Keeps what stands after the last argument.
-fn push_closing(closers: &mut Vec<u8>, place: Place, is_list: bool) -> Result<(), Memory>
-    ensures { OnOk result (closers.new.items ≡ closers.old.items ++ closing place is_list) }
+/// Puts what stands after the last argument before what is still to be written; of a list's tail nothing, so that a long
+/// list takes no room for each element.
+fn put_closing<'v>(tasks: &mut Vec<Task<'v>>, place: Place, is_list: bool) -> Result<(), Memory>
+    ensures { OnOk result (tasks.new.items ≡ tasks.old.items ++ closings place is_list) }
 {
     match place {
         Place::Tail if is_list => Ok(()),
         _ => {
-            closers.push(if is_list { b']' } else { b')' })?;
+            tasks.push(Task::Close(if is_list { b']' } else { b')' }))?;
             Ok(())
         }
     }

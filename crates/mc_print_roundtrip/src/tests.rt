@@ -151,6 +151,17 @@ fn long_list(alloc: Global, count: i64) -> Result<Value, Memory>
     Ok(list)
 }
 
+/// A value of so many cells of lists, each in the first argument of another, whose symbols are the program's.
+fn nested_first(alloc: Global, count: u32) -> Result<Value, Memory>
+    ensures { IfOk result (λ v. SymbolsBelow 16 (plain_value v)) }
+{
+    let mut v = constant(alloc, NIL);
+    'levels: for _ in 0..count {
+        v = over_two(alloc, CELL, v, Value::Int(0))?;
+    }
+    Ok(v)
+}
+
 /// A value under so many constructors of one argument.
 fn nested(alloc: Global, levels: u32, inside: Value) -> Result<Value, Memory> {
     let mut v = inside;
@@ -422,5 +433,17 @@ fn a_long_list(rt: HostRuntime) -> Result<(), Fail> {
     assert!(rt; same_value(&copy, &list));
     let text = printed(alloc, &list, &program)?;
     assert_eq!(rt; text.len(), 7_888_890);
+    Ok(())
+}
+
+/// A value of 1,000,000 cells, each in the first argument of another, is printed and dropped with no stack for each.
+#[test]
+fn deep_first_arguments(rt: HostRuntime) -> Result<(), Fail> {
+    let alloc = rt.alloc();
+    let program = program(alloc)?;
+    assert!(rt; program.symbols.len() == 16);
+    let value = nested_first(alloc, 1_000_000)?;
+    let text = printed(alloc, &value, &program)?;
+    assert_eq!(rt; text.len(), 6_000_002);
     Ok(())
 }

@@ -1,3 +1,4 @@
 pub mod Fronts
 pub mod Overs
+pub mod Parts
 pub mod Views

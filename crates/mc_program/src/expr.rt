@@ -1,5 +1,6 @@
 ghost use Rattle.std.specs.Prelude.{◌≡◌, ◌+◌, ◌-◌, ◌<◌, ◌^◌, ℕ, List, length, take, IfOk, IfSome, IsTrue, ◌↔◌, ◌⊎◌};
 
+use crate::hung::hung;
 use mc_base::{Copied, Memory, Row, Text};
 use std::alloc::Global;
 
@@ -13,40 +14,29 @@ pub enum Expr {
     Apply(u32, Row<Expr>),
 }
 
-/// A term is dropped along its last arguments by a loop, so that a long list takes no stack for each element.
+/// A term is dropped by loops, without recursion and without memory, so that it takes no stack for its depth.
 impl Drop for Expr {
-    fn drop(mut self) {
-        loop {
-            match self {
-                Expr::Con(_, mut args) => match args.pop() {
-                    Some(last) => {
-                        drop(args);
-                        self = last;
-                    }
-                    None => {
-                        drop(args);
-                        return;
-                    }
-                },
-                Expr::Apply(_, mut args) => match args.pop() {
-                    Some(last) => {
-                        drop(args);
-                        self = last;
-                    }
-                    None => {
-                        drop(args);
-                        return;
-                    }
-                },
-                Expr::Var(_) => return,
-                Expr::Int(_) => return,
-                Expr::Char(_) => return,
-                Expr::Str(text) => {
-                    drop(text);
-                    return;
+    fn drop(self) {
+        let mut left = match self.into_args() {
+            Some(args) => args,
+            None => return,
+        };
+        'left: while let Some(last) = left.pop() {
+            let mut part = last;
+            'down: while let Some(args) = part.into_args() {
+                if left.is_empty() {
+                    drop(left);
+                    left = args;
+                    break 'down;
                 }
+                if args.is_empty() {
+                    drop(args);
+                    break 'down;
+                }
+                (part, left) = hung(args, Expr::Con(0, left));
             }
         }
+        drop(left);
     }
 }
 

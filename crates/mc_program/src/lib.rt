@@ -5,6 +5,7 @@
 pub mod builtin;
 pub mod copy;
 pub mod expr;
+mod hung;
 pub mod program;
 pub mod same;
 pub mod ty;

@@ -23,7 +23,6 @@ pub struct TypeDef {
 
 /// A goal of a clause. `Disj` of an empty row is `fail`. The row in `Ite` holds the variables that are quantified over
 /// condition and then part.
-#[derive(Drop)]
 pub enum Goal {
     True,
     Conj(Row<Goal>),
@@ -33,6 +32,57 @@ pub enum Goal {
     Some(Row<u32>, Box<Goal>),
     Equal(Expr, Expr),
     Call(u32, Row<Expr>),
+}
+
+/// A goal is dropped along its last parts by a loop, so that a long chain of conditionals takes no stack for each.
+impl Drop for Goal {
+    fn drop(mut self) {
+        loop {
+            match self {
+                Goal::True => return,
+                Goal::Equal(left, right) => {
+                    drop(left);
+                    drop(right);
+                    return;
+                }
+                Goal::Call(_, args) => {
+                    drop(args);
+                    return;
+                }
+                Goal::Conj(mut goals) => match goals.pop() {
+                    Some(last) => {
+                        drop(goals);
+                        self = last;
+                    }
+                    None => {
+                        drop(goals);
+                        return;
+                    }
+                },
+                Goal::Disj(mut goals) => match goals.pop() {
+                    Some(last) => {
+                        drop(goals);
+                        self = last;
+                    }
+                    None => {
+                        drop(goals);
+                        return;
+                    }
+                },
+                Goal::Ite(vars, condition, then_part, else_part) => {
+                    drop(vars);
+                    drop(condition);
+                    drop(then_part);
+                    self = Box::into_inner(else_part);
+                }
+                Goal::Not(goal) => self = Box::into_inner(goal),
+                Goal::Some(vars, goal) => {
+                    drop(vars);
+                    self = Box::into_inner(goal);
+                }
+            }
+        }
+    }
 }
 
 /// A clause: the number of its variables, the head's arguments, and the body.

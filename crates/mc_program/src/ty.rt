@@ -1,5 +1,6 @@
 ghost use Rattle.std.specs.Prelude.{◌≡◌, ◌+◌, ◌-◌, ◌<◌, ◌^◌, ℕ, List, length, take, IfOk, IfSome, IsTrue, ◌↔◌};
 
+use crate::hung::hung;
 use mc_base::{Memory, Row};
 use std::alloc::Global;
 
@@ -13,28 +14,29 @@ pub enum Ty {
     Union(u32, Row<Ty>),
 }
 
-/// A type is dropped along its last arguments by a loop.
+/// A type is dropped by loops, without recursion and without memory, so that it takes no stack for its depth.
 impl Drop for Ty {
-    fn drop(mut self) {
-        loop {
-            match self {
-                Ty::Union(_, mut args) => match args.pop() {
-                    Some(last) => {
-                        drop(args);
-                        self = last;
-                    }
-                    None => {
-                        drop(args);
-                        return;
-                    }
-                },
-                Ty::Int => return,
-                Ty::Char => return,
-                Ty::Str => return,
-                Ty::Io => return,
-                Ty::Var(_) => return,
+    fn drop(self) {
+        let mut left = match self.into_args() {
+            Some(args) => args,
+            None => return,
+        };
+        'left: while let Some(last) = left.pop() {
+            let mut part = last;
+            'down: while let Some(args) = part.into_args() {
+                if left.is_empty() {
+                    drop(left);
+                    left = args;
+                    break 'down;
+                }
+                if args.is_empty() {
+                    drop(args);
+                    break 'down;
+                }
+                (part, left) = hung(args, Ty::Union(0, left));
             }
         }
+        drop(left);
     }
 }
 

@@ -1,5 +1,6 @@
 ghost use Rattle.std.specs.Prelude.{◌≡◌, ℕ, List, IfSome};
 
+use crate::hung::hung;
 use mc_base::{Row, Text};
 
 /// A value of a run. (Mercury Language Reference Manual, chapters Types and Semantics.)
@@ -14,33 +15,30 @@ pub enum Value {
     Io(Text, u64),
 }
 
-/// A value is dropped along its last arguments by a loop, so that a long list takes no stack for each element.
+/// A value is dropped by loops, without recursion and without memory: while the first argument of a constructor is taken
+/// apart, what is left of the values above hangs in its place. So no value takes stack for its depth.
 impl Drop for Value {
-    fn drop(mut self) {
-        loop {
-            match self {
-                Value::Con(_, mut args) => match args.pop() {
-                    Some(last) => {
-                        drop(args);
-                        self = last;
-                    }
-                    None => {
-                        drop(args);
-                        return;
-                    }
-                },
-                Value::Int(_) => return,
-                Value::Char(_) => return,
-                Value::Str(text) => {
-                    drop(text);
-                    return;
+    fn drop(self) {
+        let mut left = match self.into_args() {
+            Some(args) => args,
+            None => return,
+        };
+        'left: while let Some(last) = left.pop() {
+            let mut value = last;
+            'down: while let Some(args) = value.into_args() {
+                if left.is_empty() {
+                    drop(left);
+                    left = args;
+                    break 'down;
                 }
-                Value::Io(written, _) => {
-                    drop(written);
-                    return;
+                if args.is_empty() {
+                    drop(args);
+                    break 'down;
                 }
+                (value, left) = hung(args, Value::Con(0, left));
             }
         }
+        drop(left);
     }
 }
 

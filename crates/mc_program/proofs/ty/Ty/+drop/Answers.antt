@@ -1,12 +1,41 @@
-use Rattle.std.proofs.Common.{rules, ◌≡◌, ◌++◌, ◌∷◌, []}
-use Rattle.mc_program.specs.declared.ty.Ty.{size-Ty}
-use Rattle.mc_program.proofs.Fronts.{front_below}
-use Rattle.mc_program.proofs.Overs.{union_above}
+use Rattle.std.proofs.Common.{arith, ◌≡◌, ◌+◌, ◌++◌, ◌∷◌, [], map, suc, ap, ◌∙◌}
+use Rattle.mc_program.proofs.Parts.{total, in_type, in_type-Union, total_push, total_hung, first_less, some_there}
 use Rattle.mc_program.proofs.ty.Ty.+drop.Goals as goal
 
-pub drop-requires : goal.drop-requires
-drop-requires t c =
-    let e : c.in-Union.args ≡ c.pop.new.self ++ (c.in-Some.last ∷ []) = c.in-Some.ensures {u = tt} in
-    let f = front_below size-Ty _ _ _ _ e (union_above _ _ _ c.in-Union.is) in
-    let d = c.decreases in
-    search rules
+pub left-smaller-then-is_empty : goal.left-smaller-then-is_empty
+left-smaller-then-is_empty t c =
+    let popped = total_push in_type _ _ _ (c.in-Some-pop.ensures {u = tt}) in
+    let con = (c.in-Some-into_args.ensures {u = tt}).no_other in
+    let taken = ap in_type con.1 ∙ in_type-Union _ _ in
+    let kept = c.down.invariant in
+    omega arith
+
+pub left-smaller-then-is_empty-2 : goal.left-smaller-then-is_empty-2
+left-smaller-then-is_empty-2 t c =
+    let popped = total_push in_type _ _ _ (c.in-Some-pop.ensures {u = tt}) in
+    let kept = c.down.invariant in
+    omega arith
+
+pub left-smaller : goal.left-smaller
+left-smaller t c =
+    let popped = total_push in_type _ _ _ (c.in-Some-pop.ensures {u = tt}) in
+    let kept = c.down.invariant in
+    omega arith
+
+pub down-smaller : goal.down-smaller
+down-smaller t c =
+    let con = (c.in-Some-into_args.ensures {u = tt}).no_other in
+    let taken = ap in_type con.1 ∙ in_type-Union _ _ in
+    let some = some_there c.in-Some-into_args.args (λ e. let none = c.is_empty-in-Some-into_args.ensures.1 e in let not = c.if-is_empty-2.false in cc) in
+    let less = first_less in_type c.in-Some-into_args.args c.hung.result.0 some c.hung.ensures.first in
+    omega arith
+
+pub down-preserved : goal.down-preserved
+down-preserved t c =
+    let con = (c.in-Some-into_args.ensures {u = tt}).no_other in
+    let taken = ap in_type con.1 ∙ in_type-Union _ _ in
+    let some = some_there c.in-Some-into_args.args (λ e. let none = c.is_empty-in-Some-into_args.ensures.1 e in let not = c.if-is_empty-2.false in cc) in
+    let moved = total_hung in_type _ _ _ _ some c.hung.ensures.first c.hung.ensures.others in
+    let link = in_type-Union 0 c.down.left in
+    let kept = c.down.invariant in
+    omega arith

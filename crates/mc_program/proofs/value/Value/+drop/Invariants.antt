@@ -1,6 +1,12 @@
-use Rattle.std.proofs.Common.{◌≤◌}
-use Rattle.mc_program.specs.declared.value.Value.{size-Value}
+use Rattle.std.proofs.Common.{◌+◌, ◌≤◌, map}
+use Rattle.mc_program.proofs.Parts.{total, in_value}
 use Rattle.mc_program.proofs.value.Value.+drop.Given as goal
 
-abbrev pub invariant-loop-self : goal.invariant-loop-self
-invariant-loop-self l = size-Value l.self ≤ size-Value l.initial.self
+abbrev pub invariant-down : goal.invariant-down
+invariant-down l = total (map in_value l.left) + in_value l.value ≤ total (map in_value l.initial.left) + in_value l.initial.value
+
+abbrev pub decreases-down : goal.decreases-down
+decreases-down l = in_value l.value
+
+abbrev pub decreases-left : goal.decreases-left
+decreases-left l = total (map in_value l.left)
