@@ -18,13 +18,13 @@ use Rattle.mc_clause_syntax.specs.StateVariables.{state}
 use Rattle.mc_clause_syntax.specs.Goals.{is_goal, equivalences}
 use Rattle.mc_clause_syntax.specs.Clauses.{greatest_equivalences, is_head, is_head_of, is_headed, is_body}
 use Rattle.mc_term_data.specs.Shapes.{operands}
-use Rattle.mc_clause_syntax.specs.States.{in_scope, quantified, placed_state, placed, all_placed, goal_placed, parts_placed, goals_placed}
+use Rattle.mc_clause_syntax.specs.States.{in_scope, quantified, names_behind, placed_state, placed, all_placed, goal_placed, parts_placed, goals_placed}
 use Rattle.mc_clause_syntax.specs.code.Scopes.{all_names}
 
 abbrev pub HaveSame : List (List ℕ) → List (List ℕ) → Type 0
 HaveSame a b = (x : List ℕ) → in_scope a x ≡ in_scope b x
 
-pub parts_are_goals : (scope : List (List ℕ)) (a b : Stand) (ts : PlainTerms) → parts_placed scope (Goals a b) ts ≡ goals_placed scope ts
+pub parts_are_goals : (scope : List (List ℕ)) (a b : Stand) (ts : PlainTerms) → parts_placed scope scope (Goals a b) ts ≡ goals_placed scope ts
 parts_are_goals scope a b no_term = refl
 parts_are_goals scope a b (more_terms t ts) = refl
 
@@ -56,21 +56,22 @@ mutual
   pub goal_same : (a b : List (List ℕ)) → HaveSame a b → (t : PlainTerm) → goal_placed a t ≡ goal_placed b t
   goal_same a b h (at (Conj ts) l) = goals_same a b h ts
   goal_same a b h (at (Disj ts) l) = goals_same a b h ts
-  goal_same a b h (at (App w ts) l) = parts_same a b h (parts (goal_form w (count ts))) ts
+  goal_same a b h (at (App w ts) l) =
+      let names = names_behind (goal_form w (count ts)) ts in parts_same a b (names ++ a) (names ++ b) h (behind a b names h) (parts (goal_form w (count ts))) ts
   goal_same a b h (at (Var x) l) = refl
   goal_same a b h (at (Int n) l) = refl
   goal_same a b h (at (Str s) l) = refl
   goal_same a b h (at (Items ts) l) = refl
   goal_same a b h (at (Tailed ts t) l) = refl
 
-  parts_same : (a b : List (List ℕ)) → HaveSame a b → (p : Parts) (ts : PlainTerms) → parts_placed a p ts ≡ parts_placed b p ts
-  parts_same a b h Nothing ts = refl
-  parts_same a b h (Goals m n) no_term = refl
-  parts_same a b h (Goals m n) (more_terms t ts) = ap₂ (λ p q. p && q) (goal_same a b h t) (goals_same a b h ts)
-  parts_same a b h Quantified no_term = refl
-  parts_same a b h Quantified (more_terms t ts) = goals_same (quantified t ++ a) (quantified t ++ b) (behind a b (quantified t) h) ts
-  parts_same a b h Sides ts = terms_same a b h false ts
-  parts_same a b h Arguments ts = terms_same a b h true ts
+  parts_same : (a b c d : List (List ℕ)) → HaveSame a b → HaveSame c d → (p : Parts) (ts : PlainTerms) → parts_placed a c p ts ≡ parts_placed b d p ts
+  parts_same a b c d h k Nothing ts = refl
+  parts_same a b c d h k (Goals m n) no_term = refl
+  parts_same a b c d h k (Goals m n) (more_terms t ts) = ap₂ (λ p q. p && q) (goal_same a b h t) (goals_same c d k ts)
+  parts_same a b c d h k Quantified no_term = refl
+  parts_same a b c d h k Quantified (more_terms t ts) = goals_same (quantified t ++ a) (quantified t ++ b) (behind a b (quantified t) h) ts
+  parts_same a b c d h k Sides ts = terms_same a b h false ts
+  parts_same a b c d h k Arguments ts = terms_same a b h true ts
 
   pub goals_same : (a b : List (List ℕ)) → HaveSame a b → (ts : PlainTerms) → goals_placed a ts ≡ goals_placed b ts
   goals_same a b h no_term = refl

@@ -5,6 +5,8 @@ use Rattle.std.specs.Str.{bytes_eq}
 use Rattle.std.specs.Set.{is_member}
 use Rattle.mc_term_data.specs.Plain.{PlainTerm, PlainTerms, at, no_term, more_terms, App, Items, Tailed, Conj, Disj}
 use Rattle.mc_term_data.specs.Names.{count}
+use Rattle.mc_clause_syntax.specs.declared.goal_form.GoalForm.{GoalForm}
+use Rattle.mc_clause_syntax.specs.declared.goal_form.GoalForm.TheVariants as G
 use Rattle.mc_clause_syntax.specs.declared.goal_form.Parts.{Parts}
 use Rattle.mc_clause_syntax.specs.declared.goal_form.Parts.TheVariants.{Nothing, Goals, Quantified, Sides, Arguments}
 use Rattle.mc_clause_syntax.specs.declared.state.StateForm.{StateForm}
@@ -43,6 +45,26 @@ quantified_in (more_terms t ts) = state_name t ++ quantified_in ts
 abbrev pub quantified : PlainTerm → List (List ℕ)
 quantified (at (Items ts) l) = quantified_in ts
 quantified _ = []
+
+abbrev pub condition_names_by : GoalForm → PlainTerms → List (List ℕ)
+condition_names_by G.Existential (more_terms q ts) = quantified q
+condition_names_by f ts = []
+
+-- the names of the state variables that a condition quantifies as a whole
+abbrev pub condition_names : PlainTerm → List (List ℕ)
+condition_names (at (App w ts) l) = condition_names_by (goal_form w (count ts)) ts
+condition_names _ = []
+
+-- the same of the condition that is the first of these parts
+abbrev pub first_names : PlainTerms → List (List ℕ)
+first_names no_term = []
+first_names (more_terms c ts) = condition_names c
+
+-- the names that a goal gives its parts behind the first: a condition gives the then part its own
+abbrev pub names_behind : GoalForm → PlainTerms → List (List ℕ)
+names_behind G.Arrow ts = first_names ts
+names_behind G.Then ts = first_names ts
+names_behind f ts = []
 
 abbrev mutual
   -- the names of the wanted state variables in a term
@@ -88,21 +110,27 @@ abbrev mutual
       placed scope is_argument t && all_placed scope is_argument ts
 
 abbrev mutual
-  -- the same of the terms in a goal; what a quantifier names is in scope in its goal
+  -- The same of the terms in a goal. What a quantifier names is in scope in its goal, and in the then
+  -- part too where it is a whole condition.
   pub goal_placed : List (List ℕ) → PlainTerm → Bool
   goal_placed scope (at (Conj ts) l) = goals_placed scope ts
   goal_placed scope (at (Disj ts) l) = goals_placed scope ts
-  goal_placed scope (at (App w ts) l) = parts_placed scope (parts (goal_form w (count ts))) ts
+  goal_placed scope (at (App w ts) l) =
+      parts_placed scope (names_behind (goal_form w (count ts)) ts ++ scope)
+      (parts (goal_form w (count ts)))
+      ts
   goal_placed scope _ = true
 
-  pub parts_placed : List (List ℕ) → Parts → PlainTerms → Bool
-  parts_placed scope Nothing ts = true
-  parts_placed scope (Goals a b) no_term = true
-  parts_placed scope (Goals a b) (more_terms t ts) = goal_placed scope t && goals_placed scope ts
-  parts_placed scope Quantified no_term = true
-  parts_placed scope Quantified (more_terms t ts) = goals_placed (quantified t ++ scope) ts
-  parts_placed scope Sides ts = all_placed scope false ts
-  parts_placed scope Arguments ts = all_placed scope true ts
+  -- the same of the parts of a goal, where the names behind are in scope in those behind the first
+  pub parts_placed : (scope behind : List (List ℕ)) → Parts → PlainTerms → Bool
+  parts_placed scope behind Nothing ts = true
+  parts_placed scope behind (Goals a b) no_term = true
+  parts_placed scope behind (Goals a b) (more_terms t ts) =
+      goal_placed scope t && goals_placed behind ts
+  parts_placed scope behind Quantified no_term = true
+  parts_placed scope behind Quantified (more_terms t ts) = goals_placed (quantified t ++ scope) ts
+  parts_placed scope behind Sides ts = all_placed scope false ts
+  parts_placed scope behind Arguments ts = all_placed scope true ts
 
   pub goals_placed : List (List ℕ) → PlainTerms → Bool
   goals_placed scope no_term = true

@@ -1,11 +1,13 @@
 ghost use Rattle.std.specs.Prelude.{◌≡◌, ◌++◌, map, IfOk, OnOk};
 ghost use Rattle.mc_term_data.specs.Plain.{plain_term, tms};
-ghost use Rattle.mc_clause_syntax.specs.States.{quantified, goal_placed, parts_placed, goals_placed};
+ghost use Rattle.mc_clause_syntax.specs.declared.goal_form.Parts.TheVariants.{Goals};
+ghost use Rattle.mc_clause_syntax.specs.declared.goal_form.Stand.TheVariants.{Whole};
+ghost use Rattle.mc_clause_syntax.specs.States.{quantified, condition_names, first_names, goal_placed, parts_placed, goals_placed};
 ghost use Rattle.mc_clause_syntax.specs.code.Scopes.{all_names};
 
 use crate::goal_form::{GoalForm, Parts};
 use crate::scope::Scope;
-use crate::state_names::quantified;
+use crate::state_names::{condition_names, quantified};
 use mc_base::Memory;
 use mc_term_data::{Node, Term, arity};
 
@@ -21,20 +23,23 @@ impl<'a> Scope<'a> {
         match &goal.node {
             Node::Conj(goals) | Node::Disj(goals) => self.places_goals(goals.as_slice()),
             Node::App(name, parts) => {
-                let form = GoalForm::of(name.as_slice(), arity(parts.as_slice()));
-                self.places_parts(parts.as_slice(), form.parts())
+                match GoalForm::of(name.as_slice(), arity(parts.as_slice())) {
+                    GoalForm::Arrow | GoalForm::Then => self.places_conditional(parts.as_slice()),
+                    form => self.places_parts(parts.as_slice(), form.parts()),
+                }
             }
             Node::Var(_) | Node::Int(_) | Node::Str(_) | Node::List(_, _) => Ok(true),
         }
     }
 
+    // The parts of a goal, each in the scope around.
     #[cycle(goals_placed)]
     #[tactic(auto, using(crate::proofs::Scoped::parts_are_goals))]
     fn places_parts(&mut self, parts: &'a [Term], form: Parts) -> Result<bool, Memory>
         ensures answer { IfOk result
             (λ placed.
             placed
-            ≡ parts_placed (all_names self.old.sets.items) form
+            ≡ parts_placed (all_names self.old.sets.items) (all_names self.old.sets.items) form
             (tms (map plain_term parts.now))) }
         ensures kept { OnOk result (self.new.sets.items ≡ self.old.sets.items) }
     {
@@ -48,6 +53,49 @@ impl<'a> Scope<'a> {
             Parts::Sides => Ok(self.places_all(parts, false)),
             Parts::Arguments => Ok(self.places_all(parts, true)),
         }
+    }
+
+    // A condition, and its then part, over which the condition's own quantifier reaches.
+    #[cycle(goals_placed)]
+    fn places_conditional(&mut self, parts: &'a [Term]) -> Result<bool, Memory>
+        ensures answer { IfOk result
+            (λ placed.
+            placed
+            ≡ parts_placed (all_names self.old.sets.items)
+            (first_names (tms (map plain_term parts.now)) ++ all_names self.old.sets.items)
+            (Goals Whole Whole)
+            (tms (map plain_term parts.now))) }
+        ensures kept { OnOk result (self.new.sets.items ≡ self.old.sets.items) }
+    {
+        match parts {
+            [] => Ok(true),
+            [condition, then_part @ ..] => {
+                if !self.places_goal(condition)? {
+                    return Ok(false);
+                }
+                self.places_then_part(condition, then_part)
+            }
+        }
+    }
+
+    #[cycle(goals_placed)]
+    fn places_then_part(
+        &mut self,
+        condition: &'a Term,
+        then_part: &'a [Term],
+    ) -> Result<bool, Memory>
+        ensures answer { IfOk result
+            (λ placed.
+            placed
+            ≡ goals_placed
+            (condition_names (plain_term condition.now) ++ all_names self.old.sets.items)
+            (tms (map plain_term then_part.now))) }
+        ensures kept { OnOk result (self.new.sets.items ≡ self.old.sets.items) }
+    {
+        self.sets.push(condition_names(self.alloc, condition)?)?;
+        let placed = self.places_goals(then_part)?;
+        let _ = self.sets.pop();
+        Ok(placed)
     }
 
     #[cycle(goals_placed)]

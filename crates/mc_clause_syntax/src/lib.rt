@@ -18,5 +18,7 @@ pub use arguments::{
 pub use clause::{is_clause, is_query};
 pub use goal_form::{GoalForm, Parts, Stand};
 pub use state::{StateForm, is_state, state_variable};
-pub use state_names::{StatesWanted, name_set, push_all_states, push_quantified, push_states};
+pub use state_names::{
+    StatesWanted, name_set, push_all_states, push_condition_names, push_quantified, push_states,
+};
 pub use variables::has_too_many_variables;

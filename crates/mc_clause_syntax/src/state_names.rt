@@ -2,11 +2,12 @@ ghost use Rattle.std.specs.Prelude.{◌≡◌, ◌++◌, [], map, IfOk, OnOk};
 ghost use Rattle.mc_base.specs.NameSets.{put_all};
 ghost use Rattle.mc_term_data.specs.Plain.{plain_term, tms};
 ghost use Rattle.mc_clause_syntax.specs.StateVariables.{state};
-ghost use Rattle.mc_clause_syntax.specs.States.{names_of, wanted_name, state_name, quantified_in, quantified, states_in, states_in_all};
+ghost use Rattle.mc_clause_syntax.specs.States.{names_of, wanted_name, state_name, quantified_in, quantified, condition_names, condition_names_by, states_in, states_in_all};
 
+use crate::goal_form::GoalForm;
 use crate::state::{StateForm, state_variable};
 use mc_base::{Memory, NameSet, Text};
-use mc_term_data::{Node, Term};
+use mc_term_data::{Node, Term, arity};
 use std::alloc::Global;
 
 /// Which of the state variables in a term are wanted.
@@ -135,6 +136,50 @@ pub fn quantified<'a>(alloc: Global, list: &'a Term) -> Result<NameSet<'a>, Memo
 {
     let mut names = Vec::new(alloc);
     push_quantified(&mut names, list)?;
+    name_set(alloc, &names)
+}
+
+/// Puts the names of the state variables that a condition quantifies as a whole behind others.
+#[tactic(auto, using(crate::proofs::Names::adding))]
+pub fn push_condition_names<'a>(
+    names: &mut Vec<&'a [u8]>,
+    condition: &'a Term,
+) -> Result<(), Memory>
+    ensures { OnOk result
+        (names_of names.new.items
+        ≡ names_of names.old.items ++ condition_names (plain_term condition.now)) }
+{
+    match &condition.node {
+        Node::App(name, parts) => {
+            match GoalForm::of(name.as_slice(), arity(parts.as_slice())) {
+                GoalForm::Existential => push_first_quantified(names, parts.as_slice()),
+                _ => Ok(()),
+            }
+        }
+        _ => Ok(()),
+    }
+}
+
+// Those that a quantifier's list names, the first of these parts.
+#[tactic(auto, using(crate::proofs::Names::adding))]
+fn push_first_quantified<'a>(names: &mut Vec<&'a [u8]>, parts: &'a [Term]) -> Result<(), Memory>
+    ensures { OnOk result
+        (names_of names.new.items
+        ≡ names_of names.old.items
+        ++ condition_names_by GoalForm.Existential (tms (map plain_term parts.now))) }
+{
+    match parts {
+        [list, ..] => push_quantified(names, list),
+        [] => Ok(()),
+    }
+}
+
+/// The names of the state variables that a condition quantifies as a whole, as a set.
+pub fn condition_names<'a>(alloc: Global, condition: &'a Term) -> Result<NameSet<'a>, Memory>
+    ensures { IfOk result (λ names. names ≡ put_all [] (condition_names (plain_term condition.now))) }
+{
+    let mut names = Vec::new(alloc);
+    push_condition_names(&mut names, condition)?;
     name_set(alloc, &names)
 }
 

@@ -202,7 +202,11 @@ p(!X) :- !X = a. ~ 1 S6\n\
 p(!X) :- !X. ~ 1 S6\n\
 !X. ~ 1 S6\n\
 f(!X) = !X. ~ 1 S6\n\
-p :- (some [!X] q(!X)), r(!.X). ~ 1 S6\n";
+p :- (some [!X] q(!X)), r(!.X). ~ 1 S6\n\
+p :- ( some [!T] ( a(!:T), b(!T) ) -> c(!.T) ; d ). ~ ok 1\n\
+p :- if some [!T] a(!T) then b(!T) else c. ~ ok 1\n\
+p :- ( some [!T] a(!T) -> b ; c(!T) ). ~ 1 S6\n\
+p :- ( not (some [!T] a(!T)) -> b(!T) ; c ). ~ 1 S6\n";
 
 // Each form that is left out, and near misses.
 const LEFT_OUT: &str = "\
@@ -279,7 +283,7 @@ a. b. c. ~ ok 3\n\
 
 #[test]
 fn forms(rt: HostRuntime) -> Result<(), Fail> {
-    assert_eq!(rt; rows_hold(&rt, rt.alloc(), Reader::File, FORMS)?, 94);
+    assert_eq!(rt; rows_hold(&rt, rt.alloc(), Reader::File, FORMS)?, 98);
     Ok(())
 }
 

@@ -11,7 +11,7 @@ use Rattle.mc_state_variables.specs.Numbered.{Written, Part, Goal, Condition, wr
 use Rattle.mc_state_variables.specs.code.Helds.{listed}
 use Rattle.mc_state_variables.specs.code.Steps.{steps_of, stepwise}
 use Rattle.mc_state_variables.specs.code.Pieces.{Piece, pieces_of}
-use Rattle.mc_state_variables.specs.code.Conditions.{condition_by}
+use Rattle.mc_state_variables.specs.code.Conditions.{condition_by, condition_names}
 use Rattle.mc_state_variables.specs.declared.steps.Step.{Step}
 use Rattle.mc_state_variables.proofs.Lists.{terms-listed, terms_from_list}
 use Rattle.mc_state_variables.proofs.Sets.{set_same, closings-wanted_set, closings-updated_set}
@@ -60,6 +60,10 @@ closed_is l t xs us hs n text m goals out e f k h =
 pub condition_goal : (l : ℕ) (list : Option PlainTerm) (t : PlainTerm) → (condition_by l list t).goal ≡ (goal_of t).part
 condition_goal l None t = refl
 condition_goal l (Some q) t = refl
+
+pub condition_quantifies : (l : ℕ) (list : Option PlainTerm) (t : PlainTerm) → condition_names list ≡ (condition_by l list t).names
+condition_quantifies l None t = refl
+condition_quantifies l (Some q) t = refl
 
 -- a condition and its then part
 pub conditional_is : (l : ℕ) (c : Condition) (g t : PlainTerm) (xs : List (List ℕ)) (hs : List Held) (n : ℕ) (names : List (List ℕ)) (ins : List Held) (m : ℕ) (w : PlainTerm) (k : ℕ) (behind : List Held) (test result : PlainTerm) (next : ℕ) (cs : PlainTerms)

@@ -6,7 +6,7 @@ use Rattle.mc_clause_syntax.specs.declared.goal_form.GoalForm.{GoalForm}
 use Rattle.mc_clause_syntax.specs.declared.goal_form.GoalForm.TheVariants as G
 use Rattle.mc_clause_syntax.specs.declared.state_names.StatesWanted.TheVariants.{Updated}
 use Rattle.mc_clause_syntax.specs.GoalForms.{goal_form}
-use Rattle.mc_clause_syntax.specs.States.{in_scope, quantified, states_in_all}
+use Rattle.mc_clause_syntax.specs.States.{in_scope, quantified, condition_names, states_in_all}
 
 -- the names that aren't among those
 abbrev pub leave_out : (those names : List (List ℕ)) → List (List ℕ)
@@ -18,15 +18,6 @@ leave_out those (x ∷ xs) =
 abbrev pub common : List (List ℕ) → List (List ℕ) → List (List ℕ)
 common [] ys = []
 common (x ∷ xs) ys = if in_scope ys x then x ∷ common xs ys else common xs ys
-
-abbrev pub condition_names_by : GoalForm → PlainTerms → List (List ℕ)
-condition_names_by G.Existential (more_terms q ts) = quantified q
-condition_names_by f ts = []
-
--- the names of the state variables that a condition quantifies as a whole
-abbrev pub condition_names : PlainTerm → List (List ℕ)
-condition_names (at (App w ts) l) = condition_names_by (goal_form w (count ts)) ts
-condition_names _ = []
 
 -- those of each of these
 abbrev pub joined : (each : List (List (List ℕ))) → List (List ℕ)

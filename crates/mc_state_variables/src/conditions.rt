@@ -8,7 +8,7 @@ ghost use Rattle.mc_state_variables.specs.Updates.{leave_out, updated};
 ghost use Rattle.mc_state_variables.specs.Versions.{closings, seen_outside};
 ghost use Rattle.mc_state_variables.specs.Numbered.{goal_of};
 ghost use Rattle.mc_state_variables.specs.code.Helds.{plain_helds, listed};
-ghost use Rattle.mc_state_variables.specs.code.Conditions.{condition_by};
+ghost use Rattle.mc_state_variables.specs.code.Conditions.{condition_by, condition_names};
 
 use crate::held::{Held, closings_behind};
 use crate::quantifiers::quantifier;
@@ -61,7 +61,7 @@ impl<'a> Condition<'a> {
         ensures { IfOk result
             (λ names.
             names_of names.items
-            ≡ (condition_by self.now.line (option_map (λ list. plain_term list.now) self.now.list) (plain_term self.now.goal.now)).names) }
+            ≡ condition_names (option_map (λ list. plain_term list.now) self.now.list)) }
     {
         let mut names = Vec::new(alloc);
         if let Some(list) = self.list {

@@ -1,11 +1,13 @@
 ghost use Rattle.std.specs.Prelude.{◌≡◌, ◌++◌, [], map, IfOk, OnOk};
 ghost use Rattle.mc_base.specs.NameSets.{put_all};
 ghost use Rattle.mc_term_data.specs.Plain.{plain_term, tms};
-ghost use Rattle.mc_clause_syntax.specs.States.{names_of, quantified};
-ghost use Rattle.mc_state_variables.specs.Updates.{leave_out, condition_names, condition_names_by, joined, updated_by, updated, updated_each};
+ghost use Rattle.mc_clause_syntax.specs.States.{names_of, quantified, condition_names};
+ghost use Rattle.mc_state_variables.specs.Updates.{leave_out, joined, updated_by, updated, updated_each};
 
 use mc_base::{Memory, NameSet};
-use mc_clause_syntax::{GoalForm, StatesWanted, name_set, push_all_states, push_quantified};
+use mc_clause_syntax::{
+    GoalForm, StatesWanted, name_set, push_all_states, push_condition_names, push_quantified,
+};
 use mc_term_data::{Node, Term, arity};
 use std::alloc::Global;
 
@@ -156,38 +158,4 @@ pub fn push_others<'a>(
         }
     }
     Ok(())
-}
-
-/// Puts the names of the state variables that a condition quantifies as a whole behind others.
-#[tactic(auto, using(crate::proofs::Lists::adding))]
-pub fn push_condition_names<'a>(
-    names: &mut Vec<&'a [u8]>,
-    condition: &'a Term,
-) -> Result<(), Memory>
-    ensures { OnOk result
-        (names_of names.new.items ≡ names_of names.old.items ++ condition_names (plain_term condition.now)) }
-{
-    match &condition.node {
-        Node::App(name, parts) => {
-            match GoalForm::of(name.as_slice(), arity(parts.as_slice())) {
-                GoalForm::Existential => push_first_quantified(names, parts.as_slice()),
-                _ => Ok(()),
-            }
-        }
-        _ => Ok(()),
-    }
-}
-
-// Those that a quantifier's list names, the first of these parts.
-#[tactic(auto, using(crate::proofs::Lists::adding))]
-fn push_first_quantified<'a>(names: &mut Vec<&'a [u8]>, parts: &'a [Term]) -> Result<(), Memory>
-    ensures { OnOk result
-        (names_of names.new.items
-        ≡ names_of names.old.items
-        ++ condition_names_by GoalForm.Existential (tms (map plain_term parts.now))) }
-{
-    match parts {
-        [list, ..] => push_quantified(names, list),
-        [] => Ok(()),
-    }
 }

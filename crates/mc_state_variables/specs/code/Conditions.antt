@@ -1,8 +1,9 @@
 -- Goals by their forms, and conditions by what they quantify.
-use Rattle.std.specs.Prelude.{ℕ, Bool, true, false, List, Option, Some, None}
+use Rattle.std.specs.Prelude.{ℕ, Bool, true, false, List, [], Option, Some, None}
 use Rattle.mc_term_data.specs.Plain.{PlainTerm, PlainTerms}
 use Rattle.mc_clause_syntax.specs.declared.goal_form.GoalForm.{GoalForm}
 use Rattle.mc_clause_syntax.specs.declared.goal_form.GoalForm.TheVariants as G
+use Rattle.mc_clause_syntax.specs.States.{quantified}
 use Rattle.mc_state_variables.specs.Updates.{updated_by, updated_each}
 use Rattle.mc_state_variables.specs.Numbered.{Goal, Condition, Writing, goal_of, goals_of, goal_by, unquantified, quantified_condition}
 
@@ -10,6 +11,11 @@ use Rattle.mc_state_variables.specs.Numbered.{Goal, Condition, Writing, goal_of,
 abbrev pub condition_by : (line : ℕ) → (list : Option PlainTerm) → PlainTerm → Condition
 condition_by l None t = unquantified (goal_of t).part
 condition_by l (Some q) t = quantified_condition l q (goal_of t).part
+
+-- the names of the state variables that a condition quantifies as a whole, by that list
+abbrev pub condition_names : (list : Option PlainTerm) → List (List ℕ)
+condition_names None = []
+condition_names (Some q) = quantified q
 
 -- a name over parts as a goal, by its form
 abbrev pub goal_in_form : GoalForm → (name : List (List ℕ)) → (line : ℕ) → PlainTerms → Goal

@@ -15,6 +15,12 @@ decreases-places_parts l = 4 * most size-Term l.parts.now + 3
 abbrev pub decreases-places_quantified : goal.decreases-places_quantified
 decreases-places_quantified l = 4 * most size-Term l.goals.now + 2
 
+abbrev pub decreases-places_conditional : goal.decreases-places_conditional
+decreases-places_conditional l = 4 * most size-Term l.parts.now + 3
+
+abbrev pub decreases-places_then_part : goal.decreases-places_then_part
+decreases-places_then_part l = 4 * most size-Term l.then_part.now + 2
+
 abbrev pub decreases-places_goals : goal.decreases-places_goals
 decreases-places_goals l = 4 * most size-Term l.goals.now + 1
 

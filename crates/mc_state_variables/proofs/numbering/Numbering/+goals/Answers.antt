@@ -19,7 +19,7 @@ use Rattle.mc_state_variables.proofs.Sets.{quantifier-set, closings-updated_set}
 use Rattle.mc_state_variables.proofs.Forms.{part_updates}
 use Rattle.mc_state_variables.proofs.Orders.{stepped}
 use Rattle.mc_state_variables.proofs.Disjunctions.{pieced, disjunction_is}
-use Rattle.mc_state_variables.proofs.Written.{if_ok, closed_is, conjunction_is, pieces_are, conditional_is, condition_goal, existential_is, universal_is, negation_is, implied_is, both_ways_is}
+use Rattle.mc_state_variables.proofs.Written.{if_ok, closed_is, conjunction_is, pieces_are, conditional_is, condition_goal, condition_quantifies, existential_is, universal_is, negation_is, implied_is, both_ways_is}
 use Rattle.std.proofs.lemmas.Grind.{common_steps}
 use Rattle.mc_state_variables.proofs.ShortParts.{has_two, short_of_two}
 use Rattle.mc_state_variables.proofs.numbering.Numbering.+goals.Goals as goal
@@ -133,7 +133,7 @@ conditional-returns t c =
     let text = plain_term c.in_ok-text.field-0.text in
     let whole = conditional_is l condition g u xs held c.args.self.now.next names inside from text c.ended.new.self.next behind test then_text next goals
     (condition_goal parts.line list g)
-    (named ∙ c.in_ok-names.ensures)
+    (named ∙ c.in_ok-names.ensures ∙ condition_quantifies parts.line list g)
     entered.held entered.next
     (made.text ∙ ap₂ (λ (s : Step) hs. ended (goal_of g).part s.renewed (plain_helds hs) from) c.in_ok-step.ensures c.deref-2.ensures.value)
     (made.behind ∙ ap₂ (λ (s : Step) hs. handed s.updated (renewed s.renewed from (plain_helds hs)) (plain_helds hs)) c.in_ok-step.ensures c.deref-2.ensures.value)
