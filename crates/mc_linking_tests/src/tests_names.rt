@@ -87,14 +87,14 @@ fn meaning(
     told(alloc, found.as_slice())
 }
 
-// What a definition is: its name, its line, and whether other modules see it.
+// What a definition is: its name, its line, whether other modules see it, and whether they see what it is.
 fn shown(alloc: Global, named: &Named) -> Result<Vec<u8>, Fail> {
     let mut out = named.name.module.bytes().to_vec(alloc)?;
     out.push(b'.')?;
     out.extend_from_slice(named.name.name.bytes())?;
     let rest = format!(in alloc;
-        "/{} {} {}",
-        named.name.arity, named.at.line, named.exported
+        "/{} {} {} {}",
+        named.name.arity, named.at.line, named.exported, named.shown
     )?;
     out.extend_from_slice(rest.as_bytes())?;
     Ok(out)
@@ -195,29 +195,29 @@ fn a_type_stands_at_its_definition_and_is_seen_by_its_declaration(
     assert_eq!(rt; names.types.len(), 2);
     assert_eq!(rt;
         shown(alloc, nth(&rt, &names.types, 0))?.as_slice(),
-        b"a.q/0 4 true".as_slice()
+        b"a.q/0 4 true true".as_slice()
     );
     assert_eq!(rt;
         shown(alloc, nth(&rt, &names.types, 1))?.as_slice(),
-        b"a.t/1 9 true".as_slice()
+        b"a.t/1 9 true false".as_slice()
     );
     assert_eq!(rt; names.symbols.len(), 1);
     assert_eq!(rt;
         shown(alloc, nth(&rt, &names.symbols, 0))?.as_slice(),
-        b"a.k/1 9 false".as_slice()
+        b"a.k/1 9 false false".as_slice()
     );
     assert!(rt; matches!(&nth(&rt, &names.symbols, 0).decl, Decl::UnionType(_, _)));
     assert_eq!(rt;
         shown(alloc, nth(&rt, &names.preds, 0))?.as_slice(),
-        b"a.p/1 5 true".as_slice()
+        b"a.p/1 5 true true".as_slice()
     );
     assert_eq!(rt;
         shown(alloc, nth(&rt, &names.insts, 0))?.as_slice(),
-        b"a.i/0 6 true".as_slice()
+        b"a.i/0 6 true true".as_slice()
     );
     assert_eq!(rt;
         shown(alloc, nth(&rt, &names.modes, 0))?.as_slice(),
-        b"a.m/0 7 true".as_slice()
+        b"a.m/0 7 true true".as_slice()
     );
     Ok(())
 }

@@ -17,13 +17,14 @@ use Rattle.mc_modules.specs.declared.names.Names.{Names}
 use Rattle.mc_linking.specs.Files.{File, PlainItemInFile, items_in_file, module_name, definitions_of, shown_of, is_shown, has}
 use Rattle.mc_linking.specs.Visible.{unqualified, seen, file_at}
 
--- what is declared or defined: its name, its item, where that stands, and whether other modules see
--- it
+-- what is declared or defined: its name, its item, where that stands, whether other modules see it,
+-- and whether they see its item
 pub record Defined : Type 0 where
   pub name : Name
   pub item : PlainDecl
   pub at : Place
   pub exported : Bool
+  pub shown : Bool
 
 -- a file's name; a file that is no module has none
 abbrev pub name_or_none : Option (List ℕ) → List ℕ
@@ -35,10 +36,17 @@ name_in m x = record { «module» = m; name = x.name; arity = x.arity }
 
 abbrev pub defined :
     (home : List ℕ) → PlainItemInFile → (exported : Bool) → PlainDecl → PlainNameArity → Defined
-defined m s e i x = record { name = name_in m x; item = i; at = s.at; exported = e }
+defined m s e i x =
+    record {
+      name = name_in m x;
+      item = i;
+      at = s.at;
+      exported = e;
+      shown = is_shown s.section;
+    }
 
 -- A type, at its definition, or where it has none at its declaration. Others see it where an
--- interface declares or defines it.
+-- interface declares or defines it, and what it is defined as where an interface defines it.
 abbrev pub types_by :
     (home : List ℕ) → (all : List PlainItemInFile) → PlainItemInFile → PlainDecl → List Defined
 types_by m all s (AbstractType h) =
@@ -227,7 +235,14 @@ linked files =
 
 -- the values that these stand for
 abbrev pub plain_named : Named → Defined
-plain_named d = record { name = d.name; item = plain_item d.decl; at = d.at; exported = d.exported }
+plain_named d =
+    record {
+      name = d.name;
+      item = plain_item d.decl;
+      at = d.at;
+      exported = d.exported;
+      shown = d.shown;
+    }
 
 abbrev pub plain_names : Names → Linked
 plain_names n =

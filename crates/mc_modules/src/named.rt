@@ -45,11 +45,13 @@ fn named(
         arity: small(id.arity)?,
     };
     let at = item.entry.at;
+    let shown = item.section.is_shown();
     Ok(Named {
         name,
         decl,
         at,
         exported,
+        shown,
     })
 }
 

@@ -9,9 +9,11 @@ use mc_source::name::{Candidate, Name};
 use mc_source::place::Place;
 use std::alloc::Global;
 
-/// What is declared or defined: its name, the item that does it, where that stands, and whether other modules see it.
+/// What is declared or defined: its name, the item that does it, where that stands, whether other modules see it, and
+/// whether they see that item (`shown`).
 ///
-/// A type stands here once: by its definition, or where it has none by its declaration. A constructor's item is the
+/// A type stands here once: by its definition, or where it has none by its declaration. Where an interface declares it and
+/// its definition stands elsewhere, other modules see it and not what it is defined as. A constructor's item is the
 /// union of it alone, under the type's name without parameters.
 #[derive(Drop)]
 pub struct Named {
@@ -19,6 +21,7 @@ pub struct Named {
     pub decl: Decl,
     pub at: Place,
     pub exported: bool,
+    pub shown: bool,
 }
 
 /// What a module sees: the numbers of the types, constructors, predicates with functions, insts and modes, those of the

@@ -5,6 +5,7 @@ use Rattle.std.specs.Option.{option_map}
 use Rattle.std.proofs.Math.Path.{fun_ext}
 use Rattle.std.proofs.lemmas.Bool.{false_from_ne_true}
 use Rattle.std.proofs.lemmas.List.{length-map}
+use Rattle.mc_program.specs.Programs.{TypeTerm}
 use Rattle.mc_program.specs.PlainPrograms.{plain_type}
 use Rattle.mc_program.specs.declared.ty.Ty.{Ty}
 use Rattle.mc_components.specs.Reached.{reaches}
@@ -17,7 +18,8 @@ use Rattle.mc_modules.specs.Linked.{Linked, plain_named, plain_names}
 use Rattle.mc_type_table.specs.declared.definitions.Equivalences.{Equivalences}
 use Rattle.mc_type_table.specs.Expanded.{equivalent, equivalent_of}
 use Rattle.mc_type_table.specs.Rules.{types_in_body, goes_round, definitions}
-use Rattle.mc_type_table.specs.code.Held.{plain_body, held}
+use Rattle.mc_type_table.specs.Held.{plain_body, held}
+use Rattle.mc_type_table.specs.code.Hidden.{is_hidden, not_hidden}
 use Rattle.mc_type_table.specs.code.Kept.{AreEquivalences}
 
 body_is : (o : Option Ty) → plain_body (Some o) ≡ option_map plain_type o
@@ -127,3 +129,15 @@ pub defined_straight :
     → held e.bodies.items u ≡ definitions l u
 defined_straight l e u b are is straight =
     are.bodies u ∙ ap (λ b. if not b then equivalent l u else None) (sym straight ∙ is)
+
+pub hidden_undefined :
+    (l : Linked) (hidden : List Bool) (u : ℕ) (b : Bool)
+    → b ≡ is_hidden hidden u → b ≡ true → None ≡ not_hidden l hidden u
+hidden_undefined l hidden u b is holds =
+    ap (λ b. if not b then definitions l u else None) (sym holds ∙ is)
+
+pub open_defined :
+    (l : Linked) (hidden : List Bool) (u : ℕ) (o : Option TypeTerm) (b : Bool)
+    → o ≡ definitions l u → b ≡ is_hidden hidden u → b ≡ false → o ≡ not_hidden l hidden u
+open_defined l hidden u o b same is fails =
+    same ∙ ap (λ b. if not b then definitions l u else None) (sym fails ∙ is)

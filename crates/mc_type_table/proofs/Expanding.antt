@@ -17,7 +17,8 @@ use Rattle.mc_type_table.specs.declared.definitions.Equivalences.{Equivalences}
 use Rattle.mc_type_table.specs.declared.expansion.Known.{Known}
 use Rattle.mc_type_table.specs.Expanded.{equivalent, equivalent_of, replaced, all_replaced, defined_as, after_rounds}
 use Rattle.mc_type_table.specs.Rules.{types_in, all_types_in, types_in_body, goes_round, definitions}
-use Rattle.mc_type_table.specs.code.Held.{held}
+use Rattle.mc_type_table.specs.Held.{held}
+use Rattle.mc_type_table.specs.code.Hidden.{is_hidden, not_hidden}
 use Rattle.mc_type_table.specs.code.Kept.{AreEquivalences, is_done, all_done, IsKnown}
 
 pub done_more :
@@ -88,20 +89,31 @@ undefined_after D zero u none = refl
 undefined_after D (suc n) u none = ap (option_map (replaced (after_rounds n D))) none
 
 -- none is expanded yet among so many types, and those are done that have no definition
-pub record Begins (l : Linked) (n : ℕ) (bodies : List (Option Ty)) (done : List Bool) : Type 0 where
+pub record Begins
+    (l : Linked) (hidden : List Bool) (n : ℕ) (bodies : List (Option Ty)) (done : List Bool)
+    : Type 0 where
   pub counted : length bodies ≡ n
   pub marked : length done ≡ n
   pub empty : (u : ℕ) → held bodies u ≡ None
-  pub undefined : (u : ℕ) → u < n → is_done done u ≡ true → definitions l u ≡ None
+  pub undefined : (u : ℕ) → u < n → is_done done u ≡ true → not_hidden l hidden u ≡ None
 
-undefined_past :
+-- what is None is None in any sight
+none_in_sight :
+    (s : Bool) (o : Option TypeTerm) → o ≡ None → (if s then o else None) ≡ None
+none_in_sight true o none = none
+none_in_sight false o none = refl
+
+pub undefined_past :
     (l : Linked) (u : ℕ) → length l.types ≤ u → definitions l u ≡ None
 undefined_past l u past =
-    let none : equivalent l u ≡ None = ap (equivalent_of l) (slice_get_past l.types u past) in
-    elim (goes_round l u) as (λ b. (if not b then equivalent l u else None) ≡ None) [
-      | true ↦ refl
-      | false ↦ none
-    ]
+    none_in_sight (not (goes_round l u)) (equivalent l u)
+    (ap (equivalent_of l) (slice_get_past l.types u past))
+
+not_hidden_past :
+    (l : Linked) (hidden : List Bool) (u : ℕ)
+    → length l.types ≤ u → not_hidden l hidden u ≡ None
+not_hidden_past l hidden u past =
+    none_in_sight (not (is_hidden hidden u)) (definitions l u) (undefined_past l u past)
 
 held_behind :
     (os : List (Option Ty)) (u : ℕ)
@@ -130,8 +142,8 @@ at_last (d ∷ done) b (suc u) same =
     let less : u ≡ length done = omega arith in
     at_last done b u less
 
-pub begins_none : (l : Linked) → Begins l 0 [] []
-begins_none l =
+pub begins_none : (l : Linked) (hidden : List Bool) → Begins l hidden 0 [] []
+begins_none l hidden =
     record {
       counted = refl;
       marked = refl;
@@ -140,10 +152,10 @@ begins_none l =
     }
 
 pub begins_more :
-    (l : Linked) (n : ℕ) (os : List (Option Ty)) (done : List Bool) (b : Bool)
-    → (b ≡ true → definitions l n ≡ None)
-    → Begins l n os done → Begins l (n + 1) (os ++ None ∷ []) (done ++ b ∷ [])
-begins_more l n os done b tells begins =
+    (l : Linked) (hidden : List Bool) (n : ℕ) (os : List (Option Ty)) (done : List Bool) (b : Bool)
+    → (b ≡ true → not_hidden l hidden n ≡ None)
+    → Begins l hidden n os done → Begins l hidden (n + 1) (os ++ None ∷ []) (done ++ b ∷ [])
+begins_more l hidden n os done b tells begins =
     let counted : length os ≡ n = begins.counted in
     let marked : length done ≡ n = begins.marked in
     record {
@@ -159,23 +171,23 @@ begins_more l n os done b tells begins =
             | inr past ↦
                 let last : u ≡ length done = omega arith in
                 let here : u ≡ n = omega arith in
-                ap (definitions l) here ∙ tells (sym (at_last done b u last) ∙ h)
+                ap (not_hidden l hidden) here ∙ tells (sym (at_last done b u last) ∙ h)
           ];
     }
 
 pub known_begun :
-    (l : Linked) (n : ℕ) (os : List (Option Ty)) (done : List Bool) (k : Known)
-    → Begins l n os done → n ≡ length l.types
-    → k.bodies.items ≡ os → k.done.items ≡ done → IsKnown l 0 k
-known_begun l n os done k begins all is_bodies is_done_row =
+    (l : Linked) (hidden : List Bool) (n : ℕ) (os : List (Option Ty)) (done : List Bool) (k : Known)
+    → Begins l hidden n os done → n ≡ length l.types
+    → k.bodies.items ≡ os → k.done.items ≡ done → IsKnown l hidden 0 k
+known_begun l hidden n os done k begins all is_bodies is_done_row =
     let undefined_at :
-    (u : ℕ) → is_done k.done.items u ≡ true → definitions l u ≡ None =
+    (u : ℕ) → is_done k.done.items u ≡ true → not_hidden l hidden u ≡ None =
     λ u h.
     elim (cases_lt u n) [
       | inl less ↦ begins.undefined u less (ap (λ d. is_done d u) (sym is_done_row) ∙ h)
       | inr past ↦
           let far : length l.types ≤ u = omega arith in
-          undefined_past l u far
+          not_hidden_past l hidden u far
     ]
     in
     record {
@@ -185,12 +197,13 @@ known_begun l n os done k begins all is_bodies is_done_row =
           λ u h n late.
           ap (λ os. held os u) is_bodies
           ∙ begins.empty u
-          ∙ sym (undefined_after (definitions l) n u (undefined_at u h));
+          ∙ sym (undefined_after (not_hidden l hidden) n u (undefined_at u h));
     }
 
 pub known_more :
-    (l : Linked) (rounds : ℕ) (k : Known) → IsKnown l rounds k → IsKnown l (rounds + 1) k
-known_more l rounds k is =
+    (l : Linked) (hidden : List Bool) (rounds : ℕ) (k : Known)
+    → IsKnown l hidden rounds k → IsKnown l hidden (rounds + 1) k
+known_more l hidden rounds k is =
     record {
       counted = is.counted;
       marked = is.marked;
@@ -229,20 +242,19 @@ done_elsewhere (x ∷ ds) (suc u) zero b other = refl
 done_elsewhere (x ∷ ds) (suc u) (suc v) b other =
     done_elsewhere ds u v b (λ e. other (ap suc e))
 
+-- what is in sight is so too where all is
+in_any_sight :
+    (s : Bool) (o : Option TypeTerm) (b : TypeTerm) → (if s then o else None) ≡ Some b → o ≡ Some b
+in_any_sight true o b is = is
+in_any_sight false o b is = absurd (let clash : None ≡ Some b = is in cc)
+
 -- what is defined as a type is written as that
 written_so :
-    (l : Linked) (u : ℕ) (b : TypeTerm) → definitions l u ≡ Some b → equivalent l u ≡ Some b
-written_so l u b is =
-    let by :
-    (round : Bool) → (if not round then equivalent l u else None) ≡ Some b → equivalent l u ≡ Some b =
-    λ round.
-    elim round as
-    (λ r. (if not r then equivalent l u else None) ≡ Some b → equivalent l u ≡ Some b) [
-      | true ↦ λ e. absurd (let clash : None ≡ Some b = e in cc)
-      | false ↦ λ e. e
-    ]
-    in
-    by (goes_round l u) is
+    (l : Linked) (hidden : List Bool) (u : ℕ) (b : TypeTerm)
+    → not_hidden l hidden u ≡ Some b → equivalent l u ≡ Some b
+written_so l hidden u b is =
+    in_any_sight (not (goes_round l u)) (equivalent l u) b
+    (in_any_sight (not (is_hidden hidden u)) (definitions l u) b is)
 
 cases_before : (n r : ℕ) → r + 1 ≤ n → (m : ℕ) × ((n ≡ suc m) × (r ≤ m))
 cases_before zero r late = absurd (omega arith)
@@ -254,33 +266,33 @@ once_more :
 once_more D n u b is = ap (option_map (replaced (after_rounds n D))) is
 
 pub known_put :
-    (l : Linked) (e : Equivalences) (rounds : ℕ) (k after : Known) (u : ℕ) (b : TypeTerm) (t : Ty)
-    (us : List ℕ)
-    → AreEquivalences l e → IsKnown l rounds k
-    → definitions l u ≡ Some b → us ≡ steps e.graph u → all_done k.done.items us ≡ true
+    (l : Linked) (hidden : List Bool) (e : Equivalences) (rounds : ℕ) (k after : Known) (u : ℕ)
+    (b : TypeTerm) (t : Ty) (us : List ℕ)
+    → AreEquivalences l e → IsKnown l hidden rounds k
+    → not_hidden l hidden u ≡ Some b → us ≡ steps e.graph u → all_done k.done.items us ≡ true
     → plain_type t ≡ replaced (held k.bodies.items) b
     → u < length k.bodies.items
     → after.bodies.items ≡ set k.bodies.items u (Some t)
     → after.done.items ≡ set k.done.items u true
-    → IsKnown l (rounds + 1) after
-known_put l e rounds k after u b t us are is defined is_row all is_t below is_bodies is_done_row =
+    → IsKnown l hidden (rounds + 1) after
+known_put l hidden e rounds k after u b t us are is defined is_row all is_t below is_bodies is_done_row =
     let inside : us ≡ types_in b =
-    is_row ∙ are.steps u ∙ ap types_in_body (written_so l u b defined)
+    is_row ∙ are.steps u ∙ ap types_in_body (written_so l hidden u b defined)
     in
     let ready : (j : ℕ) → is_in j (types_in b) ≡ true → is_done k.done.items j ≡ true =
     λ j h. each_done k.done.items us all j (ap (is_in j) inside ∙ h)
     in
     let here :
-    (n : ℕ) → rounds + 1 ≤ n → Some (plain_type t) ≡ after_rounds n (definitions l) u =
+    (n : ℕ) → rounds + 1 ≤ n → Some (plain_type t) ≡ after_rounds n (not_hidden l hidden) u =
     λ n late.
     let before = cases_before n rounds late in
     let m = before.0 in
     ap Some
     (is_t
-    ∙ replaced_alike (held k.bodies.items) (after_rounds m (definitions l)) b
+    ∙ replaced_alike (held k.bodies.items) (after_rounds m (not_hidden l hidden)) b
     (λ j there. is.agree j (ready j there) m before.1.1))
-    ∙ sym (once_more (definitions l) m u b defined)
-    ∙ ap (λ i. after_rounds i (definitions l) u) (sym before.1.0)
+    ∙ sym (once_more (not_hidden l hidden) m u b defined)
+    ∙ ap (λ i. after_rounds i (not_hidden l hidden) u) (sym before.1.0)
     in
     record {
       counted =
@@ -294,7 +306,7 @@ known_put l e rounds k after u b t us are is defined is_row all is_t below is_bo
                 ap (held (set k.bodies.items u (Some t))) same
                 ∙ held_there k.bodies.items u t below
                 ∙ here n late
-                ∙ ap (after_rounds n (definitions l)) (sym same)
+                ∙ ap (after_rounds n (not_hidden l hidden)) (sym same)
             | inr other ↦
                 let early : rounds ≤ n = omega arith in
                 held_elsewhere k.bodies.items u v (Some t) other
@@ -306,19 +318,20 @@ known_put l e rounds k after u b t us are is defined is_row all is_t below is_bo
     }
 
 pub known_all :
-    (l : Linked) (rounds : ℕ) (k : Known)
-    → IsKnown l rounds k → rounds ≤ length l.types
+    (l : Linked) (hidden : List Bool) (rounds : ℕ) (k : Known)
+    → IsKnown l hidden rounds k → rounds ≤ length l.types
     → ((u : ℕ) → is_done k.done.items u ≡ true)
-    → (u : ℕ) → held k.bodies.items u ≡ after_rounds (length l.types) (definitions l) u
-known_all l rounds k is few all u = is.agree u (all u) (length l.types) few
+    → (u : ℕ) → held k.bodies.items u ≡ after_rounds (length l.types) (not_hidden l hidden) u
+known_all l hidden rounds k is few all u = is.agree u (all u) (length l.types) few
 
 pub begins_by :
-    (l : Linked) (n : ℕ) (os more : List (Option Ty)) (done marks : List Bool) (b : Bool)
-    → (b ≡ true → definitions l n ≡ None) → Begins l n os done
+    (l : Linked) (hidden : List Bool) (n : ℕ) (os more : List (Option Ty)) (done marks : List Bool)
+    (b : Bool)
+    → (b ≡ true → not_hidden l hidden n ≡ None) → Begins l hidden n os done
     → more ≡ os ++ None ∷ [] → marks ≡ done ++ b ∷ []
-    → Begins l (n + 1) more marks
-begins_by l n os more done marks b tells begins is_more is_marks =
-    let next = begins_more l n os done b tells begins in
+    → Begins l hidden (n + 1) more marks
+begins_by l hidden n os more done marks b tells begins is_more is_marks =
+    let next = begins_more l hidden n os done b tells begins in
     record {
       counted = ap length is_more ∙ next.counted;
       marked = ap length is_marks ∙ next.marked;

@@ -9,3 +9,4 @@ pub mod Expanding
 pub mod UnionFields
 pub mod Grouping
 pub mod Judging
+pub mod Seeing

@@ -9,7 +9,7 @@ use Rattle.mc_program.specs.declared.ty.Ty.TheVariants.{rolls-Var, rolls-Union}
 use Rattle.mc_program.specs.declared.ty.Ty.TheFolds.{fold-roll-Ty}
 use Rattle.mc_model.specs.Types.{type_at, instance_of, instances_of}
 use Rattle.mc_type_table.specs.Expanded.{replaced, all_replaced, defined_as}
-use Rattle.mc_type_table.specs.code.Held.{held}
+use Rattle.mc_type_table.specs.Held.{held}
 
 replaced_each :
     (D : ℕ → Option TypeTerm) (ts : List Ty)

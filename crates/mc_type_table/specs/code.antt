@@ -1,4 +1,4 @@
-pub mod Held
 pub mod Grown
+pub mod Hidden
 pub mod Kept
 pub mod Examples

@@ -5,7 +5,7 @@ ghost use Rattle.mc_modules.specs.Linked.{Linked, plain_named, plain_names};
 ghost use Rattle.mc_type_table.specs.Written.{written_type};
 ghost use Rattle.mc_type_table.specs.Expanded.{replaced, after_rounds};
 ghost use Rattle.mc_type_table.specs.Rules.{types_in, types_in_all, definitions, body, is_of_group, is_one_irregular};
-ghost use Rattle.mc_type_table.specs.code.Held.{held};
+ghost use Rattle.mc_type_table.specs.Held.{held};
 ghost use Rattle.mc_type_table.specs.code.Grown.{grown_in, grown_in_all};
 ghost use Rattle.mc_type_table.specs.code.Kept.{contents, AreBodies};
 

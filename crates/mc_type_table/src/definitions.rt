@@ -4,6 +4,7 @@ ghost use Rattle.mc_program.specs.PlainPrograms.{plain_type};
 ghost use Rattle.mc_modules.specs.Linked.{Linked, plain_named, plain_names};
 ghost use Rattle.mc_type_table.specs.Expanded.{equivalent_of};
 ghost use Rattle.mc_type_table.specs.Rules.{types_in_body, goes_round, definitions};
+ghost use Rattle.mc_type_table.specs.code.Hidden.{is_hidden, not_hidden};
 ghost use Rattle.mc_type_table.specs.code.Kept.{AreEquivalences};
 
 use crate::equivalences::equivalent;
@@ -50,8 +51,19 @@ impl Equivalences {
         number < self.graph.len() && reaches_itself(&self.graph, &self.components, number)
     }
 
-    /// What a type stands for, as its own module writes it, where it doesn't go round.
-    pub fn definition(&self, number: u32) -> Option<&Ty>
+    /// What a type stands for, as its own module writes it, where that isn't hidden and doesn't go round.
+    pub fn definition(&self, hidden: &[bool], number: u32) -> Option<&Ty>
+        ensures { (l : Linked) → AreEquivalences l self.now
+            → option_map (λ t. plain_type t.now) result ≡ not_hidden l hidden.now number }
+    {
+        if is_hidden(hidden, number) {
+            return None;
+        }
+        self.straight(number)
+    }
+
+    // What a type stands for where it doesn't go round.
+    fn straight(&self, number: u32) -> Option<&Ty>
         ensures { (l : Linked) → AreEquivalences l self.now
             → option_map (λ t. plain_type t.now) result ≡ definitions l number }
     {
@@ -59,6 +71,16 @@ impl Equivalences {
             return None;
         }
         definition_of(self.bodies.as_slice(), number)
+    }
+}
+
+// Whether the definition of a type is hidden; that of a number past the row isn't.
+fn is_hidden(hidden: &[bool], number: u32) -> bool
+    ensures { result ≡ is_hidden hidden.now number }
+{
+    match hidden.get(number as usize) {
+        Some(is_hidden) => *is_hidden,
+        None => false,
     }
 }
 

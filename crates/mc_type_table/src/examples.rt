@@ -1,4 +1,4 @@
-ghost use Rattle.mc_type_table.specs.code.Examples.{Variables, Circles, Regular, Tables};
+ghost use Rattle.mc_type_table.specs.code.Examples.{Variables, Circles, Regular, Tables, Hidden};
 
 /// Definitions of types, the rules that they break and the tables that they are.
 pub fn types_of_programs()
@@ -6,4 +6,5 @@ pub fn types_of_programs()
     ensures circles { Circles }
     ensures regular { Regular }
     ensures tables { Tables }
+    ensures hidden { Hidden }
 {}

@@ -2,8 +2,8 @@ ghost use Rattle.std.specs.Prelude.{◌≡◌, ◌+◌, ◌<◌, ℕ, true, leng
 ghost use Rattle.mc_components.specs.Components.{steps};
 ghost use Rattle.mc_modules.specs.Linked.{Linked};
 ghost use Rattle.mc_type_table.specs.Expanded.{after_rounds};
-ghost use Rattle.mc_type_table.specs.Rules.{definitions};
-ghost use Rattle.mc_type_table.specs.code.Held.{held};
+ghost use Rattle.mc_type_table.specs.Held.{held};
+ghost use Rattle.mc_type_table.specs.code.Hidden.{not_hidden};
 ghost use Rattle.mc_type_table.specs.code.Kept.{AreEquivalences, IsKnown, is_done, all_done};
 
 use crate::definitions::Equivalences;
@@ -13,7 +13,7 @@ use mc_program::ty::Ty;
 use std::alloc::Global;
 
 /// What each type of a program is defined as, without equivalences: each is expanded once, behind those that stand in
-/// it. One that goes round has no definition here.
+/// it. One that goes round, or that is hidden, has no definition here.
 ///
 /// # Errors
 ///
@@ -21,20 +21,21 @@ use std::alloc::Global;
 pub fn expanded_definitions(
     alloc: Global,
     equivalences: &Equivalences,
+    hidden: &[bool],
     room: &mut Room,
 ) -> Result<Vec<Option<Ty>>, Memory>
     ensures { IfOk result
         (λ all.
         (l : Linked) → AreEquivalences l equivalences.now
-        → (u : ℕ) → held all.items u ≡ after_rounds (length l.types) (definitions l) u) }
+        → (u : ℕ) → held all.items u ≡ after_rounds (length l.types) (not_hidden l hidden.now) u) }
 {
-    let mut known = Known::of(alloc, equivalences)?;
+    let mut known = Known::of(alloc, equivalences, hidden)?;
     let order = by_component(alloc, equivalences.components.as_slice())?;
     if order.len() > equivalences.graph.len() as usize {
         return Err(Memory);
     }
     for number in order.as_slice() {
-        known.expand(alloc, equivalences, *number, room)?;
+        known.expand(alloc, equivalences, hidden, *number, room)?;
     }
     let Known { bodies, done } = known;
     if !are_all_done(done.as_slice()) {
@@ -66,15 +67,16 @@ pub struct Known {
 
 impl Known {
     // Done are those types that have no definition.
-    fn of(alloc: Global, equivalences: &Equivalences) -> Result<Known, Memory>
+    fn of(alloc: Global, equivalences: &Equivalences, hidden: &[bool]) -> Result<Known, Memory>
         ensures { IfOk result
-            (λ k. (l : Linked) → AreEquivalences l equivalences.now → IsKnown l 0 k) }
+            (λ k.
+            (l : Linked) → AreEquivalences l equivalences.now → IsKnown l hidden.now 0 k) }
     {
         let mut bodies = Vec::new(alloc);
         let mut done = Vec::new(alloc);
         for number in 0..equivalences.graph.len() {
             bodies.push(None)?;
-            done.push(equivalences.definition(number).is_none())?;
+            done.push(equivalences.definition(hidden, number).is_none())?;
         }
         Ok(Known { bodies, done })
     }
@@ -84,17 +86,18 @@ impl Known {
         &mut self,
         alloc: Global,
         equivalences: &Equivalences,
+        hidden: &[bool],
         number: u32,
         room: &mut Room,
     ) -> Result<(), Memory>
         ensures { OnOk result
             ((l : Linked) (rounds : ℕ) → AreEquivalences l equivalences.now
-            → IsKnown l rounds self.old → IsKnown l (rounds + 1) self.new) }
+            → IsKnown l hidden.now rounds self.old → IsKnown l hidden.now (rounds + 1) self.new) }
     {
         if is_done(self.done.as_slice(), number) {
             return Ok(());
         }
-        let Some(body) = equivalences.definition(number) else {
+        let Some(body) = equivalences.definition(hidden, number) else {
             return Ok(());
         };
         if !all_done(self.done.as_slice(), row(&equivalences.graph, number)) {

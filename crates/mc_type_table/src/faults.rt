@@ -32,7 +32,7 @@ pub fn broken_types(alloc: Global, names: &Names) -> Result<Vec<Broken>, Memory>
 {
     let mut room = Room { parts: MOST_PARTS };
     let equivalences = Equivalences::of(alloc, names)?;
-    let definitions = expanded_definitions(alloc, &equivalences, &mut room)?;
+    let definitions = expanded_definitions(alloc, &equivalences, &[], &mut room)?;
     let bodies = Bodies::of(alloc, names, definitions.as_slice(), &mut room)?;
     faults_by(alloc, names, &equivalences, &bodies)
 }

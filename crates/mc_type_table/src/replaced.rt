@@ -4,7 +4,7 @@ ghost use Rattle.mc_program.specs.Programs.{union_type};
 ghost use Rattle.mc_program.specs.PlainPrograms.{plain_type, type_terms};
 ghost use Rattle.mc_model.specs.Types.{type_at, instance_of};
 ghost use Rattle.mc_type_table.specs.Expanded.{replaced, defined_as};
-ghost use Rattle.mc_type_table.specs.code.Held.{held};
+ghost use Rattle.mc_type_table.specs.Held.{held};
 
 use mc_base::{Memory, Row};
 use mc_program::ty::Ty;

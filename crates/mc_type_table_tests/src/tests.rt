@@ -1,7 +1,8 @@
 use mc_base::{Memory, Row};
 use mc_items::{Entry, ItemsFault, read_items};
 use mc_modules::{Names, link};
-use mc_type_table::type_table;
+use mc_program::ty::Ty;
+use mc_type_table::{Room, seen_definitions, sees_definition, type_table};
 use std::alloc::Global;
 use std::process::Abort;
 use std::test::Fail;
@@ -121,6 +122,66 @@ fn rows_hold(rt: &impl Abort, alloc: Global, table: &str) -> Result<u32, Fail> {
 #[test]
 fn rules_are_broken_and_kept(rt: HostRuntime) -> Result<(), Fail> {
     assert_eq!(rt; rows_hold(&rt, rt.alloc(), RULES)?, 23);
+    Ok(())
+}
+
+// Whether the first two modules of a row see the definitions of its types: a word for each module, and a letter in it for
+// each type.
+fn sights(alloc: Global, row: &str) -> Result<Vec<u8>, Fail> {
+    let names = names(alloc, row)?;
+    let mut out = Vec::new(alloc);
+    for own in 0..2 {
+        for number in 0..names.types.len() {
+            let sees = sees_definition(&names, own, number);
+            out.push(if sees { b'y' } else { b'n' })?;
+        }
+        out.push(b' ')?;
+    }
+    Ok(out)
+}
+
+// A letter for what a type is defined as.
+fn letter(definition: &Option<Ty>) -> u8 {
+    match definition {
+        None => b'-',
+        Some(Ty::Int) => b'i',
+        Some(Ty::Union(1, _)) => b't',
+        Some(Ty::Union(2, _)) => b'u',
+        Some(_) => b'?',
+    }
+}
+
+// What the first two modules of a row see that its types are defined as, so written.
+fn seen(alloc: Global, row: &str) -> Result<Vec<u8>, Fail> {
+    let names = names(alloc, row)?;
+    let mut room = Room { parts: 1000 };
+    let mut out = Vec::new(alloc);
+    for own in 0..2 {
+        let definitions = seen_definitions(alloc, &names, own, &mut room)?;
+        for definition in definitions.as_slice() {
+            out.push(letter(definition))?;
+        }
+        out.push(b' ')?;
+    }
+    Ok(out)
+}
+
+// An equivalence of an interface; one whose interface declares it alone; a union so; one of the implementation alone. The
+// last two types are the other module's.
+#[test]
+fn hidden_definitions_are_out_of_sight(rt: HostRuntime) -> Result<(), Fail> {
+    let alloc = rt.alloc();
+    let files = "#module a.@#interface.@#type s == int.@#type t.@#type u.@#implementation.@\
+        #type t == int.@#type u ---> k.@#type v == int.`\
+        #module b.@#interface.@#import_module a.@#type w == a.t.@#implementation.@#type x == a.u.";
+    assert_eq!(rt;
+        sights(alloc, files)?.as_slice(),
+        b"yyyyyn ynnnyy ".as_slice()
+    );
+    assert_eq!(rt;
+        seen(alloc, files)?.as_slice(),
+        b"ii-ii- i---tu ".as_slice()
+    );
     Ok(())
 }
 

@@ -15,6 +15,7 @@ use Rattle.mc_type_table.specs.Written.{written_type}
 use Rattle.mc_type_table.specs.Expanded.{expanded}
 use Rattle.mc_type_table.specs.Rules.{definitions, type_faults}
 use Rattle.mc_type_table.specs.Table.{table}
+use Rattle.mc_type_table.specs.Sight.{definitions_seen}
 
 -- the names of a module of these items, and of two modules
 abbrev pub names : List PlainDecl → Linked
@@ -129,3 +130,13 @@ Tables =
     × (let l = names (UnionType (t_of a) (just (c_of a)) ∷ SameType (u_of a) (t_of (t_of a)) ∷ []) in
     expanded l (definitions l) (written_type l 0 [] (u_of (atom (codes "int"))))
     ≡ union_type 0 (type_then (union_type 0 (type_then int_type no_types)) no_types))
+
+-- An equivalence whose module declares it alone in its interface: that module sees what it stands
+-- for, another has a type of its own there, also behind an equivalence that both see.
+abbrev pub Hidden : Type 0
+Hidden =
+    let l =
+    names_of_two (AbstractType t ∷ Implementation ∷ SameType t (atom (codes "int")) ∷ [])
+    (Imports ((codes "a" ∷ []) ∷ []) ∷ SameType u t ∷ []) in
+    (expanded l (definitions_seen l 0) (union_type 1 no_types) ≡ int_type)
+    × (expanded l (definitions_seen l 1) (union_type 1 no_types) ≡ union_type 0 no_types)

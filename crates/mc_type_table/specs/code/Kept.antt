@@ -9,9 +9,10 @@ use Rattle.mc_type_table.specs.declared.definitions.Equivalences.{Equivalences}
 use Rattle.mc_type_table.specs.declared.expansion.Known.{Known}
 use Rattle.mc_type_table.specs.Written.{written_type, parameters_of, home}
 use Rattle.mc_type_table.specs.Expanded.{equivalent, replaced, after_rounds}
-use Rattle.mc_type_table.specs.Rules.{union_fields, types_in_body, types_in_all, definitions}
+use Rattle.mc_type_table.specs.Rules.{union_fields, types_in_body, types_in_all}
 use Rattle.mc_type_table.specs.code.Grown.{grown_in_all}
-use Rattle.mc_type_table.specs.code.Held.{held}
+use Rattle.mc_type_table.specs.Held.{held}
+use Rattle.mc_type_table.specs.code.Hidden.{not_hidden}
 
 -- These are the equivalences of a program, as they are written, with the graph of the types that stand
 -- in them.
@@ -55,10 +56,12 @@ abbrev pub all_done : List Bool → List ℕ → Bool
 all_done done [] = true
 all_done done (u ∷ us) = is_done done u && all_done done us
 
--- Definitions of which those that are done are expanded, after so many rounds as well as after more.
-pub record IsKnown (l : Linked) (rounds : ℕ) (k : Known) : Type 0 where
+-- Definitions that aren't hidden, of which those that are done are expanded, after so many rounds as
+-- well as after more.
+pub record IsKnown
+    (l : Linked) (hidden : List Bool) (rounds : ℕ) (k : Known) : Type 0 where
   pub counted : length k.bodies.items ≡ length l.types
   pub marked : length k.done.items ≡ length l.types
   pub agree :
       (u : ℕ) → is_done k.done.items u ≡ true
-      → (n : ℕ) → rounds ≤ n → held k.bodies.items u ≡ after_rounds n (definitions l) u
+      → (n : ℕ) → rounds ≤ n → held k.bodies.items u ≡ after_rounds n (not_hidden l hidden) u

@@ -4,7 +4,7 @@ use Rattle.mc_modules.specs.Linked.{plain_names}
 use Rattle.mc_type_table.specs.Written.{written_type}
 use Rattle.mc_type_table.specs.Expanded.{replaced}
 use Rattle.mc_type_table.specs.Rules.{types_in_all}
-use Rattle.mc_type_table.specs.code.Held.{held}
+use Rattle.mc_type_table.specs.Held.{held}
 use Rattle.mc_type_table.specs.code.Grown.{grown_in_all}
 use Rattle.mc_type_table.proofs.bodies.contents_of_fields.Given as goal
 

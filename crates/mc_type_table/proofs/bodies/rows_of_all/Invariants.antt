@@ -1,7 +1,7 @@
 use Rattle.std.proofs.Common.{◌≡◌, map, take, Some}
 use Rattle.mc_modules.specs.Linked.{plain_named, plain_names}
 use Rattle.mc_type_table.specs.Rules.{types_in_all}
-use Rattle.mc_type_table.specs.code.Held.{held}
+use Rattle.mc_type_table.specs.Held.{held}
 use Rattle.mc_type_table.specs.code.Grown.{grown_in_all}
 use Rattle.mc_type_table.specs.code.Kept.{contents}
 use Rattle.mc_type_table.proofs.bodies.rows_of_all.Given as goal

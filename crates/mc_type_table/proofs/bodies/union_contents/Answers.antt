@@ -6,7 +6,7 @@ use Rattle.mc_modules.specs.Linked.{plain_named, plain_names}
 use Rattle.mc_type_table.specs.Written.{home, written_type}
 use Rattle.mc_type_table.specs.Expanded.{replaced}
 use Rattle.mc_type_table.specs.Rules.{types_in_all, union_fields}
-use Rattle.mc_type_table.specs.code.Held.{held}
+use Rattle.mc_type_table.specs.Held.{held}
 use Rattle.mc_type_table.specs.code.Grown.{grown_in_all}
 use Rattle.mc_type_table.specs.code.Kept.{contents_by}
 use Rattle.mc_type_table.proofs.Grouping.{contents_is}

@@ -16,3 +16,7 @@ returns-clause-regular c = (refl, refl, refl, refl, refl, refl)
 pub returns-clause-tables : goal.returns-clause-tables
 unfolding builtin_rows
 returns-clause-tables c = (refl, refl)
+
+pub returns-clause-hidden : goal.returns-clause-hidden
+unfolding builtin_rows
+returns-clause-hidden c = (refl, refl)

@@ -4,4 +4,4 @@ use Rattle.mc_type_table.proofs.expansion.expanded_definitions.Given as goal
 
 abbrev pub invariant-loop-number : goal.invariant-loop-number
 invariant-loop-number l =
-    (p : Linked) → AreEquivalences p l.equivalences → IsKnown p l.number-index l.known
+    (p : Linked) → AreEquivalences p l.equivalences → IsKnown p l.hidden l.number-index l.known

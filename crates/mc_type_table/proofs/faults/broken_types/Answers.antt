@@ -5,7 +5,7 @@ use Rattle.mc_program.specs.Programs.{TypeTerm}
 use Rattle.mc_modules.specs.Linked.{plain_names}
 use Rattle.mc_type_table.specs.Expanded.{after_rounds}
 use Rattle.mc_type_table.specs.Rules.{definitions}
-use Rattle.mc_type_table.specs.code.Held.{held}
+use Rattle.mc_type_table.specs.Held.{held}
 use Rattle.mc_type_table.specs.code.Kept.{AreBodies}
 use Rattle.mc_type_table.proofs.faults.broken_types.Goals as goal
 

@@ -3,7 +3,7 @@ use Rattle.std.proofs.lemmas.Result.{IfOk-weaker}
 use Rattle.mc_program.specs.Programs.{union_type}
 use Rattle.mc_program.specs.PlainPrograms.{plain_type, type_terms}
 use Rattle.mc_type_table.specs.Expanded.{replaced, defined_as}
-use Rattle.mc_type_table.specs.code.Held.{held}
+use Rattle.mc_type_table.specs.Held.{held}
 use Rattle.mc_type_table.proofs.Replacing.{replaced_over}
 use Rattle.mc_type_table.proofs.replaced.+replaced.Goals as goal
 

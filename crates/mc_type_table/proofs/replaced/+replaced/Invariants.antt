@@ -3,7 +3,7 @@ use denote.Param.Weighed.{most}
 use Rattle.mc_program.specs.declared.ty.Ty.{size-Ty}
 use Rattle.mc_program.specs.PlainPrograms.{plain_type}
 use Rattle.mc_type_table.specs.Expanded.{replaced}
-use Rattle.mc_type_table.specs.code.Held.{held}
+use Rattle.mc_type_table.specs.Held.{held}
 use Rattle.mc_type_table.proofs.replaced.+replaced.Given as goal
 
 abbrev pub decreases-replaced : goal.decreases-replaced

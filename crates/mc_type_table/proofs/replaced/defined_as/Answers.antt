@@ -3,7 +3,7 @@ use Rattle.std.proofs.lemmas.Result.{IfOk-weaker}
 use Rattle.mc_program.specs.PlainPrograms.{plain_type, type_terms}
 use Rattle.mc_model.specs.Types.{type_at, instance_of}
 use Rattle.mc_type_table.specs.Expanded.{defined_as}
-use Rattle.mc_type_table.specs.code.Held.{held}
+use Rattle.mc_type_table.specs.Held.{held}
 use Rattle.mc_type_table.proofs.Replacing.{union_undefined}
 use Rattle.mc_type_table.proofs.replaced.defined_as.Goals as goal
 

@@ -1,5 +1,5 @@
 use Rattle.std.proofs.Common.{◌∙◌, refl}
-use Rattle.mc_type_table.specs.code.Held.{held}
+use Rattle.mc_type_table.specs.Held.{held}
 use Rattle.mc_type_table.proofs.Grouping.{are_bodies}
 use Rattle.mc_type_table.proofs.bodies.Bodies.of.Goals as goal
 

@@ -14,7 +14,7 @@ none_by f (Some a) d b tells is holds =
 pub loop-number-preserved : goal.loop-number-preserved
 loop-number-preserved c =
     λ p are.
-    begins_by p c.loop-number.number c.loop-number.bodies.items c.push.new.self.items
+    begins_by p c.args.hidden.now c.loop-number.number c.loop-number.bodies.items c.push.new.self.items
     c.loop-number.done.items c.push-in-loop-number.new.self.items c.is_none.result
     (none_by _ c.definition.result _ c.is_none.result c.is_none.ensures (c.definition.ensures p are))
     (c.loop-number.invariant p are) c.in_ok-push.ensures.items c.in_ok-push-2.ensures.items
@@ -23,5 +23,5 @@ pub returns : goal.returns
 returns c =
     λ l are.
     let count : length c.args.equivalences.now.graph ≡ length l.types = are.count in
-    known_begun l c.loop-number.number c.loop-number.bodies.items c.loop-number.done.items _
+    known_begun l c.args.hidden.now c.loop-number.number c.loop-number.bodies.items c.loop-number.done.items _
     (c.loop-number.invariant l are) (omega arith) refl refl

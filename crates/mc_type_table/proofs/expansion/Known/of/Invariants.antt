@@ -6,4 +6,4 @@ use Rattle.mc_type_table.proofs.expansion.Known.of.Given as goal
 abbrev pub invariant-loop-number : goal.invariant-loop-number
 invariant-loop-number l =
     (p : Linked) → AreEquivalences p l.equivalences
-    → Begins p l.number l.bodies.items l.done.items
+    → Begins p l.hidden l.number l.bodies.items l.done.items
