@@ -5,3 +5,6 @@ mod With
 mod Whole
 mod Libraries
 mod Typed
+mod Replaced
+mod Meaning
+mod Fitting

@@ -3,7 +3,7 @@ ghost use Rattle.mc_term_data.specs.Plain.{plain_term, tms};
 ghost use Rattle.mc_program.specs.PlainPrograms.{plain_type, plain_symbol};
 ghost use Rattle.mc_modules.specs.Linked.{plain_named, plain_names};
 ghost use Rattle.mc_type_table.specs.Rules.{constructor_fields};
-ghost use Rattle.mc_type_table.specs.code.Held.{held};
+ghost use Rattle.mc_type_table.specs.Held.{held};
 ghost use Rattle.mc_decl_syntax.specs.Plain.{plain_item};
 ghost use Rattle.mc_declarations.specs.code.With.{field_with, constructor_with, constructors_of, constructors_with, all_with};
 

@@ -1,7 +1,7 @@
 ghost use Rattle.std.specs.Prelude.{◌≡◌, IfOk, map};
 ghost use Rattle.mc_program.specs.PlainPrograms.{plain_type};
 ghost use Rattle.mc_type_table.specs.Expanded.{replaced};
-ghost use Rattle.mc_type_table.specs.code.Held.{held};
+ghost use Rattle.mc_type_table.specs.Held.{held};
 
 use mc_base::{Copied, Memory, Row};
 use mc_modules::Names;

@@ -5,8 +5,10 @@ mod builtins;
 mod constructors;
 mod declared;
 mod declaring;
+mod laws;
 mod predicates;
 mod program;
 mod terms;
 
+pub use laws::declarations_fit;
 pub use program::declarations;

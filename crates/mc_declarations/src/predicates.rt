@@ -2,7 +2,7 @@ ghost use Rattle.std.specs.Prelude.{◌≡◌, [], ◌∷◌, IfOk, map};
 ghost use Rattle.mc_decl_syntax.specs.Plain.{plain_item};
 ghost use Rattle.mc_program.specs.PlainPrograms.{plain_type, plain_pred};
 ghost use Rattle.mc_modules.specs.Linked.{plain_named, plain_names};
-ghost use Rattle.mc_type_table.specs.code.Held.{held};
+ghost use Rattle.mc_type_table.specs.Held.{held};
 ghost use Rattle.mc_clauses.specs.Declarations.{is_function};
 ghost use Rattle.mc_declarations.specs.code.With.{types_with, predicate_with};
 

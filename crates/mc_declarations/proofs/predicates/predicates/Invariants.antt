@@ -4,7 +4,7 @@ use Rattle.mc_program.specs.PlainPrograms.{plain_pred}
 use Rattle.mc_program.specs.declared.program.Pred.{Pred}
 use Rattle.mc_modules.specs.declared.names.Named.{Named}
 use Rattle.mc_modules.specs.Linked.{plain_named, plain_names}
-use Rattle.mc_type_table.specs.code.Held.{held}
+use Rattle.mc_type_table.specs.Held.{held}
 use Rattle.mc_clauses.specs.Declarations.{is_function}
 use Rattle.mc_declarations.specs.code.With.{predicate_with}
 use Rattle.mc_declarations.proofs.predicates.predicates.Given as goal

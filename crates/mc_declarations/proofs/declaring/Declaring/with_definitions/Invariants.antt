@@ -1,7 +1,7 @@
 use Rattle.std.proofs.Common.{◌≡◌, map, take}
 use Rattle.mc_program.specs.PlainPrograms.{plain_type}
 use Rattle.mc_type_table.specs.Expanded.{replaced}
-use Rattle.mc_type_table.specs.code.Held.{held}
+use Rattle.mc_type_table.specs.Held.{held}
 use Rattle.mc_declarations.proofs.declaring.Declaring.with_definitions.Given as goal
 
 abbrev pub invariant-loop-one : goal.invariant-loop-one
