@@ -1,17 +1,13 @@
 -- What typing says of items: the rule that each breaks (T1, T2 or L5), or what each is resolved to.
 -- (Mercury Language Reference Manual: Types, overloading; this project's rules.)
-use Rattle.std.specs.Prelude.{◌≡◌, ℕ, List, [], ◌∷◌, length, Option, Some, slice_get, Vec}
+use Rattle.std.specs.Prelude.{◌≡◌, ℕ, List, [], ◌∷◌, Option}
 use Rattle.mc_source.specs.declared.rule.Broken.{Broken}
 use Rattle.mc_source.specs.Rules.{Fault}
-use Rattle.std.specs.declared.alloc.Global.{Global}
 use Rattle.mc_program.specs.Programs.{TypeTerm, Source}
-use Rattle.mc_program.specs.declared.ty.Ty.{Ty}
 use Rattle.mc_program.specs.declared.program.Resolved.{Resolved}
 use Rattle.mc_unresolved.specs.Unresolved.{plain_unresolved_clause}
 use Rattle.mc_unresolved.specs.declared.clause.UnresolvedClause.{UnresolvedClause}
 use Rattle.mc_modules.specs.Linked.{Linked}
-use Rattle.mc_type_table.specs.Expanded.{after_rounds}
-use Rattle.mc_type_table.specs.code.Held.{held}
 use Rattle.mc_clauses.specs.Declarations.{declarations, parameter_counts}
 use Rattle.mc_clauses.specs.Typing.{TypingSays, AreTypingFaults}
 use Rattle.mc_check_clause.specs.Checked.{IsResolved}
@@ -44,14 +40,6 @@ module _ (l : Linked) (seen : (own : ℕ) → ℕ → Option TypeTerm) where
   AreTyped (i ∷ is) made =
       (one : Resolved) × (rest : List Resolved)
       × IsTyped i one × AreTyped is rest × (made ≡ one ∷ rest)
-
--- each module's row has what types are defined as there, without equivalences
-abbrev pub AreSeen :
-    Linked → (seen : (own : ℕ) → ℕ → Option TypeTerm) → List (Vec (Option Ty) Global) → Type 0
-AreSeen l seen rows =
-    (own : ℕ) (row : Vec (Option Ty) Global)
-    → slice_get rows own ≡ Some row
-    → (u : ℕ) → held row.items u ≡ after_rounds (length l.types) (seen own) u
 
 -- these are the rules that items break; and where they break none, this is what they are resolved to
 pub record IsJudged

@@ -9,4 +9,4 @@ mod phase;
 
 pub use judged::Judged;
 pub use law::at_most_one_list;
-pub use phase::{Seen, judge};
+pub use phase::judge;

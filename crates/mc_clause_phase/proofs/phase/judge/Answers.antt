@@ -6,6 +6,7 @@ use Rattle.mc_term_data.specs.Plain.{PlainTerm, plain_term}
 use Rattle.mc_items.specs.Files.{plain_entry}
 use Rattle.mc_linking.specs.Files.{plain_files}
 use Rattle.mc_modules.specs.Linked.{plain_names}
+use Rattle.mc_type_table.specs.Sight.{definitions_seen}
 use Rattle.mc_clause_phase.specs.Items.{Item, items, query_item}
 use Rattle.mc_clause_phase.specs.Judging.{IsJudged}
 use Rattle.mc_clause_phase.proofs.Adding.{adds_both, judged_all}
@@ -13,8 +14,9 @@ use Rattle.mc_clause_phase.proofs.FilesOf.{items_from}
 use Rattle.mc_clause_phase.proofs.phase.judge.Goals as goal
 
 pub returns-in_ok-judge_query-in-Some : goal.returns-in_ok-judge_query-in-Some
-returns-in_ok-judge_query-in-Some c sees k =
-    let l = plain_names c.args.seen.now.names.now in
+returns-in_ok-judge_query-in-Some c =
+    let l = plain_names c.args.names.now in
+    let sees = definitions_seen l in
     let files = c.args.files.now in
     let g = plain_term c.in-Some.goal.now in
     let clauses = items_from l 0 files in
@@ -35,12 +37,13 @@ returns-in_ok-judge_query-in-Some c sees k =
     c.new-judged.ensures.broken c.new-judged.ensures.clauses
     (adds_both l sees clauses query c.new-judged.result c.judge_files.new.judged
     c.judge_query.new.self
-    (c.in_ok-number.ensures.added sees k)
-    (c.in_ok-judge_query-in-Some.ensures l sees (c.in_ok-checker-in-Some.ensures.checks sees k))))
+    c.in_ok-number.ensures.added
+    (c.in_ok-judge_query-in-Some.ensures l sees c.in_ok-checker-in-Some.ensures.checks)))
 
 pub returns-in-None : goal.returns-in-None
-returns-in-None c sees k =
-    let l = plain_names c.args.seen.now.names.now in
+returns-in-None c =
+    let l = plain_names c.args.names.now in
+    let sees = definitions_seen l in
     let files = c.args.files.now in
     let clauses = items_from l 0 files in
     let asked : None ≡ option_map (λ t. plain_term t.now) c.args.goal =
@@ -53,4 +56,4 @@ returns-in-None c sees k =
     subst Q same
     (judged_all l sees clauses c.new-judged.result c.judge_files.new.judged
     c.new-judged.ensures.broken c.new-judged.ensures.clauses
-    (c.in_ok-number.ensures.added sees k))
+    c.in_ok-number.ensures.added)

@@ -2,6 +2,7 @@ use Rattle.std.proofs.Common.{◌≡◌, ◌∙◌, ℕ, [], ◌++◌, ◌+◌, 
 use Rattle.mc_items.specs.declared.entry.Entry.{Entry}
 use Rattle.mc_items.specs.Files.{plain_entry}
 use Rattle.mc_modules.specs.Linked.{plain_names}
+use Rattle.mc_type_table.specs.Sight.{definitions_seen}
 use Rattle.mc_clauses.specs.Typing.{module_clauses}
 use Rattle.mc_clause_phase.specs.Items.{Item, clause_item}
 use Rattle.mc_clause_phase.specs.code.Adding.{Adds}
@@ -11,18 +12,18 @@ use Rattle.mc_clause_phase.proofs.phase.judge_files.Goals as goal
 
 pub loop-file-init : goal.loop-file-init
 loop-file-init c =
-    (refl, λ sees k. ([], adds_none (plain_names c.args.seen.now.names.now) sees c.args.judged.now, refl))
+    (refl, ([], adds_none (plain_names c.args.names.now) (definitions_seen (plain_names c.args.names.now)) c.args.judged.now, refl))
 
 pub loop-file-preserved : goal.loop-file-preserved
 loop-file-preserved c =
-    let l = plain_names c.args.seen.now.names.now in
+    let l = plain_names c.args.names.now in
     let own = c.loop-file.own in
     let file = c.file-item.result in
     let checker = c.in_ok-checker.checker in
-    let files = c.args.files.now in (
+    let files = c.args.files.now in
+    let sees = definitions_seen l in (
       omega (arith, c.loop-file.invariant.0),
-      λ sees k.
-          let i = c.loop-file.invariant.1 sees k in
+      let i = c.loop-file.invariant.1 in
           let more = map (clause_item l) (module_clauses l own (map plain_entry file)) in
           let same :
           map (clause_item l) (module_clauses l checker.at.own (map plain_entry c.as_slice.result.now))
@@ -40,17 +41,18 @@ loop-file-preserved c =
           in (
             i.0 ++ more,
             adds_both l sees i.0 more c.args.judged.now c.loop-file.judged c.judge_file.new.self i.1
-                (subst Q same (c.in_ok-judge_file.ensures l sees (c.in_ok-checker.ensures.checks sees k))),
+                (subst Q same (c.in_ok-judge_file.ensures l sees c.in_ok-checker.ensures.checks)),
             files_more l own (own + 1) files c.loop-file.file-index file i.0 (items_from l 0 files)
                 c.loop-file-test.true c.file-item.is refl i.2,
           ),
     )
 
 pub returns-clause-added : goal.returns-clause-added
-returns-clause-added c sees k =
-    let l = plain_names c.args.seen.now.names.now in
+returns-clause-added c =
+    let l = plain_names c.args.names.now in
+    let sees = definitions_seen l in
     let files = c.args.files.now in
-    let i = c.loop-file.invariant.1 sees k in
+    let i = c.loop-file.invariant.1 in
     let Q : List Item → Type 0 =
     λ xs. Adds l sees xs c.args.judged.now c.loop-file.judged
     in
