@@ -14,11 +14,13 @@ use Rattle.mc_compile.specs.Sources.{Sources}
 use Rattle.mc_compile.specs.Reading.{PlainRead, QueryReads, Reads, rules_from, reading_rules, read_as}
 use Rattle.mc_compile.specs.Linking.{PlainNamed, Links, linked_with, linking_rules_of, library_behind}
 use Rattle.mc_compile.specs.Typing.{PlainTyped, Types}
+use Rattle.mc_compile.specs.Checking.{Clauses}
 use Rattle.mc_compile.specs.Forming.{Formed, Forms, formed}
 use Rattle.mc_compile.specs.Laws.{QueryIsAsked}
 use Rattle.mc_compile.proofs.Once.{ok_same}
 use Rattle.mc_compile.proofs.Chains.{unbroken_made, unbroken}
 use Rattle.mc_compile.proofs.Types.{typed_is}
+use Rattle.mc_compile.proofs.Clauses.{checked_is}
 
 appended_nothing : {X : Type 0} (xs ys : List X) → xs ++ ys ≡ [] → ys ≡ []
 appended_nothing [] ys e = e
@@ -63,6 +65,9 @@ forms_asks sources typed form e = at (sources.wants_main || sources.first) e
     at true e = cc
     at false e = form_asks typed.named (form_of typed.named.files typed.named.goal) form refl e
 
+clauses_goal : (typed after : PlainTyped) → Clauses typed (Ok after) → after.named.goal ≡ typed.named.goal
+clauses_goal typed after c = ap (λ (p : PlainTyped). p.named.goal) (checked_is typed after c)
+
 types_goal : (named : PlainNamed) (typed : PlainTyped) → Types named (Ok typed) → typed.named.goal ≡ named.goal
 types_goal named typed t = ap (λ (p : PlainTyped). p.named.goal) (typed_is named typed t)
 
@@ -78,8 +83,9 @@ reads_goal sources read r =
     (appended_nothing (rules_from 0 r.read.files) r.read.goal_rules (unbroken (reading_rules r.read) (read_as r.read) read r.is))
 
 pub query_asked : QueryIsAsked
-query_asked sources form (went_on {b = read} r (went_on {b = named} l (went_on {b = typed} t f))) =
-    forms_asks sources typed form f
+query_asked sources form (went_on {b = read} r (went_on {b = named} l (went_on {b = typed} t (went_on {b = after} c f)))) =
+    forms_asks sources after form f
+    ∙ ap is_some (clauses_goal typed after c)
     ∙ ap is_some (types_goal named typed t)
     ∙ ap is_some (links_goal read named l)
     ∙ reads_goal sources read r

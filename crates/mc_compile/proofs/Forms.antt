@@ -14,11 +14,12 @@ use Rattle.mc_compile.specs.Phases.{Refusal, Unbuilt, stopped, went_on, Tells}
 use Rattle.mc_compile.specs.Sources.{Sources}
 use Rattle.mc_compile.specs.Reading.{PlainRead}
 use Rattle.mc_compile.specs.Linking.{PlainNamed, library_behind, linking_rules_of, linked_with, Links}
-use Rattle.mc_compile.specs.Typing.{PlainTyped, typed_as}
+use Rattle.mc_compile.specs.Typing.{PlainTyped, typed_as, Types}
 use Rattle.mc_compile.specs.Forming.{Formed, formed, forming, Forms, IsProgramOf}
-use Rattle.mc_compile.specs.Compiling.{Compiles, FromLinking, FromTypes}
+use Rattle.mc_compile.specs.Compiling.{Compiles, FromLinking, FromTypes, FromClauses}
 use Rattle.mc_compile.proofs.Links.{answer_is}
 use Rattle.mc_compile.proofs.Types.{typed_is}
+use Rattle.mc_compile.proofs.Clauses.{checked_is}
 use Rattle.mc_compile.specs.Laws.{CompiledFits, CompiledAsks, CompiledNumbers}
 
 unbuilt_where : (b : Bool) (r : Result Formed Refusal) → b ≡ true → ◌≡◌ {A = Result Formed Refusal} (Err Unbuilt) (cond b (Err Unbuilt) r)
@@ -72,10 +73,14 @@ forms_what_is_linked s read named form l e =
     let same = answer_is (linking_rules_of read.files library read.goal) read library named l.is in
     where_built read library (s.wants_main || s.first) form (subst (λ n. Ok form ≡ forming s (typed_as n)) (sym same) e)
 
+checked_form : (s : Sources) (read : PlainRead) (named : PlainNamed) (typed : PlainTyped) (form : Formed) (r : Result Formed Refusal) → r ≡ Ok form → Links read (Ok named) → Types named (Ok typed) → FromClauses s typed r → HasForm form
+checked_form s read named typed form _ e l t (stopped f) = cc
+checked_form s read named typed form r e l t (went_on {b = after} c g) =
+    forms_what_is_linked s read named form l (subst (λ p. Ok form ≡ forming s p) (checked_is typed after c ∙ typed_is named typed t) (sym e ∙ g))
+
 typed_form : (s : Sources) (read : PlainRead) (named : PlainNamed) (form : Formed) (r : Result Formed Refusal) → r ≡ Ok form → Links read (Ok named) → FromTypes s named r → HasForm form
 typed_form s read named form _ e l (stopped f) = cc
-typed_form s read named form r e l (went_on {b = typed} t g) =
-    forms_what_is_linked s read named form l (subst (λ p. Ok form ≡ forming s p) (typed_is named typed t) (sym e ∙ g))
+typed_form s read named form r e l (went_on {b = typed} t g) = checked_form s read named typed form r e l t g
 
 linked_form : (s : Sources) (read : PlainRead) (form : Formed) (r : Result Formed Refusal) → r ≡ Ok form → FromLinking s read r → HasForm form
 linked_form s read form _ e (stopped f) = cc

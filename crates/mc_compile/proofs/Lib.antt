@@ -6,5 +6,6 @@ mod ReadFiles
 mod SomeFiles
 mod Links
 mod Types
+mod Clauses
 mod Forms
 pub mod Asked

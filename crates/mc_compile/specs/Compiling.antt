@@ -5,12 +5,17 @@ use Rattle.mc_compile.specs.Phases.{Refusal, Then}
 use Rattle.mc_compile.specs.Sources.{Sources}
 use Rattle.mc_compile.specs.Reading.{PlainRead, Reads}
 use Rattle.mc_compile.specs.Linking.{PlainNamed, Links}
-use Rattle.mc_compile.specs.Typing.{Types}
+use Rattle.mc_compile.specs.Typing.{PlainTyped, Types}
+use Rattle.mc_compile.specs.Checking.{Clauses}
 use Rattle.mc_compile.specs.Forming.{Formed, Forms}
+
+-- the phases from clauses on
+abbrev pub FromClauses : Sources → PlainTyped → Result Formed Refusal → Type 0
+FromClauses sources = Then Clauses (Forms sources)
 
 -- the phases from types on
 abbrev pub FromTypes : Sources → PlainNamed → Result Formed Refusal → Type 0
-FromTypes sources = Then Types (Forms sources)
+FromTypes sources = Then Types (FromClauses sources)
 
 -- the phases from linking on
 abbrev pub FromLinking : Sources → PlainRead → Result Formed Refusal → Type 0

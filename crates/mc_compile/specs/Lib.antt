@@ -4,6 +4,7 @@ pub mod Reading
 pub mod Library
 pub mod Linking
 pub mod Typing
+pub mod Checking
 pub mod Forming
 pub mod Compiling
 pub mod Laws

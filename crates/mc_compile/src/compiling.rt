@@ -6,8 +6,10 @@ ghost use Rattle.mc_compile.specs.Sources.{sources_of};
 ghost use Rattle.mc_compile.specs.Reading.{plain_read};
 ghost use Rattle.mc_compile.specs.Linking.{plain_named, AreLinked};
 ghost use Rattle.mc_compile.specs.Forming.{IsProgramOf};
-ghost use Rattle.mc_compile.specs.Compiling.{Compiles, FromLinking, FromTypes};
+ghost use Rattle.mc_compile.specs.Typing.{plain_typed};
+ghost use Rattle.mc_compile.specs.Compiling.{Compiles, FromLinking, FromTypes, FromClauses};
 
+use crate::checked::Checked;
 use crate::forming::form;
 use crate::given::{CompileFault, Given, Query};
 use crate::named::Named;
@@ -18,7 +20,7 @@ use mc_ground_form::Compiled;
 use std::alloc::Global;
 
 /// Compiles files and a query, phase by phase: they are read, linked with the library's modules, their types are made
-/// a table, and they are formed.
+/// a table, their clauses are typed, and they are formed.
 ///
 /// # Errors
 ///
@@ -70,7 +72,25 @@ fn typed(
         (plain_named named) result }
 {
     match Typed::of(alloc, named) {
-        Ok(typed) => form(alloc, &typed, query, want_main),
+        Ok(typed) => checked(alloc, typed, query, want_main),
+        Err(fault) => Err(fault),
+    }
+}
+
+// The phases from clauses on.
+fn checked(
+    alloc: Global,
+    typed: Typed,
+    query: Option<&Query>,
+    want_main: bool,
+) -> Result<Compiled, CompileFault>
+    requires { AreLinked (plain_named typed.named) }
+    ensures { (files : List Given)
+        → Tells (FromClauses (sources_of files (option_copied query.entry) want_main)) IsProgramOf
+        (plain_typed typed) result }
+{
+    match Checked::of(alloc, typed) {
+        Ok(checked) => form(alloc, &checked.typed, query, want_main),
         Err(fault) => Err(fault),
     }
 }

@@ -12,7 +12,8 @@ use crate::typed::Typed;
 use mc_ground_form::{Compiled, program_of};
 use std::alloc::Global;
 
-/// The program that linked files are, with the query that the goal is. The table of their types isn't used yet.
+/// The program that linked files are, with the query that the goal is. Neither the table of their types nor what clauses
+/// are resolved to is used yet.
 ///
 /// # Errors
 ///

@@ -3,6 +3,7 @@ ghost use Rattle.mc_compile.specs.Sources.{Sources};
 ghost use Rattle.mc_compile.specs.Reading.{Reads};
 ghost use Rattle.mc_compile.specs.Linking.{Links};
 ghost use Rattle.mc_compile.specs.Typing.{Types};
+ghost use Rattle.mc_compile.specs.Checking.{Clauses};
 ghost use Rattle.mc_compile.specs.Forming.{Forms};
 ghost use Rattle.mc_compile.specs.Compiling.{Compiles};
 ghost use Rattle.mc_compile.specs.Laws.{CompiledFits, CompiledAsks, CompiledNumbers, QueryIsAsked};
@@ -14,10 +15,12 @@ pub fn at_most_one_phase()
     ensures reads { AtMostOne Reads }
     ensures links { AtMostOne Links }
     ensures types { AtMostOne Types }
+    ensures clauses { AtMostOne Clauses }
     ensures forms { (sources : Sources) → AtMostOne (Forms sources) }
 {
     at_most_one_list();
     at_most_one_goal();
+    mc_clause_phase::at_most_one_list();
 }
 
 /// Sources are compiled to one program at most, or refused for one reason: a law, and nothing to run.

@@ -1,6 +1,7 @@
 //! Compiling: from the bytes of files and of a query, phase by phase.
 #![tactic(auto)]
 
+mod checked;
 mod compiling;
 mod forming;
 mod given;
@@ -12,6 +13,7 @@ mod reader;
 mod reading;
 mod typed;
 
+pub use checked::Checked;
 pub use compiling::compile;
 pub use given::{CompileFault, Given, Query};
 pub use law::{

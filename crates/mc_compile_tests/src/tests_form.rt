@@ -218,7 +218,7 @@ determinism without a mode ~ a $ #pred q(t) is nondet. q(aa). ~ check ~ 0:3 S6\n
 mode of its own ~ a $ #pred q(t). #mode q(out) is nondet. q(aa). ~ check ~ not built\n\
 further mode ~ a $ #mode p(in) is semidet. ~ check ~ not built\n\
 builtin type ~ a $ #pred q(int::out) is nondet. q(1). ~ check ~ not built\n\
-type variable ~ a $ #pred q(T::out) is nondet. q(aa). ~ check ~ not built\n\
+type variable ~ a $ #pred q(T::out) is nondet. q(aa). ~ check ~ 0:3 T1\n\
 type that nothing visible has ~ a $ #pred q(u::out) is nondet. q(aa). ~ check ~ 0:3 N4\n\
 qualified type ~ a $ #pred q(a.t::out) is nondet. q(aa). ~ check ~ facts 2\n\
 no determinism ~ a $ #pred q(t::out). q(aa). ~ check ~ not built\n\
@@ -239,20 +239,20 @@ rule ~ a $ p(X) :- p(X). ~ check ~ not built\n\
 rule without a condition ~ a $ p(bb) :- true. ~ check ~ not built\n\
 variable ~ a $ p(X). ~ check ~ not built\n\
 variable without a name ~ a $ p(_). ~ check ~ not built\n\
-integer ~ a $ p(1). ~ check ~ not built\n\
-string ~ a $ p(\"aa\"). ~ check ~ not built\n\
-character ~ a $ p(x). ~ check ~ not built\n\
+integer ~ a $ p(1). ~ check ~ 0:3 T1\n\
+string ~ a $ p(\"aa\"). ~ check ~ 0:3 T1\n\
+character ~ a $ p(x). ~ check ~ 0:3 T1\n\
 constant that may be a character ~ a $ #type u ---> 'é'. #pred q(u::out) is nondet. q('é'). ~ check ~ facts 2\n\
 qualified constant of one character ~ a $ #type u ---> 'é'. #pred q(u::out) is nondet. q(a.'é'). ~ check ~ facts 2\n\
 imported constant of one character ~ a #import_module b. #pred q(u::out) is nondet. #implementation. q('é').`b #type u ---> 'é'. ~ check ~ facts 1\n\
-constant of one character and of another type ~ a $ #type u ---> 'é'. p('é'). ~ check ~ not built\n\
-character of two bytes ~ a $ p('é'). ~ check ~ not built\n\
+constant of one character and of another type ~ a $ #type u ---> 'é'. p('é'). ~ check ~ 0:3 T1\n\
+character of two bytes ~ a $ p('é'). ~ check ~ 0:3 T1\n\
 empty list ~ a $ #type u ---> [] ; cons. #pred q(u::out) is nondet. q([]). q(cons). ~ check ~ facts 3\n\
 empty list in quotes ~ a $ #type u ---> []. #pred q(u::out) is nondet. q('[]'). ~ check ~ facts 2\n\
 empty list that is declared in quotes ~ a $ #type u ---> '[]'. #pred q(u::out) is nondet. q([]). ~ check ~ facts 2\n\
 qualified empty list ~ a $ #type u ---> []. #pred q(u::out) is nondet. q(a.'[]'). ~ check ~ facts 2\n\
 imported empty list ~ a #import_module b. #pred q(u::out) is nondet. #implementation. q([]).`b #type u ---> []. ~ check ~ facts 1\n\
-empty list of another type ~ a $ #type u ---> []. p([]). ~ check ~ not built\n\
+empty list of another type ~ a $ #type u ---> []. p([]). ~ check ~ 0:3 T1\n\
 empty list of no type ~ a $ p([]). ~ check ~ 0:3 N4\n\
 empty list over an argument ~ a $ #type u ---> []. #pred q(u::out) is nondet. q('[]'(aa)). ~ check ~ 0:3 N4\n\
 list of a constant ~ a $ #type u ---> []. #pred q(u::out) is nondet. q([aa]). ~ check ~ 0:3 N4\n\
@@ -262,11 +262,11 @@ qualified constant ~ a $ p(a.bb). ~ check ~ facts 2\n\
 constant of no type ~ a $ p(cc). ~ check ~ 0:3 N4\n\
 constant over an argument ~ a $ p(aa(bb)). ~ check ~ 0:3 N4\n\
 constant of the second type ~ a $ #type u ---> cc. #pred q(u::out) is nondet. q(cc). ~ check ~ facts 2\n\
-constant of a later type ~ a $ #type u ---> cc. p(cc). ~ check ~ not built\n\
-constant of an earlier type ~ a $ #type u ---> cc. #pred q(u::out) is nondet. q(aa). ~ check ~ not built\n\
+constant of a later type ~ a $ #type u ---> cc. p(cc). ~ check ~ 0:3 T1\n\
+constant of an earlier type ~ a $ #type u ---> cc. #pred q(u::out) is nondet. q(aa). ~ check ~ 0:3 T1\n\
 constant and predicate of one name ~ a $ #type u ---> qq. #pred qq(u::out) is nondet. qq(qq). ~ check ~ facts 2\n\
 constants of two types ~ a $ #type u ---> cc. #pred q(t::out, u::out) is nondet. q(aa, cc). ~ check ~ facts 2\n\
-constants of two types the other way ~ a $ #type u ---> cc. #pred q(t::out, u::out) is nondet. q(cc, aa). ~ check ~ not built\n\
+constants of two types the other way ~ a $ #type u ---> cc. #pred q(t::out, u::out) is nondet. q(cc, aa). ~ check ~ 0:3 T1\n\
 fact of another arity ~ a $ p(aa, bb). ~ check ~ 0:3 N7\n\
 fact of no predicate ~ a $ q(aa). ~ check ~ 0:3 N7\n\
 qualified fact ~ a $ a.p(bb). ~ check ~ 0:3 S6\n\
@@ -300,7 +300,7 @@ type in another's implementation ~ a #import_module b. #pred q(u::out) is nondet
 type of the second of three modules ~ a $`b #type u ---> cc.`c #import_module b. #pred q(u::out) is nondet. #implementation. q(cc). ~ check ~ facts 2\n\
 type of two modules ~ a #import_module b, c. #pred q(u::out) is nondet. #implementation. q(cc).`b #type u ---> cc.`c #type u ---> dd. ~ check ~ 0:3 N8\n\
 qualified type of two modules ~ a #import_module b, c. #pred q(c.u::out) is nondet. #implementation. q(dd).`b #type u ---> cc.`c #type u ---> dd. ~ check ~ facts 1\n\
-constant of the other of two modules ~ a #import_module b, c. #pred q(c.u::out) is nondet. #implementation. q(cc).`b #type u ---> cc.`c #type u ---> dd. ~ check ~ not built\n\
+constant of the other of two modules ~ a #import_module b, c. #pred q(c.u::out) is nondet. #implementation. q(cc).`b #type u ---> cc.`c #type u ---> dd. ~ check ~ 0:3 T1\n\
 module with full stops ~ a.b $`c #import_module a.b. #pred q(a.b.t::out) is nondet. #implementation. q(a.b.aa). ~ check ~ facts 2\n\
 module that is given twice ~ a $`a $ ~ check ~ 1:1 N2\n";
 
@@ -340,7 +340,7 @@ qualified used predicate ~ a #use_module b.`b $ ~ query b.p(X) ~ facts 1, 2:1 b.
 predicate that isn't imported ~ a`b $ ~ query b.p(X) ~ 2:1 N4\n\
 predicate of another's implementation ~ a #import_module b.`b #implementation. #type t ---> aa. #pred p(t::out) is nondet. p(aa). ~ query p(X) ~ 2:1 N4\n\
 predicate of the first file's implementation ~ a #implementation. #type t ---> aa. #pred p(t::out) is nondet. p(aa). ~ query p(X) ~ facts 1, 1:1 a.p X\n\
-predicate of two modules ~ a #import_module b. $`b #type u ---> cc. #pred p(u::out) is nondet. #implementation. p(cc). ~ query p(X) ~ not built\n\
+predicate of two modules ~ a #import_module b. $`b #type u ---> cc. #pred p(u::out) is nondet. #implementation. p(cc). ~ query p(X) ~ 2:1 T2\n\
 qualified predicate of two modules ~ a #import_module b. $`b #type u ---> cc. #pred p(u::out) is nondet. #implementation. p(cc). ~ query b.p(X) ~ facts 2, 2:1 b.p X\n\
 query over a program that isn't of the form ~ a $ #type u == t. ~ query p(X) ~ not built\n";
 
@@ -350,7 +350,9 @@ first answer of no predicate ~ a $ ~ first q(X) ~ 1:1 N4\n\
 run ~ a $ ~ run ~ not built\n\
 run of a faulty program ~ a $ p(cc). ~ run ~ 0:3 N4\n\
 fault beside what isn't of the form ~ a $ #type u == t. p(cc). ~ check ~ 0:3 N4\n\
-fault behind what isn't of the form ~ a $ #type u == t.`b p(cc). ~ check ~ 1:3 N1\n";
+fault behind what isn't of the form ~ a $ #type u == t.`b p(cc). ~ check ~ 1:3 N1\n\
+clause of another type beside what isn't of the form ~ a $ #type u == t. #type v ---> cc. p(cc). ~ check ~ 0:3 T1\n\
+query of another type over what isn't of the form ~ a $ #type u == t. ~ query p(1) ~ 1:1 T1\n";
 
 #[test]
 fn types_are_enumerations(rt: HostRuntime) -> Result<(), Fail> {
@@ -384,6 +386,6 @@ fn goals_are_calls_over_different_variables(rt: HostRuntime) -> Result<(), Fail>
 
 #[test]
 fn faults_come_before_what_is_not_built(rt: HostRuntime) -> Result<(), Fail> {
-    assert_eq!(rt; rows_hold(&rt, rt.alloc(), WANTED)?, 6);
+    assert_eq!(rt; rows_hold(&rt, rt.alloc(), WANTED)?, 8);
     Ok(())
 }

@@ -1,0 +1,51 @@
+-- What the phase of clauses makes and refuses.
+use Rattle.std.proofs.Common.{◌≡◌, List, [], Ok, Err, refl, sym, ap, ◌∙◌, subst}
+use Rattle.mc_source.specs.declared.rule.Broken.{Broken}
+use Rattle.mc_modules.specs.Linked.{plain_names}
+use Rattle.mc_type_table.specs.Sight.{definitions_seen}
+use Rattle.mc_clause_phase.specs.Judging.{IsJudged}
+use Rattle.mc_clause_phase.specs.declared.judged.Judged.{Judged}
+use Rattle.mc_compile.specs.declared.given.CompileFault.TheVariants as F
+use Rattle.mc_compile.specs.declared.typed.Typed.{Typed}
+use Rattle.mc_compile.specs.declared.checked.Checked.{Checked}
+use Rattle.mc_compile.specs.Phases.{Tells}
+use Rattle.mc_compile.specs.Linking.{plain_named, AreLinked}
+use Rattle.mc_compile.specs.Typing.{PlainTyped, plain_typed}
+use Rattle.mc_compile.specs.Checking.{items_of, AreBroken, Clauses, Shows}
+use Rattle.mc_compile.proofs.Chains.{broken_up, none_broken, unbroken_made}
+
+-- what has a table of types goes on as it is
+pub checked_is : (typed after : PlainTyped) → Clauses typed (Ok after) → after ≡ typed
+checked_is typed after c = unbroken_made c.rules typed after c.is
+
+pub still_linked : (typed : PlainTyped) (checked : Checked) → Tells Clauses Shows typed (Ok checked) → AreLinked typed.named → AreLinked (plain_named checked.typed.named)
+still_linked typed checked t linked =
+    let same : plain_named checked.typed.named ≡ typed.named =
+    ap (λ (p : PlainTyped). p.named) (t.1.typed ∙ checked_is typed t.0 t.2)
+    in
+    subst AreLinked (sym same) linked
+
+-- what typing says of what has a table of types
+abbrev Says : Typed → Judged → Type 0
+Says typed judged =
+    let names = plain_names typed.named.names in
+    IsJudged names (definitions_seen names) (items_of (plain_named typed.named)) judged
+
+-- where no clause breaks a rule
+pub are_typed : (typed : Typed) (judged : Judged) → Says typed judged → judged.broken.items ≡ []
+    → Tells Clauses Shows (plain_typed typed) (Ok (record { typed = typed; clauses = judged.clauses }))
+are_typed typed judged says none = (
+  plain_typed typed,
+  record { typed = refl; clauses = says.typed none },
+  record { rules = judged.broken.items; are = says.faults; is = none_broken judged.broken.items (plain_typed typed) none },
+)
+
+-- and where some do
+pub are_faulty : (typed : Typed) (judged : Judged) (rules : List Broken) → Says typed judged → rules ≡ judged.broken.items → (judged.broken.items ≡ [] → ⊥)
+    → Tells Clauses Shows (plain_typed typed) (Err (F.Rejected rules))
+are_faulty typed judged rules says is some =
+    record {
+      rules = rules;
+      are = subst (AreBroken (plain_named typed.named)) (sym is) says.faults;
+      is = broken_up rules (plain_typed typed) (λ none. some (sym is ∙ none));
+    }

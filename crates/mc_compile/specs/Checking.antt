@@ -1,0 +1,36 @@
+-- The phase of clauses: the rules of types that the clauses of the given files break, and then the
+-- query's (this project's rules; the Mercury manual: Types, overloading).
+use Rattle.std.specs.Prelude.{◌≡◌, List, Result}
+use Rattle.mc_source.specs.declared.rule.Broken.{Broken}
+use Rattle.mc_type_table.specs.Sight.{definitions_seen}
+use Rattle.mc_clause_phase.specs.Items.{Item, items}
+use Rattle.mc_clause_phase.specs.Judging.{AreFaults, AreTyped}
+use Rattle.mc_compile.specs.declared.checked.Checked.{Checked}
+use Rattle.mc_compile.specs.Phases.{Refusal, unless_broken}
+use Rattle.mc_compile.specs.Linking.{PlainNamed}
+use Rattle.mc_compile.specs.Typing.{PlainTyped, plain_typed}
+
+-- What is typed: the clauses of the given files and the goal of the query. (That the library's own
+-- clauses have types is tested.)
+abbrev pub items_of : PlainNamed → List Item
+items_of named = items named.files.names named.files.given named.goal
+
+-- these are the rules that they break, where each module sees the definitions that are in its sight
+abbrev pub AreBroken : PlainNamed → List Broken → Type 0
+AreBroken named =
+    AreFaults named.files.names (definitions_seen named.files.names) (items_of named)
+
+-- The phase of clauses: what has a table of types goes on as it is, unless a clause or the query
+-- breaks a rule (T1, T2 or L5).
+pub record Clauses (typed : PlainTyped) (result : Result PlainTyped Refusal) : Type 0 where
+  pub rules : List Broken
+  pub are : AreBroken typed.named rules
+  pub is : result ≡ unless_broken rules typed
+
+-- A value shows plain data that has a table of types, with what each clause and the query is resolved
+-- to.
+pub record Shows (checked : Checked) (plain : PlainTyped) : Type 0 where
+  pub typed : plain_typed checked.typed ≡ plain
+  pub clauses :
+      AreTyped plain.named.files.names (definitions_seen plain.named.files.names)
+      (items_of plain.named) checked.clauses.items
