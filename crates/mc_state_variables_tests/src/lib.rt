@@ -1,0 +1,8 @@
+//! The tests of state variables that are written out, which call what `mc_state_variables` offers. They stand in a crate
+//! of their own, since a crate with tests is proved twice.
+#![tactic(auto)]
+
+#[cfg(test)]
+mod hostile_tests;
+#[cfg(test)]
+mod tests;
