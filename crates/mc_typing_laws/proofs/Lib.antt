@@ -4,3 +4,7 @@ pub mod WalkedClauses
 pub mod TypedClauses
 pub mod WalksAndGoals
 pub mod Flags
+pub mod Renumbered
+pub mod ManyClauses
+pub mod ScopedTypes
+pub mod Procedures

@@ -1,2 +1,4 @@
 pub mod WalkLaws
+pub mod GoalTypes
+pub mod ProcedureTypes
 pub mod code
