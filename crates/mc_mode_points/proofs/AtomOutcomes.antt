@@ -18,6 +18,7 @@ use Rattle.mc_accepted.specs.Forms.{node_takes_constants}
 use Rattle.mc_accepted.specs.Ordered.{is_state}
 use Rattle.mc_accepted.specs.Arranged.{Operations, Declared, Point, with_inst, Arranged, runs, breaks, one, atom, wait, same, assigned, constant}
 use Rattle.mc_accepted.specs.Chosen.{Chosen, of_nodes}
+use Rattle.mc_procs.specs.Named.{NumbersBelow}
 use Rattle.mc_procs.specs.Procedures.{PlainProcs, source_of, insts_of}
 use Rattle.mc_mode_points.specs.Nodes.{type_in}
 use Rattle.mc_mode_points.specs.States.{point_of}
@@ -40,6 +41,10 @@ runs-one p t s o n reachable g r f e c =
     ∙ (ap (λ x. runs x (end_of reachable t) (length t.insts.items) []) (sym g)
     ∙ (ap (λ x. runs (nodes (map plain_node p.goals.items)) (end_of x t) (length t.insts.items) []) (sym r)
     ∙ ap (runs (nodes (map plain_node p.goals.items)) (end_of p.reachable t) (length t.insts.items)) (sym f))))
+
+-- no fresh variables stand among its arguments
+pub none-fresh : (n : ℕ) (zs : List ℕ) → zs ≡ [] → NumbersBelow n zs
+none-fresh n zs e = subst (NumbersBelow n) (sym e) tt
 
 pub takes-by-number : (P : Source) (G : Graph) → FitsInsts G → (i : ℕ) → node_takes_constants P G (G i) ≡ (not (nat_eq i 0) && nat_lt i 4)
 takes-by-number P G h zero = ap (node_takes_constants P G) h.is_free
@@ -175,6 +180,7 @@ module _ (q : PlainProcs) (s : State) (declared : ℕ → List Declared) (O : Li
         atom-runs q s declared st C T a (x ∷ y ∷ []) (same (of_nodes C) (source_of q) declared T x y count here) h
         ∙ (same-tests q s declared st C T a x y count hx g k l
         ∙ runs-one p s (Test x y) (Some here) count true (e ∙ ap (λ (z : Scheduled). node_then (unmarked z) no_nodes) (plain_sched-Test x y)) r f refl refl);
+    fresh = none-fresh (length s.insts.items) p.freshened.items f;
     stepped = stepped-refl q s st;
   }
 
@@ -188,6 +194,7 @@ module _ (q : PlainProcs) (s : State) (declared : ℕ → List Declared) (O : Li
         ∙ (same-back q s declared st C T b x y count g k
         ∙ (ap (λ (d : Point ℕ). one (Assign y x) (Some d) count) (assigned-is q s declared st C T b y x hx (point_of t.insts.items) point)
         ∙ runs-one p t (Assign y x) (Some (point_of t.insts.items)) count true (e ∙ ap (λ (z : Scheduled). node_then (unmarked z) no_nodes) (plain_sched-Assign y x)) r f refl (sym n)));
+    fresh = none-fresh (length t.insts.items) p.freshened.items f;
     stepped = step;
   }
 
@@ -201,6 +208,7 @@ module _ (q : PlainProcs) (s : State) (declared : ℕ → List Declared) (O : Li
         ∙ (same-on q s declared st C T b x y count g k
         ∙ (ap (λ (d : Point ℕ). one (Assign x y) (Some d) count) (assigned-is q s declared st C T b x y hy (point_of t.insts.items) point)
         ∙ runs-one p t (Assign x y) (Some (point_of t.insts.items)) count true (e ∙ ap (λ (z : Scheduled). node_then (unmarked z) no_nodes) (plain_sched-Assign x y)) r f refl (sym n)));
+    fresh = none-fresh (length t.insts.items) p.freshened.items f;
     stepped = step;
   }
 
@@ -229,6 +237,7 @@ module _ (q : PlainProcs) (s : State) (declared : ℕ → List Declared) (O : Li
         ∙ (constant-tests q s declared st C T a x (plain_value v) many g
         ∙ runs-one p s (TestConst x (plain_value v)) (end_of (not (nat_eq (there x) 0) && nat_lt (there x) 4) s) many (not (nat_eq (there x) 0) && nat_lt (there x) 4)
         (e ∙ ap (λ (z : Scheduled). node_then (unmarked z) no_nodes) (plain_sched-TestConst x v)) r f refl refl);
+    fresh = none-fresh (length s.insts.items) p.freshened.items f;
     stepped = stepped-refl q s st;
   }
 
@@ -243,5 +252,6 @@ module _ (q : PlainProcs) (s : State) (declared : ℕ → List Declared) (O : Li
         ∙ (constant-set q s declared st C T b x (plain_value v) many g
         ∙ runs-one p t (Const x (plain_value v)) (Some (with_inst ℕ x 1 there)) many true
         (e ∙ ap (λ (z : Scheduled). node_then (unmarked z) no_nodes) (plain_sched-Const x v)) r f (ap Some (sym point)) (sym n));
+    fresh = none-fresh (length t.insts.items) p.freshened.items f;
     stepped = step;
   }

@@ -1,5 +1,5 @@
 -- What becomes of builtins.
-use Rattle.std.proofs.Common.{◌≡◌, ℕ, ◌+◌, Bool, true, false, not, List, [], ◌∷◌, length, map, Option, Some, None, Ok, Err, nat_eq, if◌then◌else◌, refl, sym, ap, ◌∙◌}
+use Rattle.std.proofs.Common.{◌≡◌, ℕ, ◌+◌, Bool, true, false, not, List, [], ◌∷◌, length, map, Option, Some, None, Ok, Err, nat_eq, if◌then◌else◌, refl, sym, ap, ◌∙◌, subst}
 use Rattle.std.specs.List.{list_any}
 use Rattle.mc_source.specs.Determinism.{is_zero}
 use Rattle.mc_program.specs.Programs.{TypeTerm}
@@ -13,6 +13,7 @@ use Rattle.mc_accepted.specs.Arranged.{Declared, Point, Arranged, runs, breaks, 
 use Rattle.mc_accepted.specs.Chosen.{Chosen, of_nodes}
 use Rattle.mc_accepted.specs.Ordered.{Mode, builtin_most, modes_of, implied_places, at_inputs, at_outputs}
 use Rattle.mc_accepted.specs.Unmarked.{unmarked}
+use Rattle.mc_procs.specs.Named.{NumbersBelow}
 use Rattle.mc_procs.specs.Procedures.{PlainProcs, source_of}
 use Rattle.mc_mode_points.specs.States.{point_of}
 use Rattle.mc_mode_points.specs.Agreeing.{Agrees, Stands, Stepped}
@@ -23,7 +24,7 @@ use Rattle.mc_mode_points.specs.declared.part.Part.{Part}
 use Rattle.mc_mode_points.specs.declared.fault.Failed.{Failed}
 use Rattle.mc_mode_points.specs.declared.fault.Failed.TheVariants as E
 use Rattle.mc_mode_points.proofs.Ahead.{agrees-before}
-use Rattle.mc_mode_points.proofs.AtomOutcomes.{waits-broke, atom-waits, atom-runs}
+use Rattle.mc_mode_points.proofs.AtomOutcomes.{none-fresh, waits-broke, atom-waits, atom-runs}
 use Rattle.mc_mode_points.proofs.Steps.{same-refl, stepped-trans}
 use Rattle.mc_mode_points.proofs.Freshening.{typed-alike}
 
@@ -60,14 +61,15 @@ ran-plainly q r s t declared op xs part step left count g e f = record {
       (length s.insts.items) [] (not (is_zero (builtin_most op))) g e f
       (ended (is_zero (builtin_most op)) (after (of_nodes C) (source_of q) declared T (modes_of op) xs (point_of s.insts.items)) t (left declared C T a))
       (sym count);
+  fresh = none-fresh (length t.insts.items) part.freshened.items f;
   stepped = step;
 }
 
 pub ran-freshly : (q r : PlainProcs) (s u t : State) (declared : ℕ → List Declared) (op : Builtin) (zs : List ℕ) (ts : List (ℕ × ℕ)) (part : Part)
     → Stepped q q s u → Stepped q r u t → AlikeIn u.types.items ts → Leaves q r (modes_of op) zs (point_of s.insts.items) t → length t.insts.items ≡ length s.insts.items + length ts
-    → nodes (map plain_node part.goals.items) ≡ node_then (unmarked (apply_of op zs)) (test_nodes ts) → part.reachable ≡ true → part.freshened.items ≡ zs
+    → nodes (map plain_node part.goals.items) ≡ node_then (unmarked (apply_of op zs)) (test_nodes ts) → part.reachable ≡ true → part.freshened.items ≡ zs → NumbersBelow (length t.insts.items) zs
     → Ran (λ C T. applied_freshly (of_nodes C) (source_of q) declared T op zs ts (length s.insts.items) (point_of s.insts.items)) q r s t part
-ran-freshly q r s u t declared op zs ts part first step alike left count g e f = record {
+ran-freshly q r s u t declared op zs ts part first step alike left count g e f there = record {
   outcome = λ C T a.
       let d : Agrees q u C T = agrees-before q r u t C T first.moved.stands step.moved a in
       ap
@@ -80,6 +82,7 @@ ran-freshly q r s u t declared op zs ts part first step alike left count g e f =
       (length s.insts.items + length ts) zs true g e f
       (ap Some (left declared C T a))
       (sym count);
+  fresh = subst (NumbersBelow (length t.insts.items)) (sym f) there;
   stepped = stepped-trans q q r s u t first step;
 }
 
@@ -139,6 +142,7 @@ module _ (q : PlainProcs) (s : State) (declared : ℕ → List Declared) (O : Li
         applied-is C T (agrees-before q r s s C T st step.moved b) h
         ∙ (ap (by_usable C T) (u C T b)
         ∙ (ap (λ P. applied_with (of_nodes C) P declared T implied op xs count here) (sym (ap source_of step.moved.nodes.others)) ∙ ran.outcome C T a));
+    fresh = ran.fresh;
     stepped = stepped-trans q r v s s t step ran.stepped;
   }
 
@@ -156,6 +160,7 @@ module _ (q r : PlainProcs) (s t : State) (declared : ℕ → List Declared) (op
   pub ran-none : (js : List ℕ) → js ≡ [] → Ran (λ C T. applied_to (of_nodes C) (source_of q) declared T op xs next before) q r s t part → Ran (with_implied js) q r s t part
   ran-none js e ran = record {
     outcome = λ C T a. ap (λ ks. with_implied ks C T) e ∙ ran.outcome C T a;
+    fresh = ran.fresh;
     stepped = ran.stepped;
   }
 
@@ -169,5 +174,6 @@ module _ (q r : PlainProcs) (s t : State) (declared : ℕ → List Declared) (op
       → Ran (with_implied is) q r s t part
   ran-some js is e h ran = record {
     outcome = λ C T a. ap (λ ks. with_implied ks C T) (sym e) ∙ (some-is C T js h ∙ ran.outcome C T a);
+    fresh = ran.fresh;
     stepped = ran.stepped;
   }

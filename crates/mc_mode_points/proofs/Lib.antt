@@ -21,3 +21,5 @@ pub mod Leasts
 pub mod Beginnings
 pub mod Joins
 pub mod OneOrMany
+pub mod EndColumns
+pub mod EndsMerged

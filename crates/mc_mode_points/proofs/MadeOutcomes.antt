@@ -101,6 +101,7 @@ module _ (q : PlainProcs) (s : State) (declared : ℕ → List Declared) (O : Li
         let b = agrees-before q r s t C T st ran.stepped.moved a in
         atom-runs q s declared st C T b (x ∷ ys) (made (of_nodes C) (source_of q) declared T x f ys count here) h
         ∙ (made-takes q s declared st C T b x f ys count g ∙ ran.outcome C T a);
+    fresh = ran.fresh;
     stepped = ran.stepped;
   }
 
@@ -111,5 +112,6 @@ module _ (q : PlainProcs) (s : State) (declared : ℕ → List Declared) (O : Li
         let b = agrees-before q r s t C T st ran.stepped.moved a in
         atom-runs q s declared st C T b (x ∷ ys) (made (of_nodes C) (source_of q) declared T x f ys count here) h
         ∙ (made-builds q s declared st C T b x f ys count w g k ∙ ran.outcome C T a);
+    fresh = ran.fresh;
     stepped = ran.stepped;
   }

@@ -141,5 +141,6 @@ module _ (q : PlainProcs) (s : State) (declared : ℕ → List Declared) (O : Li
         ∙ (ap (called_by C T) (some-picked k m (best_here C T) (e C T b))
         ∙ (ap (λ P. called (of_nodes C) P declared T (Some (declared_mode (get_or modes k.place m))) xs count here) (sym (ap source_of step.moved.nodes.others))
         ∙ ran.outcome C T a));
+    fresh = ran.fresh;
     stepped = stepped-trans q r u s s t step ran.stepped;
   }

@@ -7,6 +7,7 @@ use Rattle.mc_model.specs.PlainGoals.{plain_node}
 use Rattle.mc_model.specs.Stream.{is_bound}
 use Rattle.mc_accepted.specs.Arranged.{Point, Fault, waits, negated_binds, branches_differ, Arranged, runs, breaks, Declared, ascending, trial}
 use Rattle.mc_accepted.specs.Chosen.{Chosen, of_nodes}
+use Rattle.mc_procs.specs.Named.{NumbersBelow}
 use Rattle.mc_procs.specs.Procedures.{PlainProcs, source_of}
 use Rattle.mc_mode_points.specs.States.{point_of, SameState}
 use Rattle.mc_mode_points.specs.Agreeing.{Agrees, Moved, Stepped}
@@ -45,6 +46,7 @@ pub record Ran (a : Outcome) (q r : PlainProcs) (s t : State) (p : Part) : Type 
       → a C T
       ≡ runs (nodes (map plain_node p.goals.items)) (end_of p.reachable t) (length t.insts.items)
       p.freshened.items
+  pub fresh : NumbersBelow (length t.insts.items) p.freshened.items
   pub stepped : Stepped q r s t
 
 -- The goal breaks this rule, whatever comes later, and the state is the same.

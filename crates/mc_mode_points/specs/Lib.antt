@@ -4,4 +4,5 @@ pub mod States
 pub mod Agreeing
 pub mod Answers
 pub mod Modes
+pub mod Merged
 pub mod code

@@ -6,3 +6,4 @@ pub mod Picking
 pub mod Shapes
 pub mod Applying
 pub mod Entries
+pub mod Columns

@@ -14,7 +14,7 @@ use mc_model::inst::{InstId, ModeDecl};
 use std::alloc::Global;
 
 /// Whether a number is in a list.
-pub(crate) fn has(xs: &[u32], x: u32) -> bool
+pub fn has(xs: &[u32], x: u32) -> bool
     ensures { result ≡ is_in x xs.now }
 {
     for y in xs {

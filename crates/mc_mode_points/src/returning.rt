@@ -16,6 +16,9 @@ impl State {
         ensures count { length self.new.insts.items ≡ length self.old.insts.items }
         ensures stepped { (q r : PlainProcs) (s : State) → Stands q s → Stepped q r s self.old
             → mark ≡ mark_of s → Stepped q r s self.new }
+        ensures outside { self.new.outside ≡ self.old.outside }
+        ensures types { self.new.types ≡ self.old.types }
+        ensures nodes { self.new.nodes ≡ self.old.nodes }
     {
         self.back(mark.log);
     }
@@ -28,6 +31,7 @@ impl State {
             → mark ≡ mark_of s → SameState s self.new }
         ensures moved { (q r : PlainProcs) (s : State) → Stands q s → Stepped q r s self.old
             → mark ≡ mark_of s → Moved q r s self.new }
+        ensures nodes { self.new.nodes ≡ self.old.nodes }
     {
         self.undo(mark);
     }

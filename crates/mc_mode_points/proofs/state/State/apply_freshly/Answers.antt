@@ -4,6 +4,7 @@ use Rattle.mc_accepted.specs.Arranged.{Point, after, test_nodes, fresh_at, tests
 use Rattle.mc_accepted.specs.Chosen.{of_nodes}
 use Rattle.mc_accepted.specs.Ordered.{Mode, zipped}
 use Rattle.mc_accepted.specs.Unmarked.{unmarked}
+use Rattle.mc_procs.specs.Named.{NumbersBelow}
 use Rattle.mc_procs.specs.Procedures.{source_of}
 use Rattle.mc_mode_points.specs.States.{point_of}
 use Rattle.mc_mode_points.specs.code.Applying.{AlikeIn}
@@ -39,3 +40,4 @@ returns c = λ declared.
     (c.in_ok-goals.ensures
     ∙ ap₂ (λ (z : Scheduled) (ks : List (ℕ × ℕ)). node_then (unmarked z) (test_nodes ks)) (c.in_ok-goal.ensures ∙ ap (apply_of op) v) (c.as_slice-3.ensures.value ∙ m.tests))
     refl m.args
+    (subst (NumbersBelow (length t.insts.items)) m.args (subst (λ (k : ℕ). NumbersBelow k c.in_ok-args.field-0.args.items) (sym l.count) m.there))

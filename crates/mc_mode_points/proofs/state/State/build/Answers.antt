@@ -11,7 +11,7 @@ use Rattle.mc_mode_points.specs.States.{point_of}
 use Rattle.mc_mode_points.specs.Agreeing.{Stepped}
 use Rattle.mc_mode_points.proofs.Ahead.{agrees-before}
 use Rattle.mc_mode_points.proofs.Steps.{stepped-set, stepped-trans}
-use Rattle.mc_mode_points.proofs.AtomOutcomes.{runs-one}
+use Rattle.mc_mode_points.proofs.AtomOutcomes.{none-fresh, runs-one}
 use Rattle.mc_mode_points.proofs.MadeOutcomes.{insts-below}
 use Rattle.mc_mode_points.proofs.state.State.build.Goals as goal
 
@@ -49,5 +49,6 @@ returns c = λ declared.
           p.reachable p.freshened
           (ap Some (sym (e.point ∙ ap (λ (v : Vec ℕ Global). with_inst ℕ x i (point_of v.items)) o.insts)))
           (sym (e.count ∙ ap (λ (v : Vec ℕ Global). length v.items) o.insts));
+      fresh = none-fresh (length t.insts.items) c.in_ok-part.part.freshened.items p.freshened;
       stepped = stepped-trans q r r s u t o.stepped set;
     }

@@ -12,7 +12,7 @@ use Rattle.mc_mode_points.specs.States.{point_of}
 use Rattle.mc_mode_points.specs.Answers.{end_of}
 use Rattle.mc_mode_points.specs.Modes.{never_answers}
 use Rattle.mc_mode_points.specs.declared.state.State.{State}
-use Rattle.mc_mode_points.proofs.AtomOutcomes.{runs-one}
+use Rattle.mc_mode_points.proofs.AtomOutcomes.{none-fresh, runs-one}
 use Rattle.mc_mode_points.proofs.state.State.run.Goals as goal
 
 ended : (n : Bool) (b : Point ℕ) (t : State) → b ≡ point_of t.insts.items → (if n then None else Some b) ≡ end_of (not n) t
@@ -41,5 +41,6 @@ returns c = λ declared h.
           (p.reachable ∙ ap not c.never_answers.ensures) p.freshened
           (ended (never_answers m.det) (after (of_nodes C) (source_of q) declared T (zipped m.first m.last) xs b) t (e.after declared C T a))
           (sym e.count);
+      fresh = none-fresh (length t.insts.items) c.in_ok-part.part.freshened.items p.freshened;
       stepped = e.stepped;
     }

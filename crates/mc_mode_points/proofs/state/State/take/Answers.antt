@@ -12,7 +12,7 @@ use Rattle.mc_mode_points.specs.States.{point_of}
 use Rattle.mc_mode_points.proofs.Ahead.{agrees-before}
 use Rattle.mc_mode_points.proofs.Narrow.{narrowed-below, narrowed-many}
 use Rattle.mc_mode_points.proofs.Steps.{stepped-refl}
-use Rattle.mc_mode_points.proofs.AtomOutcomes.{runs-one}
+use Rattle.mc_mode_points.proofs.AtomOutcomes.{none-fresh, runs-one}
 use Rattle.mc_mode_points.proofs.MadeOutcomes.{narrowed-is}
 use Rattle.mc_mode_points.proofs.state.State.take.Goals as goal
 
@@ -55,6 +55,7 @@ returns-in_ok-part-in-None c = λ declared.
           ∙ runs-one c.in_ok-part-in-None.part s (S.Take x f ys) None n false
           (p.goals ∙ ap (λ (z : Scheduled). node_then (unmarked z) no_nodes) (plain_sched-Take x f c.in_ok-row_of.field-0 ∙ ap (S.Take x f) c.in_ok-row_of.ensures))
           p.reachable p.freshened refl refl;
+      fresh = none-fresh n c.in_ok-part-in-None.part.freshened.items p.freshened;
       stepped = stepped-refl q s c.requires.stands;
     }
 
@@ -83,5 +84,6 @@ returns-in_ok-part-in-Some c = λ declared.
           ∙ runs-one c.in_ok-part-in-Some.part t (S.Take x f ys) (Some (point_of t.insts.items)) n true
           (p.goals ∙ ap (λ (z : Scheduled). node_then (unmarked z) no_nodes) (plain_sched-Take x f c.in_ok-row_of.field-0 ∙ ap (S.Take x f) c.in_ok-row_of.ensures))
           p.reachable p.freshened refl (sym e.count));
+      fresh = none-fresh (length t.insts.items) c.in_ok-part-in-Some.part.freshened.items p.freshened;
       stepped = e.stepped;
     }
