@@ -1,0 +1,5 @@
+pub mod Narrowing
+pub mod Labelled
+pub mod Choosing
+pub mod Tables
+pub mod Pushing

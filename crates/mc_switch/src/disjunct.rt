@@ -1,0 +1,61 @@
+ghost use Rattle.std.specs.Prelude.{◌≡◌, nat_eq, IfOk};
+ghost use Rattle.std.specs.HashMap.{get};
+ghost use Rattle.mc_model.specs.PlainGoals.{plain_node};
+ghost use Rattle.mc_switch.specs.code.Labels.{AreFirst, IsOf, is_opened_by};
+
+use crate::opening::{Opening, OpeningLabel, openings};
+use mc_base::{Memory, Row};
+use mc_model::sched::GoalNode;
+use std::alloc::Global;
+use std::collections::HashMap;
+
+/// A disjunct as the choice of a variable sees it: what it deconstructs, and each variable's first label. A look-up takes
+/// the time of one hash.
+#[derive(Drop)]
+pub struct Opened<'a> {
+    pub opens: Row<Opening<'a>>,
+    labels: HashMap<u32, OpeningLabel<'a>>,
+}
+
+impl<'a> Opened<'a> {
+    /// What a disjunct deconstructs.
+    pub fn of(alloc: Global, goal: &'a GoalNode) -> Result<Opened<'a>, Memory>
+        ensures { IfOk result (λ o. IsOf (plain_node goal.now) o) }
+    {
+        let opens = openings(alloc, goal)?;
+        let labels = first_labels(alloc, opens.as_slice())?;
+        Ok(Opened { opens, labels })
+    }
+
+    /// The first label with which a variable is deconstructed.
+    pub fn label(&self, x: u32) -> Option<OpeningLabel<'a>>
+        ensures { result ≡ get nat_eq self.now.labels x }
+    {
+        self.labels.get(&x).copied()
+    }
+
+    /// Whether a variable is deconstructed.
+    pub fn takes(&self, x: u32) -> bool
+        requires { AreFirst self.now.labels self.now.opens }
+        ensures { result ≡ is_opened_by x self.now }
+    {
+        self.label(x).is_some()
+    }
+}
+
+/// The first label of each variable.
+fn first_labels<'a>(
+    alloc: Global,
+    opens: &[Opening<'a>],
+) -> Result<HashMap<u32, OpeningLabel<'a>>, Memory>
+    ensures { IfOk result (λ labels. AreFirst labels opens.now) }
+{
+    let mut labels = HashMap::new(alloc);
+    let mut n = opens.len();
+    while n > 0 {
+        n -= 1;
+        let opening = opens[n];
+        labels.insert(opening.variable, opening.label)?;
+    }
+    Ok(labels)
+}
