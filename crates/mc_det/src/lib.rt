@@ -13,4 +13,5 @@ mod walk;
 
 pub use inference::determinisms;
 pub use law::{least_by_skeletons, marks_are_kept, skeletons_tell};
+pub use point::Point;
 pub use procedures::infer;

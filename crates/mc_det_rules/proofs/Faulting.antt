@@ -15,7 +15,7 @@ use Rattle.mc_accepted.specs.Accepted.{entered, KeepsDeterminism}
 use Rattle.mc_accepted.specs.Determined.{Known, nothing_known, determined}
 use Rattle.mc_accepted.specs.Ordered.{Insts}
 use Rattle.mc_accepted.specs.Inferred.{body_determinism}
-use Rattle.mc_accepted.specs.DeterminismFaults.{not_allowed, undeclared, shown, shown_procedure, misplaces_io, io_fault}
+use Rattle.mc_accepted.specs.DeterminismFaults.{not_allowed, undeclared, shown, shown_procedure, misplaces_io, misplaced_call, io_fault}
 use Rattle.mc_accepted.specs.Fits.{type_of}
 use Rattle.mc_program.specs.PlainPrograms.{plain_pred, plain_name, no_pred, no_name}
 use Rattle.mc_program.specs.declared.program.Pred.{Pred}
@@ -26,6 +26,8 @@ use Rattle.mc_det.specs.MarkedProcedures.{MarksHold}
 use Rattle.mc_det.proofs.Declaring.{procedure_is}
 use Rattle.mc_det_rules.specs.declared.io.IoSeen.{IoSeen}
 use Rattle.mc_det_rules.specs.code.Io.{InSystems, found_in}
+use Rattle.mc_det_rules.specs.code.Calls.{misplaced}
+use Rattle.mc_det_rules.proofs.CallsTold.{calls_told}
 use Rattle.mc_det_rules.proofs.IoTold.{io_told}
 
 -- the determinism that a goal has as its mark
@@ -64,6 +66,28 @@ module _ (q : PlainProcs) (k : ℕ) (p : Proc) (seen : IoSeen) (marks : MarksHol
   one_broken what e t =
       ap (λ (w : List ℕ). told (R.U1, w)) e
       ∙ ap (λ (b : Bool). chosen b) (sym t ∙ misplaced_told)
+
+-- the procedure of the first committed call that is misplaced
+abbrev misplaced_at : System → Procedure → Option ℕ
+misplaced_at S P = misplaced S.procs (entered P.head P.first) P.det.committed P.body
+
+pub call_told : (q : PlainProcs) (k : ℕ) (p : Proc) (found : Option ℕ) → MarksHold q → k < length q.added → p ≡ get_or q.added k p → found ≡ misplaced (procedure_at q.added) (entered p.head p.first) p.det.committed (plain_node p.body) → (outcome : Builtin → List Val → Outcome) → found ≡ misplaced_call (as_system outcome q) (procedure_at q.added k)
+call_told q k p found marks lt is e outcome =
+    let S = as_system outcome q in
+    let P = procedure_at q.added k in
+    let same : P ≡ plain_proc p = procedure_is q.added k p lt ∙ ap plain_proc (sym is) in
+    e
+    ∙ ap (misplaced_at S) (sym same)
+    ∙ calls_told S P (entered P.head P.first) nothing_known P.det.committed P.body (marks outcome k lt)
+
+-- the predicate of a procedure
+pub pred_there : (ps : List Proc) (k : ℕ) (p : Proc) → k < length ps → p ≡ get_or ps k p → p.pred ≡ (procedure_at ps k).pred
+pred_there ps k p lt is = ap (λ (r : Procedure). r.pred) (sym (procedure_is ps k p lt ∙ ap plain_proc (sym is)))
+
+pub pred_nowhere : (ps : List Proc) (k : ℕ) → length ps ≤ k → 0 ≡ (procedure_at ps k).pred
+pred_nowhere [] k le = refl
+pred_nowhere (p ∷ ps) zero le = absurd (omega arith)
+pred_nowhere (p ∷ ps) (suc k) le = pred_nowhere ps k (omega arith)
 
 -- the mark of a body tells whether its declaration allows it
 declared_is : (ps : List Proc) (k : ℕ) (d : Proc) → k < length ps → (declared_procedure ps k).declared ≡ (get_or ps k d).declared

@@ -1,2 +1,3 @@
 pub mod Io
+pub mod Calls
 pub mod Entry

@@ -48,7 +48,8 @@ fn is_missing(runs: bool, has_main: bool) -> bool
 
 /// Whether one of these procedures is the `main` that is asked for.
 fn one_is_main(procs: &Procs, all: &[Proc]) -> bool
-    ensures { result ≡ list_any (λ (p : Proc). main_by (source_of procs.now).preds (as_declared p)) all.now }
+    ensures { result ≡ list_any (λ (p : Proc). main_by (source_of procs.now).preds
+        (as_declared p)) all.now }
 {
     for p in all {
         if is_main(procs, p) {
@@ -81,7 +82,8 @@ fn all_hold(exported: bool, file: u32, is_called_so: bool, takes_states: bool, i
 
 /// Whether a predicate is `main` over two states.
 fn is_main_pred(pred: &Pred) -> bool
-    ensures { result ≡ is_main_name (plain_pred pred.now).name && are_states (plain_pred pred.now).types }
+    ensures { result ≡ is_main_name (plain_pred pred.now).name
+        && are_states (plain_pred pred.now).types }
 {
     let is_name = is_main_name(&pred.name);
     let are_states = are_states(pred.types.as_slice());

@@ -124,7 +124,7 @@ fn of_disjuncts(found: IoSeen, is_first: bool, is_sure: bool) -> IoSeen
 }
 
 /// Whether one of two holds.
-fn either(a: bool, b: bool) -> bool
+pub(crate) fn either(a: bool, b: bool) -> bool
     ensures { result ≡ a || b }
 {
     a || b

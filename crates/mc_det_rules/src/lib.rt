@@ -1,10 +1,12 @@
 //! The rules of determinism that procedures break, from the marks of their bodies.
 #![tactic(auto)]
 
+mod binding;
+mod calls;
 mod entry;
 mod io;
 mod rules;
 mod texts;
 
 pub use entry::main_fault;
-pub use rules::{declaration_fault, io_fault, undeclared_fault};
+pub use rules::{call_fault, declaration_fault, io_fault, undeclared_fault};

@@ -1,6 +1,6 @@
 ghost use Rattle.std.specs.Prelude.{◌≡◌, ◌<◌, ◌++◌, ℕ, List, length, codes, Some, IfOk};
 ghost use Rattle.mc_source.specs.Determinism.{row_of, rank};
-ghost use Rattle.mc_accepted.specs.DeterminismFaults.{allows, not_allowed, undeclared, shown, shown_procedure, io_fault};
+ghost use Rattle.mc_accepted.specs.DeterminismFaults.{allows, not_allowed, undeclared, shown, shown_procedure, misplaced_call, call_fault, io_fault};
 ghost use Rattle.mc_accepted.specs.Inferred.{body_determinism};
 ghost use Rattle.mc_procs.specs.Procedures.{as_system, procedure_at, source_of};
 ghost use Rattle.mc_program.specs.Values.{Val};
@@ -9,6 +9,7 @@ ghost use Rattle.mc_model.specs.Outcomes.{Outcome};
 ghost use Rattle.mc_det.specs.Determinisms.{declared_procedure};
 ghost use Rattle.mc_det.specs.MarkedProcedures.{MarksHold};
 
+use crate::calls::misplaced_call;
 use crate::io::io;
 use crate::texts::{both_named, most_of, of_name, of_no_name};
 use mc_base::{Memory, Text};
@@ -30,6 +31,56 @@ pub fn io_fault(alloc: Global, procs: &Procs, k: u32) -> Result<Option<(Rule, Te
         return Ok(Some((Rule::U1, what)));
     }
     Ok(None)
+}
+
+/// A committed call of a procedure's body that stands where all solutions are needed, the first one in the order of goals.
+/// The marks of the body tell.
+pub fn call_fault(alloc: Global, procs: &Procs, k: u32) -> Result<Option<(Rule, Text)>, Memory>
+    requires there { k < length procs.now.added }
+    requires marks { MarksHold procs.now }
+    ensures { IfOk result (λ fault. (outcome : Builtin → List Val → Outcome)
+        → fault ≡ call_fault (as_system outcome procs.now)
+        (misplaced_call (as_system outcome procs.now) (procedure_at procs.now.added k))) }
+{
+    procs.fit();
+    let found = misplaced_call(alloc, procs, procs.get(k))?;
+    call_fault_of(alloc, procs, found)
+}
+
+/// What is said of a misplaced call of a procedure.
+fn call_fault_of(
+    alloc: Global,
+    procs: &Procs,
+    found: Option<u32>,
+) -> Result<Option<(Rule, Text)>, Memory>
+    ensures { IfOk result (λ fault. (outcome : Builtin → List Val → Outcome)
+        → fault ≡ call_fault (as_system outcome procs.now) found) }
+{
+    match found {
+        Some(k) => Ok(Some((Rule::E3, called(alloc, procs, k)?))),
+        None => Ok(None),
+    }
+}
+
+/// The text of a misplaced call of a procedure.
+fn called(alloc: Global, procs: &Procs, k: u32) -> Result<Text, Memory>
+    ensures { IfOk result (λ text. text
+        ≡ shown ((source_of procs.now).preds (procedure_at procs.now.added k).pred).name
+        ++ codes " is called where all solutions are needed") }
+{
+    let words = b" is called where all solutions are needed";
+    of_predicate(alloc, procs, pred_of(procs, k), words)
+}
+
+/// The predicate of a procedure; a number past the end is no procedure, of the first one.
+fn pred_of(procs: &Procs, k: u32) -> u32
+    ensures { result ≡ (procedure_at procs.now.added k).pred }
+{
+    if k < procs.count() {
+        procs.get(k).pred
+    } else {
+        0
+    }
 }
 
 /// A body whose determinism its declaration doesn't allow. The mark of the body tells.
