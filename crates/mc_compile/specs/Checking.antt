@@ -10,8 +10,7 @@ use Rattle.mc_compile.specs.Phases.{Refusal, unless_broken}
 use Rattle.mc_compile.specs.Linking.{PlainNamed}
 use Rattle.mc_compile.specs.Typing.{PlainTyped, plain_typed}
 
--- What is typed: the clauses of the given files and the goal of the query. (That the library's own
--- clauses have types is tested.)
+-- What is typed: the clauses of the given files and the goal of the query, not the library's own.
 abbrev pub items_of : PlainNamed → List Item
 items_of named = items named.files.names named.files.given named.goal
 

@@ -1,4 +1,4 @@
-//! Switches: which disjunctions of an ordered goal are switches, on which variable, and which disjuncts share an arm.
+//! Switches: which disjunctions of an ordered goal are switches, and on which variable.
 #![tactic(auto)]
 
 mod choice;
