@@ -16,7 +16,7 @@ use Rattle.mc_sound.specs.Soundness.{AcceptedAreGood}
 use Rattle.mc_order_laws.proofs.NormalScopes.{from_length}
 use Rattle.mc_order_laws.proofs.EndsMet.{in-order-is-ordered}
 use Rattle.mc_determinism_laws.proofs.Faultless.{faultless_meets}
-use Rattle.mc_acceptance_laws.specs.AcceptedLaws.{IsTold, BodyIsOrdered, FaultlessIsAccepted, FormIsAccepted, InOrderIsAccepted, ComputedAreGood}
+use Rattle.mc_acceptance_laws.specs.AcceptedLaws.{IsTold, FaultlessIsAccepted, FormIsAccepted, InOrderIsAccepted, ComputedAreGood}
 use Rattle.mc_acceptance_laws.specs.FormLaws.{BoundAreOutside}
 use Rattle.mc_acceptance_laws.proofs.FormedGoals.{forms_stay_ordered}
 use Rattle.mc_acceptance_laws.proofs.Retelling.{both_told}
@@ -65,7 +65,7 @@ pub in_order_is_accepted : InOrderIsAccepted
 in_order_is_accepted D ds k x closed lt e t q =
     let S : System = system_of D ds in
     let p : Procedure = S.procs k in
-    let h = in-order-is-ordered S p q.choice q.modes q.truthful q.declared q.next (goal_of S p).body x (as_long S p t) q.head_below q.goal_below q.scopes q.order in (
+    let h = in-order-is-ordered S p q.choice q.modes q.truthful q.declared q.next (goal_of S p).body x (as_long S p t) q.head_below q.goal_below q.scopes q.order q.alike in (
       h.1.0,
       h.1.1,
       (λ told marks. faultless_is_accepted D ds k h.0 closed lt e t

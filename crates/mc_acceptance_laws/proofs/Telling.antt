@@ -18,7 +18,8 @@ use Rattle.mc_accepted.specs.MergedArms.{never_ends_in}
 use Rattle.mc_accepted.specs.Fits.{type_of}
 use Rattle.mc_accepted.specs.Accepted.{KeepsDeterminism, KeepsInside, AllKeep, EachKeeps, ArmsKeep}
 use Rattle.mc_acceptance_laws.specs.Told as W
-use Rattle.mc_acceptance_laws.specs.Told.{Retold, RetoldIn, RetoldAll, RetoldArms, retold, is_marked, mark_of, KeepsMarks, MarksInside, AllKeepMarks, EachKeepsMarks, ArmsKeepMarks}
+use Rattle.mc_accepted.specs.PrunedMarks.{is_marked, mark_of, KeepsMarks, MarksInside, AllKeepMarks, EachKeepsMarks, ArmsKeepMarks}
+use Rattle.mc_acceptance_laws.specs.Told.{Retold, RetoldIn, RetoldAll, RetoldArms, retold}
 use Rattle.mc_acceptance_laws.specs.AcceptedLaws.{ToldStaysOrdered}
 use Rattle.mc_acceptance_laws.proofs.Ends.{is_none, after_kept, ends_in, ends_node}
 use Rattle.mc_acceptance_laws.proofs.Outside.{Same, same_self, same_append, same_binds, same_onto, pairs, binds_nothing, fresh_same}

@@ -15,13 +15,15 @@ use Rattle.mc_accepted.specs.ProperTypes.{Parameters}
 use Rattle.mc_accepted.specs.Fits.{FitsInsts, Fits, goal_of, type_of}
 use Rattle.mc_accepted.specs.Unmarked.{unmarked_node}
 use Rattle.mc_accepted.specs.Arranged.{Declared, in_order, arrange}
+use Rattle.mc_accepted.specs.FreshTests.{TestsAlike}
 use Rattle.mc_accepted.specs.Chosen.{Chosen, of_nodes}
 use Rattle.mc_accepted.specs.code.Truthful.{Truthful, AllDeclared}
 use Rattle.mc_accepted.specs.Accepted.{entered, FinalAfter, KeepsDeterminism, AcceptedProcedure}
 use Rattle.mc_accepted.specs.Inferred.{DeclaredProcedure, DeclaredSystem, system_of, Closed}
 use Rattle.mc_accepted.specs.DeterminismFaults.{procedure_fault}
+use Rattle.mc_accepted.specs.PrunedMarks.{KeepsMarks}
 use Rattle.mc_order_laws.specs.OrderLaws.{Below, FlatScopes}
-use Rattle.mc_acceptance_laws.specs.Told.{Retold, KeepsMarks}
+use Rattle.mc_acceptance_laws.specs.Told.{Retold}
 
 -- An ordered goal stays ordered where its determinisms are told by the table and its marks by the
 -- insts after its goals.
@@ -85,7 +87,8 @@ FormIsAccepted =
 
 -- The procedure's goal is in order over nodes of the graph, where the functions that look for nodes
 -- tell its truth, the modes are those of the procedures, variables from the next number on are in
--- no goal, and the goal's scopes are written out.
+-- no goal, those of them that stand for implied outputs are typed like them, and the goal's scopes
+-- are written out.
 pub record IsInOrder (S : System) (p : Procedure) (x : Node) : Type 0 where
   pub choice : Chosen
   pub modes : ℕ → List Declared
@@ -99,6 +102,7 @@ pub record IsInOrder (S : System) (p : Procedure) (x : Node) : Type 0 where
       arrange (of_nodes choice) S.world.source modes (type_of S p) next p.head p.first p.last
       (goal_of S p).body
       ≡ in_order x
+  pub alike : TestsAlike (type_of S p) next x
 
 -- Such an order is that of an ordered goal, and a procedure without a fault of determinism is
 -- accepted where its body is that goal, told, or its switch form, told.

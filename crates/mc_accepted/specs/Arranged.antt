@@ -24,8 +24,8 @@ use Rattle.mc_program.specs.declared.builtin.Builtin.{Builtin}
 
 -- Insts as the order asks for them: a node of the graph, whether one is bound or dead, one symbol
 -- over insts, what one of several allows at a type, the insts of a symbol's arguments where the
--- inst allows it, whether it allows constants, whether it is included in a node at a type, and
--- whether a fresh variable is typed like another. None: there is no such inst.
+-- inst allows it, whether it allows constants, and whether it is included in a node at a type.
+-- None: there is no such inst.
 pub record Operations (I : Type 0) : Type 0 where
   pub node : (node : ℕ) → I
   pub is_bound : I → Bool
@@ -35,7 +35,6 @@ pub record Operations (I : Type 0) : Type 0 where
   pub narrowed : I → (symbol : ℕ) → Option (List I)
   pub takes_constants : I → Bool
   pub fits : I → (node : ℕ) → TypeTerm → Bool
-  pub typed_as : (fresh v : ℕ) → Bool
 
 -- A mode of a predicate: its procedure, its arguments' insts, and whether a call never answers.
 pub record Declared : Type 0 where
@@ -351,14 +350,11 @@ module _ {I : Type 0} (Op : Operations I) (P : Source) (declared : ℕ → List 
       runs (node_then (apply_node op xs) no_nodes)
       (if is_zero (builtin_most op) then None else Some (after (modes_of op) xs b)) n []
 
-  -- a fresh variable is typed like the implied output that it stands for
   abbrev pub applied_freshly :
       Builtin → (freshened : List ℕ) → List (ℕ × ℕ) → ℕ → Point I → Arranged I
   applied_freshly op zs ts n b =
-      if list_all (λ (t : ℕ × ℕ). Op.typed_as t.0 t.1) ts
-      then runs (node_then (apply_node op zs) (test_nodes ts)) (Some (after (modes_of op) zs b))
+      runs (node_then (apply_node op zs) (test_nodes ts)) (Some (after (modes_of op) zs b))
       (n + length ts) zs
-      else breaks lacks
 
   abbrev pub applied_with : (implied : List ℕ) → Builtin → List ℕ → ℕ → Point I → Arranged I
   applied_with [] op xs n b = applied_to op xs n b

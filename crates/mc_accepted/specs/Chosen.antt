@@ -12,7 +12,6 @@ pub record Chosen : Type 0 where
   pub narrowed : ℕ → (symbol : ℕ) → Option (List ℕ)
   pub takes_constants : ℕ → Bool
   pub fits : ℕ → (node : ℕ) → TypeTerm → Bool
-  pub typed_as : (fresh v : ℕ) → Bool
 
 abbrev pub of_nodes : Chosen → Operations ℕ
 of_nodes C =
@@ -25,5 +24,4 @@ of_nodes C =
       narrowed = C.narrowed;
       takes_constants = C.takes_constants;
       fits = C.fits;
-      typed_as = C.typed_as;
     }

@@ -103,5 +103,4 @@ module _ (P : Source) (G : Graph) where
         narrowed = λ i s. narrowed i (P.symbols s).name;
         takes_constants = takes_constants;
         fits = fits;
-        typed_as = λ z x. true;
       }

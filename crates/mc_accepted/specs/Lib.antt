@@ -7,6 +7,7 @@ pub mod Determined
 pub mod DeterminismFaults
 pub mod Fits
 pub mod Forms
+pub mod FreshTests
 pub mod InOrder
 pub mod Inclusion
 pub mod Inferred
@@ -20,6 +21,7 @@ pub mod NormalTypes
 pub mod Ordered
 pub mod Proper
 pub mod ProperTypes
+pub mod PrunedMarks
 pub mod Resolving
 pub mod Scope
 pub mod Switched

@@ -91,7 +91,6 @@ back-from q J s t C T g are overs joins met types a =
           ap (λ u. C.joined u is) (sym (type-kept s.nodes.types.items t.nodes.types.items r met (are.joins r k is h).0))
           ∙ a.joined r k is (joins r k is h);
       types = λ x l. a.types x (omega arith) ∙ type-kept s.types.items t.types.items x types l;
-      typed_as = λ z x k l e. a.typed_as z x (omega arith) (omega arith) e;
     }
 
 pub agrees-before : (q r : PlainProcs) (s t : State) (C : Chosen) (T : ℕ → TypeTerm) → Stands q s → Moved q r s t → Agrees r t C T → Agrees q s C T

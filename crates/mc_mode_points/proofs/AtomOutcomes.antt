@@ -14,6 +14,7 @@ use Rattle.mc_model.specs.Scheduled.{Scheduled, Assign, Test, Const, TestConst, 
 use Rattle.mc_model.specs.PlainGoals.{plain_node, plain_sched}
 use Rattle.mc_accepted.specs.Unmarked.{unmarked}
 use Rattle.mc_accepted.specs.Fits.{FitsInsts}
+use Rattle.mc_accepted.specs.FreshTests.{AlikeIn, AllAlike}
 use Rattle.mc_accepted.specs.Forms.{node_takes_constants}
 use Rattle.mc_accepted.specs.Ordered.{is_state}
 use Rattle.mc_accepted.specs.Arranged.{Operations, Declared, Point, with_inst, Arranged, runs, breaks, one, atom, wait, same, assigned, constant}
@@ -41,6 +42,10 @@ runs-one p t s o n reachable g r f e c =
     ∙ (ap (λ x. runs x (end_of reachable t) (length t.insts.items) []) (sym g)
     ∙ (ap (λ x. runs (nodes (map plain_node p.goals.items)) (end_of x t) (length t.insts.items) []) (sym r)
     ∙ ap (runs (nodes (map plain_node p.goals.items)) (end_of p.reachable t) (length t.insts.items)) (sym f))))
+
+-- the tests of one goal
+pub alike-one : (T : ℕ → TypeTerm) (next : ℕ) (p : Part) (s : Scheduled) → nodes (map plain_node p.goals.items) ≡ node_then (unmarked s) no_nodes → AlikeIn T next s → AllAlike T next (nodes (map plain_node p.goals.items))
+alike-one T next p s e h = subst (AllAlike T next) (sym e) (h, tt)
 
 -- no fresh variables stand among its arguments
 pub none-fresh : (n : ℕ) (zs : List ℕ) → zs ≡ [] → NumbersBelow n zs

@@ -9,7 +9,7 @@ use Rattle.mc_model.specs.Outcomes.{inputs_of}
 use Rattle.mc_model.specs.PlainGoals.{plain_node}
 use Rattle.mc_model.specs.Scheduled.{Scheduled, Apply, Nodes, node_then, no_nodes, nodes}
 use Rattle.mc_model.specs.Stream.{is_bound}
-use Rattle.mc_accepted.specs.Arranged.{Declared, Point, Arranged, runs, breaks, lacks, wait, call_of, usable, after, applied, applied_to, applied_freshly, applied_with, fresh_at, tests_at, test_nodes}
+use Rattle.mc_accepted.specs.Arranged.{Declared, Point, Arranged, runs, breaks, wait, call_of, usable, after, applied, applied_to, applied_freshly, applied_with, fresh_at, tests_at, test_nodes}
 use Rattle.mc_accepted.specs.Chosen.{Chosen, of_nodes}
 use Rattle.mc_accepted.specs.Ordered.{Mode, builtin_most, modes_of, implied_places, at_inputs, at_outputs}
 use Rattle.mc_accepted.specs.Unmarked.{unmarked}
@@ -18,7 +18,6 @@ use Rattle.mc_procs.specs.Procedures.{PlainProcs, source_of}
 use Rattle.mc_mode_points.specs.States.{point_of}
 use Rattle.mc_mode_points.specs.Agreeing.{Agrees, Stands, Stepped}
 use Rattle.mc_mode_points.specs.Answers.{Outcome, tried, end_of, IsWaiting, Ran, Answers}
-use Rattle.mc_mode_points.specs.code.Applying.{AlikeIn}
 use Rattle.mc_mode_points.specs.declared.state.State.{State}
 use Rattle.mc_mode_points.specs.declared.part.Part.{Part}
 use Rattle.mc_mode_points.specs.declared.fault.Failed.{Failed}
@@ -26,7 +25,6 @@ use Rattle.mc_mode_points.specs.declared.fault.Failed.TheVariants as E
 use Rattle.mc_mode_points.proofs.Ahead.{agrees-before}
 use Rattle.mc_mode_points.proofs.AtomOutcomes.{none-fresh, waits-broke, atom-waits, atom-runs}
 use Rattle.mc_mode_points.proofs.Steps.{same-refl, stepped-trans}
-use Rattle.mc_mode_points.proofs.Freshening.{typed-alike}
 
 -- goals, in the form of an answer
 runs-many : (p : Part) (t : State) (g : Nodes) (o : Option (Point ℕ)) (n : ℕ) (zs : List ℕ) (reachable : Bool)
@@ -66,18 +64,12 @@ ran-plainly q r s t declared op xs part step left count g e f = record {
 }
 
 pub ran-freshly : (q r : PlainProcs) (s u t : State) (declared : ℕ → List Declared) (op : Builtin) (zs : List ℕ) (ts : List (ℕ × ℕ)) (part : Part)
-    → Stepped q q s u → Stepped q r u t → AlikeIn u.types.items ts → Leaves q r (modes_of op) zs (point_of s.insts.items) t → length t.insts.items ≡ length s.insts.items + length ts
+    → Stepped q q s u → Stepped q r u t → Leaves q r (modes_of op) zs (point_of s.insts.items) t → length t.insts.items ≡ length s.insts.items + length ts
     → nodes (map plain_node part.goals.items) ≡ node_then (unmarked (apply_of op zs)) (test_nodes ts) → part.reachable ≡ true → part.freshened.items ≡ zs → NumbersBelow (length t.insts.items) zs
     → Ran (λ C T. applied_freshly (of_nodes C) (source_of q) declared T op zs ts (length s.insts.items) (point_of s.insts.items)) q r s t part
-ran-freshly q r s u t declared op zs ts part first step alike left count g e f there = record {
+ran-freshly q r s u t declared op zs ts part first step left count g e f there = record {
   outcome = λ C T a.
-      let d : Agrees q u C T = agrees-before q r u t C T first.moved.stands step.moved a in
-      ap
-      (λ (k : Bool). if k
-      then runs (node_then (unmarked (apply_of op zs)) (test_nodes ts)) (Some (after (of_nodes C) (source_of q) declared T (modes_of op) zs (point_of s.insts.items))) (length s.insts.items + length ts) zs
-      else breaks lacks)
-      (typed-alike q u C T d ts alike)
-      ∙ runs-many part t (node_then (unmarked (apply_of op zs)) (test_nodes ts))
+      runs-many part t (node_then (unmarked (apply_of op zs)) (test_nodes ts))
       (Some (after (of_nodes C) (source_of q) declared T (modes_of op) zs (point_of s.insts.items)))
       (length s.insts.items + length ts) zs true g e f
       (ap Some (left declared C T a))

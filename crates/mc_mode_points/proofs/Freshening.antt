@@ -1,7 +1,8 @@
 -- A builtin's arguments, place by place: fresh variables, sides, and tests.
-use Rattle.std.proofs.Common.{◌≡◌, ℕ, zero, suc, ◌<◌, ◌≤◌, ◌+◌, Bool, true, false, ◌&&◌, List, [], ◌∷◌, ◌++◌, length, get_or, take, drop, map, if◌then◌else◌, refl, sym, ap, ap₂, ◌∙◌, arith, append_assoc, length-append}
-use Rattle.std.specs.List.{list_all}
+use Rattle.std.proofs.Common.{◌≡◌, ℕ, zero, suc, ◌<◌, ◌≤◌, ◌+◌, Bool, true, false, List, [], ◌∷◌, ◌++◌, length, get_or, take, drop, map, if◌then◌else◌, refl, sym, ap, ap₂, ◌∙◌, arith, append_assoc, length-append}
+use Rattle.std.proofs.lemmas.List.{length-take}
 use Rattle.mc_program.specs.Programs.{TypeTerm}
+use Rattle.mc_program.specs.declared.ty.Ty.{Ty}
 use Rattle.mc_program.specs.declared.builtin.Builtin.{Builtin}
 use Rattle.mc_program.specs.declared.builtin.Builtin.TheVariants as B
 use Rattle.mc_model.specs.Lists.{is_in}
@@ -9,13 +10,14 @@ use Rattle.mc_model.specs.Outcomes.{inputs_of}
 use Rattle.mc_model.specs.Scheduled.{nodes, node_then}
 use Rattle.mc_model.specs.Stream.{is_bound}
 use Rattle.mc_accepted.specs.Arranged.{fresh_at, tests_at, test_nodes}
-use Rattle.mc_accepted.specs.Chosen.{Chosen}
+use Rattle.mc_accepted.specs.FreshTests.{AllAlike}
 use Rattle.mc_accepted.specs.Ordered.{Mode, modes_of, zipped}
 use Rattle.mc_procs.specs.Named.{NumbersBelow}
-use Rattle.mc_procs.specs.Procedures.{PlainProcs}
-use Rattle.mc_mode_points.specs.Agreeing.{Agrees}
+use Rattle.mc_mode_points.specs.Agreeing.{TypedAs}
+use Rattle.mc_mode_points.specs.Nodes.{type_in}
 use Rattle.mc_mode_points.specs.code.Applying.{at_sides, test_of, AlikeIn}
 use Rattle.mc_mode_points.specs.declared.state.State.{State}
+use Rattle.mc_mode_points.proofs.Found.{type-kept}
 use Rattle.mc_mode_points.proofs.Numbers.{cons_at}
 
 pub numbers-pushed : (n m : ℕ) (xs : List ℕ) (x : ℕ) → n ≤ m → NumbersBelow n xs → x < m → NumbersBelow m (xs ++ x ∷ [])
@@ -114,12 +116,12 @@ tests-are [] = refl
 tests-are (t ∷ ts) = ap (node_then (test_of t)) (tests-are ts)
 
 -- fresh variables are typed as those for which they stand
-pub typed-alike : (q : PlainProcs) (s : State) (C : Chosen) (T : ℕ → TypeTerm) → Agrees q s C T → (ts : List (ℕ × ℕ)) → AlikeIn s.types.items ts → list_all (λ (t : ℕ × ℕ). C.typed_as t.0 t.1) ts ≡ true
-typed-alike q s C T a [] w = refl
-typed-alike q s C T a (t ∷ ts) w =
-    ap₂ (λ (u v : Bool). u && v)
-    (a.typed_as t.0 t.1 w.0 w.1 (a.types t.0 w.0 ∙ (w.2 ∙ sym (a.types t.1 w.1))))
-    (typed-alike q s C T a ts w.3)
+pub tests-alike : (us : List Ty) (t : State) (T : ℕ → TypeTerm) (next : ℕ) (ts : List (ℕ × ℕ)) → take (length us) t.types.items ≡ us → TypedAs t T → AlikeIn us ts → AllAlike T next (test_nodes ts)
+tests-alike us t T next [] e h w = tt
+tests-alike us t T next (z ∷ ts) e h w = ((λ le. typed z.0 w.0 ∙ (w.2 ∙ sym (typed z.1 w.1))), tests-alike us t T next ts e h w.3)
+  where
+    typed : (x : ℕ) → x < length us → T x ≡ type_in us x
+    typed x l = h x (omega (arith, l, length-take (length us) t.types.items, ap length e)) ∙ type-kept us t.types.items x e l
 
 pub counted-on : (d : Bool) (n m : ℕ) → m ≡ (if d then n + 1 else n) → n ≤ m
 counted-on true n m e = omega (arith, e)

@@ -15,6 +15,10 @@ use Rattle.mc_mode_points.specs.Nodes.{type_in, NodesAre, NodesMoved}
 use Rattle.mc_mode_points.specs.States.{LogWithin, Even, Later}
 use Rattle.mc_mode_points.specs.declared.state.State.{State}
 
+-- the variables that are there have these types
+abbrev pub TypedAs : State → (ℕ → TypeTerm) → Type 0
+TypedAs s T = (x : ℕ) → x < length s.types.items → T x ≡ type_in s.types.items x
+
 -- The functions tell the truth of the insts that are there, and find what was found; the variables
 -- that are there have these types.
 pub record Agrees (q : PlainProcs) (s : State) (C : Chosen) (T : ℕ → TypeTerm) : Type 0 where
@@ -33,10 +37,7 @@ pub record Agrees (q : PlainProcs) (s : State) (C : Chosen) (T : ℕ → TypeTer
   pub joined :
       (r k : ℕ) (is : List ℕ) → node_in s.nodes.joins r is ≡ Some k
       → C.joined (type_in s.nodes.types.items r) is ≡ Some k
-  pub types : (x : ℕ) → x < length s.types.items → T x ≡ type_in s.types.items x
-  pub typed_as :
-      (z x : ℕ) → z < length s.types.items → x < length s.types.items → T z ≡ T x
-      → C.typed_as z x ≡ true
+  pub types : TypedAs s T
 
 -- A state stands over procedures: they fit, its insts are nodes of their graph, and the nodes that
 -- were found are what they were looked for as.

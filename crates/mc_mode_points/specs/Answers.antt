@@ -1,16 +1,17 @@
 -- What the calls answer for a goal that is tried.
 use Rattle.std.specs.Prelude.{◌≡◌, ℕ, Bool, true, false, List, length, map, not, Option, Some, None, Result, Ok, Err}
 use Rattle.mc_program.specs.Programs.{TypeTerm}
-use Rattle.mc_model.specs.Flat.{Flat_goal}
+use Rattle.mc_model.specs.Flat.{Flat_goal, variables_of}
 use Rattle.mc_model.specs.Scheduled.{nodes}
 use Rattle.mc_model.specs.PlainGoals.{plain_node}
 use Rattle.mc_model.specs.Stream.{is_bound}
 use Rattle.mc_accepted.specs.Arranged.{Point, Fault, waits, negated_binds, branches_differ, Arranged, runs, breaks, Declared, ascending, trial}
 use Rattle.mc_accepted.specs.Chosen.{Chosen, of_nodes}
+use Rattle.mc_accepted.specs.FreshTests.{AllAlike}
 use Rattle.mc_procs.specs.Named.{NumbersBelow}
 use Rattle.mc_procs.specs.Procedures.{PlainProcs, source_of}
 use Rattle.mc_mode_points.specs.States.{point_of, SameState}
-use Rattle.mc_mode_points.specs.Agreeing.{Agrees, Moved, Stepped}
+use Rattle.mc_mode_points.specs.Agreeing.{TypedAs, Agrees, Moved, Stepped}
 use Rattle.mc_mode_points.specs.declared.state.State.{State}
 use Rattle.mc_mode_points.specs.declared.part.Part.{Part}
 use Rattle.mc_mode_points.specs.declared.fault.ModeFault.{ModeFault}
@@ -61,6 +62,13 @@ abbrev pub Answers :
 Answers a q r s t (Ok p) = Ran a q r s t p
 Answers a q r s t (Err (E.Fault f)) = Broke a q r s t f
 Answers a q r s t (Err E.Memory) = Unit {0}
+
+-- Where a goal has variables below a number alone, each test of others in its order compares values
+-- of one type, by the types that are there, whatever comes later.
+abbrev pub FreshAlike : Flat_goal → State → Part → Type 0
+FreshAlike g t p =
+    (T : ℕ → TypeTerm) (next : ℕ) → TypedAs t T → NumbersBelow next (variables_of g)
+    → AllAlike T next (nodes (map plain_node p.goals.items))
 
 -- the fault of an atom over these variables that waits, or want of memory
 abbrev pub IsWaiting : List ℕ → Point ℕ → Failed → Type 0

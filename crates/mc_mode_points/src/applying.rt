@@ -10,7 +10,8 @@ ghost use Rattle.mc_procs.specs.Named.{NumbersBelow};
 ghost use Rattle.mc_procs.specs.Procedures.{source_of};
 ghost use Rattle.mc_mode_points.specs.States.{point_of};
 ghost use Rattle.mc_mode_points.specs.Agreeing.{Stands};
-ghost use Rattle.mc_mode_points.specs.Answers.{tried, Ran, Answers};
+ghost use Rattle.mc_mode_points.specs.Answers.{tried, Ran, Answers, FreshAlike};
+ghost use Rattle.mc_mode_points.specs.code.Applying.{TestsAgree};
 ghost use Rattle.mc_mode_points.specs.Modes.{ModeFits};
 
 use crate::applied::{apply_goal, with_tests};
@@ -45,10 +46,11 @@ impl State {
     ) -> Result<Part, Failed>
         requires stands { Stands procs.old self.old }
         requires variables { NumbersBelow (length self.old.insts.items) xs.now }
-        ensures { (declared : ℕ → List Declared) (outside : List ℕ)
+        ensures answer { (declared : ℕ → List Declared) (outside : List ℕ)
             → ((source_of procs.old).preds pred).builtin ≡ Some op
             → Answers (tried declared (Call pred xs.now) outside procs.old self.old) procs.old
             procs.new self.old self.new result }
+        ensures alike { IfOk result (FreshAlike (Call pred xs.now) self.new) }
     {
         let _ = pred;
         if self.one_is_dead(xs) {
@@ -77,11 +79,12 @@ impl State {
         requires mode { ModeFits (count_of procs.old.insts) mode.now }
         requires modes { zipped mode.now.first mode.now.last ≡ modes_of op }
         requires arguments { length mode.now.first ≡ length xs.now }
-        ensures { IfOk result (λ part. (declared : ℕ → List Declared)
+        ensures ran { IfOk result (λ part. (declared : ℕ → List Declared)
             → Ran (λ C T. applied_with (of_nodes C) (source_of procs.old) declared T
             (implied_places 0 (modes_of op) xs.now (λ x. is_bound (point_of self.old.insts.items x)))
             op xs.now (length self.old.insts.items) (point_of self.old.insts.items)) procs.old
             procs.new self.old self.new part) }
+        ensures alike { IfOk result (TestsAgree self.new) }
     {
         let implied = self.implied(alloc, mode, xs)?;
         if implied.is_empty() {
@@ -106,10 +109,11 @@ impl State {
         requires mode { ModeFits (count_of procs.old.insts) mode.now }
         requires modes { zipped mode.now.first mode.now.last ≡ modes_of op }
         requires arguments { length mode.now.first ≡ length xs.now }
-        ensures { IfOk result (λ part. (declared : ℕ → List Declared)
+        ensures ran { IfOk result (λ part. (declared : ℕ → List Declared)
             → Ran (λ C T. applied_to (of_nodes C) (source_of procs.old) declared T op xs.now
             (length self.old.insts.items) (point_of self.old.insts.items)) procs.old procs.new
             self.old self.new part) }
+        ensures alike { IfOk result (TestsAgree self.new) }
     {
         let goal = apply_goal(alloc, op, mode, xs)?;
         self.leave_arguments(alloc, procs, mode, xs)?;
@@ -132,12 +136,13 @@ impl State {
         requires mode { ModeFits (count_of procs.old.insts) mode.now }
         requires modes { zipped mode.now.first mode.now.last ≡ modes_of op }
         requires arguments { length mode.now.first ≡ length xs.now }
-        ensures { IfOk result (λ part. (declared : ℕ → List Declared)
+        ensures ran { IfOk result (λ part. (declared : ℕ → List Declared)
             → Ran (λ C T. applied_freshly (of_nodes C) (source_of procs.old) declared T op
             (fresh_at 0 implied.now xs.now (length self.old.insts.items))
             (tests_at 0 implied.now xs.now (length self.old.insts.items))
             (length self.old.insts.items) (point_of self.old.insts.items)) procs.old procs.new
             self.old self.new part) }
+        ensures alike { IfOk result (TestsAgree self.new) }
     {
         let Freshened { args, tests } = self.freshen(alloc, mode, implied, xs)?;
         let goal = apply_goal(alloc, op, mode, args.as_slice())?;

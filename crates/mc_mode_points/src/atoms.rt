@@ -8,7 +8,7 @@ ghost use Rattle.mc_procs.specs.Procedures.{PlainProcs};
 ghost use Rattle.mc_mode_points.specs.Nodes.{type_in};
 ghost use Rattle.mc_mode_points.specs.States.{point_of};
 ghost use Rattle.mc_mode_points.specs.Agreeing.{Stands, Stepped};
-ghost use Rattle.mc_mode_points.specs.Answers.{tried, Answers};
+ghost use Rattle.mc_mode_points.specs.Answers.{tried, Answers, FreshAlike};
 
 use crate::asking::{DEAD, GROUND, is_bound};
 use crate::fault::Failed;
@@ -34,9 +34,10 @@ impl State {
     pub fn same(&mut self, alloc: Global, procs: &Procs, x: u32, y: u32) -> Result<Part, Failed>
         requires stands { Stands procs.now self.old }
         requires variables { NumbersBelow (length self.old.insts.items) (x ∷ y ∷ []) }
-        ensures { (declared : ℕ → List Declared) (outside : List ℕ)
+        ensures answer { (declared : ℕ → List Declared) (outside : List ℕ)
             → Answers (tried declared (Same x y) outside procs.now self.old) procs.now procs.now
             self.old self.new result }
+        ensures alike { IfOk result (FreshAlike (Same x y) self.new) }
     {
         let _ = procs;
         if self.one_is_dead(&[x, y]) {
@@ -97,9 +98,10 @@ impl State {
     ) -> Result<Part, Failed>
         requires stands { Stands procs.now self.old }
         requires variable { x < length self.old.insts.items }
-        ensures { (declared : ℕ → List Declared) (outside : List ℕ)
+        ensures answer { (declared : ℕ → List Declared) (outside : List ℕ)
             → Answers (tried declared (Is x (plain_value value.now)) outside procs.now self.old)
             procs.now procs.now self.old self.new result }
+        ensures alike { IfOk result (FreshAlike (Is x (plain_value value.now)) self.new) }
     {
         let _ = procs;
         if self.one_is_dead(&[x]) {

@@ -9,7 +9,8 @@ ghost use Rattle.mc_procs.specs.Named.{NumbersBelow};
 ghost use Rattle.mc_procs.specs.Procedures.{source_of};
 ghost use Rattle.mc_mode_points.specs.States.{point_of};
 ghost use Rattle.mc_mode_points.specs.Agreeing.{Stands};
-ghost use Rattle.mc_mode_points.specs.Answers.{tried, Ran, Answers};
+ghost use Rattle.mc_mode_points.specs.Answers.{tried, Ran, Answers, FreshAlike};
+ghost use Rattle.mc_mode_points.specs.code.Applying.{TestsAgree};
 ghost use Rattle.mc_mode_points.specs.Modes.{declared_mode, never_answers, ModeFits, ModesFit};
 
 use crate::fault::Failed;
@@ -48,11 +49,12 @@ impl State {
         requires stands { Stands procs.old self.old }
         requires variables { NumbersBelow (length self.old.insts.items) xs.now }
         requires modes { ModesFit (count_of procs.old.insts) modes.now }
-        ensures { (declared : ℕ → List Declared) (outside : List ℕ)
+        ensures answer { (declared : ℕ → List Declared) (outside : List ℕ)
             → declared pred ≡ map declared_mode modes.now
             → ((source_of procs.old).preds pred).builtin ≡ None
             → Answers (tried declared (Call pred xs.now) outside procs.old self.old) procs.old
             procs.new self.old self.new result }
+        ensures alike { IfOk result (FreshAlike (Call pred xs.now) self.new) }
     {
         let _ = pred;
         if self.one_is_dead(xs) {
@@ -81,12 +83,13 @@ impl State {
         requires variables { NumbersBelow (length self.old.insts.items) xs.now }
         requires mode { ModeFits (count_of procs.old.insts) mode.now }
         requires arguments { length mode.now.first ≡ length xs.now }
-        ensures { IfOk result (λ part. (declared : ℕ → List Declared)
+        ensures ran { IfOk result (λ part. (declared : ℕ → List Declared)
             → implied ≡ implied_places 0 (zipped mode.now.first mode.now.last) xs.now
             (λ x. is_bound (point_of self.old.insts.items x))
             → Ran (λ C T. called (of_nodes C) (source_of procs.old) declared T
             (Some (declared_mode mode.now)) xs.now (length self.old.insts.items)
             (point_of self.old.insts.items)) procs.old procs.new self.old self.new part) }
+        ensures alike { IfOk result (TestsAgree self.new) }
     {
         let goal = Sched::Call(mode.proc, row_of(alloc, xs)?, implied);
         self.leave_arguments(alloc, procs, mode, xs)?;

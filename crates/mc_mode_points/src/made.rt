@@ -13,7 +13,8 @@ ghost use Rattle.mc_procs.specs.Procedures.{PlainProcs, source_of};
 ghost use Rattle.mc_mode_points.specs.Nodes.{type_in};
 ghost use Rattle.mc_mode_points.specs.States.{point_of};
 ghost use Rattle.mc_mode_points.specs.Agreeing.{Agrees, Stands, Stepped};
-ghost use Rattle.mc_mode_points.specs.Answers.{tried, IsWaiting, Ran, Answers};
+ghost use Rattle.mc_mode_points.specs.Answers.{tried, IsWaiting, Ran, Answers, FreshAlike};
+ghost use Rattle.mc_mode_points.specs.code.Applying.{TestsAgree};
 ghost use Rattle.mc_mode_points.specs.code.Taking.{take_each};
 
 use crate::asking::{DEAD, is_bound};
@@ -77,9 +78,10 @@ impl State {
         requires variables { NumbersBelow (length self.old.insts.items) (x ∷ ys.now) }
         requires symbol { symbol < length procs.old.program.symbols }
         requires arity { length ys.now ≡ ((source_of procs.old).symbols symbol).name.arity }
-        ensures { (declared : ℕ → List Declared) (outside : List ℕ)
+        ensures answer { (declared : ℕ → List Declared) (outside : List ℕ)
             → Answers (tried declared (Made x symbol ys.now) outside procs.old self.old) procs.old
             procs.new self.old self.new result }
+        ensures alike { IfOk result (FreshAlike (Made x symbol ys.now) self.new) }
     {
         if self.one_dies(x, ys) {
             return Err(self.waiting_on(alloc, x, ys));
@@ -108,11 +110,12 @@ impl State {
         requires variables { NumbersBelow (length self.old.insts.items) (x ∷ ys.now) }
         requires symbol { symbol < length procs.old.program.symbols }
         requires arity { length ys.now ≡ ((source_of procs.old).symbols symbol).name.arity }
-        ensures { IfOk result (λ part. (declared : ℕ → List Declared)
+        ensures ran { IfOk result (λ part. (declared : ℕ → List Declared)
             → Ran (λ C T. take (of_nodes C) (source_of procs.old) declared T x symbol ys.now
             (length self.old.insts.items) (point_of self.old.insts.items)
             (C.narrowed (point_of self.old.insts.items x) symbol))
             procs.old procs.new self.old self.new part) }
+        ensures alike { IfOk result (TestsAgree self.new) }
     {
         let goal = Sched::Take(x, symbol, row_of(alloc, ys)?);
         match procs.narrow(alloc, self.inst(x), symbol)? {
@@ -231,11 +234,12 @@ impl State {
         requires variables { NumbersBelow (length self.old.insts.items) (x ∷ ys.now) }
         requires symbol { symbol < length procs.old.program.symbols }
         requires arity { length ys.now ≡ ((source_of procs.old).symbols symbol).name.arity }
-        ensures { IfOk result (λ part. (declared : ℕ → List Declared)
+        ensures ran { IfOk result (λ part. (declared : ℕ → List Declared)
             → Ran (λ C T. built (of_nodes C) (source_of procs.old) declared T x symbol ys.now
             (length self.old.insts.items) (point_of self.old.insts.items)
             (C.over symbol (map (point_of self.old.insts.items) ys.now)))
             procs.old procs.new self.old self.new part) }
+        ensures alike { IfOk result (TestsAgree self.new) }
     {
         let goal = Sched::Build(x, symbol, row_of(alloc, ys)?);
         let insts = self.insts_at(alloc, ys)?;

@@ -134,25 +134,21 @@ module _ (Y : System) (T : ℕ → TypeTerm) (C : Chosen) (declared : ℕ → Li
     where
       uses : Usable Y T (modes_of op) xs b
       uses = A.is-usable Y T C declared truth xs (modes_of op) xs b u
-  good-applied-with O n b p op xs builtin alive u (i ∷ is) e = good-cond O n b (F.Call p xs) (list_all (λ (t : ℕ × ℕ). C.typed_as t.0 t.1) (tests_at 0 (i ∷ is) xs n)) _ _ (λ h. fresh h) (λ h. tt)
+  good-applied-with O n b p op xs builtin alive u (i ∷ is) e =
+      subst (goes_with O n b p op xs) e
+      (several refl (record {
+        builtin = builtin;
+        usable = uses;
+        alive = alive;
+        implies = λ f. (let q : i ∷ is ≡ [] = sym e ∙ f in cc);
+        after = outs (implied_of Y T op xs b);
+      }))
     where
       uses : Usable Y T (modes_of op) xs b
       uses = A.is-usable Y T C declared truth xs (modes_of op) xs b u
 
       outs : (ks : List ℕ) → After Y T (modes_of op) (fresh_at 0 ks xs n) b (G.after (of_nodes C) P declared T (modes_of op) (fresh_at 0 ks xs n) b)
       outs ks = A.after Y T C declared truth (modes_of op) (fresh_at 0 ks xs n) b (A.usable-length Y T C declared truth xs (modes_of op) xs b uses ∙ sym (length-fresh 0 ks xs n))
-
-      fresh : list_all (λ (t : ℕ × ℕ). C.typed_as t.0 t.1) (tests_at 0 (i ∷ is) xs n) ≡ true → goes_with O n b p op xs (i ∷ is)
-      fresh h =
-          subst (goes_with O n b p op xs) e
-          (several refl (record {
-            builtin = builtin;
-            usable = uses;
-            alive = alive;
-            implies = λ f. (let q : i ∷ is ≡ [] = sym e ∙ f in cc);
-            after = outs (implied_of Y T op xs b);
-            typed = A.tests-typed Y T C declared truth (tests_at 0 (implied_of Y T op xs b) xs n) (subst (λ ks. list_all (λ (t : ℕ × ℕ). C.typed_as t.0 t.1) (tests_at 0 ks xs n) ≡ true) (sym e) h);
-          }))
 
   good-call : (O : List ℕ) (n : ℕ) (b : Insts) (p : ℕ) (xs : List ℕ) → NoneDead Y T xs b → (r : Option Builtin) → (P.preds p).builtin ≡ r → Good O n b (F.Call p xs) (call_of (of_nodes C) P declared T r p xs n b)
   good-call O n b p xs alive None e = good-called O n b p xs alive (best (of_nodes C) P declared T (declared p) xs b) (good-mode p xs b (declared p) (known p))

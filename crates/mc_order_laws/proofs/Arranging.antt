@@ -1,6 +1,6 @@
 -- What the tests of arranged goals say.
 use Rattle.std.proofs.Common.{◌≡◌, ◌≢◌, ◌⊎◌, inl, inr, ℕ, suc, ◌+◌, ◌<◌, ◌≤◌, Bool, true, false, cond, not, nat_eq, ◌&&◌, ◌||◌, List, [], ◌∷◌, ◌++◌, length, Some, None, refl, ap, sym, ◌∙◌, subst, ⊎_elim, arith}
-use Rattle.std.specs.List.{list_any, list_all}
+use Rattle.std.specs.List.{list_any}
 use Rattle.std.proofs.lemmas.Bool.{eqb-true, eqb-false, eq-eqb}
 use Rattle.std.proofs.Math.Nat.{lt_of_lt_of_le}
 use Rattle.mc_program.specs.Programs.{TypeTerm}
@@ -16,7 +16,6 @@ use Rattle.mc_accepted.specs.Least.{least, lesser}
 use Rattle.mc_accepted.specs.Arranged.{Declared, usable, is_input, after_call, taken, fresh_at, tests_at, with_fresh, those_in}
 use Rattle.mc_accepted.specs.Chosen.{Chosen, of_nodes}
 use Rattle.mc_accepted.specs.code.Truthful.{Truthful}
-use Rattle.mc_accepted.specs.code.Standing.{TestsTyped}
 use Rattle.mc_order_laws.specs.OrderLaws.{Below}
 use Rattle.mc_laws.proofs.FlatGoals.{in_either, in_left, in_right}
 use Rattle.mc_laws.proofs.FlatWhole.{in_list}
@@ -175,10 +174,6 @@ module _ (S : System) (T : ℕ → TypeTerm) (C : Chosen) (declared : ℕ → Li
       at : (t : Bool) → cond t (Some (lesser x (least f xs))) (least f xs) ≡ None → (least f xs ≡ None → binds_one xs b c ≡ false) → cond t true (binds_one xs b c) ≡ false
       at true h r = cc
       at false h r = r h
-
-  pub tests-typed : (ts : List (ℕ × ℕ)) → list_all (λ (t : ℕ × ℕ). C.typed_as t.0 t.1) ts ≡ true → TestsTyped S T ts
-  tests-typed [] e = tt
-  tests-typed (t ∷ ts) e = (truth.typed_as t.0 t.1 (and-first (C.typed_as t.0 t.1) _ e), tests-typed ts (and-second (C.typed_as t.0 t.1) _ e))
 
   dead-once : (m : Mode) (x : ℕ) (all : List ℕ) → (t : Bool) → C.is_dead m.1 ≡ t → (not t || nat_eq (times_in x all) 1) ≡ true → S.insts m.1 ≡ dead → times_in x all ≡ 1
   dead-once m x all true e h d = eqb-true (times_in x all) 1 h

@@ -1,5 +1,5 @@
 -- The order of a procedure's goal, and what its end meets.
-use Rattle.std.proofs.Common.{◌≡◌, inl, inr, ℕ, suc, ◌≤◌, Bool, true, false, cond, nat_eq, List, [], ◌∷◌, length, Option, Some, None, refl, ap, ◌∙◌, subst}
+use Rattle.std.proofs.Common.{◌≡◌, inl, inr, ℕ, suc, ◌≤◌, Bool, true, false, cond, nat_eq, List, [], ◌∷◌, length, Option, Some, None, refl, ap, sym, ◌∙◌, subst}
 use Rattle.std.proofs.Math.Path.{fun_ext}
 use Rattle.std.proofs.Math.Nat.{not-le_of_lt}
 use Rattle.std.proofs.lemmas.Bool.{eqb-true}
@@ -13,6 +13,7 @@ use Rattle.mc_accepted.specs.Accepted.{entered, Final, FinalAfter}
 use Rattle.mc_accepted.specs.Ordered.{Insts}
 use Rattle.mc_accepted.specs.Arranged.{Declared, Arranged, runs, breaks, in_order, unless_unmet, alone, trial, first_unmet, judged, entry}
 use Rattle.mc_accepted.specs.Chosen.{Chosen, of_nodes}
+use Rattle.mc_accepted.specs.FreshTests.{TestsAlike}
 use Rattle.mc_accepted.specs.code.Truthful.{Truthful, AllDeclared}
 use Rattle.mc_accepted.specs.code.Standing.{Standing}
 use Rattle.mc_order_laws.specs.OrderLaws.{Below, FlatScopes, IsOrderOf, InOrderIsOrdered}
@@ -57,22 +58,25 @@ module _ (Y : System) (p : Procedure) (C : Chosen) (declared : ℕ → List Decl
     free_on : (y : ℕ) → n ≤ y → first_insts y ≡ 0
     free_on y le = entry-at p.head p.first y ∙ entered-off p.head p.first y (λ i. not-le_of_lt (bo y i) le)
 
-    as-ordered : (gs : Nodes) (o : Option Insts) (m : ℕ) → Standing Y T p.head n first_insts g (alone gs) o m → in_order (alone gs) ≡ in_order x → IsOrderOf Y T p.head p.head (entered p.head p.first) g x o
-    as-ordered gs o m s e =
+    as-ordered : (gs : Nodes) (o : Option Insts) (m : ℕ) → Standing Y T p.head n first_insts g (alone gs) o m → in_order (alone gs) ≡ in_order x → TestsAlike T n x → IsOrderOf Y T p.head p.head (entered p.head p.first) g x o
+    as-ordered gs o m s e al =
         subst (λ b. IsOrderOf Y T p.head p.head b g x o) (fun_ext (entry-at p.head p.first))
-        (subst (λ k. IsOrderOf Y T p.head p.head first_insts g k o) (let q : alone gs ≡ x = cc in q) (standing-is-ordered Y T p.head p.head n m first_insts g (alone gs) o s bo bg sc (λ y i. inl (bo y i)) free_on))
+        (subst (λ k. IsOrderOf Y T p.head p.head first_insts g k o) is-it (standing-is-ordered Y T p.head p.head n m first_insts g (alone gs) o s (subst (λ k. TestsAlike T n k) (sym is-it) al) bo bg sc (λ y i. inl (bo y i)) free_on))
+      where
+        is-it : alone gs ≡ x
+        is-it = (let q : in_order (alone gs) ≡ in_order x = e in cc)
 
     abbrev Found : Type 0
     Found = (o : Option Insts) × IsOrderOf Y T p.head p.head (entered p.head p.first) g x o × FinalAfter Y p o
 
-    found : (r : Arranged ℕ) → trial (of_nodes C) P declared T g p.head n first_insts ≡ r → judged (of_nodes C) P declared T p.head p.last r ≡ in_order x → Found
-    found (breaks f) q e = cc
-    found (runs gs None m zs) q e = (None, as-ordered gs None m (ArrangedGoals.stands Y T C declared truth known g p.head n first_insts gs None m zs q) e, tt)
-    found (runs gs (Some c) m zs) q e = at (first_unmet (of_nodes C) P declared T 0 p.head p.last c) refl e
+    found : (r : Arranged ℕ) → trial (of_nodes C) P declared T g p.head n first_insts ≡ r → judged (of_nodes C) P declared T p.head p.last r ≡ in_order x → TestsAlike T n x → Found
+    found (breaks f) q e al = cc
+    found (runs gs None m zs) q e al = (None, as-ordered gs None m (ArrangedGoals.stands Y T C declared truth known g p.head n first_insts gs None m zs q) e al, tt)
+    found (runs gs (Some c) m zs) q e al = at (first_unmet (of_nodes C) P declared T 0 p.head p.last c) refl e
       where
         at : (r : Option ℕ) → first_unmet (of_nodes C) P declared T 0 p.head p.last c ≡ r → unless_unmet (alone gs) r ≡ in_order x → Found
-        at None u h = (Some c, as-ordered gs (Some c) m (ArrangedGoals.stands Y T C declared truth known g p.head n first_insts gs (Some c) m zs q) h, ends-met 0 p.head p.last c same_length u)
+        at None u h = (Some c, as-ordered gs (Some c) m (ArrangedGoals.stands Y T C declared truth known g p.head n first_insts gs (Some c) m zs q) h al, ends-met 0 p.head p.last c same_length u)
         at (Some k) u h = cc
 
 pub in-order-is-ordered : InOrderIsOrdered
-in-order-is-ordered S p C declared truth known n g x len bo bg sc e = found S p C declared truth known n g x len bo bg sc (trial (of_nodes C) S.world.source declared (type_of S p) g p.head n (entry (of_nodes C) S.world.source declared (type_of S p) p.head p.first)) refl e
+in-order-is-ordered S p C declared truth known n g x len bo bg sc e al = found S p C declared truth known n g x len bo bg sc (trial (of_nodes C) S.world.source declared (type_of S p) g p.head n (entry (of_nodes C) S.world.source declared (type_of S p) p.head p.first)) refl e al

@@ -5,11 +5,12 @@ use Rattle.std.proofs.lemmas.Bool.{eqb-true, eqb-false, eq-eqb}
 use Rattle.mc_program.specs.Programs.{TypeTerm}
 use Rattle.mc_model.specs.Lists.{In, is_in, Distinct}
 use Rattle.mc_model.specs.Outcomes.{inputs_of}
+use Rattle.mc_model.specs.Scheduled.{Nodes, no_nodes, node_then}
 use Rattle.mc_model.specs.Stream.{is_bound}
 use Rattle.mc_model.specs.Good.{System}
 use Rattle.mc_accepted.specs.Ordered.{Insts, Mode, also, plain_modes, modes_of, implied_places, Freshened, FreshenedHere, firsts, times_in, builtin_most, UsableAt, TestsInOrder, AfterArguments, no_more, not_passed, output, implied, dies, keeps, becomes}
-use Rattle.mc_accepted.specs.Arranged.{fresh_at, tests_at}
-use Rattle.mc_accepted.specs.code.Standing.{TestsTyped}
+use Rattle.mc_accepted.specs.Arranged.{fresh_at, tests_at, test_nodes, nodes_before}
+use Rattle.mc_accepted.specs.FreshTests.{AllAlike}
 use Rattle.mc_program.specs.declared.builtin.Builtin.{Builtin}
 use Rattle.mc_program.specs.declared.builtin.Builtin.TheVariants as B
 use Rattle.mc_source.specs.declared.det.Most.TheVariants.{One}
@@ -351,6 +352,22 @@ module _ (Y : System) (T : ℕ → TypeTerm) where
   tests-set k (given p q v) (keeps {i = i} {l = l} r s t a) h le bx al fr kn = absurd (no-output-bound i l r p)
   tests-set k (given p q v) (becomes {i = i} {l = l} r s t a) h le bx al fr kn = absurd (no-output-bound i l r p)
 
-  pub tests-in-order : (ts : List (ℕ × ℕ)) (c : Insts) → TestsTyped Y T ts → AllSet c ts → TestsInOrder Y T ts c
-  tests-in-order [] c p q = tt
-  tests-in-order (t ∷ ts) c p q = (p.0, q.0.0, q.0.1, tests-in-order ts c p.1 q.1)
+  -- ---- and each test compares values of one type
+  pub alike-before : (next : ℕ) (ns ms : Nodes) → AllAlike T next (nodes_before ns ms) → AllAlike T next ns × AllAlike T next ms
+  alike-before next no_nodes ms h = (tt, h)
+  alike-before next (node_then n ns) ms h = (let r = alike-before next ns ms h.1 in ((h.0, r.0), r.1))
+
+  pub tests-in-order : (next k : ℕ) (is xs : List ℕ) (n : ℕ) (c : Insts) → next ≤ n → AllAlike T next (test_nodes (tests_at k is xs n)) → AllSet c (tests_at k is xs n) → TestsInOrder Y T (tests_at k is xs n) c
+  tests-in-order next k is [] n c le p q = tt
+  tests-in-order next k is (x ∷ xs) n c le p q = at (is_in k is) p q (λ h s. tests-in-order next (suc k) is xs (suc n) c (omega (arith, le)) h s) (λ h s. tests-in-order next (suc k) is xs n c le h s)
+    where
+      more : List (ℕ × ℕ)
+      more = tests_at (suc k) is xs (suc n)
+
+      rest : List (ℕ × ℕ)
+      rest = tests_at (suc k) is xs n
+
+      at : (t : Bool) → AllAlike T next (test_nodes (cond t ((n, x) ∷ more) rest)) → AllSet c (cond t ((n, x) ∷ more) rest) → (AllAlike T next (test_nodes more) → AllSet c more → TestsInOrder Y T more c) →
+          (AllAlike T next (test_nodes rest) → AllSet c rest → TestsInOrder Y T rest c) → TestsInOrder Y T (cond t ((n, x) ∷ more) rest) c
+      at true p q f g = (p.0 le, q.0.0, q.0.1, f p.1 q.1)
+      at false p q f g = g p q

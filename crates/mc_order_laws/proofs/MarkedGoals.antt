@@ -17,6 +17,7 @@ use Rattle.mc_accepted.specs.Ordered as R
 use Rattle.mc_accepted.specs.Ordered.{Insts, Mode, modes_of, modes_of_procedure, implied_places, at_inputs, at_outputs, reachable, firsts, tested_by, is_pruned, UsableAt, change_at, RisesFrom, EachChanges, KeepsChanges, Joined, Picks, here, there, variables_of_node, variables_of_scheduled, variables_of_nodes, variables_of_arms, Ordered, OrderedNode, OrderedAll, OrderedAny, kept}
 use Rattle.mc_accepted.specs.Unmarked.{unmarked, unmarked_node, unmarked_scheduled, unmarked_nodes, unmarked_arms}
 use Rattle.mc_accepted.specs.Arranged.{test_nodes, nodes_before}
+use Rattle.mc_accepted.specs.FreshTests.{TestsAlike, AllAlike}
 use Rattle.mc_accepted.specs.code.Standing as S
 use Rattle.mc_accepted.specs.code.Standing.{implied_of, freshened, fresh_tests, Freshly, JoinedOwn, Standing, StandingAll, StandingAny}
 use Rattle.mc_program.specs.declared.builtin.Builtin.{Builtin}
@@ -288,7 +289,7 @@ module _ (Y : System) (T : ℕ → TypeTerm) where
 
   -- a builtin with its tests before goals that are ordered
   module _ (O Q : List ℕ) (n m : ℕ) (b c : Insts) (p : ℕ) (op : Builtin) (xs : List ℕ) (f : Freshly Y T n b c p op xs) (gs rest : Flat_goals) (pick : Picks gs (F.Call p xs) rest) (bo : Below n O) (bg : Below n (variables_of_all gs)) (cl : Clear n m Q) (fr : FreeFrom n b)
-      (le : n + length (fresh_tests Y T n b op xs) ≤ m) where
+      (le : n + length (fresh_tests Y T n b op xs) ≤ m) (first : ℕ) (from : first ≤ n) (al : AllAlike T first (test_nodes (fresh_tests Y T n b op xs))) where
     abbrev there_before : ℕ → Bool
     there_before x = is_bound (b x)
 
@@ -325,7 +326,7 @@ module _ (Y : System) (T : ℕ → TypeTerm) where
         (tested_by (fresh_tests Y T n b op xs) ns)) o
     implied-before ns o h =
         R.implied_outputs (fresh_tests Y T n b op xs) pick f.builtin (N.has-one op xs there_before f.implies) (N.freshened-is 0 (implied_of Y T op xs b) xs n) f.alive (N.firsts-distinct 0 (implied_of Y T op xs b) xs n) fresh_apart
-        (N.tests-in-order Y T (fresh_tests Y T n b op xs) c f.typed (N.tests-set Y T n view f.after (N.none-freed op) (le_refl n) below_xs alike free_on known)) (N.usable-freshly Y T n b view (le_refl n) below_xs f.usable)
+        (N.tests-in-order Y T first 0 (implied_of Y T op xs b) xs n c from al (N.tests-set Y T n view f.after (N.none-freed op) (le_refl n) below_xs alike free_on known)) (N.usable-freshly Y T n b view (le_refl n) below_xs f.usable)
         (N.none-implied n view 0 there_before (le_refl n) below_xs alike free_on) f.after
         (keeps-changes end b c (λ x lx. W.freshly-stays Y T n b c op xs f x (λ i. not-le_of_lt (below_xs x i) (le_trans (omega arith) lx)) (inr lx))) h
 
@@ -346,19 +347,19 @@ module _ (Y : System) (T : ℕ → TypeTerm) where
   placed-after own xs n k m bo h x i = ⊎_elim (λ j. inl (bo x j)) (λ r. inr r.0) (h x i)
 
   mutual
-    marked : {O : List ℕ} {n m : ℕ} {b : Insts} {g : Flat_goal} {x : Node} {o : Option Insts} → Standing Y T O n b g x o m → (Q : List ℕ) → Below n O → Below n (variables_of g) → FlatScopes O g → Clear n m Q → FreeFrom n b → Marked O Q b g x o
-    marked (S.assign {O = O} {x = x} {y = y} p q r) Q bo bg sc cl fr = finish (S.assign {O = O} p q r) bg (Assign x y) refl (R.assign p q r)
-    marked (S.assign_back {O = O} {x = x} {y = y} p q r) Q bo bg sc cl fr = finish (S.assign_back {O = O} p q r) bg (Assign x y) refl (R.assign_back p q r)
-    marked (S.test {O = O} {x = x} {y = y} p q r a) Q bo bg sc cl fr = finish (S.test {O = O} p q r a) bg (Test x y) refl (R.test p q r a)
-    marked (S.build {O = O} {x = x} {s = s} {ys = ys} p q r a h) Q bo bg sc cl fr = finish (S.build {O = O} p q r a h) bg (Build x s ys) refl (R.build p q r a h)
-    marked (S.take {O = O} {x = x} {s = s} {ys = ys} p q r a) Q bo bg sc cl fr = finish (S.take {O = O} p q r a) bg (Take x s ys) refl (R.take p q r a)
-    marked (S.take_never {O = O} {x = x} {s = s} {ys = ys} p q r) Q bo bg sc cl fr = finish (S.take_never {O = O} p q r) bg (Take x s ys) refl (R.take_never p q r)
-    marked (S.put {O = O} {x = x} {v = v} p) Q bo bg sc cl fr = finish (S.put {O = O} p) bg (Const x v) refl (R.put p)
-    marked (S.test_constant {O = O} {x = x} {v = v} p q r) Q bo bg sc cl fr = finish (S.test_constant {O = O} p q r) bg (TestConst x v) refl (R.test_constant p q r)
-    marked (S.test_never {O = O} {x = x} {v = v} p q r) Q bo bg sc cl fr = finish (S.test_never {O = O} p q r) bg (TestConst x v) refl (R.test_never p q r)
-    marked (S.call {O = O} {b = b} {p = p} {xs = xs} lt u a h) Q bo bg sc cl fr = finish (S.call {O = O} lt u a h) bg (Call p xs (implied_places 0 (modes_of_procedure (Y.procs p)) xs (λ x. is_bound (b x))) false) refl (R.call lt u a h)
-    marked (S.apply {O = O} {op = op} {xs = xs} e u a i h) Q bo bg sc cl fr = finish (S.apply {O = O} e u a i h) bg (Apply op (at_inputs (inputs_of op) xs) (at_outputs (inputs_of op) xs)) refl (R.apply e u a i h)
-    marked (S.apply_freshly {O = O} {n = n} {b = b} {c = c} {p = p} {op = op} {xs = xs} f) Q bo bg sc cl fr =
+    marked : {O : List ℕ} {n m : ℕ} {b : Insts} {g : Flat_goal} {x : Node} {o : Option Insts} → Standing Y T O n b g x o m → (Q : List ℕ) → Below n O → Below n (variables_of g) → FlatScopes O g → Clear n m Q → FreeFrom n b → (first : ℕ) → first ≤ n → TestsAlike T first x → Marked O Q b g x o
+    marked (S.assign {O = O} {x = x} {y = y} p q r) Q bo bg sc cl fr first le al = finish (S.assign {O = O} p q r) bg (Assign x y) refl (R.assign p q r)
+    marked (S.assign_back {O = O} {x = x} {y = y} p q r) Q bo bg sc cl fr first le al = finish (S.assign_back {O = O} p q r) bg (Assign x y) refl (R.assign_back p q r)
+    marked (S.test {O = O} {x = x} {y = y} p q r a) Q bo bg sc cl fr first le al = finish (S.test {O = O} p q r a) bg (Test x y) refl (R.test p q r a)
+    marked (S.build {O = O} {x = x} {s = s} {ys = ys} p q r a h) Q bo bg sc cl fr first le al = finish (S.build {O = O} p q r a h) bg (Build x s ys) refl (R.build p q r a h)
+    marked (S.take {O = O} {x = x} {s = s} {ys = ys} p q r a) Q bo bg sc cl fr first le al = finish (S.take {O = O} p q r a) bg (Take x s ys) refl (R.take p q r a)
+    marked (S.take_never {O = O} {x = x} {s = s} {ys = ys} p q r) Q bo bg sc cl fr first le al = finish (S.take_never {O = O} p q r) bg (Take x s ys) refl (R.take_never p q r)
+    marked (S.put {O = O} {x = x} {v = v} p) Q bo bg sc cl fr first le al = finish (S.put {O = O} p) bg (Const x v) refl (R.put p)
+    marked (S.test_constant {O = O} {x = x} {v = v} p q r) Q bo bg sc cl fr first le al = finish (S.test_constant {O = O} p q r) bg (TestConst x v) refl (R.test_constant p q r)
+    marked (S.test_never {O = O} {x = x} {v = v} p q r) Q bo bg sc cl fr first le al = finish (S.test_never {O = O} p q r) bg (TestConst x v) refl (R.test_never p q r)
+    marked (S.call {O = O} {b = b} {p = p} {xs = xs} lt u a h) Q bo bg sc cl fr first le al = finish (S.call {O = O} lt u a h) bg (Call p xs (implied_places 0 (modes_of_procedure (Y.procs p)) xs (λ x. is_bound (b x))) false) refl (R.call lt u a h)
+    marked (S.apply {O = O} {op = op} {xs = xs} e u a i h) Q bo bg sc cl fr first le al = finish (S.apply {O = O} e u a i h) bg (Apply op (at_inputs (inputs_of op) xs) (at_outputs (inputs_of op) xs)) refl (R.apply e u a i h)
+    marked (S.apply_freshly {O = O} {n = n} {b = b} {c = c} {p = p} {op = op} {xs = xs} f) Q bo bg sc cl fr first le al =
         finish (S.apply_freshly {O = O} f) bg
         (Conj
         (node_then
@@ -367,22 +368,22 @@ module _ (Y : System) (T : ℕ → TypeTerm) where
         (tested_by (fresh_tests Y T n b op xs) no_nodes)))
         (ap (λ ms. Conj (node_then (unmarked (Apply op (at_inputs (inputs_of op) (freshened Y T n b op xs)) (at_outputs (inputs_of op) (freshened Y T n b op xs)))) ms)) (tested-order (fresh_tests Y T n b op xs) no_nodes ∙ nothing-behind (test_nodes (fresh_tests Y T n b op xs))))
         (implied-alone (fresh_tests Y T n b op xs) (has-tests 0 (modes_of op) xs (λ x. is_bound (b x)) (implied_of Y T op xs b) n (λ j h. h) f.implies)
-        (implied-before O Q n (n + length (fresh_tests Y T n b op xs)) b c p op xs f (flat_then (F.Call p xs) no_flat) no_flat here bo (below-both n xs [] bg (λ y i. absurd i)) cl fr (le_refl _) no_nodes (Some c) R.done))
-    marked (S.conj {O = O} s) Q bo bg sc cl fr = (let r = marked-all s Q bo bg sc cl fr in finish (S.conj s) bg (Conj r.goals) (ap Conj r.order) (R.conj r.ordered))
-    marked (S.disj {O = O} {n = n} {m = m} {b = b} {gs = gs} {os = os} {o = o} s j) Q bo bg sc cl fr =
-        (let r = marked-any s Q bo bg sc cl fr in
+        (implied-before O Q n (n + length (fresh_tests Y T n b op xs)) b c p op xs f (flat_then (F.Call p xs) no_flat) no_flat here bo (below-both n xs [] bg (λ y i. absurd i)) cl fr (le_refl _) first le al.1 no_nodes (Some c) R.done))
+    marked (S.conj {O = O} s) Q bo bg sc cl fr first le al = (let r = marked-all s Q bo bg sc cl fr first le al in finish (S.conj s) bg (Conj r.goals) (ap Conj r.order) (R.conj r.ordered))
+    marked (S.disj {O = O} {n = n} {m = m} {b = b} {gs = gs} {os = os} {o = o} s j) Q bo bg sc cl fr first le al =
+        (let r = marked-any s Q bo bg sc cl fr first le al in
         finish (S.disj s j) bg (Disj r.goals) (ap Disj r.order) (R.disj r.ordered (joined (variables_of_all gs) O n m b (reachable os) o bo (W.any-stays Y T s).1 j)))
-    marked (S.ite {O = O} {n = n} {n1 = n1} {n2 = n2} {m = m} {b = b} {c = c} {vs = vs} {g = g} {h = h} {k = k} {x = x} {y = y} {z = z} {o = o} {o' = o'} {o'' = o''} s p t u j) Q bo bg sc cl fr =
+    marked (S.ite {O = O} {n = n} {n1 = n1} {n2 = n2} {m = m} {b = b} {c = c} {vs = vs} {g = g} {h = h} {k = k} {x = x} {y = y} {z = z} {o = o} {o' = o'} {o'' = o''} s p t u j) Q bo bg sc cl fr first le al =
         (let own : List ℕ = variables_of (F.If vs g h k) in
         let sg = W.stays Y T s in let sh = W.stays Y T t in let sk = W.stays Y T u in
         let below_g : Below n (variables_of g) = λ z i. bg z (in-condition vs g h k z i) in
         let below_h : Below n (variables_of h) = λ z i. bg z (in-then vs g h k z i) in
         let below_k : Below n (variables_of k) = λ z i. bg z (in-else vs g h k z i) in
         let below_beside : Below n (O ++ (without (free_in g) vs ++ variables_of h)) = below-both n O (without (free_in g) vs ++ variables_of h) bo (below-both n (without (free_in g) vs) (variables_of h) (λ z i. below_g z (free-is-own g z (from_without z (free_in g) vs i))) below_h) in
-        let rg = marked s (Q ++ variables_of_node y) below_beside below_g sc.1 (clear-both n n1 Q (variables_of_node y) (clear-less n n m n1 Q (le_refl n) (le_trans sh.0 sk.0) cl) (placed-after (variables_of h) (variables_of_node y) n n1 n2 below_h (λ w i. W.node-placed Y T t w i))) fr in
+        let rg = marked s (Q ++ variables_of_node y) below_beside below_g sc.1 (clear-both n n1 Q (variables_of_node y) (clear-less n n m n1 Q (le_refl n) (le_trans sh.0 sk.0) cl) (placed-after (variables_of h) (variables_of_node y) n n1 n2 below_h (λ w i. W.node-placed Y T t w i))) fr first le al.0 in
         let rh = marked t (Q ++ variables_of_node x) (below-both n1 O (variables_of g) (below-more n n1 O sg.0 bo) (below-more n n1 (variables_of g) sg.0 below_g)) (below-more n n1 (variables_of h) sg.0 below_h) sc.2
-        (clear-both n1 n2 Q (variables_of_node x) (clear-less n n1 m n2 Q sg.0 sk.0 cl) (placed-before (variables_of g) (variables_of_node x) n n1 n2 below_g sg.0 (λ w i. W.node-placed Y T s w i))) (free-later (variables_of g) n n1 b c below_g sg.0 sg.1 fr) in
-        let rk = marked u Q (below-more n n2 O (le_trans sg.0 sh.0) bo) (below-more n n2 (variables_of k) (le_trans sg.0 sh.0) below_k) sc.3 (clear-less n n2 m m Q (le_trans sg.0 sh.0) (le_refl m) cl) (λ w lw. fr w (le_trans (le_trans sg.0 sh.0) lw)) in
+        (clear-both n1 n2 Q (variables_of_node x) (clear-less n n1 m n2 Q sg.0 sk.0 cl) (placed-before (variables_of g) (variables_of_node x) n n1 n2 below_g sg.0 (λ w i. W.node-placed Y T s w i))) (free-later (variables_of g) n n1 b c below_g sg.0 sg.1 fr) first (le_trans le sg.0) al.1 in
+        let rk = marked u Q (below-more n n2 O (le_trans sg.0 sh.0) bo) (below-more n n2 (variables_of k) (le_trans sg.0 sh.0) below_k) sc.3 (clear-less n n2 m m Q (le_trans sg.0 sh.0) (le_refl m) cl) (λ w lw. fr w (le_trans (le_trans sg.0 sh.0) lw)) first (le_trans le (le_trans sg.0 sh.0)) al.2 in
         finish (S.ite s p t u j) bg (Ite vs rg.goal rh.goal rk.goal) (three-same vs rg.goal rh.goal rk.goal x y z rg.order rh.order rk.order)
         (R.ite sc.0 (subst (λ ws. OrderedNode Y T (O ++ (without (free_in g) vs ++ variables_of h)) (Q ++ ws) b g rg.goal (Some c)) (ap variables_of_node (sym rh.order) ∙ node-variables rh.goal) rg.ordered) p
         (subst (λ ws. OrderedNode Y T (O ++ variables_of g) (Q ++ ws) c h rh.goal o) (ap variables_of_node (sym rg.order) ∙ node-variables rg.goal) rh.ordered) rk.ordered
@@ -390,36 +391,36 @@ module _ (Y : System) (T : ℕ → TypeTerm) where
         (with-each own n m b o (o' ∷ [])
         (chained own n n1 m b c o sg.0 (le_trans sh.0 sk.0) (widened own (variables_of g) n n n1 n1 b (Some c) (in-condition vs g h k) (le_refl n) (le_refl n1) sg.1) (widened own (variables_of h) n1 n1 n2 m c o (in-then vs g h k) (le_refl n1) sk.0 sh.1))
         (with-each own n m b o' [] (widened own (variables_of k) n2 n m m b o' (in-else vs g h k) (le_trans sg.0 sh.0) (le_refl m) sk.1) tt)) j)))
-    marked (S.ite_never {O = O} {n = n} {n1 = n1} {m = m} {b = b} {vs = vs} {g = g} {h = h} {k = k} {x = x} {z = z} {o = o} {o'' = o''} s u j) Q bo bg sc cl fr =
+    marked (S.ite_never {O = O} {n = n} {n1 = n1} {m = m} {b = b} {vs = vs} {g = g} {h = h} {k = k} {x = x} {z = z} {o = o} {o'' = o''} s u j) Q bo bg sc cl fr first le al =
         (let own : List ℕ = variables_of (F.If vs g h k) in
         let sg = W.stays Y T s in let sk = W.stays Y T u in
         let below_g : Below n (variables_of g) = λ z i. bg z (in-condition vs g h k z i) in
         let below_h : Below n (variables_of h) = λ z i. bg z (in-then vs g h k z i) in
         let below_k : Below n (variables_of k) = λ z i. bg z (in-else vs g h k z i) in
         let below_beside : Below n (O ++ (without (free_in g) vs ++ variables_of h)) = below-both n O (without (free_in g) vs ++ variables_of h) bo (below-both n (without (free_in g) vs) (variables_of h) (λ z i. below_g z (free-is-own g z (from_without z (free_in g) vs i))) below_h) in
-        let rg = marked s Q below_beside below_g sc.1 (clear-less n n m n1 Q (le_refl n) sk.0 cl) fr in
-        let rk = marked u Q (below-more n n1 O sg.0 bo) (below-more n n1 (variables_of k) sg.0 below_k) sc.3 (clear-less n n1 m m Q sg.0 (le_refl m) cl) (λ w lw. fr w (le_trans sg.0 lw)) in
+        let rg = marked s Q below_beside below_g sc.1 (clear-less n n m n1 Q (le_refl n) sk.0 cl) fr first le al.0 in
+        let rk = marked u Q (below-more n n1 O sg.0 bo) (below-more n n1 (variables_of k) sg.0 below_k) sc.3 (clear-less n n1 m m Q sg.0 (le_refl m) cl) (λ w lw. fr w (le_trans sg.0 lw)) first (le_trans le sg.0) al.2 in
         finish (S.ite_never s u j) bg (Ite vs rg.goal (unmarked (Conj no_nodes)) rk.goal) (three-same vs rg.goal (unmarked (Conj no_nodes)) rk.goal x (unmarked (Conj no_nodes)) z rg.order refl rk.order)
         (R.ite_never sc.0 rg.ordered (refl, refl) rk.ordered
         (joined own O n m b (reachable (o ∷ [])) o'' bo (with-each own n m b o [] (widened own (variables_of k) n1 n m m b o (in-else vs g h k) sg.0 (le_refl m) sk.1) tt) j)))
-    marked (S.neg {O = O} {n = n} {g = g} s p) Q bo bg sc cl fr =
-        (let r = marked s Q (below-both n O (free_in g) bo (λ w i. bg w (free-is-own g w i))) bg sc cl fr in finish (S.neg s p) bg (Not r.goal) (ap Not r.order) (R.neg r.ordered p))
-    marked (S.some {O = O} {n = n} {vs = vs} {g = g} s) Q bo bg sc cl fr =
-        (let r = marked s Q bo (below-right n vs (variables_of g) bg) sc.1 cl fr in finish (S.some s) bg (Exists vs r.goal) (ap (Exists vs) r.order) (R.some sc.0 r.ordered))
+    marked (S.neg {O = O} {n = n} {g = g} s p) Q bo bg sc cl fr first le al =
+        (let r = marked s Q (below-both n O (free_in g) bo (λ w i. bg w (free-is-own g w i))) bg sc cl fr first le al in finish (S.neg s p) bg (Not r.goal) (ap Not r.order) (R.neg r.ordered p))
+    marked (S.some {O = O} {n = n} {vs = vs} {g = g} s) Q bo bg sc cl fr first le al =
+        (let r = marked s Q bo (below-right n vs (variables_of g) bg) sc.1 cl fr first le al in finish (S.some s) bg (Exists vs r.goal) (ap (Exists vs) r.order) (R.some sc.0 r.ordered))
 
-    marked-all : {O : List ℕ} {n m : ℕ} {b : Insts} {gs : Flat_goals} {ns : Nodes} {o : Option Insts} → StandingAll Y T O n b gs ns o m → (Q : List ℕ) → Below n O → Below n (variables_of_all gs) → PartsScoped O gs → Clear n m Q → FreeFrom n b → MarkedAll O Q b gs ns o
-    marked-all S.done Q bo bg sc cl fr = record { goals = no_nodes; order = refl; ordered = R.done }
-    marked-all (S.dropped {O = O} {n = n} {rest = rest} p s) Q bo bg sc cl fr =
-        (let r = marked s Q (below-both n O (variables_of_all rest) bo (λ w i. bg w (picks-rest p w i))) (λ w i. bg w (picks-goal p w i)) (parts-goal p O sc) cl fr in
+    marked-all : {O : List ℕ} {n m : ℕ} {b : Insts} {gs : Flat_goals} {ns : Nodes} {o : Option Insts} → StandingAll Y T O n b gs ns o m → (Q : List ℕ) → Below n O → Below n (variables_of_all gs) → PartsScoped O gs → Clear n m Q → FreeFrom n b → (first : ℕ) → first ≤ n → AllAlike T first ns → MarkedAll O Q b gs ns o
+    marked-all S.done Q bo bg sc cl fr first le al = record { goals = no_nodes; order = refl; ordered = R.done }
+    marked-all (S.dropped {O = O} {n = n} {rest = rest} p s) Q bo bg sc cl fr first le al =
+        (let r = marked s Q (below-both n O (variables_of_all rest) bo (λ w i. bg w (picks-rest p w i))) (λ w i. bg w (picks-goal p w i)) (parts-goal p O sc) cl fr first le al.0 in
         record { goals = node_then r.goal no_nodes; order = ap (λ k. node_then k no_nodes) r.order; ordered = R.dropped p r.ordered })
-    marked-all (S.next {O = O} {n = n} {n1 = n1} {m = m} {b = b} {c = c} {g = g} {gs = gs} {rest = rest} {x = x} {ns = ns} {o = o} p s r) Q bo bg sc cl fr =
+    marked-all (S.next {O = O} {n = n} {n1 = n1} {m = m} {b = b} {c = c} {g = g} {gs = gs} {rest = rest} {x = x} {ns = ns} {o = o} p s r) Q bo bg sc cl fr first le al =
         (let sg = W.stays Y T s in let sr = W.all-stays Y T r in
         let below_g : Below n (variables_of g) = λ w i. bg w (picks-goal p w i) in
         let below_rest : Below n (variables_of_all rest) = λ w i. bg w (picks-rest p w i) in
         let one = marked s (Q ++ variables_of_nodes ns) (below-both n O (variables_of_all rest) bo below_rest) below_g (parts-goal p O sc)
-        (clear-both n n1 Q (variables_of_nodes ns) (clear-less n n m n1 Q (le_refl n) sr.0 cl) (placed-after (variables_of_all rest) (variables_of_nodes ns) n n1 m below_rest (λ w i. W.all-placed Y T r w i))) fr in
+        (clear-both n n1 Q (variables_of_nodes ns) (clear-less n n m n1 Q (le_refl n) sr.0 cl) (placed-after (variables_of_all rest) (variables_of_nodes ns) n n1 m below_rest (λ w i. W.all-placed Y T r w i))) fr first le al.0 in
         let others = marked-all r (Q ++ variables_of_node x) (below-both n1 O (variables_of g) (below-more n n1 O sg.0 bo) (below-more n n1 (variables_of g) sg.0 below_g)) (below-more n n1 (variables_of_all rest) sg.0 below_rest) (parts-rest p O sc)
-        (clear-both n1 m Q (variables_of_node x) (clear-less n n1 m m Q sg.0 (le_refl m) cl) (placed-before (variables_of g) (variables_of_node x) n n1 m below_g sg.0 (λ w i. W.node-placed Y T s w i))) (free-later (variables_of g) n n1 b c below_g sg.0 sg.1 fr) in
+        (clear-both n1 m Q (variables_of_node x) (clear-less n n1 m m Q sg.0 (le_refl m) cl) (placed-before (variables_of g) (variables_of_node x) n n1 m below_g sg.0 (λ w i. W.node-placed Y T s w i))) (free-later (variables_of g) n n1 b c below_g sg.0 sg.1 fr) first (le_trans le sg.0) al.1 in
         record {
           goals = node_then one.goal others.goals;
           order = ap (λ k. node_then k (unmarked_nodes others.goals)) one.order ∙ ap (node_then x) others.order;
@@ -427,7 +428,7 @@ module _ (Y : System) (T : ℕ → TypeTerm) where
               R.next p (subst (λ ws. OrderedNode Y T (O ++ variables_of_all rest) (Q ++ ws) b g one.goal (Some c)) (ap variables_of_nodes (sym others.order) ∙ nodes-variables others.goals) one.ordered)
               (subst (λ ws. OrderedAll Y T (O ++ variables_of g) (Q ++ ws) c rest others.goals o) (ap variables_of_node (sym one.order) ∙ node-variables one.goal) others.ordered);
         })
-    marked-all (S.implied_outputs {O = O} {n = n} {m = m} {b = b} {c = c} {p = p} {op = op} {xs = xs} {gs = gs} {rest = rest} {ns = ns} {o = o} pick f r) Q bo bg sc cl fr =
+    marked-all (S.implied_outputs {O = O} {n = n} {m = m} {b = b} {c = c} {p = p} {op = op} {xs = xs} {gs = gs} {rest = rest} {ns = ns} {o = o} pick f r) Q bo bg sc cl fr first le al =
         (let sr = W.all-stays Y T r in
         let zs : List ℕ = freshened Y T n b op xs in
         let ts : List (ℕ × ℕ) = fresh_tests Y T n b op xs in
@@ -436,27 +437,28 @@ module _ (Y : System) (T : ℕ → TypeTerm) where
         let below_xs : Below n xs = λ w i. bg w (picks-goal pick w i) in
         let below_rest : Below n (variables_of_all rest) = λ w i. bg w (picks-rest pick w i) in
         let below_both : Below end (xs ++ zs) = below-both end xs zs (below-more n end xs from_n below_xs) (below-freshened n b op xs below_xs) in
+        let alike = N.alike-before Y T first (test_nodes ts) ns al.1 in
         let others = marked-all r (Q ++ (xs ++ zs)) (below-both end O (xs ++ zs) (below-more n end O from_n bo) below_both) (below-more n end (variables_of_all rest) from_n below_rest)
         (parts-fewer rest (O ++ xs) (O ++ (xs ++ zs))
         (λ w i j. ⊎_elim (λ l. in_left w O xs l) (λ l. ⊎_elim (λ q. in_right w O xs q) (λ q. ⊎_elim (λ e. in_right w O xs e) (λ e. absurd (not-le_of_lt (below_rest w i) e.0)) (fresh-range 0 (implied_of Y T op xs b) xs n w q)) (in_either w xs zs l)) (in_either w O (xs ++ zs) j))
         (parts-rest pick O sc))
-        (clear-both end m Q (xs ++ zs) (clear-less n end m m Q from_n (le_refl m) cl) (λ w i. inl (below_both w i))) (free-later xs n end b c below_xs from_n (W.freshly-stays Y T n b c op xs f) fr) in
+        (clear-both end m Q (xs ++ zs) (clear-less n end m m Q from_n (le_refl m) cl) (λ w i. inl (below_both w i))) (free-later xs n end b c below_xs from_n (W.freshly-stays Y T n b c op xs f) fr) first (le_trans le from_n) alike.1 in
         record {
           goals =
               node_then
               (node (Apply op (at_inputs (inputs_of op) zs) (at_outputs (inputs_of op) zs)) (changes_from 0 end b c) (inferred det) (is_pruned (Q ++ variables_of_nodes (tested_by ts others.goals)) b (Some c)))
               (tested_by ts others.goals);
           order = ap (node_then (unmarked (Apply op (at_inputs (inputs_of op) zs) (at_outputs (inputs_of op) zs)))) (tested-order ts others.goals ∙ ap (nodes_before (test_nodes ts)) others.order);
-          ordered = implied-before O Q n m b c p op xs f gs rest pick bo bg cl fr sr.0 others.goals o others.ordered;
+          ordered = implied-before O Q n m b c p op xs f gs rest pick bo bg cl fr sr.0 first le alike.0 others.goals o others.ordered;
         })
 
-    marked-any : {O : List ℕ} {n m : ℕ} {b : Insts} {gs : Flat_goals} {ns : Nodes} {os : List (Option Insts)} → StandingAny Y T O n b gs ns os m → (Q : List ℕ) → Below n O → Below n (variables_of_all gs) → DisjunctsScoped O gs → Clear n m Q → FreeFrom n b → MarkedAny O Q b gs ns os
-    marked-any S.no_other Q bo bg sc cl fr = record { goals = no_nodes; order = refl; ordered = R.no_other }
-    marked-any (S.either {O = O} {n = n} {n1 = n1} {m = m} {g = g} {gs = gs} {x = x} s r) Q bo bg sc cl fr =
+    marked-any : {O : List ℕ} {n m : ℕ} {b : Insts} {gs : Flat_goals} {ns : Nodes} {os : List (Option Insts)} → StandingAny Y T O n b gs ns os m → (Q : List ℕ) → Below n O → Below n (variables_of_all gs) → DisjunctsScoped O gs → Clear n m Q → FreeFrom n b → (first : ℕ) → first ≤ n → AllAlike T first ns → MarkedAny O Q b gs ns os
+    marked-any S.no_other Q bo bg sc cl fr first le al = record { goals = no_nodes; order = refl; ordered = R.no_other }
+    marked-any (S.either {O = O} {n = n} {n1 = n1} {m = m} {g = g} {gs = gs} {x = x} s r) Q bo bg sc cl fr first le al =
         (let sg = W.stays Y T s in let sr = W.any-stays Y T r in
-        let one = marked s Q bo (below-left n (variables_of g) (variables_of_all gs) bg) sc.0 (clear-less n n m n1 Q (le_refl n) sr.0 cl) fr in
-        let others = marked-any r Q (below-more n n1 O sg.0 bo) (below-more n n1 (variables_of_all gs) sg.0 (below-right n (variables_of g) (variables_of_all gs) bg)) sc.1 (clear-less n n1 m m Q sg.0 (le_refl m) cl) (λ w lw. fr w (le_trans sg.0 lw)) in
+        let one = marked s Q bo (below-left n (variables_of g) (variables_of_all gs) bg) sc.0 (clear-less n n m n1 Q (le_refl n) sr.0 cl) fr first le al.0 in
+        let others = marked-any r Q (below-more n n1 O sg.0 bo) (below-more n n1 (variables_of_all gs) sg.0 (below-right n (variables_of g) (variables_of_all gs) bg)) sc.1 (clear-less n n1 m m Q sg.0 (le_refl m) cl) (λ w lw. fr w (le_trans sg.0 lw)) first (le_trans le sg.0) al.1 in
         record { goals = node_then one.goal others.goals; order = ap (λ k. node_then k (unmarked_nodes others.goals)) one.order ∙ ap (node_then x) others.order; ordered = R.either one.ordered others.ordered })
 
 pub standing-is-ordered : StandingIsOrdered
-standing-is-ordered S T O Q n m b g x o s bo bg sc cl fr = (let r = marked S T s Q bo bg sc cl fr in (r.goal, r.order, r.ordered))
+standing-is-ordered S T O Q n m b g x o s al bo bg sc cl fr = (let r = marked S T s Q bo bg sc cl fr n (le_refl n) al in (r.goal, r.order, r.ordered))

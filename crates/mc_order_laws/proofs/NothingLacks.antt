@@ -10,10 +10,11 @@ use Rattle.mc_model.specs.Scheduled.{Node, Scheduled, Conj, Disj, Ite, Exists, N
 use Rattle.mc_accepted.specs.Ordered.{is_state, modes_of}
 use Rattle.mc_accepted.specs.Unmarked.{unmarked}
 use Rattle.mc_accepted.specs.Least.{least}
-use Rattle.mc_accepted.specs.Arranged.{Operations, Declared, Fault, waits, negated_binds, branches_differ, lacks, alone, two_goals, count_flat, is_there, tests_at, those_in, Point, Arranged, runs, breaks, Trial, Waiting, Picked, takes, none_runs, Branches, all_run, one_breaks, variables_of_waiting, or_first, picked, pick, behind, goes_on, with_branch, and_branches, no_branch, each_branch, unless, wrapped, stuck, in_turn, atom, same, built, took, take, made, constant, best, called, applied_with, call_of, binds, differs, joined_at, merges, branched, conditional, negation, trial, trials, usable, implied_in, faulty, unless_unmet, first_unmet, judged, entry}
+use Rattle.mc_accepted.specs.Arranged.{Operations, Declared, Fault, waits, negated_binds, branches_differ, lacks, alone, two_goals, count_flat, is_there, those_in, Point, Arranged, runs, breaks, Trial, Waiting, Picked, takes, none_runs, Branches, all_run, one_breaks, variables_of_waiting, or_first, picked, pick, behind, goes_on, with_branch, and_branches, no_branch, each_branch, unless, wrapped, stuck, in_turn, atom, same, built, took, take, made, constant, best, called, applied_with, call_of, binds, differs, joined_at, merges, branched, conditional, negation, trial, trials, usable, implied_in, faulty, unless_unmet, first_unmet, judged, entry}
 use Rattle.mc_accepted.specs.Forms.{of_forms}
 use Rattle.mc_program.specs.declared.builtin.Builtin.{Builtin}
 use Rattle.mc_order_laws.specs.OrderLaws.{NothingLacks}
+use Rattle.mc_order_laws.proofs.Arranging.{not-both}
 
 abbrev Real : Fault → Type 0
 Real (waits k vs) = Unit {0}
@@ -98,8 +99,7 @@ module _ {I : Type 0} where
   fine-each [] O n b k = tt
   fine-each (w ∷ ws) O n b k = fine-and (w.trial O n b) (λ m. each_branch ws O m b) (k.0 O n b) (λ m. fine-each ws O m b k.1)
 
-module _ {I : Type 0} (Op : Operations I) (P : Source) (declared : ℕ → List Declared) (T : ℕ → TypeTerm) (over : (s : ℕ) (is : List I) → is_there (Op.over s is) ≡ true) (joins : (t : TypeTerm) (i : I) (is : List I) → is_there (Op.joined t (i ∷ is)) ≡ true)
-    (typed : (z x : ℕ) → Op.typed_as z x ≡ true) where
+module _ {I : Type 0} (Op : Operations I) (P : Source) (declared : ℕ → List Declared) (T : ℕ → TypeTerm) (over : (s : ℕ) (is : List I) → is_there (Op.over s is) ≡ true) (joins : (t : TypeTerm) (i : I) (is : List I) → is_there (Op.joined t (i ∷ is)) ≡ true) where
   fine-turn : (k : ℕ) (ws : List (Waiting I)) → AllTry ws → Tries (in_turn Op P declared T k ws)
   fine-turn zero ws h O n b = tt
   fine-turn (suc k) ws h O n b = at (pick [] ws O n b) (fine-pick [] ws O n b tt h) (λ us ku. fine-turn k us ku)
@@ -138,18 +138,9 @@ module _ {I : Type 0} (Op : Operations I) (P : Source) (declared : ℕ → List 
   fine-called None xs n b = tt
   fine-called (Some d) xs n b = tt
 
-  all-typed : (ts : List (ℕ × ℕ)) → list_all (λ (t : ℕ × ℕ). Op.typed_as t.0 t.1) ts ≡ true
-  all-typed [] = refl
-  all-typed (t ∷ ts) = ap (λ u. u && list_all (λ (t : ℕ × ℕ). Op.typed_as t.0 t.1) ts) (typed t.0 t.1) ∙ all-typed ts
-
-  not-both : (t : Bool) → t ≡ true → t ≡ false → ⊥
-  not-both true e f = cc
-  not-both false e f = cc
-
   fine-applied : (is : List ℕ) (op : Builtin) (xs : List ℕ) (n : ℕ) (b : Point I) → Fine (applied_with Op P declared T is op xs n b)
   fine-applied [] op xs n b = tt
-  fine-applied (i ∷ is) op xs n b =
-      fine-if (list_all (λ (t : ℕ × ℕ). Op.typed_as t.0 t.1) (tests_at 0 (i ∷ is) xs n)) _ _ (λ e. tt) (λ e. not-both _ (all-typed (tests_at 0 (i ∷ is) xs n)) e)
+  fine-applied (i ∷ is) op xs n b = tt
 
   fine-call : (o : Option Builtin) (p : ℕ) (xs : List ℕ) (n : ℕ) (b : Point I) → Fine (call_of Op P declared T o p xs n b)
   fine-call None p xs n b = fine-called (best Op P declared T (declared p) xs b) xs n b
@@ -214,5 +205,5 @@ module _ {I : Type 0} (Op : Operations I) (P : Source) (declared : ℕ → List 
 
 pub nothing-lacks : NothingLacks
 nothing-lacks P G declared T f next head first last g e =
-    not-lacking (of_forms P G f) P declared T (λ s is. refl) (λ t i is. refl) (λ z x. refl) head last (trial (of_forms P G f) P declared T g head next (entry (of_forms P G f) P declared T head first))
-    (fine (of_forms P G f) P declared T (λ s is. refl) (λ t i is. refl) (λ z x. refl) g head next (entry (of_forms P G f) P declared T head first)) e
+    not-lacking (of_forms P G f) P declared T (λ s is. refl) (λ t i is. refl) head last (trial (of_forms P G f) P declared T g head next (entry (of_forms P G f) P declared T head first))
+    (fine (of_forms P G f) P declared T (λ s is. refl) (λ t i is. refl) g head next (entry (of_forms P G f) P declared T head first)) e

@@ -1,6 +1,6 @@
 -- A goal changes no variable but its own, and those that are numbered on.
 use Rattle.std.proofs.Common.{◌≡◌, ◌⊎◌, inl, inr, ℕ, zero, suc, ◌<◌, ◌≤◌, Bool, true, false, cond, not, nat_eq, ◌&&◌, ◌||◌, List, [], ◌∷◌, ◌++◌, map, Option, Some, None, refl, ap, sym, ◌∙◌, subst, ⊎_elim, arith}
-use Rattle.std.specs.List.{list_any, list_all}
+use Rattle.std.specs.List.{list_any}
 use Rattle.std.proofs.Math.Nat.{le_trans, le_refl, lt_of_lt_of_le, not-le_of_lt}
 use Rattle.std.proofs.lemmas.Bool.{eqb-true}
 use Rattle.mc_program.specs.Values.{Val}
@@ -14,7 +14,7 @@ use Rattle.mc_source.specs.Determinism.{is_zero}
 use Rattle.mc_accepted.specs.Ordered.{Mode, is_state, modes_of, builtin_most}
 use Rattle.mc_accepted.specs.Unmarked.{unmarked}
 use Rattle.mc_accepted.specs.Least.{least}
-use Rattle.mc_accepted.specs.Arranged.{Operations, Declared, Fault, waits, negated_binds, branches_differ, lacks, alone, two_goals, count_flat, fresh_at, tests_at, Point, with_inst, Arranged, runs, breaks, Trial, Waiting, Picked, takes, none_runs, Branches, all_run, one_breaks, variables_of_waiting, or_first, picked, pick, behind, goes_on, with_branch, and_branches, no_branch, each_branch, unless, wrapped, stuck, in_turn, atom, assigned, same, taken, built, took, take, made, constant, input_after, after_call, after, best, called, applied_with, call_of, binds, differs, joined_at, or_free, merged, merges, those_in, branched, conditional, negation, trial, trials, usable, implied_in}
+use Rattle.mc_accepted.specs.Arranged.{Operations, Declared, Fault, waits, negated_binds, branches_differ, lacks, alone, two_goals, count_flat, fresh_at, Point, with_inst, Arranged, runs, breaks, Trial, Waiting, Picked, takes, none_runs, Branches, all_run, one_breaks, variables_of_waiting, or_first, picked, pick, behind, goes_on, with_branch, and_branches, no_branch, each_branch, unless, wrapped, stuck, in_turn, atom, assigned, same, taken, built, took, take, made, constant, input_after, after_call, after, best, called, applied_with, call_of, binds, differs, joined_at, or_free, merged, merges, those_in, branched, conditional, negation, trial, trials, usable, implied_in}
 use Rattle.mc_program.specs.declared.builtin.Builtin.{Builtin}
 use Rattle.mc_laws.proofs.FlatGoals.{in_left, in_right}
 use Rattle.mc_laws.proofs.FlatWhole.{is_in_true}
@@ -252,9 +252,7 @@ module _ {I : Type 0} (Op : Operations I) (P : Source) (declared : ℕ → List 
   applied-keeps : (is : List ℕ) (op : Builtin) (xs : List ℕ) (n : ℕ) (b : Point I) → Kept xs n b (applied_with Op P declared T is op xs n b)
   applied-keeps [] op xs n b = (le_refl n, never-stays xs n b (after Op P declared T (modes_of op) xs b) (is_zero (builtin_most op)) (λ z off lt. call-off (λ x. Op.is_bound (b x)) (modes_of op) xs b z off))
   applied-keeps (i ∷ is) op xs n b =
-      kept-if xs n b (list_all (λ (t : ℕ × ℕ). Op.typed_as t.0 t.1) (tests_at 0 (i ∷ is) xs n)) _ _
       (omega arith, λ z off lt. call-off (λ x. Op.is_bound (b x)) (modes_of op) (fresh_at 0 (i ∷ is) xs n) b z (λ j. ⊎_elim off (λ le. not-le_of_lt lt le) (fresh-from 0 (i ∷ is) xs n z j)))
-      tt
 
   call-keeps : (o : Option Builtin) (p : ℕ) (xs : List ℕ) (n : ℕ) (b : Point I) → Kept xs n b (call_of Op P declared T o p xs n b)
   call-keeps None p xs n b = called-keeps (best Op P declared T (declared p) xs b) xs n b

@@ -85,7 +85,6 @@ truthful =
       no_constants = takes-not;
       fits = included;
       fits_not = excluded;
-      typed_as = λ z x e. (let q : false ≡ true = e in cc);
     }
 
 two-below : Below 2 copies.head

@@ -14,6 +14,7 @@ use Rattle.mc_accepted.specs.Ordered.{Insts}
 use Rattle.mc_accepted.specs.Accepted.{entered, FinalAfter}
 use Rattle.mc_accepted.specs.Arranged.{Declared, in_order, arrange}
 use Rattle.mc_accepted.specs.Chosen.{Chosen, of_nodes}
+use Rattle.mc_accepted.specs.FreshTests.{TestsAlike}
 use Rattle.mc_accepted.specs.code.Truthful.{Truthful, AllDeclared}
 use Rattle.mc_order_laws.specs.OrderLaws.{Below, FlatScopes, IsOrderOf}
 
@@ -113,7 +114,8 @@ pub record HasClauses (S : System) (p : Procedure) : Type 0 where
   pub last : length p.last ≡ (goal_of S p).arity
 
 -- Where a predicate's normal goal is in order over nodes of the graph, variables being numbered on
--- from its own, that is the order of an ordered goal, and its end meets the final insts.
+-- from its own, and those that stand for implied outputs are typed like them, that is the order of
+-- an ordered goal, and its end meets the final insts.
 abbrev pub NormalOrderIsOrdered : Type 0
 NormalOrderIsOrdered =
     (S : System) (p : Procedure) (C : Chosen) (declared : ℕ → List Declared)
@@ -124,6 +126,7 @@ NormalOrderIsOrdered =
     → arrange (of_nodes C) S.world.source declared (type_of S p) (goal_of S p).variables p.head
     p.first p.last (goal_of S p).body
     ≡ in_order x
+    → TestsAlike (type_of S p) (goal_of S p).variables x
     → (o : Option Insts)
     × IsOrderOf S (type_of S p) p.head p.head (entered p.head p.first) (goal_of S p).body x o
     × FinalAfter S p o

@@ -14,6 +14,7 @@ use Rattle.mc_accepted.specs.Least.{least}
 use Rattle.mc_accepted.specs.Unmarked.{unmarked_node}
 use Rattle.mc_accepted.specs.Arranged.{Operations, Declared, Point, runs, trial, alone, lacks, in_order, faulty, ascending, arrange}
 use Rattle.mc_accepted.specs.Chosen.{Chosen, of_nodes}
+use Rattle.mc_accepted.specs.FreshTests.{TestsAlike}
 use Rattle.mc_accepted.specs.Forms.{Form, of_forms}
 use Rattle.mc_accepted.specs.InOrder.{Tells, modes_declared}
 use Rattle.mc_accepted.specs.code.Truthful.{Truthful, AllDeclared}
@@ -72,18 +73,20 @@ IsOrderOf S T O Q b g x o =
     (n : Node) × (unmarked_node n ≡ x) × OrderedNode S T O Q b g n o
 
 -- A goal that stands in its order is the order of an ordered goal: kept insts and marks can be
--- told, where its scopes are written out, and variables from the next number on are free and new.
+-- told, where its scopes are written out, variables from the next number on are free and new, and
+-- those that stand for implied outputs are typed like them.
 abbrev pub StandingIsOrdered : Type 0
 StandingIsOrdered =
     (S : System) (T : ℕ → TypeTerm) (O Q : List ℕ) (n m : ℕ) (b : Insts) (g : Flat_goal) (x : Node)
-    (o : Option Insts) → Standing S T O n b g x o m
+    (o : Option Insts) → Standing S T O n b g x o m → TestsAlike T n x
     → Below n O → Below n (variables_of g) → FlatScopes O g → Clear n m Q
     → ((y : ℕ) → n ≤ y → b y ≡ 0)
     → IsOrderOf S T O Q b g x o
 
--- Where a procedure's goal is in order over nodes, that order is the order of an ordered goal, from
--- the insts at a call, and each argument is included in its final inst at its end. So the body of
--- an accepted procedure can be had from it.
+-- Where a procedure's goal is in order over nodes, and in that order the variables that stand for
+-- implied outputs are typed like them, it is the order of an ordered goal, from the insts at a call,
+-- and each argument is included in its final inst at its end. So the body of an accepted procedure
+-- can be had from it.
 abbrev pub InOrderIsOrdered : Type 0
 InOrderIsOrdered =
     (S : System) (p : Procedure) (C : Chosen) (declared : ℕ → List Declared)
@@ -93,6 +96,7 @@ InOrderIsOrdered =
     → Below n p.head → Below n (variables_of g) → FlatScopes p.head g
     → arrange (of_nodes C) S.world.source declared (type_of S p) n p.head p.first p.last g
     ≡ in_order x
+    → TestsAlike (type_of S p) n x
     → (o : Option Insts)
     × IsOrderOf S (type_of S p) p.head p.head (entered p.head p.first) g x o
     × FinalAfter S p o

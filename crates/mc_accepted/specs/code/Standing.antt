@@ -1,7 +1,7 @@
 -- Ordered goals without what is kept of them: no changes, no determinisms, no marks, and builtins'
--- fresh variables as the order numbers them. O is what occurs outside; n and m are the next numbers
--- for a variable before and after. It stands between the order that is computed and the relation of
--- ordered goals.
+-- fresh variables as the order numbers them, of whatever types. O is what occurs outside; n and m
+-- are the next numbers for a variable before and after. It stands between the order that is computed
+-- and the relation of ordered goals.
 use Rattle.std.specs.Prelude.{◌≡◌, ◌≢◌, ℕ, ◌+◌, ◌<◌, List, [], ◌∷◌, ◌++◌, map, length, Option, Some, None, false, if◌then◌else◌}
 use Rattle.mc_program.specs.Values.{Val}
 use Rattle.mc_program.specs.Programs.{TypeTerm}
@@ -30,10 +30,6 @@ module _ (S : System) (T : ℕ → TypeTerm) where
   abbrev pub fresh_tests : (n : ℕ) → Insts → Builtin → List ℕ → List (ℕ × ℕ)
   fresh_tests n b op xs = tests_at 0 (implied_of op xs b) xs n
 
-  abbrev pub TestsTyped : List (ℕ × ℕ) → Type 0
-  TestsTyped [] = Unit {0}
-  TestsTyped (t ∷ ts) = (T t.0 ≡ T t.1) × TestsTyped ts
-
   -- a builtin with implied outputs, with the fresh variables that stand for them, and with their
   -- tests
   pub record Freshly (n : ℕ) (b c : Insts) (p : ℕ) (op : Builtin) (xs : List ℕ) : Type 0 where
@@ -42,7 +38,6 @@ module _ (S : System) (T : ℕ → TypeTerm) where
     pub alive : NoneDead S T xs b
     pub implies : implied_of op xs b ≢ []
     pub after : After S T (modes_of op) (freshened n b op xs) b c
-    pub typed : TestsTyped (fresh_tests n b op xs)
 
   abbrev pub fresh_nodes : (n : ℕ) → Insts → Builtin → List ℕ → Nodes
   fresh_nodes n b op xs =

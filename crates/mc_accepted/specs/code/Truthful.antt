@@ -35,7 +35,6 @@ module _ (S : System) (T : ℕ → TypeTerm) where
         (i j : ℕ) (t : TypeTerm) → C.fits i j t ≡ true → Included S.world.source S.insts i j t
     pub fits_not :
         (i j : ℕ) (t : TypeTerm) → C.fits i j t ≡ false → Included S.world.source S.insts i j t → ⊥
-    pub typed_as : (z x : ℕ) → C.typed_as z x ≡ true → T z ≡ T x
 
   -- the modes are those of the procedures
   pub record IsDeclared (p : ℕ) (d : Declared) : Type 0 where

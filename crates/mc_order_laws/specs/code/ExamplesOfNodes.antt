@@ -62,7 +62,6 @@ chosen =
       narrowed = narrowed;
       takes_constants = takes_constants;
       fits = λ i j t. fits i j;
-      typed_as = λ z x. false;
     }
 
 -- `p(X, Y) :- Y = X.`, from the first argument

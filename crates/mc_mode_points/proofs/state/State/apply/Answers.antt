@@ -26,13 +26,13 @@ apply_in-requires-clause-mode c =
 pub apply_in-requires-clause-arguments : goal.apply_in-requires-clause-arguments
 apply_in-requires-clause-arguments c = c.in_ok-usable.ensures.many c.if-not-usable.false
 
-pub returns-then-one_is_dead : goal.returns-then-one_is_dead
-returns-then-one_is_dead c = λ declared O is.
+pub returns-then-one_is_dead-clause-answer : goal.returns-then-one_is_dead-clause-answer
+returns-then-one_is_dead-clause-answer c = λ declared O is.
     builtin-dead c.args.procs.now c.args.self.now declared O c.requires.stands c.args.pred c.args.op c.args.xs.now is c.waiting.result c.waiting.ensures
     (sym c.one_is_dead.ensures ∙ c.if-one_is_dead.true)
 
-pub returns-then-not-usable : goal.returns-then-not-usable
-returns-then-not-usable c = λ declared O is.
+pub returns-then-not-usable-clause-answer : goal.returns-then-not-usable-clause-answer
+returns-then-not-usable-clause-answer c = λ declared O is.
     let q = c.args.procs.now in
     let s = c.args.self.now in
     let xs = c.args.xs.now in
@@ -42,8 +42,8 @@ returns-then-not-usable c = λ declared O is.
     ap (λ (ms : List Mode). usable (of_nodes C) (source_of q) declared T xs ms xs (point_of s.insts.items)) (sym c.in_ok-mode.ensures.modes)
     ∙ (c.in_ok-usable.ensures.usable declared C T a ∙ c.if-not-usable.true))
 
-pub returns : goal.returns
-returns c = λ declared O is.
+pub returns-clause-answer : goal.returns-clause-answer
+returns-clause-answer c = λ declared O is.
     let q = c.args.procs.now in
     let s = c.args.self.now in
     let xs = c.args.xs.now in
@@ -52,4 +52,7 @@ returns c = λ declared O is.
     (λ C T a.
     ap (λ (ms : List Mode). usable (of_nodes C) (source_of q) declared T xs ms xs (point_of s.insts.items)) (sym c.in_ok-mode.ensures.modes)
     ∙ (c.in_ok-usable.ensures.usable declared C T a ∙ c.if-not-usable.false))
-    (c.in_ok-part.ensures declared)
+    (c.in_ok-part.ensures.ran declared)
+
+pub returns-clause-alike : goal.returns-clause-alike
+returns-clause-alike c = λ T next same below. c.in_ok-part.ensures.alike T next same

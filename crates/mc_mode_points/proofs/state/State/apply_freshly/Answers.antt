@@ -3,6 +3,7 @@ use Rattle.mc_model.specs.Scheduled.{Scheduled, node_then}
 use Rattle.mc_accepted.specs.Arranged.{Point, after, test_nodes, fresh_at, tests_at}
 use Rattle.mc_accepted.specs.Chosen.{of_nodes}
 use Rattle.mc_accepted.specs.Ordered.{Mode, zipped}
+use Rattle.mc_accepted.specs.FreshTests.{AllAlike}
 use Rattle.mc_accepted.specs.Unmarked.{unmarked}
 use Rattle.mc_procs.specs.Named.{NumbersBelow}
 use Rattle.mc_procs.specs.Procedures.{source_of}
@@ -10,10 +11,11 @@ use Rattle.mc_mode_points.specs.States.{point_of}
 use Rattle.mc_mode_points.specs.code.Applying.{AlikeIn}
 use Rattle.mc_mode_points.specs.declared.part.Part.{Part}
 use Rattle.mc_mode_points.proofs.BuiltinOutcomes.{apply_of, ran-freshly}
+use Rattle.mc_mode_points.proofs.Freshening.{tests-alike}
 use Rattle.mc_mode_points.proofs.state.State.apply_freshly.Goals as goal
 
-pub returns : goal.returns
-returns c = λ declared.
+pub returns-clause-ran : goal.returns-clause-ran
+returns-clause-ran c = λ declared.
     let q = c.args.procs.now in
     let r = c.leave_arguments.new.procs in
     let s = c.args.self.now in
@@ -31,7 +33,6 @@ returns c = λ declared.
     let w : c.as_slice-2.result.now ≡ zs = c.as_slice-2.ensures.value ∙ m.args in
     let part : Part = record { goals = c.in_ok-goals.goals; reachable = true; freshened = c.in_ok-args.field-0.args } in
     ran-freshly q r s u t declared op zs ts part (m.stepped q c.requires.stands) l.stepped
-    (subst (AlikeIn u.types.items) m.tests m.alike)
     (λ d C T a.
     ap (λ (ms : List Mode). after (of_nodes C) (source_of q) d T ms zs (point_of s.insts.items)) (sym c.requires.modes)
     ∙ (ap₂ (λ (ys : List ℕ) (b : Point ℕ). after (of_nodes C) (source_of q) d T (zipped fs ls) ys b) (sym w) (sym m.point)
@@ -41,3 +42,14 @@ returns c = λ declared.
     ∙ ap₂ (λ (z : Scheduled) (ks : List (ℕ × ℕ)). node_then (unmarked z) (test_nodes ks)) (c.in_ok-goal.ensures ∙ ap (apply_of op) v) (c.as_slice-3.ensures.value ∙ m.tests))
     refl m.args
     (subst (NumbersBelow (length t.insts.items)) m.args (subst (λ (k : ℕ). NumbersBelow k c.in_ok-args.field-0.args.items) (sym l.count) m.there))
+
+pub returns-clause-alike : goal.returns-clause-alike
+returns-clause-alike c = λ T next same.
+    let u = c.freshen.new.self in
+    let t = c.leave_arguments.new.self in
+    let ts = tests_at 0 c.args.implied.now c.args.xs.now (length c.args.self.now.insts.items) in
+    let m = c.in_ok-args.ensures in
+    let l = c.in_ok-leave_arguments.ensures in
+    subst (AllAlike T next)
+    (sym (c.in_ok-goals.ensures ∙ ap₂ (λ (z : Scheduled) (ks : List (ℕ × ℕ)). node_then (unmarked z) (test_nodes ks)) (c.in_ok-goal.ensures ∙ ap (apply_of c.args.op) (c.as_slice.ensures.value ∙ m.args)) (c.as_slice-3.ensures.value ∙ m.tests)))
+    (tt, tests-alike u.types.items t T next ts l.stepped.moved.types same (subst (AlikeIn u.types.items) m.tests m.alike))

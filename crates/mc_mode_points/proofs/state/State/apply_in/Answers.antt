@@ -8,8 +8,8 @@ use Rattle.mc_mode_points.proofs.state.State.apply_in.Goals as goal
 not_both : (t : Bool) → t ≡ true → t ≡ false → ⊥
 not_both t e f = let g : true ≡ false = sym e ∙ f in cc
 
-pub returns-then-is_empty : goal.returns-then-is_empty
-returns-then-is_empty c = λ declared.
+pub returns-then-is_empty-clause-ran : goal.returns-then-is_empty-clause-ran
+returns-then-is_empty-clause-ran c = λ declared.
     let q = c.args.procs.now in
     let s = c.args.self.now in
     let xs = c.args.xs.now in
@@ -17,10 +17,10 @@ returns-then-is_empty c = λ declared.
     let e : implied_places 0 (modes_of c.args.op) xs there ≡ c.in_ok-implied.implied =
     ap (λ (ms : List Mode). implied_places 0 ms xs there) (sym c.requires.modes) ∙ sym c.in_ok-implied.ensures in
     ran-none q c.apply_plainly.new.procs s c.apply_plainly.new.self declared c.args.op xs c.in_ok-part.part
-    (implied_places 0 (modes_of c.args.op) xs there) (e ∙ c.is_empty.ensures.0 c.if-is_empty.true) (c.in_ok-part.ensures declared)
+    (implied_places 0 (modes_of c.args.op) xs there) (e ∙ c.is_empty.ensures.0 c.if-is_empty.true) (c.in_ok-part.ensures.ran declared)
 
-pub returns : goal.returns
-returns c = λ declared.
+pub returns-clause-ran : goal.returns-clause-ran
+returns-clause-ran c = λ declared.
     let q = c.args.procs.now in
     let s = c.args.self.now in
     let xs = c.args.xs.now in
@@ -29,4 +29,4 @@ returns c = λ declared.
     c.in_ok-implied.ensures ∙ ap (λ (ms : List Mode). implied_places 0 ms xs there) c.requires.modes in
     ran-some q c.apply_freshly.new.procs s c.apply_freshly.new.self declared c.args.op xs c.in_ok-part-2.part
     c.in_ok-implied.implied (implied_places 0 (modes_of c.args.op) xs there) e
-    (λ h. not_both c.is_empty.result (c.is_empty.ensures.1 h) c.if-is_empty.false) (c.in_ok-part-2.ensures declared)
+    (λ h. not_both c.is_empty.result (c.is_empty.ensures.1 h) c.if-is_empty.false) (c.in_ok-part-2.ensures.ran declared)

@@ -3,11 +3,12 @@ use Rattle.mc_model.specs.Scheduled.{Scheduled, node_then, no_nodes}
 use Rattle.mc_accepted.specs.Ordered.{Mode}
 use Rattle.mc_accepted.specs.Unmarked.{unmarked}
 use Rattle.mc_mode_points.specs.States.{point_of}
-use Rattle.mc_mode_points.proofs.BuiltinOutcomes.{Leaves, ran-plainly}
+use Rattle.mc_mode_points.proofs.AtomOutcomes.{alike-one}
+use Rattle.mc_mode_points.proofs.BuiltinOutcomes.{Leaves, apply_of, ran-plainly}
 use Rattle.mc_mode_points.proofs.state.State.apply_plainly.Goals as goal
 
-pub returns : goal.returns
-returns c = λ declared.
+pub returns-clause-ran : goal.returns-clause-ran
+returns-clause-ran c = λ declared.
     let q = c.args.procs.now in
     let r = c.leave_arguments.new.procs in
     let s = c.args.self.now in
@@ -20,3 +21,8 @@ returns c = λ declared.
     e.count
     (p.goals ∙ ap (λ (z : Scheduled). node_then (unmarked z) no_nodes) c.in_ok-goal.ensures)
     (p.reachable ∙ ap not c.never_returns.ensures) p.freshened
+
+pub returns-clause-alike : goal.returns-clause-alike
+returns-clause-alike c = λ T next same.
+    alike-one T next c.in_ok-part.part (apply_of c.args.op c.args.xs.now)
+    (c.in_ok-part.ensures.goals ∙ ap (λ (z : Scheduled). node_then (unmarked z) no_nodes) c.in_ok-goal.ensures) tt

@@ -11,7 +11,7 @@ use Rattle.mc_mode_points.specs.States.{point_of}
 use Rattle.mc_mode_points.specs.Agreeing.{Stepped}
 use Rattle.mc_mode_points.proofs.Ahead.{agrees-before}
 use Rattle.mc_mode_points.proofs.Steps.{stepped-set, stepped-trans}
-use Rattle.mc_mode_points.proofs.AtomOutcomes.{none-fresh, runs-one}
+use Rattle.mc_mode_points.proofs.AtomOutcomes.{alike-one, none-fresh, runs-one}
 use Rattle.mc_mode_points.proofs.MadeOutcomes.{insts-below}
 use Rattle.mc_mode_points.proofs.state.State.build.Goals as goal
 
@@ -22,8 +22,8 @@ over-requires-clause-insts c =
     subst (λ (is : List ℕ). (n : ℕ) → n < length is → get_or is n 0 < count_of q.insts) (sym (c.deref.ensures.value ∙ c.in_ok-insts.ensures))
     (insts-below b (count_of q.insts) c.args.ys.now c.requires.stands.insts)
 
-pub returns : goal.returns
-returns c = λ declared.
+pub returns-clause-ran : goal.returns-clause-ran
+returns-clause-ran c = λ declared.
     let q = c.args.procs.now in
     let r = c.over.new.procs in
     let s = c.args.self.now in
@@ -52,3 +52,8 @@ returns c = λ declared.
       fresh = none-fresh (length t.insts.items) c.in_ok-part.part.freshened.items p.freshened;
       stepped = stepped-trans q r r s u t o.stepped set;
     }
+
+pub returns-clause-alike : goal.returns-clause-alike
+returns-clause-alike c = λ T next same.
+    alike-one T next c.in_ok-part.part (S.Build c.args.x c.args.symbol c.in_ok-row_of.field-0)
+    (c.in_ok-part.ensures.goals ∙ ap (λ (z : Scheduled). node_then (unmarked z) no_nodes) (plain_sched-Build c.args.x c.args.symbol c.in_ok-row_of.field-0)) tt

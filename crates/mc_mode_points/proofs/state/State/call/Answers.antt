@@ -14,13 +14,13 @@ use Rattle.mc_mode_points.specs.declared.picking.Pick.{Pick}
 use Rattle.mc_mode_points.proofs.PickedModes.{mode-fits, mode-fits-later, call-dead, call-waits, call-runs}
 use Rattle.mc_mode_points.proofs.state.State.call.Goals as goal
 
-pub returns-then-one_is_dead : goal.returns-then-one_is_dead
-returns-then-one_is_dead c = λ declared O d none.
+pub returns-then-one_is_dead-clause-answer : goal.returns-then-one_is_dead-clause-answer
+returns-then-one_is_dead-clause-answer c = λ declared O d none.
     call-dead c.args.procs.now c.args.self.now declared O c.requires.stands c.args.pred c.args.modes.now c.args.xs.now d none c.waiting.result c.waiting.ensures
     (sym c.one_is_dead.ensures ∙ c.if-one_is_dead.true)
 
-pub returns-in-None : goal.returns-in-None
-returns-in-None c = λ declared O d none.
+pub returns-in-None-clause-answer : goal.returns-in-None-clause-answer
+returns-in-None-clause-answer c = λ declared O d none.
     let q = c.args.procs.now in
     let s = c.args.self.now in
     let modes = c.args.modes.now in
@@ -43,8 +43,8 @@ run-requires-clause-mode c =
     mode-fits-later (count_of q.insts) (count_of r.insts) c.index-modes-place.result c.in_ok-best.ensures.stepped.moved.nodes.grown.more
     (subst (ModeFits (count_of q.insts)) (sym c.index-modes-place.is) (mode-fits (count_of q.insts) c.args.modes.now c.in-Some.pick.place c.index-modes-place.result c.requires.modes f.there))
 
-pub returns-in_ok-part-in-Some : goal.returns-in_ok-part-in-Some
-returns-in_ok-part-in-Some c = λ declared O d none.
+pub returns-in_ok-part-in-Some-clause-answer : goal.returns-in_ok-part-in-Some-clause-answer
+returns-in_ok-part-in-Some-clause-answer c = λ declared O d none.
     let q = c.args.procs.now in
     let r = c.best.new.procs in
     let u = c.run.new.procs in
@@ -61,5 +61,8 @@ returns-in_ok-part-in-Some c = λ declared O d none.
     (sym c.one_is_dead.ensures ∙ c.if-one_is_dead.false) c.in_ok-best.ensures.stepped
     (λ C T a. subst (λ (p : Option Pick). IsPicked modes xs b p (best (of_nodes C) (source_of q) declared T (map declared_mode modes) xs b)) c.in-Some.is (c.in_ok-best.ensures.best declared C T a))
     (subst (λ (n : ModeDecl). Ran (λ C T. called (of_nodes C) (source_of r) declared T (Some (declared_mode n)) xs (length s.insts.items) b) r u s t c.in_ok-part-in-Some.part) at
-    (c.in_ok-part-in-Some.ensures declared
+    (c.in_ok-part-in-Some.ensures.ran declared
     (f.implied m ∙ ap (λ (n : ModeDecl). implied_places 0 (declared_mode n).modes xs (λ x. is_bound (b x))) (sym at))))
+
+pub returns-in_ok-part-in-Some-clause-alike : goal.returns-in_ok-part-in-Some-clause-alike
+returns-in_ok-part-in-Some-clause-alike c = λ T next same below. c.in_ok-part-in-Some.ensures.alike T next same

@@ -1,4 +1,4 @@
-use Rattle.std.proofs.Common.{◌∙◌, ◌<◌, ℕ, Bool, false, if◌then◌else◌, sym, ap, arith}
+use Rattle.std.proofs.Common.{◌∙◌, ◌<◌, ℕ, Bool, if◌then◌else◌, sym, ap, arith}
 use Rattle.mc_model.specs.Stream.{is_bound}
 use Rattle.mc_insts.specs.Graphs.{count_of}
 use Rattle.mc_accepted.specs.Arranged.{with_inst}

@@ -12,15 +12,15 @@ use Rattle.mc_mode_points.specs.States.{point_of}
 use Rattle.mc_mode_points.specs.Answers.{end_of}
 use Rattle.mc_mode_points.specs.Modes.{never_answers}
 use Rattle.mc_mode_points.specs.declared.state.State.{State}
-use Rattle.mc_mode_points.proofs.AtomOutcomes.{none-fresh, runs-one}
+use Rattle.mc_mode_points.proofs.AtomOutcomes.{alike-one, none-fresh, runs-one}
 use Rattle.mc_mode_points.proofs.state.State.run.Goals as goal
 
 ended : (n : Bool) (b : Point ℕ) (t : State) → b ≡ point_of t.insts.items → (if n then None else Some b) ≡ end_of (not n) t
 ended true b t e = refl
 ended false b t e = ap Some e
 
-pub returns : goal.returns
-returns c = λ declared h.
+pub returns-clause-ran : goal.returns-clause-ran
+returns-clause-ran c = λ declared h.
     let q = c.args.procs.now in
     let s = c.args.self.now in
     let t = c.leave_arguments.new.self in
@@ -44,3 +44,8 @@ returns c = λ declared h.
       fresh = none-fresh (length t.insts.items) c.in_ok-part.part.freshened.items p.freshened;
       stepped = e.stepped;
     }
+
+pub returns-clause-alike : goal.returns-clause-alike
+returns-clause-alike c = λ T next same.
+    alike-one T next c.in_ok-part.part (S.Call c.args.mode.now.proc c.in_ok-row_of.field-0 c.args.implied false)
+    (c.in_ok-part.ensures.goals ∙ ap (λ (z : Scheduled). node_then (unmarked z) no_nodes) (plain_sched-Call c.args.mode.now.proc c.in_ok-row_of.field-0 c.args.implied)) tt

@@ -1,11 +1,14 @@
-use Rattle.std.proofs.Common.{◌≡◌, ◌∙◌, true, false, ap, sym}
+use Rattle.std.proofs.Common.{◌≡◌, ◌∙◌, ◌<◌, true, false, ap, sym, arith}
+use Rattle.mc_model.specs.Scheduled.{Scheduled, Assign, Test, node_then, no_nodes}
 use Rattle.mc_model.specs.Stream.{is_bound}
-use Rattle.mc_mode_points.proofs.AtomOutcomes.{same-tested, same-assigned-back, same-assigned-on, same-both-free}
+use Rattle.mc_accepted.specs.Unmarked.{unmarked}
+use Rattle.mc_procs.proofs.Views.{plain_sched-Test, plain_sched-Assign}
+use Rattle.mc_mode_points.proofs.AtomOutcomes.{alike-one, same-tested, same-assigned-back, same-assigned-on, same-both-free}
 use Rattle.mc_mode_points.proofs.state.State.same.Goals as goal
 use Rattle.mc_mode_points.proofs.state.State.same.Goals.{else-x_is_bound-via-then-x_is_bound+else-y_is_bound, else-x_is_bound-via-else-x_is_bound}
 
-pub returns-then-y_is_bound : goal.returns-then-y_is_bound
-returns-then-y_is_bound c = λ declared O.
+pub returns-then-y_is_bound-clause-answer : goal.returns-then-y_is_bound-clause-answer
+returns-then-y_is_bound-clause-answer c = λ declared O.
     let p = c.in_ok-part.ensures in
     same-tested c.args.procs.now c.args.self.now declared O c.requires.stands c.args.x c.args.y c.requires.variables.0 c.requires.variables.1.0 c.in_ok-part.part
     (sym c.one_is_dead.ensures ∙ c.if-one_is_dead.false)
@@ -13,8 +16,8 @@ returns-then-y_is_bound c = λ declared O.
     (sym (c.is_bound-y_is_bound.ensures ∙ ap is_bound c.inst-2.ensures) ∙ c.if-y_is_bound.true)
     (sym c.is_state.ensures ∙ c.if-is_state.false) p.goals p.reachable p.freshened
 
-pub returns-then-x_is_bound-2 : goal.returns-then-x_is_bound-2
-returns-then-x_is_bound-2 c = λ declared O.
+pub returns-then-x_is_bound-2-clause-answer : goal.returns-then-x_is_bound-2-clause-answer
+returns-then-x_is_bound-2-clause-answer c = λ declared O.
     let p = c.in_ok-part-2.ensures in
     let e = c.in_ok-assign.ensures in
     let g : c.is_bound-y_is_bound.result ≡ false =
@@ -28,8 +31,8 @@ returns-then-x_is_bound-2 c = λ declared O.
     (sym (c.is_bound-y_is_bound.ensures ∙ ap is_bound c.inst-2.ensures) ∙ g)
     e.point e.count (e.stepped c.args.procs.now c.requires.stands) p.goals p.reachable p.freshened
 
-pub returns-then-y_is_bound-2 : goal.returns-then-y_is_bound-2
-returns-then-y_is_bound-2 c = λ declared O.
+pub returns-then-y_is_bound-2-clause-answer : goal.returns-then-y_is_bound-2-clause-answer
+returns-then-y_is_bound-2-clause-answer c = λ declared O.
     let p = c.in_ok-part-3.ensures in
     let e = c.in_ok-assign-2.ensures in
     same-assigned-on c.args.procs.now c.args.self.now declared O c.requires.stands c.args.x c.args.y c.requires.variables.0 c.requires.variables.1.0 c.assign-then-y_is_bound-2.new.self c.in_ok-part-3.part
@@ -38,9 +41,32 @@ returns-then-y_is_bound-2 c = λ declared O.
     (sym (c.is_bound-y_is_bound.ensures ∙ ap is_bound c.inst-2.ensures) ∙ c.if-y_is_bound-2.true)
     e.point e.count (e.stepped c.args.procs.now c.requires.stands) p.goals p.reachable p.freshened
 
-pub returns : goal.returns
-returns c = λ declared O.
+pub returns-clause-answer : goal.returns-clause-answer
+returns-clause-answer c = λ declared O.
     same-both-free c.args.procs.now c.args.self.now declared O c.requires.stands c.args.x c.args.y c.requires.variables.0 c.requires.variables.1.0 c.waiting-2.result c.waiting-2.ensures
     (sym c.one_is_dead.ensures ∙ c.if-one_is_dead.false)
     (sym (c.is_bound-x_is_bound.ensures ∙ ap is_bound c.inst.ensures) ∙ c.if-x_is_bound-2.false)
     (sym (c.is_bound-y_is_bound.ensures ∙ ap is_bound c.inst-2.ensures) ∙ c.if-y_is_bound-2.false)
+
+pub returns-then-y_is_bound-clause-alike : goal.returns-then-y_is_bound-clause-alike
+returns-then-y_is_bound-clause-alike c = λ T next same below.
+    let x = c.args.x in
+    let y = c.args.y in
+    let l : x < next = below.0 in
+    alike-one T next c.in_ok-part.part (Test x y)
+    (c.in_ok-part.ensures.goals ∙ ap (λ (z : Scheduled). node_then (unmarked z) no_nodes) (plain_sched-Test x y))
+    (λ le. absurd (omega (arith, l, le)))
+
+pub returns-then-x_is_bound-2-clause-alike : goal.returns-then-x_is_bound-2-clause-alike
+returns-then-x_is_bound-2-clause-alike c = λ T next same below.
+    let x = c.args.x in
+    let y = c.args.y in
+    alike-one T next c.in_ok-part-2.part (Assign y x)
+    (c.in_ok-part-2.ensures.goals ∙ ap (λ (z : Scheduled). node_then (unmarked z) no_nodes) (plain_sched-Assign y x)) tt
+
+pub returns-then-y_is_bound-2-clause-alike : goal.returns-then-y_is_bound-2-clause-alike
+returns-then-y_is_bound-2-clause-alike c = λ T next same below.
+    let x = c.args.x in
+    let y = c.args.y in
+    alike-one T next c.in_ok-part-3.part (Assign x y)
+    (c.in_ok-part-3.ensures.goals ∙ ap (λ (z : Scheduled). node_then (unmarked z) no_nodes) (plain_sched-Assign x y)) tt

@@ -12,7 +12,7 @@ use Rattle.mc_mode_points.specs.States.{point_of}
 use Rattle.mc_mode_points.proofs.Ahead.{agrees-before}
 use Rattle.mc_mode_points.proofs.Narrow.{narrowed-below, narrowed-many}
 use Rattle.mc_mode_points.proofs.Steps.{stepped-refl}
-use Rattle.mc_mode_points.proofs.AtomOutcomes.{none-fresh, runs-one}
+use Rattle.mc_mode_points.proofs.AtomOutcomes.{alike-one, none-fresh, runs-one}
 use Rattle.mc_mode_points.proofs.MadeOutcomes.{narrowed-is}
 use Rattle.mc_mode_points.proofs.state.State.take.Goals as goal
 
@@ -36,8 +36,8 @@ take_as-requires-clause-insts c =
     subst (λ (is : List ℕ). (n : ℕ) → n < length is → get_or is n 0 < count_of q.insts) (sym c.as_slice.ensures.items)
     (narrowed-below (source_of q) q.insts c.inst.result c.args.symbol c.in-Some.insts c.requires.stands.fit.program.insts_are l h)
 
-pub returns-in_ok-part-in-None : goal.returns-in_ok-part-in-None
-returns-in_ok-part-in-None c = λ declared.
+pub returns-in_ok-part-in-None-clause-ran : goal.returns-in_ok-part-in-None-clause-ran
+returns-in_ok-part-in-None-clause-ran c = λ declared.
     let q = c.args.procs.now in
     let s = c.args.self.now in
     let x = c.args.x in
@@ -59,8 +59,8 @@ returns-in_ok-part-in-None c = λ declared.
       stepped = stepped-refl q s c.requires.stands;
     }
 
-pub returns-in_ok-part-in-Some : goal.returns-in_ok-part-in-Some
-returns-in_ok-part-in-Some c = λ declared.
+pub returns-in_ok-part-in-Some-clause-ran : goal.returns-in_ok-part-in-Some-clause-ran
+returns-in_ok-part-in-Some-clause-ran c = λ declared.
     let q = c.args.procs.now in
     let r = c.take_as.new.procs in
     let s = c.args.self.now in
@@ -87,3 +87,13 @@ returns-in_ok-part-in-Some c = λ declared.
       fresh = none-fresh (length t.insts.items) c.in_ok-part-in-Some.part.freshened.items p.freshened;
       stepped = e.stepped;
     }
+
+pub returns-in_ok-part-in-None-clause-alike : goal.returns-in_ok-part-in-None-clause-alike
+returns-in_ok-part-in-None-clause-alike c = λ T next same.
+    alike-one T next c.in_ok-part-in-None.part (S.Take c.args.x c.args.symbol c.in_ok-row_of.field-0)
+    (c.in_ok-part-in-None.ensures.goals ∙ ap (λ (z : Scheduled). node_then (unmarked z) no_nodes) (plain_sched-Take c.args.x c.args.symbol c.in_ok-row_of.field-0)) tt
+
+pub returns-in_ok-part-in-Some-clause-alike : goal.returns-in_ok-part-in-Some-clause-alike
+returns-in_ok-part-in-Some-clause-alike c = λ T next same.
+    alike-one T next c.in_ok-part-in-Some.part (S.Take c.args.x c.args.symbol c.in_ok-row_of.field-0)
+    (c.in_ok-part-in-Some.ensures.goals ∙ ap (λ (z : Scheduled). node_then (unmarked z) no_nodes) (plain_sched-Take c.args.x c.args.symbol c.in_ok-row_of.field-0)) tt
