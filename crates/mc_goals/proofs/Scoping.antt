@@ -120,3 +120,13 @@ pub scoped_from_nothing : (f : ℕ → ℕ) (O : List ℕ) (g : Formula) → ((w
 scoped_from_nothing f O g none =
     let nothing : Tells f [] = record { tells = λ w. ap (nat_lt 0) (none w) } in
     scoped_is (more f O) O g (tells_more f [] O nothing)
+
+without_nothing : (xs : List ℕ) → without xs [] ≡ xs
+without_nothing [] = refl
+without_nothing (x ∷ xs) = ap (λ l. x ∷ l) (without_nothing xs)
+
+-- the free variables of a goal whose scopes are written out, where nothing is outside
+pub free_where_nothing_is : (f : ℕ → ℕ) (g : Formula) → ((w : ℕ) → f w ≡ 0) → own_of f (scoped_by f g) ≡ once (free_of (scoped [] g))
+free_where_nothing_is f g none =
+    let nothing : Tells f [] = record { tells = λ w. ap (nat_lt 0) (none w) } in
+    ap (own_of f) (scoped_is f [] g nothing) ∙ own_is f [] (scoped [] g) nothing ∙ ap once (without_nothing (free_of (scoped [] g)))

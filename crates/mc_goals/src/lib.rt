@@ -9,11 +9,13 @@ mod numbering;
 mod numbers;
 mod occurrences;
 mod outside;
+mod query;
 mod scopes;
 mod shape;
 mod terms;
 
 pub use clauses::{ClauseGoal, goal_of_clause};
 pub use normal::normal_goal;
+pub use query::query_clause;
 pub use scopes::scoped_clause;
 pub use shape::{Shape, flat_goal};

@@ -46,7 +46,7 @@ fn copied_terms(alloc: Global, terms: &[Expr]) -> Result<Row<Expr>, Memory>
 /// A goal with its scopes written out.
 #[cycle(scopes)]
 #[tactic(auto, using(crate::proofs::OutsideCounts::less_more))]
-fn scoped_goal(alloc: Global, outside: &mut Outside, goal: &Goal) -> Result<Goal, Memory>
+pub fn scoped_goal(alloc: Global, outside: &mut Outside, goal: &Goal) -> Result<Goal, Memory>
     ensures goal { IfOk result (λ made. plain_goal made
         ≡ scoped_by (count outside.old) (plain_goal goal.now)) }
     ensures kept { OnOk result (count outside.new ≡ count outside.old) }
@@ -203,7 +203,7 @@ fn disjuncts(alloc: Global, outside: &mut Outside, goals: &[Goal]) -> Result<Row
 }
 
 /// Variables quantified around a goal, where there are any.
-fn quantified(alloc: Global, vars: Vec<u32>, goal: Goal) -> Result<Goal, Memory>
+pub fn quantified(alloc: Global, vars: Vec<u32>, goal: Goal) -> Result<Goal, Memory>
     ensures { IfOk result (λ made. plain_goal made
         ≡ scope.quantified vars.items (plain_goal goal)) }
 {
@@ -214,7 +214,7 @@ fn quantified(alloc: Global, vars: Vec<u32>, goal: Goal) -> Result<Goal, Memory>
 }
 
 /// The free variables of a goal that don't occur outside, each once, in order.
-fn own_variables(alloc: Global, outside: &mut Outside, goal: &Goal) -> Result<Vec<u32>, Memory>
+pub fn own_variables(alloc: Global, outside: &mut Outside, goal: &Goal) -> Result<Vec<u32>, Memory>
     ensures own { IfOk result (λ own. own.items
         ≡ own_of (count outside.old) (plain_goal goal.now)) }
     ensures kept { OnOk result (count outside.new ≡ count outside.old) }

@@ -1,5 +1,5 @@
 use mc_base::{Row, Text};
-use mc_goals::{flat_goal, normal_goal, scoped_clause};
+use mc_goals::{flat_goal, normal_goal, query_clause, scoped_clause};
 use mc_model::flat::Flat;
 use mc_program::expr::Expr;
 use mc_program::program::{Clause, Goal, Name, Place, Pred, Resolved};
@@ -359,4 +359,32 @@ fn no_clause_is_a_failure(rt: HostRuntime) {
         show_number(&mut out, shape.vars);
     }
     assert_eq!(rt; out.as_slice(), b"or()[01]2".as_slice());
+}
+
+/// The one goal of a query with so many answers' variables, whose goal is that of a clause without arguments.
+fn shown_query(alloc: Global, asked: u32, goal: &Clause, names: &Row<Text>) -> Vec<u8> {
+    match query_clause(alloc, goal, names) {
+        Ok(clause) => shown(alloc, asked, &one(alloc, resolved(alloc, clause))),
+        Err(_) => Vec::new(alloc),
+    }
+}
+
+/// `q(Z, _Y), not p(Z, W), p(X, Z)`: Z and X are asked for in this order, the negation quantifies W, and `_Y` is
+/// quantified around the goal.
+#[test]
+fn queries_ask_for_named_variables(rt: HostRuntime) {
+    let alloc = rt.alloc();
+    let negation = not(alloc, call(alloc, 0, &[0, 3]));
+    let last = call(alloc, 0, &[2, 0]);
+    let body = Goal::Conj(three(alloc, call(alloc, 1, &[0, 1]), negation, last));
+    let mut names = Vec::new(alloc);
+    for text in [b"Z".as_slice(), b"_Y", b"X", b"W"] {
+        put(&mut names, name(alloc, text));
+    }
+    let goal = clause(4, Row::new(alloc), body);
+    let out = shown_query(alloc, 2, &goal, &row(alloc, names));
+    assert_eq!(rt;
+        out.as_slice(),
+        b"some[2]and( p1[02]not some[3] p0[03] p0[10])".as_slice()
+    );
 }
