@@ -1,0 +1,57 @@
+-- A pass over the waiting goals of a conjunction, by their places.
+use Rattle.std.proofs.Common.{◌≡◌, ◌∙◌, ℕ, ◌<◌, ◌+◌, List, length, get_or, Option, sym, ap, subst, arith}
+use Rattle.mc_model.specs.Flat.{Flat_goal, variables_of}
+use Rattle.mc_model.specs.PlainGoals.{plain_flat}
+use Rattle.mc_model.specs.declared.flat.Flat.{Flat}
+use Rattle.mc_model.specs.declared.inst.Sig.{Sig}
+use Rattle.mc_procs.specs.Named.{NumbersBelow}
+use Rattle.mc_procs.specs.Procedures.{PlainProcs}
+use Rattle.mc_mode_points.specs.States.{SameState}
+use Rattle.mc_mode_points.specs.Agreeing.{Stands, Moved}
+use Rattle.mc_mode_points.specs.Answers.{FreshAlike}
+use Rattle.mc_mode_points.specs.declared.state.State.{State}
+use Rattle.mc_mode_points.specs.declared.part.Part.{Part}
+use Rattle.mc_mode_points.specs.declared.fault.ModeFault.{ModeFault}
+use Rattle.mc_modes.specs.Tries.{trying, Runs, Breaks}
+use Rattle.mc_modes.specs.code.Waiting.{nothing, goals_at, variables_of_each, tells_around, Counted, noted, IsReady}
+use Rattle.mc_modes.proofs.Passing.{FoundSoFar, passed-on, passed-by}
+use Rattle.mc_modes.proofs.Placing.{goal-in, goals-long, place-below}
+
+pub same-trans : (s t u : State) → SameState s t → SameState t u → SameState s u
+same-trans s t u a b = record {
+  point = b.point ∙ a.point;
+  count = b.count ∙ a.count;
+  log = b.log ∙ a.log;
+  outside = λ x. b.outside x ∙ a.outside x;
+  outsides = b.outsides ∙ a.outsides;
+  types = b.types ∙ a.types;
+}
+
+module _ (sigs : List Sig) (gs : List Flat) (ks : List ℕ) (k : ℕ) (x : Flat) (q p r : PlainProcs) (s u t : State) (h : k < length ks) (w : NumbersBelow (length gs) ks)
+    (is : x ≡ get_or gs (get_or ks k 0) x) (same : SameState s u) (m : Moved q p s u) (counted : Counted (variables_of_each (goals_at gs ks)) s)
+    (found : Option ModeFault) (so : FoundSoFar sigs (goals_at gs ks) k found q p s u) where
+  abbrev waiting : List Flat_goal
+  waiting = goals_at gs ks
+
+  placed : get_or waiting k nothing ≡ plain_flat x
+  placed = goal-in gs ks k x h (place-below (length gs) ks k w h) ∙ ap plain_flat (sym is)
+
+  short : k < length waiting
+  short = omega (arith, h, goals-long gs ks)
+
+  -- the goal in a place doesn't run
+  pub found-on : (more : Option ModeFault) (f : ModeFault) → Breaks (tells_around (variables_of (plain_flat x)) u) (trying sigs (plain_flat x) p u) p r u t f → more ≡ noted found f
+      → FoundSoFar sigs waiting (k + 1) more q r s t
+  found-on more f b e =
+      subst (λ (o : Option ModeFault). FoundSoFar sigs waiting (k + 1) o q r s t) (sym e)
+      (passed-on sigs waiting k short q p s u same m counted found r t f m.stands so
+      (subst (λ (g : Flat_goal). Breaks (tells_around (variables_of g) u) (trying sigs g p u) p r u t f) (sym placed) b))
+
+  -- it runs
+  pub found-ready : (part : Part) → Stands q s → Runs (tells_around (variables_of (plain_flat x)) u) (trying sigs (plain_flat x) p u) p r u t part → IsReady sigs waiting q r s t k part
+  found-ready part st b =
+      passed-by sigs waiting k short q p s u same m counted found r t part st m.stands so
+      (subst (λ (g : Flat_goal). Runs (tells_around (variables_of g) u) (trying sigs g p u) p r u t part) (sym placed) b)
+
+  pub found-alike : (part : Part) → FreshAlike (plain_flat x) t part → FreshAlike (get_or waiting k nothing) t part
+  found-alike part a = subst (λ (g : Flat_goal). FreshAlike g t part) (sym placed) a

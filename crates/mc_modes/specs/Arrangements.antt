@@ -1,0 +1,45 @@
+-- What is told of a clause's goal: its order, or the rule that it breaks. (Mercury Language
+-- Reference Manual: Modes.)
+use Rattle.std.specs.Prelude.{◌≡◌, ℕ, List, length, take, Result, Ok, Err}
+use Rattle.mc_program.specs.Programs.{TypeTerm}
+use Rattle.mc_program.specs.declared.ty.Ty.{Ty}
+use Rattle.mc_model.specs.Flat.{Flat_goal}
+use Rattle.mc_model.specs.PlainGoals.{plain_node}
+use Rattle.mc_model.specs.declared.inst.Sig.{Sig}
+use Rattle.mc_accepted.specs.Arranged.{Verdict, in_order, faulty, unmet, arrange}
+use Rattle.mc_accepted.specs.Chosen.{Chosen, of_nodes}
+use Rattle.mc_accepted.specs.FreshTests.{TestsAlike}
+use Rattle.mc_procs.specs.Procedures.{PlainProcs, source_of}
+use Rattle.mc_mode_points.specs.Nodes.{type_in}
+use Rattle.mc_mode_points.specs.Answers.{plain_fault}
+use Rattle.mc_mode_points.specs.declared.state.State.{State}
+use Rattle.mc_modes.specs.Signatures.{declared_in}
+use Rattle.mc_modes.specs.Tries.{Suits}
+use Rattle.mc_modes.specs.declared.arranging.Arrangement.{Arrangement}
+use Rattle.mc_modes.specs.declared.arranging.Refusal.{Refusal}
+use Rattle.mc_modes.specs.declared.arranging.Refusal.TheVariants as R
+
+-- Whatever comes later, this becomes of the goal. The state stands for the nodes that were found
+-- and for the types of the variables at its end.
+pub record Becomes (sigs : List Sig) (types : List Ty) (head first last : List ℕ) (g : Flat_goal) (q r : PlainProcs) (end : State) (v : Verdict) : Type 0 where
+  pub verdict :
+      (C : Chosen) (T : ℕ → TypeTerm) → Suits (length types) r end C T
+      → arrange (of_nodes C) (source_of q) (declared_in sigs) T (length types) head first last g ≡ v
+  pub kept : take (length types) end.types.items ≡ types
+
+-- The order of the goal with the types of its variables, in which each test of a fresh variable
+-- compares values of one type; or the fault that leaves it without one. Either way the procedures
+-- stay, and their graph may have more nodes.
+abbrev pub Arranges :
+    List Sig → List Ty → (head first last : List ℕ) → Flat_goal → (q r : PlainProcs)
+    → Result Arrangement Refusal → Type 0
+Arranges sigs types head first last g q r (Ok a) =
+    (end : State)
+    × Becomes sigs types head first last g q r end (in_order (plain_node a.body))
+    × (a.types.items ≡ end.types.items)
+    × TestsAlike (type_in a.types.items) (length types) (plain_node a.body)
+Arranges sigs types head first last g q r (Err (R.Fault f)) =
+    (end : State) × Becomes sigs types head first last g q r end (faulty (plain_fault f))
+Arranges sigs types head first last g q r (Err (R.Unmet k)) =
+    (end : State) × Becomes sigs types head first last g q r end (unmet k)
+Arranges sigs types head first last g q r (Err R.Memory) = Unit {0}

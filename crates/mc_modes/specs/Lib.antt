@@ -1,0 +1,5 @@
+pub mod Signatures
+pub mod Fitting
+pub mod Tries
+pub mod Arrangements
+pub mod code

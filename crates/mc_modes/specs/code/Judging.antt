@@ -1,0 +1,52 @@
+-- The beginning of a clause's goal, and how one that runs is judged by its end.
+use Rattle.std.specs.Prelude.{◌≡◌, ℕ, Bool, List, map, Option, Some, None, Result, Ok, Err}
+use Rattle.mc_program.specs.Programs.{TypeTerm, Source}
+use Rattle.mc_program.specs.declared.ty.Ty.{Ty}
+use Rattle.mc_model.specs.Lists.{is_in}
+use Rattle.mc_model.specs.Scheduled.{nodes}
+use Rattle.mc_model.specs.PlainGoals.{plain_node}
+use Rattle.mc_accepted.specs.Arranged.{Point, Declared, alone, entry, first_unmet}
+use Rattle.mc_accepted.specs.Chosen.{Chosen, of_nodes}
+use Rattle.mc_procs.specs.Procedures.{PlainProcs, source_of}
+use Rattle.mc_mode_points.specs.States.{point_of, is_outside}
+use Rattle.mc_mode_points.specs.Agreeing.{Agrees, Stands, Stepped}
+use Rattle.mc_mode_points.specs.Answers.{end_of}
+use Rattle.mc_mode_points.specs.declared.state.State.{State}
+use Rattle.mc_mode_points.specs.declared.part.Part.{Part}
+use Rattle.mc_modes.specs.declared.arranging.Arrangement.{Arrangement}
+use Rattle.mc_modes.specs.declared.arranging.Refusal.{Refusal}
+use Rattle.mc_modes.specs.declared.arranging.Refusal.TheVariants as R
+
+-- The head's variables alone occur outside and have insts, and the variables have these types.
+pub record IsBeginning (types : List Ty) (head first : List ℕ) (q : PlainProcs) (s : State) : Type 0 where
+  pub typed : s.types.items ≡ types
+  pub point :
+      (P : Source) (declared : ℕ → List Declared) (C : Chosen) (T : ℕ → TypeTerm)
+      → entry (of_nodes C) P declared T head first ≡ point_of s.insts.items
+  pub outside : (x : ℕ) → is_outside s.outside.items x ≡ is_in x head
+  pub stands : Stands q s
+
+-- the first argument whose final inst isn't met, where the end is reachable
+abbrev pub unmet_at :
+    Chosen → Source → (ℕ → List Declared) → (ℕ → TypeTerm) → (head last : List ℕ)
+    → Option (Point ℕ) → Option ℕ
+unmet_at C P declared T head last None = None
+unmet_at C P declared T head last (Some c) =
+    first_unmet (of_nodes C) P declared T 0 head last c
+
+-- Whatever comes later, it is the argument in this place, if any.
+pub record IsUnmet (head last : List ℕ) (reachable : Bool) (q r : PlainProcs) (s : State) (place : Option ℕ) : Type 0 where
+  pub unmet :
+      (declared : ℕ → List Declared) (C : Chosen) (T : ℕ → TypeTerm) → Agrees r s C T
+      → unmet_at C (source_of q) declared T head last (end_of reachable s) ≡ place
+  pub stepped : Stepped q r s s
+
+abbrev pub Judges :
+    (head last : List ℕ) → Part → (q r : PlainProcs) → State → Result Arrangement Refusal
+    → Type 0
+Judges head last p q r s (Ok a) =
+    IsUnmet head last p.reachable q r s None × (a.types ≡ s.types)
+    × (plain_node a.body ≡ alone (nodes (map plain_node p.goals.items)))
+Judges head last p q r s (Err (R.Fault f)) = ⊥
+Judges head last p q r s (Err (R.Unmet k)) = IsUnmet head last p.reachable q r s (Some k)
+Judges head last p q r s (Err R.Memory) = Unit {0}

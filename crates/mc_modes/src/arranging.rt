@@ -1,0 +1,150 @@
+ghost use Rattle.std.specs.Prelude.{◌≡◌, ◌<◌, length, map, IfOk};
+ghost use Rattle.mc_model.specs.Flat.{variables_of};
+ghost use Rattle.mc_model.specs.PlainGoals.{plain_flat};
+ghost use Rattle.mc_insts.specs.Graphs.{count_of};
+ghost use Rattle.mc_procs.specs.Named.{NumbersBelow};
+ghost use Rattle.mc_modes.specs.Signatures.{SigsFit};
+ghost use Rattle.mc_modes.specs.Fitting.{Known};
+ghost use Rattle.mc_mode_points.specs.Agreeing.{Stands};
+ghost use Rattle.mc_modes.specs.Arrangements.{Arranges};
+ghost use Rattle.mc_modes.specs.code.Judging.{IsBeginning, IsUnmet, Judges};
+
+use crate::order::try_goal;
+use mc_base::{Memory, Row};
+use mc_mode_points::{Failed, ModeFault, Nodes, Part, State, alone};
+use mc_model::flat::Flat;
+use mc_model::inst::{InstId, Sig};
+use mc_model::sched::GoalNode;
+use mc_procs::Procs;
+use mc_program::ty::Ty;
+use std::alloc::{AllocError, AllocFailed, Global};
+
+/// A goal in its order, and the types of its variables, the fresh ones of implied outputs last.
+#[derive(Drop)]
+pub struct Arrangement {
+    pub body: GoalNode,
+    pub types: Vec<Ty>,
+}
+
+/// Why a goal has no order: it breaks a rule, or the final inst of an argument, which is counted from 0, isn't met; or
+/// memory is wanted.
+#[derive(Debug, PartialEq, Eq, Drop)]
+pub enum Refusal {
+    Fault(ModeFault),
+    Unmet(u32),
+    Memory,
+}
+
+impl From<Memory> for Refusal {
+    ghost use Rattle.std.specs.Prelude.{◌≡◌};
+    ghost use Rattle.mc_modes.specs.declared.arranging.Refusal.TheVariants as refusal;
+
+    ghost from_gives = { λ _ answer. answer ≡ refusal.Memory };
+
+    fn from(_: Memory) -> Refusal {
+        Refusal::Memory
+    }
+}
+
+/// A goal over variables of these types in its order, from the initial insts of a head to its final ones; every other
+/// variable is free at its beginning.
+pub fn arrange(
+    alloc: Global,
+    procs: &mut Procs,
+    sigs: &[Sig],
+    types: Vec<Ty>,
+    head: &Row<u32>,
+    first: &Row<InstId>,
+    last: &Row<InstId>,
+    body: &Flat,
+) -> Result<Arrangement, Refusal>
+    requires sigs { SigsFit (count_of procs.old.insts) sigs.now }
+    requires head { NumbersBelow (length types.items) head.now }
+    requires first { NumbersBelow (count_of procs.old.insts) first.now }
+    requires last { NumbersBelow (count_of procs.old.insts) last.now }
+    requires firsts { length first.now ≡ length head.now }
+    requires lasts { length last.now ≡ length head.now }
+    requires variables { NumbersBelow (length types.items) (variables_of (plain_flat body.now)) }
+    requires known { Known procs.old.program (plain_flat body.now) }
+    ensures { Arranges sigs.now types.items head.now first.now last.now (plain_flat body.now)
+        procs.old procs.new result }
+{
+    let mut state = beginning(alloc, procs, types, head, first)?;
+    match try_goal(alloc, procs, sigs, &mut state, body) {
+        Ok(part) => ended(alloc, procs, state, head, last, part),
+        Err(Failed::Fault(fault)) => Err(Refusal::Fault(fault)),
+        Err(Failed::Memory) => Err(Refusal::Memory),
+    }
+}
+
+/// The beginning of a clause, before any node of the graph was looked for.
+fn beginning(
+    alloc: Global,
+    procs: &Procs,
+    types: Vec<Ty>,
+    head: &Row<u32>,
+    first: &Row<InstId>,
+) -> Result<State, Memory>
+    requires head { NumbersBelow (length types.items) head.now }
+    requires first { NumbersBelow (count_of procs.now.insts) first.now }
+    requires firsts { length first.now ≡ length head.now }
+    ensures { IfOk result (IsBeginning types.items head.now first.now procs.now) }
+{
+    procs.fit();
+    let nodes = Nodes::new(alloc);
+    State::begin(alloc, nodes, types, head.as_slice(), first.as_slice())
+}
+
+/// A goal that runs, at its end: each argument must meet its final inst, where that point is reachable.
+fn ended(
+    alloc: Global,
+    procs: &mut Procs,
+    state: State,
+    head: &Row<u32>,
+    last: &Row<InstId>,
+    part: Part,
+) -> Result<Arrangement, Refusal>
+    requires stands { Stands procs.old state }
+    requires head { NumbersBelow (length state.insts.items) head.now }
+    requires last { NumbersBelow (count_of procs.old.insts) last.now }
+    requires lasts { length last.now ≡ length head.now }
+    ensures { Judges head.now last.now part procs.old procs.new state result }
+{
+    match unmet(alloc, procs, &state, head, last, part.reachable)? {
+        Some(place) => Err(Refusal::Unmet(place)),
+        None => {
+            let Part {
+                goals,
+                reachable: _,
+                freshened: _,
+            } = part;
+            let body = alone(alloc, goals)?;
+            Ok(Arrangement {
+                body,
+                types: state.types,
+            })
+        }
+    }
+}
+
+/// The place of the first argument whose final inst isn't met at this point, where it is reachable.
+fn unmet(
+    alloc: Global,
+    procs: &mut Procs,
+    state: &State,
+    head: &Row<u32>,
+    last: &Row<InstId>,
+    reachable: bool,
+) -> Result<Option<u32>, Memory>
+    requires stands { Stands procs.old state.now }
+    requires head { NumbersBelow (length state.now.insts.items) head.now }
+    requires last { NumbersBelow (count_of procs.old.insts) last.now }
+    requires lasts { length last.now ≡ length head.now }
+    ensures { IfOk result (IsUnmet head.now last.now reachable procs.old procs.new state.now) }
+{
+    if reachable {
+        state.unmet(alloc, procs, head, last)
+    } else {
+        Ok(None)
+    }
+}

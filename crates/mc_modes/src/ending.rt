@@ -1,0 +1,218 @@
+ghost use Rattle.std.specs.Prelude.{◌≡◌, ◌++◌, ◌∷◌, ℕ, List, [], length, map, not, true, IfOk, OnOk, if◌then◌else◌};
+ghost use Rattle.mc_program.specs.Programs.{TypeTerm, Source};
+ghost use Rattle.mc_model.specs.Scheduled.{nodes, no_nodes, Conj, Ite, Not, Exists};
+ghost use Rattle.mc_model.specs.PlainGoals.{plain_node, plain_sched};
+ghost use Rattle.mc_model.specs.Stream.{is_bound};
+ghost use Rattle.mc_accepted.specs.Arranged.{Point, Declared, ascending, alone, binds};
+ghost use Rattle.mc_accepted.specs.Chosen.{Chosen, of_nodes};
+ghost use Rattle.mc_accepted.specs.Unmarked.{unmarked};
+ghost use Rattle.mc_insts.specs.Graphs.{count_of};
+ghost use Rattle.mc_procs.specs.Named.{NumbersBelow};
+ghost use Rattle.mc_mode_points.specs.States.{point_of, is_outside};
+ghost use Rattle.mc_mode_points.specs.Agreeing.{Stands};
+ghost use Rattle.mc_mode_points.specs.Answers.{end_of};
+ghost use Rattle.mc_mode_points.specs.Merged.{RowsFit};
+ghost use Rattle.mc_modes.specs.code.Parts.{IsOne, MergedAs, ChosenAs};
+
+use mc_base::{Copied, Memory, Row};
+use mc_mode_points::{Failed, ModeFault, Part, State, alone, one, unmarked};
+use mc_model::inst::InstId;
+use mc_model::sched::{GoalNode, Sched};
+use mc_procs::Procs;
+use std::alloc::Global;
+
+/// A condition in its order, whether the point after it is reachable, and the least variable that it binds and must not.
+#[derive(Drop)]
+pub struct Condition {
+    pub goal: GoalNode,
+    pub reachable: bool,
+    pub bound: Option<u32>,
+}
+
+/// A condition and a then part in their order.
+#[derive(Drop)]
+pub struct Begun {
+    pub condition: GoalNode,
+    pub bound: Option<u32>,
+    pub then_part: GoalNode,
+}
+
+/// A branch's goals as one, and the insts of the variables that occur outside at its end, where it is reachable.
+pub fn ended(
+    alloc: Global,
+    state: &State,
+    seen: &Row<u32>,
+    part: Part,
+    ends: &mut Vec<Row<InstId>>,
+) -> Result<GoalNode, Memory>
+    requires { NumbersBelow (length state.now.insts.items) seen.now }
+    ensures goal { IfOk result (λ goal. plain_node goal
+        ≡ alone (nodes (map plain_node part.goals.items))) }
+    ensures ends { OnOk result (ends.new.items ≡ (if part.reachable
+        then ends.old.items ++ map (point_of state.now.insts.items) seen.now ∷ []
+        else ends.old.items)) }
+{
+    let Part {
+        goals,
+        reachable,
+        freshened: _,
+    } = part;
+    if reachable {
+        let insts = state.insts_at(alloc, seen.as_slice())?;
+        ends.push(Row::of(insts)?)?;
+    }
+    alone(alloc, goals)
+}
+
+/// What stands for a then part that is never run.
+pub fn nothing(alloc: Global) -> GoalNode
+    ensures { plain_node result ≡ unmarked (Conj no_nodes) }
+{
+    unmarked(alloc, Sched::Conj(Row::new(alloc)))
+}
+
+/// A condition that runs.
+pub fn condition_of(alloc: Global, part: Part, bound: Option<u32>) -> Result<Condition, Memory>
+    ensures goal { IfOk result (λ c. plain_node c.goal
+        ≡ alone (nodes (map plain_node part.goals.items))) }
+    ensures reachable { IfOk result (λ c. c.reachable ≡ part.reachable) }
+    ensures bound { IfOk result (λ c. c.bound ≡ bound) }
+{
+    let Part {
+        goals,
+        reachable,
+        freshened: _,
+    } = part;
+    let goal = alone(alloc, goals)?;
+    Ok(Condition {
+        goal,
+        reachable,
+        bound,
+    })
+}
+
+/// The first of these variables that is bound, where the point is reachable.
+pub fn first_bound(state: &State, vars: &Row<u32>, reachable: bool) -> Option<u32>
+    requires { NumbersBelow (length state.now.insts.items) vars.now }
+    ensures { (b : Point ℕ) (xs : List ℕ) → vars.now ≡ ascending (λ x. not (is_bound (b x))) xs
+        → (C : Chosen) (P : Source) (declared : ℕ → List Declared) (T : ℕ → TypeTerm)
+        → binds (of_nodes C) P declared T xs b (end_of reachable state.now) ≡ result }
+{
+    if reachable {
+        state.first_bound(vars.as_slice())
+    } else {
+        None
+    }
+}
+
+/// A goal whose branches all run, at the insts before them: the ends are merged.
+pub fn merged(
+    alloc: Global,
+    procs: &mut Procs,
+    state: &mut State,
+    own: &[u32],
+    seen: &Row<u32>,
+    ends: &[Row<InstId>],
+    goal: Sched,
+) -> Result<Part, Failed>
+    requires stands { Stands procs.old state.old }
+    requires own { NumbersBelow (length state.old.insts.items) own.now }
+    requires seen { seen.now ≡ ascending (is_outside state.old.outside.items) own.now }
+    requires rows { RowsFit (length seen.now) (count_of procs.old.insts) ends.now }
+    ensures merged { MergedAs (plain_sched goal) own.now seen.now ends.now procs.old procs.new
+        state.old state.new result }
+    ensures count { OnOk result (length state.new.insts.items ≡ length state.old.insts.items) }
+{
+    match state.join(alloc, procs, own, seen, ends) {
+        Ok(reachable) => {
+            let part = one(alloc, goal, reachable)?;
+            Ok(part)
+        }
+        Err(failed) => Err(failed),
+    }
+}
+
+/// An if-then-else whose parts all run, at the insts before it.
+pub fn chosen(
+    alloc: Global,
+    procs: &mut Procs,
+    state: &mut State,
+    own: &[u32],
+    seen: &Row<u32>,
+    vars: &Row<u32>,
+    begun: Begun,
+    else_part: GoalNode,
+    ends: &[Row<InstId>],
+) -> Result<Part, Failed>
+    requires stands { Stands procs.old state.old }
+    requires own { NumbersBelow (length state.old.insts.items) own.now }
+    requires seen { seen.now ≡ ascending (is_outside state.old.outside.items) own.now }
+    requires rows { RowsFit (length seen.now) (count_of procs.old.insts) ends.now }
+    ensures chosen { ChosenAs begun.bound (Ite vars.now (plain_node begun.condition)
+        (plain_node begun.then_part) (plain_node else_part)) own.now seen.now ends.now procs.old
+        procs.new state.old state.new result }
+    ensures count { OnOk result (length state.new.insts.items ≡ length state.old.insts.items) }
+{
+    let Begun {
+        condition,
+        bound,
+        then_part,
+    } = begun;
+    match bound {
+        Some(x) => Err(Failed::Fault(ModeFault::NegatedBinds(x))),
+        None => {
+            let goal = choice(alloc, vars, condition, then_part, else_part)?;
+            merged(alloc, procs, state, own, seen, ends, goal)
+        }
+    }
+}
+
+/// An if-then-else of these goals.
+fn choice(
+    alloc: Global,
+    vars: &Row<u32>,
+    condition: GoalNode,
+    then_part: GoalNode,
+    else_part: GoalNode,
+) -> Result<Sched, Memory>
+    ensures { IfOk result (λ goal. plain_sched goal ≡ Ite vars.now (plain_node condition)
+        (plain_node then_part) (plain_node else_part)) }
+{
+    let vars = vars.copied(alloc)?;
+    let condition = Box::new(alloc, condition)?;
+    let then_part = Box::new(alloc, then_part)?;
+    let else_part = Box::new(alloc, else_part)?;
+    Ok(Sched::Ite(vars, condition, then_part, else_part))
+}
+
+/// A negated goal that runs, back at the point before it.
+pub fn negated(alloc: Global, part: Part) -> Result<Part, Memory>
+    ensures goal { IfOk result (λ whole.
+        IsOne (Not (alone (nodes (map plain_node part.goals.items)))) whole) }
+    ensures reachable { IfOk result (λ whole. whole.reachable ≡ true) }
+{
+    let Part {
+        goals,
+        reachable: _,
+        freshened: _,
+    } = part;
+    let goal = Box::new(alloc, alone(alloc, goals)?)?;
+    let whole = one(alloc, Sched::Not(goal), true)?;
+    Ok(whole)
+}
+
+/// A goal that runs, with variables quantified around it.
+pub fn quantified_over(alloc: Global, vars: &Row<u32>, part: Part) -> Result<Part, Memory>
+    ensures goal { IfOk result (λ whole.
+        IsOne (Exists vars.now (alone (nodes (map plain_node part.goals.items)))) whole) }
+    ensures reachable { IfOk result (λ whole. whole.reachable ≡ part.reachable) }
+{
+    let Part {
+        goals,
+        reachable,
+        freshened: _,
+    } = part;
+    let goal = Box::new(alloc, alone(alloc, goals)?)?;
+    let whole = one(alloc, Sched::Some(vars.copied(alloc)?, goal), reachable)?;
+    Ok(whole)
+}

@@ -1,0 +1,13 @@
+//! Goals in the order in which they run: the one order of a clause's goal from the insts at its beginning, or the rule
+//! that it breaks.
+#![tactic(auto)]
+
+mod arranging;
+mod atoms;
+mod ending;
+mod order;
+mod variables;
+mod waiting;
+
+pub use arranging::{Arrangement, Refusal, arrange};
+pub use order::try_goal;

@@ -1,0 +1,159 @@
+ghost use Rattle.std.specs.Prelude.{◌≡◌, ◌<◌, ◌+◌, ◌++◌, ◌^◌, ℕ, [], length, get_or, slice_index_or, map, IfOk, OnOk};
+ghost use Rattle.mc_model.specs.Scheduled.{nodes, node_then, no_nodes, Conj};
+ghost use Rattle.mc_model.specs.PlainGoals.{plain_node};
+ghost use Rattle.mc_accepted.specs.Ordered.{times_in};
+ghost use Rattle.mc_accepted.specs.Unmarked.{unmarked};
+ghost use Rattle.mc_procs.specs.Named.{NumbersBelow};
+ghost use Rattle.mc_mode_points.specs.States.{point_of, mark_of, LogWithin, SameState, Later, Even};
+ghost use Rattle.mc_mode_points.specs.declared.state.State.{State};
+ghost use Rattle.mc_modes.specs.Tries.{OnFault};
+ghost use Rattle.mc_modes.specs.code.Waiting.{goals_at, variables_of_each, below, noted, IsStuck};
+
+use crate::variables::push_variables;
+use mc_base::{Memory, Row};
+use mc_mode_points::{Failed, Mark, ModeFault, Part, State, one};
+use mc_model::flat::Flat;
+use mc_model::sched::{GoalNode, Sched};
+use std::alloc::Global;
+
+/// What a pass over the waiting goals of a conjunction finds: the place of the first that runs, with what it is then; or
+/// none, with the first fault of one that isn't only waiting itself.
+#[derive(Drop)]
+pub enum Found {
+    Ready(usize, Part),
+    NoneReady(Option<ModeFault>),
+}
+
+/// The places of so many goals.
+pub fn places(alloc: Global, many: usize) -> Result<Vec<usize>, Memory>
+    ensures { IfOk result (λ places. places.items ≡ below many) }
+{
+    let mut places = Vec::with_capacity(alloc, many)?;
+    for k in 0..many {
+        places.push(k)?;
+    }
+    Ok(places)
+}
+
+/// Notes the first fault that is of more than waiting goals.
+pub fn note(first: &mut Option<ModeFault>, fault: ModeFault)
+    ensures { first.new ≡ noted first.old fault }
+{
+    if first.is_some() || matches!(&fault, ModeFault::Waits(_, _)) {
+        return;
+    }
+    *first = Some(fault);
+}
+
+/// The goal in a place.
+pub fn goal_at(goals: &[Flat], place: usize) -> &Flat
+    requires { place < length goals.now }
+    ensures { result.now ≡ slice_index_or goals.now place result.now }
+{
+    &goals[place]
+}
+
+/// The variables of the goals in these places.
+fn variables_at(alloc: Global, goals: &[Flat], places: &[usize]) -> Result<Vec<u32>, Memory>
+    requires { NumbersBelow (length goals.now) places.now }
+    ensures { IfOk result (λ list. list.items ≡ variables_of_each (goals_at goals.now places.now)) }
+{
+    let mut list = Vec::new(alloc);
+    for k in places {
+        push_variables(&mut list, &goals[*k])?;
+    }
+    Ok(list)
+}
+
+/// The fault of a conjunction none of whose waiting goals runs: the first that was found, else that they wait.
+pub fn stuck(
+    alloc: Global,
+    state: &State,
+    goals: &[Flat],
+    waiting: &[usize],
+    found: Option<ModeFault>,
+) -> Result<ModeFault, Memory>
+    requires places { NumbersBelow (length goals.now) waiting.now }
+    requires few { length waiting.now < 2 ^ 32 }
+    requires variables { NumbersBelow (length state.now.insts.items)
+        (variables_of_each (goals_at goals.now waiting.now)) }
+    ensures { IfOk result (λ fault. IsStuck (point_of state.now.insts.items)
+        (goals_at goals.now waiting.now) found fault) }
+{
+    match found {
+        Some(fault) => Ok(fault),
+        None => {
+            let vars = variables_at(alloc, goals, waiting)?;
+            let free = state.free(alloc, &vars)?;
+            Ok(ModeFault::Waits(waiting.len() as u32, free))
+        }
+    }
+}
+
+/// A conjunction's goals as one goal.
+pub fn conjunction_of(alloc: Global, part: Part) -> Result<Part, Memory>
+    ensures goals { IfOk result (λ whole. nodes (map plain_node whole.goals.items)
+        ≡ node_then (unmarked (Conj (nodes (map plain_node part.goals.items)))) no_nodes) }
+    ensures reachable { IfOk result (λ whole. whole.reachable ≡ part.reachable) }
+    ensures freshened { IfOk result (λ whole. whole.freshened.items ≡ []) }
+{
+    let Part {
+        goals,
+        reachable,
+        freshened: _,
+    } = part;
+    let whole = one(alloc, Sched::Conj(Row::of(goals)?), reachable)?;
+    Ok(whole)
+}
+
+/// Puts a part's goals behind those that ran, and its fresh variables outside; whether its end is reachable.
+pub fn taken(
+    state: &mut State,
+    done: &mut Vec<GoalNode>,
+    fresh: &mut Vec<u32>,
+    part: Part,
+) -> Result<bool, Memory>
+    requires { NumbersBelow (length state.old.outside.items) part.freshened.items }
+    ensures reachable { IfOk result (λ reachable. reachable ≡ part.reachable) }
+    ensures done { OnOk result (done.new.items ≡ done.old.items ++ part.goals.items) }
+    ensures fresh { OnOk result (fresh.new.items ≡ fresh.old.items ++ part.freshened.items) }
+    ensures insts { OnOk result (state.new.insts ≡ state.old.insts) }
+    ensures log { OnOk result (state.new.log ≡ state.old.log) }
+    ensures types { OnOk result (state.new.types ≡ state.old.types) }
+    ensures nodes { OnOk result (state.new.nodes ≡ state.old.nodes) }
+    ensures len { OnOk result (length state.new.outside.items ≡ length state.old.outside.items) }
+    ensures counts { OnOk result ((x : ℕ) → get_or state.new.outside.items x 0
+        ≡ get_or state.old.outside.items x 0 + times_in x part.freshened.items) }
+{
+    let Part {
+        goals,
+        reachable,
+        freshened,
+    } = part;
+    state.enter(&freshened)?;
+    fresh.extend_from_slice(&freshened)?;
+    for goal in goals {
+        done.push(goal)?;
+    }
+    Ok(reachable)
+}
+
+/// Goes back to a moment where a rule is broken.
+pub fn settled(state: &mut State, mark: Mark, tried: Result<Part, Failed>) -> Result<Part, Failed>
+    requires { OnFault tried (LogWithin (length state.old.insts.items) state.old.log.items
+        × Even state.old) }
+    ensures same { result ≡ tried }
+    ensures kept { OnOk result (state.new ≡ state.old) }
+    ensures undone { OnFault result ((s : State) → Later s state.old → Even s
+        → mark ≡ mark_of s → SameState s state.new) }
+    ensures nodes { OnFault result (state.new.nodes ≡ state.old.nodes) }
+{
+    match tried {
+        Ok(part) => Ok(part),
+        Err(Failed::Fault(fault)) => {
+            state.undo(mark);
+            Err(Failed::Fault(fault))
+        }
+        Err(Failed::Memory) => Err(Failed::Memory),
+    }
+}
