@@ -38,11 +38,11 @@ abbrev pub arms_before : List (Label × Node) → Arms → Arms
 arms_before [] arms = arms
 arms_before (a ∷ came) arms = arm_then a.0 a.1 (arms_before came arms)
 
-one_arm_before : (came : List (Label × Node)) (a : Label × Node) (arms : Arms) → arms_before (came ++ a ∷ []) arms ≡ arms_before came (arm_then a.0 a.1 arms)
+pub one_arm_before : (came : List (Label × Node)) (a : Label × Node) (arms : Arms) → arms_before (came ++ a ∷ []) arms ≡ arms_before came (arm_then a.0 a.1 arms)
 one_arm_before [] a arms = refl
 one_arm_before (b ∷ came) a arms = ap (arm_then b.0 b.1) (one_arm_before came a arms)
 
-no_arm_after : (came : List (Label × Node)) → arms_before came no_arms ≡ arms_of came
+pub no_arm_after : (came : List (Label × Node)) → arms_before came no_arms ≡ arms_of came
 no_arm_after [] = refl
 no_arm_after (a ∷ came) = ap (arm_then a.0 a.1) (no_arm_after came)
 

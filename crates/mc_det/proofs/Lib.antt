@@ -13,3 +13,9 @@ pub mod MarkedNames
 pub mod Replacing
 pub mod Depending
 pub mod Closing
+pub mod Pruning
+pub mod Gathering
+pub mod PrunedNames
+pub mod PrunedParts
+pub mod Counting
+pub mod BoundOutside

@@ -1,9 +1,10 @@
--- Procedures with their marks fit as those before them do, and come into their places.
-use Rattle.std.proofs.Common.{◌≡◌, ⊎_elim, ℕ, zero, suc, ◌+◌, ◌<◌, List, [], ◌∷◌, ◌++◌, length, get_or, set, drop, take, map, append_assoc, length-append, length-drop, refl, sym, ap, ◌∙◌, subst, arith}
+-- Procedures with their marks, or with pruned bodies, fit as those before them do, and come into their places.
+use Rattle.std.proofs.Common.{◌≡◌, ⊎_elim, ℕ, zero, suc, ◌+◌, ◌<◌, List, [], ◌∷◌, ◌++◌, length, get_or, set, drop, take, map, append_assoc, length-append, length-drop, Option, Some, None, refl, sym, ap, ◌∙◌, subst, arith}
 use Rattle.std.proofs.lemmas.List.{map-append, take_more}
 use Rattle.std.proofs.lemmas.Bool.{cases_eq}
 use Rattle.mc_program.specs.Values.{Val}
 use Rattle.mc_program.specs.declared.builtin.Builtin.{Builtin}
+use Rattle.mc_source.specs.Determinism.{inferred, row_of, det, Allows}
 use Rattle.mc_source.specs.declared.det.Det.{Det}
 use Rattle.mc_model.specs.Outcomes.{Outcome, fails}
 use Rattle.mc_model.specs.Scheduled.{Node, Procedure}
@@ -13,15 +14,21 @@ use Rattle.mc_model.specs.declared.sched.Proc.{Proc}
 use Rattle.mc_accepted.specs.Accepted.{entered}
 use Rattle.mc_accepted.specs.Determined.{nothing_known}
 use Rattle.mc_accepted.specs.Fits.{type_of}
+use Rattle.mc_accepted.specs.Inferred.{with_determinisms}
 use Rattle.mc_procs.specs.Named.{Named}
 use Rattle.mc_procs.specs.Fitting.{AllFit, ProcedureFits, bounds_of}
-use Rattle.mc_procs.specs.Procedures.{PlainProcs, procedure_at, with_procs}
+use Rattle.mc_procs.specs.Procedures.{PlainProcs, as_system, procedure_at, with_procs}
+use Rattle.mc_det.specs.Determinisms.{declared_procedure}
 use Rattle.mc_det.specs.MarkedProcedures.{IsMarked, where_determined}
 use Rattle.mc_det.specs.Marked.{marked_body}
+use Rattle.mc_det.specs.Pruned.{pruned_body}
+use Rattle.mc_det.specs.PrunedProcedures.{FollowDeclared, IsPruned, Pruned}
 use Rattle.mc_det.specs.code.Marks.{under, AllStand}
+use Rattle.mc_det.specs.code.Prunes.{InDeclared}
 use Rattle.mc_det.specs.code.Walks.{InSystems}
 use Rattle.mc_det.proofs.Declaring.{procedure_is}
 use Rattle.mc_det.proofs.MarkedNames.{marked_named}
+use Rattle.mc_det.proofs.PrunedNames.{pruned_named}
 
 -- other procedures beside it
 beside : (q : PlainProcs) (ps : List Proc) (p : Procedure) → ProcedureFits q p → ProcedureFits (with_procs q ps) p
@@ -78,31 +85,70 @@ marked_fits q ds p r m f =
     (subst (Named (bounds_of q P)) (sym (m.body all_fail))
     (marked_named (bounds_of q P) S (type_of S P) (entered P.head P.first) nothing_known P.body f.body)))
 
-same_pred : (q : PlainProcs) (ds : List Det) (p r : Proc) → IsMarked q ds p r → (plain_proc r).pred ≡ (plain_proc p).pred
-same_pred q ds p r m = ap (λ (s : Proc). s.pred) m.others
+-- determinisms that follow the declared ones
+or_det : Option Det → Det
+or_det None = inferred det
+or_det (Some d) = d
+
+abbrev declared_or_det : PlainProcs → ℕ → Det
+declared_or_det q k = or_det (declared_procedure q.added k).declared
+
+they_follow : (q : PlainProcs) → FollowDeclared q (declared_or_det q)
+unfolding or_det
+they_follow q =
+    record {
+      declared = λ k d e. ap or_det e;
+      at_least_det = λ k e. subst (λ (d : Det). Allows (row_of d) det) (sym (ap or_det e)) ((λ h. h), omega arith);
+      uncommitted = λ k e. ap (λ (d : Det). d.committed) (ap or_det e);
+    }
+
+pub pruned_fits : (q : PlainProcs) (p r : Proc) → IsPruned q p r → ProcedureFits q (plain_proc p) → ProcedureFits q (plain_proc r)
+pruned_fits q p r m f =
+    let S = with_determinisms (as_system all_fail q) (declared_or_det q) in
+    let P = plain_proc p in
+    subst (ProcedureFits q) (sym (ap plain_proc m.others))
+    (with_another q P (plain_node r.body) p.det f
+    (subst (Named (bounds_of q P)) (sym (m.body all_fail (declared_or_det q) (they_follow q)))
+    (pruned_named (bounds_of q P) S (type_of S P) P.head (entered P.head P.first) P.body f.body)))
 
 -- a procedure of a list
 pub some_of : (ps : List Proc) (k : ℕ) → k < length ps → Proc
 some_of [] k lt = absurd (omega arith)
 some_of (p ∷ ps) k lt = p
 
--- the procedures with their marks may stand where those before them stood
-pub all_stand : (q : PlainProcs) (ds : List Det) (ps : List Proc) → AllFit q → length ps ≡ length q.added → ((k : ℕ) (e : Proc) → k < length q.added → IsMarked q ds (get_or q.added k e) (get_or ps k e)) → AllStand q ps
-all_stand q ds ps a count m =
+-- a procedure that may stand where another one stood
+abbrev MayStand : PlainProcs → Proc → Proc → Type 0
+MayStand q p r =
+    ((plain_proc r).pred ≡ (plain_proc p).pred)
+    × (ProcedureFits q (plain_proc p) → ProcedureFits q (plain_proc r))
+
+-- procedures with other bodies may stand where those before them stood
+all_may_stand : (q : PlainProcs) (ps : List Proc) → AllFit q → length ps ≡ length q.added → ((k : ℕ) (e : Proc) → k < length q.added → MayStand q (get_or q.added k e) (get_or ps k e)) → AllStand q ps
+all_may_stand q ps a count m =
     record {
       preds = λ k lt.
           let h : k < length q.added = omega arith in
           let d : Proc = some_of ps k lt in
           ap (λ (p : Procedure). p.pred) (procedure_is ps k d lt)
-          ∙ same_pred q ds (get_or q.added k d) (get_or ps k d) (m k d h)
+          ∙ (m k d h).0
           ∙ ap (λ (p : Procedure). p.pred) (sym (procedure_is q.added k d h))
           ∙ a.preds k h;
       each = λ k lt.
           let h : k < length q.added = omega arith in
           let d : Proc = some_of ps k lt in
           subst (ProcedureFits q) (sym (procedure_is ps k d lt))
-          (marked_fits q ds (get_or q.added k d) (get_or ps k d) (m k d h) (subst (ProcedureFits q) (procedure_is q.added k d h) (a.each k h)));
+          ((m k d h).1 (subst (ProcedureFits q) (procedure_is q.added k d h) (a.each k h)));
     }
+
+pub all_stand : (q : PlainProcs) (ds : List Det) (ps : List Proc) → AllFit q → length ps ≡ length q.added → ((k : ℕ) (e : Proc) → k < length q.added → IsMarked q ds (get_or q.added k e) (get_or ps k e)) → AllStand q ps
+all_stand q ds ps a count m =
+    all_may_stand q ps a count
+    (λ k e lt. (ap (λ (s : Proc). s.pred) (m k e lt).others, marked_fits q ds (get_or q.added k e) (get_or ps k e) (m k e lt)))
+
+pub all_pruned_stand : (q : PlainProcs) (ps : List Proc) → AllFit q → length ps ≡ length q.added → ((k : ℕ) (e : Proc) → k < length q.added → IsPruned q (get_or q.added k e) (get_or ps k e)) → AllStand q ps
+all_pruned_stand q ps a count m =
+    all_may_stand q ps a count
+    (λ k e lt. (ap (λ (s : Proc). s.pred) (m k e lt).others, pruned_fits q (get_or q.added k e) (get_or ps k e) (m k e lt)))
 
 -- the last of a list
 at_before : (ps : List Proc) (p : Proc) (k : ℕ) → k < length ps → procedure_at (ps ++ p ∷ []) k ≡ procedure_at ps k
@@ -173,6 +219,13 @@ made_marked q ds p x b t e is =
       body = λ outcome. ap (λ (y : Proc). plain_node y.body) e ∙ is outcome;
     }
 
+pub made_pruned : (q : PlainProcs) (p x : Proc) (b : GoalNode) → x ≡ record p { body = b; det = p.det } → InDeclared q (λ S. plain_node b ≡ pruned_body S (plain_proc p)) → IsPruned q p x
+made_pruned q p x b e is =
+    record {
+      others = e ∙ ap (λ (n : GoalNode). record p { body = n }) (ap (λ (y : Proc). y.body) (sym e));
+      body = λ outcome ds follow. ap (λ (y : Proc). plain_node y.body) e ∙ is outcome ds follow;
+    }
+
 get_any : (ps : List Proc) (k : ℕ) (d e : Proc) → k < length ps → get_or ps k d ≡ get_or ps k e
 get_any [] k d e lt = absurd (omega arith)
 get_any (p ∷ ps) zero d e lt = refl
@@ -189,16 +242,17 @@ get_last [] x (suc k) d e = absurd (omega arith)
 get_last (p ∷ ps) x zero d e = absurd (omega arith)
 get_last (p ∷ ps) x (suc k) d e = get_last ps x k d (omega arith)
 
-pub one_marked : (q : PlainProcs) (ds : List Det) (ps rs : List Proc) (k : ℕ) (p x : Proc) → length ps ≡ k → k < length q.added → p ≡ get_or q.added k p → rs ≡ ps ++ x ∷ [] → IsMarked q ds p x → ((j : ℕ) (d : Proc) → j < k → IsMarked q ds (get_or q.added j d) (get_or ps j d)) → (j : ℕ) (d : Proc) → j < k + 1 → IsMarked q ds (get_or q.added j d) (get_or rs j d)
-one_marked q ds ps rs k p x count lt is more m inv j d b =
-    subst (λ (l : List Proc). IsMarked q ds (get_or q.added j d) (get_or l j d)) (sym more)
+-- each procedure with its place, one more
+pub one_placed : (R : Proc → Proc → Type 0) (qs ps rs : List Proc) (k : ℕ) (p x : Proc) → length ps ≡ k → k < length qs → p ≡ get_or qs k p → rs ≡ ps ++ x ∷ [] → R p x → ((j : ℕ) (d : Proc) → j < k → R (get_or qs j d) (get_or ps j d)) → (j : ℕ) (d : Proc) → j < k + 1 → R (get_or qs j d) (get_or rs j d)
+one_placed R qs ps rs k p x count lt is more m inv j d b =
+    subst (λ (l : List Proc). R (get_or qs j d) (get_or l j d)) (sym more)
     (⊎_elim
     (λ (e : j ≡ k).
-    subst (IsMarked q ds (get_or q.added j d)) (sym (get_last ps x j d (e ∙ sym count)))
-    (subst (λ (r : Proc). IsMarked q ds r x) (is ∙ get_any q.added k p d lt ∙ ap (λ i. get_or q.added i d) (sym e)) m))
+    subst (R (get_or qs j d)) (sym (get_last ps x j d (e ∙ sym count)))
+    (subst (λ (r : Proc). R r x) (is ∙ get_any qs k p d lt ∙ ap (λ i. get_or qs i d) (sym e)) m))
     (λ (n : j ≡ k → ⊥).
     let less : j < k = omega arith in
-    subst (IsMarked q ds (get_or q.added j d)) (sym (get_front ps x j d (omega arith))) (inv j d less))
+    subst (R (get_or qs j d)) (sym (get_front ps x j d (omega arith))) (inv j d less))
     (cases_eq j k))
 
 pub dets_more : (ps rs : List Proc) (ds : List Det) (k : ℕ) (x : Proc) (d : Det) → rs ≡ ps ++ x ∷ [] → map (λ (p : Proc). p.det) ps ≡ take k ds → k < length ds → x.det ≡ get_or ds k d → map (λ (p : Proc). p.det) rs ≡ take (k + 1) ds
@@ -208,3 +262,12 @@ dets_more ps rs ds k x d more e lt is =
     ∙ ap (λ (l : List Det). l ++ x.det ∷ []) e
     ∙ ap (λ (t : Det). take k ds ++ t ∷ []) is
     ∙ sym (take_more ds k d lt)
+
+-- all of them with pruned bodies
+pub procs_pruned : (q r : PlainProcs) (ps : List Proc) → r ≡ with_procs q ps → length ps ≡ length q.added → ((k : ℕ) (d : Proc) → k < length q.added → IsPruned q (get_or q.added k d) (get_or ps k d)) → Pruned q r
+procs_pruned q r ps is count m =
+    record {
+      others = is ∙ ap (with_procs q) (sym (ap (λ (v : PlainProcs). v.added) is));
+      count = ap (λ (v : PlainProcs). length v.added) is ∙ count;
+      pruned = λ k d lt. subst (λ (v : PlainProcs). IsPruned q (get_or q.added k d) (get_or v.added k d)) (sym is) (m k d lt);
+    }

@@ -3,4 +3,6 @@ pub mod SkeletonLaws
 pub mod Determinisms
 pub mod Marked
 pub mod MarkedProcedures
+pub mod Pruned
+pub mod PrunedProcedures
 pub mod code

@@ -4,3 +4,4 @@ pub mod Testing
 pub mod Facts
 pub mod Walks
 pub mod Marks
+pub mod Prunes

@@ -1,4 +1,5 @@
 ghost use Rattle.mc_det.specs.Marked.{MarksAreKept};
+ghost use Rattle.mc_det.specs.Pruned.{PrunedKeepMarks};
 ghost use Rattle.mc_det.specs.SkeletonLaws.{SkeletonsTell, LeastBySkeletons};
 
 /// A goal's skeleton comes to what the table says of the goal.
@@ -14,4 +15,9 @@ pub fn least_by_skeletons()
 /// Each goal of a body with its marks keeps the determinism that the table gives it.
 pub fn marks_are_kept()
     ensures { MarksAreKept }
+{}
+
+/// Each goal of a body with its marks for pruned goals keeps them.
+pub fn pruned_keep_marks()
+    ensures { PrunedKeepMarks }
 {}

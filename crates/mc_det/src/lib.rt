@@ -1,17 +1,22 @@
-//! Determinisms of procedures: declared ones, and the least that bodies allow.
+//! Determinisms of procedures: declared ones, and the least that bodies allow; and goals that are pruned.
 #![tactic(auto)]
 
 mod facts;
 mod inference;
 mod law;
 mod mark;
+mod outside;
 mod point;
 mod procedures;
+mod prune;
+mod pruned;
 mod symbols;
 mod tested;
+mod variables;
 mod walk;
 
 pub use inference::determinisms;
-pub use law::{least_by_skeletons, marks_are_kept, skeletons_tell};
+pub use law::{least_by_skeletons, marks_are_kept, pruned_keep_marks, skeletons_tell};
 pub use point::Point;
 pub use procedures::infer;
+pub use pruned::prune_goals;

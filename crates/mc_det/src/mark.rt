@@ -132,7 +132,10 @@ fn arms_told(arms: &[Arm]) -> Det
 }
 
 /// A copy of changes.
-fn copy_changes(alloc: Global, changes: &Row<(u32, InstId)>) -> Result<Row<(u32, InstId)>, Memory>
+pub(crate) fn copy_changes(
+    alloc: Global,
+    changes: &Row<(u32, InstId)>,
+) -> Result<Row<(u32, InstId)>, Memory>
     ensures { IfOk result (λ copy. copy ≡ changes.now) }
 {
     let mut copy = Vec::new(alloc);
@@ -143,7 +146,7 @@ fn copy_changes(alloc: Global, changes: &Row<(u32, InstId)>) -> Result<Row<(u32,
 }
 
 /// A copy of what an arm is for.
-fn copy_on(alloc: Global, on: &On) -> Result<On, Memory>
+pub(crate) fn copy_on(alloc: Global, on: &On) -> Result<On, Memory>
     ensures { IfOk result (λ copy. copy ≡ on.now) }
 {
     match on {

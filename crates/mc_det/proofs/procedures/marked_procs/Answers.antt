@@ -3,8 +3,9 @@ use Rattle.mc_source.specs.Determinism.{inferred, det}
 use Rattle.mc_model.specs.PlainGoals.{plain_proc}
 use Rattle.mc_model.specs.declared.sched.Proc.{Proc}
 use Rattle.mc_procs.specs.Fitting.{ProcedureFits}
+use Rattle.mc_det.specs.MarkedProcedures.{IsMarked}
 use Rattle.mc_det.proofs.Declaring.{procedure_is}
-use Rattle.mc_det.proofs.Replacing.{made_marked, one_marked, dets_more}
+use Rattle.mc_det.proofs.Replacing.{made_marked, one_placed, dets_more}
 use Rattle.mc_det.proofs.procedures.marked_procs.Goals as goal
 
 pub marked_body-requires : goal.marked_body-requires
@@ -27,7 +28,7 @@ loop-k-preserved c =
       count = omega (arith, ap length c.in_ok-push.ensures.items, length-append c.loop-k.marked.items (x ∷ []), c.loop-k.invariant.count);
       dets = dets_more c.loop-k.marked.items c.push.new.self.items ds k x (inferred det) c.in_ok-push.ensures.items c.loop-k.invariant.dets (omega arith) (ap (λ (y : Proc). y.det) c.in_ok-with_body.ensures ∙ c.assigned.ensures);
       each =
-          one_marked q ds c.loop-k.marked.items c.push.new.self.items k p x c.loop-k.invariant.count lt c.get-p.ensures c.in_ok-push.ensures.items
+          one_placed (IsMarked q ds) q.added c.loop-k.marked.items c.push.new.self.items k p x c.loop-k.invariant.count lt c.get-p.ensures c.in_ok-push.ensures.items
           (made_marked q ds p x c.in_ok-body.body _ c.in_ok-with_body.ensures c.in_ok-body.ensures)
           c.loop-k.invariant.each;
     }

@@ -1,0 +1,31 @@
+use Rattle.std.proofs.Common.{◌<◌, ◌∷◌, [], length, length-append, sym, ap, subst, arith}
+use Rattle.mc_model.specs.PlainGoals.{plain_proc}
+use Rattle.mc_model.specs.declared.sched.Proc.{Proc}
+use Rattle.mc_procs.specs.Fitting.{ProcedureFits}
+use Rattle.mc_det.specs.PrunedProcedures.{IsPruned}
+use Rattle.mc_det.proofs.Declaring.{procedure_is}
+use Rattle.mc_det.proofs.Replacing.{made_pruned, one_placed}
+use Rattle.mc_det.proofs.pruned.pruned_procs.Goals as goal
+
+pub pruned_body-requires : goal.pruned_body-requires
+pruned_body-requires c =
+    let q = c.args.procs.now in
+    let k = c.loop-k.k in
+    let lt : k < length q.added = omega (arith, c.loop-k-test.true, c.count-k-end.ensures) in
+    subst (λ (p : Proc). ProcedureFits q (plain_proc p)) (sym c.get-p.ensures)
+    (subst (ProcedureFits q) (procedure_is q.added k c.get-p.result.now lt) (c.fit.ensures.all.each k lt))
+
+pub loop-k-preserved : goal.loop-k-preserved
+loop-k-preserved c =
+    let q = c.args.procs.now in
+    let k = c.loop-k.k in
+    let lt : k < length q.added = omega (arith, c.loop-k-test.true, c.count-k-end.ensures) in
+    let x : Proc = c.in_ok-with_body.field-0 in
+    let p : Proc = c.get-p.result.now in
+    record {
+      count = omega (arith, ap length c.in_ok-push.ensures.items, length-append c.loop-k.pruned.items (x ∷ []), c.loop-k.invariant.count);
+      each =
+          one_placed (IsPruned q) q.added c.loop-k.pruned.items c.push.new.self.items k p x c.loop-k.invariant.count lt c.get-p.ensures c.in_ok-push.ensures.items
+          (made_pruned q p x c.in_ok-body.body c.in_ok-with_body.ensures c.in_ok-body.ensures)
+          c.loop-k.invariant.each;
+    }
