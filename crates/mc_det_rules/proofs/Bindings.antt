@@ -1,21 +1,17 @@
 -- Which variables of a goal changes bind; and what is found of goals, one after another.
 use Rattle.std.proofs.Math.Seq.{drop-cons}
-use Rattle.std.proofs.Common.{◌≡◌, ℕ, zero, suc, ◌<◌, Bool, true, false, not, ◌&&◌, ◌||◌, List, [], ◌∷◌, ◌++◌, length, get_or, drop, map, Option, Some, None, refl, sym, ap, ap₂, ◌∙◌, if◌then◌else◌}
+use Rattle.std.proofs.Common.{◌≡◌, ℕ, suc, ◌<◌, Bool, true, false, ◌||◌, List, [], ◌∷◌, ◌++◌, length, get_or, drop, map, refl, sym, ap, ap₂, ◌∙◌, if◌then◌else◌}
 use Rattle.std.proofs.lemmas.List.Folds.{list_any-append}
 use Rattle.std.specs.List.{list_any}
-use Rattle.std.specs.Option.{option_or}
-use Rattle.mc_model.specs.Scheduled.{Node, Nodes, node_then, Label, Arms, arm_then, nodes, Procedure}
+use Rattle.mc_model.specs.Scheduled.{Node, Label, arm_then, nodes}
 use Rattle.mc_model.specs.PlainGoals.{plain_node, plain_arm, arms_of}
-use Rattle.mc_model.specs.Stream.{is_bound}
 use Rattle.mc_model.specs.declared.sched.Arm.{Arm}
 use Rattle.mc_model.specs.declared.sched.GoalNode.{GoalNode}
 use Rattle.mc_procs.proofs.Views.{plain_node-open, plain_arm-open}
-use Rattle.mc_accepted.specs.Ordered.{Insts, change_at, binds_one, variables_of_node, variables_of_nodes, variables_of_arms}
+use Rattle.mc_accepted.specs.Ordered.{change_at, binds_one, variables_of_node, variables_of_nodes, variables_of_arms}
 use Rattle.mc_accepted.specs.Determined.{insts_after}
 use Rattle.mc_det.specs.code.Points.{insts_in}
-use Rattle.mc_det_rules.specs.declared.calls.Misplaced.{Misplaced}
-use Rattle.mc_det_rules.specs.code.Io.{fails, none_fail}
-use Rattle.mc_det_rules.specs.code.Calls.{binds, both, before_others, of_condition, in_first_alone, found_in, found_in_all, found_in_each, found_in_arms}
+use Rattle.mc_det_rules.specs.code.Calls.{binds}
 
 -- one of several variables
 chosen : (a b : Bool) → (if a then true else b) ≡ (a || b)

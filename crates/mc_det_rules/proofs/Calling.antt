@@ -1,9 +1,9 @@
 -- What is found of the calls of goals, one after another.
 use Rattle.std.proofs.Math.Seq.{drop-cons, drop-length}
-use Rattle.std.proofs.Common.{◌≡◌, ℕ, suc, ◌+◌, ◌<◌, Bool, true, false, not, ◌&&◌, ◌||◌, List, [], ◌∷◌, length, get_or, drop, map, Option, Some, None, refl, sym, ap, ap₂, ◌∙◌, add-one, if◌then◌else◌}
+use Rattle.std.proofs.Common.{◌≡◌, ℕ, suc, ◌+◌, ◌<◌, Bool, true, false, not, ◌&&◌, ◌||◌, List, length, get_or, drop, map, Option, Some, None, refl, sym, ap, ap₂, ◌∙◌, add-one, if◌then◌else◌}
 use Rattle.std.specs.List.{list_any}
 use Rattle.std.specs.Option.{option_or}
-use Rattle.mc_model.specs.Scheduled.{Node, Nodes, no_nodes, node_then, nodes, Scheduled, Ite, Call, Label, no_arms, arm_then, Procedure}
+use Rattle.mc_model.specs.Scheduled.{Node, Nodes, node_then, nodes, Scheduled, Ite, Call, Label, arm_then, Procedure}
 use Rattle.mc_model.specs.PlainGoals.{plain_node, plain_sched, plain_arm, arms_of}
 use Rattle.mc_model.specs.declared.sched.Arm.{Arm}
 use Rattle.mc_model.specs.declared.sched.GoalNode.{GoalNode}
@@ -14,7 +14,7 @@ use Rattle.mc_accepted.specs.DeterminismFaults.{is_empty}
 use Rattle.mc_det.specs.code.Points.{insts_in}
 use Rattle.mc_det_rules.specs.declared.calls.Misplaced.{Misplaced}
 use Rattle.mc_det_rules.specs.code.Io.{fails, none_fail}
-use Rattle.mc_det_rules.specs.code.Calls.{binds, both, none_found, in_first_alone, before_others, of_condition, of_goal, of_call, misplaced, misplaced_in, found_in, found_in_part, found_in_all, found_in_each, found_in_arms}
+use Rattle.mc_det_rules.specs.code.Calls.{binds, both, none_found, before_others, of_condition, of_goal, of_call, misplaced, misplaced_in, found_in, found_in_part, found_in_all, found_in_each, found_in_arms}
 use Rattle.mc_det_rules.proofs.Bindings.{one_bound}
 
 -- the first one that is there

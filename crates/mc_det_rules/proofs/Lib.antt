@@ -5,3 +5,5 @@ pub mod Calling
 pub mod Finding
 pub mod Entering
 pub mod Faulting
+pub mod Bridging
+pub mod Sorting

@@ -1,3 +1,4 @@
 pub mod Io
 pub mod Calls
 pub mod Entry
+pub mod Listed

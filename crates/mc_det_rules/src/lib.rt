@@ -5,8 +5,11 @@ mod binding;
 mod calls;
 mod entry;
 mod io;
+mod listed;
+mod places;
 mod rules;
 mod texts;
 
 pub use entry::main_fault;
+pub use listed::faults;
 pub use rules::{call_fault, declaration_fault, io_fault, undeclared_fault};

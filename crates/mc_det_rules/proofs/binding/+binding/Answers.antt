@@ -1,11 +1,11 @@
 use Rattle.std.proofs.Math.Seq.{drop-length}
-use Rattle.std.proofs.Common.{◌≡◌, ℕ, suc, ◌-◌, ◌<◌, ◌++◌, ◌∷◌, [], Bool, List, length, drop, map, sym, ap, ap₂, ◌∙◌, arith}
+use Rattle.std.proofs.Common.{◌≡◌, suc, ◌-◌, ◌++◌, ◌∷◌, [], Bool, List, drop, map, sym, ap, ◌∙◌, arith}
 use Rattle.std.specs.List.{list_any}
 use Rattle.mc_model.specs.Scheduled.{Node, nodes}
 use Rattle.mc_model.specs.PlainGoals.{plain_node, plain_sched, plain_arm, arms_of}
 use Rattle.mc_model.specs.declared.sched.GoalNode.{GoalNode}
 use Rattle.mc_model.specs.declared.sched.Arm.{Arm}
-use Rattle.mc_procs.proofs.Views.{plain_node-open, plain_sched-Conj, plain_sched-Disj, plain_sched-Switch, plain_sched-Ite, plain_sched-Not, plain_sched-Some, plain_sched-Assign, plain_sched-Test, plain_sched-Build, plain_sched-Take, plain_sched-Const, plain_sched-TestConst, plain_sched-Call, plain_sched-Apply}
+use Rattle.mc_procs.proofs.Views.{plain_node-open, plain_sched-Conj, plain_sched-Disj, plain_sched-Switch, plain_sched-Ite, plain_sched-Not, plain_sched-Some}
 use Rattle.mc_accepted.specs.Ordered.{variables_of_node, variables_of_scheduled, variables_of_nodes, variables_of_arms}
 use Rattle.mc_det_rules.specs.code.Calls.{binds}
 use Rattle.mc_det_rules.proofs.Bindings.{two_lists, one_alone, goals_bound, arms_bound}

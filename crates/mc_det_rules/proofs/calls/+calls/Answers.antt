@@ -1,13 +1,12 @@
-use Rattle.std.proofs.Common.{◌≡◌, ℕ, ◌<◌, List, length, map, not, Bool, true, sym, ap, ap₂, ◌∙◌, subst, arith, refl}
+use Rattle.std.proofs.Common.{◌≡◌, ℕ, List, length, map, not, Bool, sym, ap, ap₂, ◌∙◌, subst, arith, refl}
 use Rattle.std.specs.List.{list_any}
-use Rattle.mc_model.specs.Scheduled.{Node, Procedure, nodes, Scheduled, Conj, Disj, Switch, Ite, Not, Exists, Assign, Test, Build, Take, Const, TestConst, Call, Apply}
+use Rattle.mc_model.specs.Scheduled.{Node, nodes}
 use Rattle.mc_model.specs.PlainGoals.{plain_node, plain_sched, plain_arm, arms_of}
 use Rattle.mc_model.specs.declared.sched.GoalNode.{GoalNode}
 use Rattle.mc_model.specs.declared.sched.Arm.{Arm}
-use Rattle.mc_program.specs.Values.{plain_value}
 use Rattle.mc_procs.specs.Named.{Named}
 use Rattle.mc_procs.specs.Procedures.{PlainProcs, procedure_at}
-use Rattle.mc_procs.proofs.Views.{plain_node-open, plain_sched-Conj, plain_sched-Disj, plain_sched-Switch, plain_sched-Ite, plain_sched-Not, plain_sched-Some, plain_sched-Assign, plain_sched-Test, plain_sched-Build, plain_sched-Take, plain_sched-Const, plain_sched-TestConst, plain_sched-Call, plain_sched-Apply}
+use Rattle.mc_procs.proofs.Views.{plain_node-open, plain_sched-Conj, plain_sched-Disj, plain_sched-Switch, plain_sched-Ite, plain_sched-Not, plain_sched-Some}
 use Rattle.mc_accepted.specs.Ordered.{variables_of_node}
 use Rattle.mc_accepted.specs.Determined.{insts_after}
 use Rattle.mc_det.specs.code.Points.{insts_in, undone}
@@ -16,8 +15,8 @@ use Rattle.mc_det.proofs.Declaring.{if_ok_as}
 use Rattle.mc_det.proofs.Walking.{each_named_at, arm_named_at}
 use Rattle.mc_det_rules.specs.declared.calls.Misplaced.{Misplaced}
 use Rattle.mc_det_rules.specs.code.Io.{fails}
-use Rattle.mc_det_rules.specs.code.Calls.{binds, both, in_first_alone, before_others, of_condition, of_goal, found_in, found_in_part, found_in_all, found_in_each, found_in_arms}
-use Rattle.mc_det_rules.proofs.Calling.{no_matter, all_begun, all_more, all_ended, each_more, each_ended, arms_more, arms_ended, goal_found, call_found, ite_found}
+use Rattle.mc_det_rules.specs.code.Calls.{binds, both, in_first_alone, before_others, of_condition, found_in, found_in_part, found_in_all, found_in_each, found_in_arms}
+use Rattle.mc_det_rules.proofs.Calling.{no_matter, all_begun, all_more, all_ended, each_more, each_ended, arms_more, arms_ended, goal_found, ite_found}
 use Rattle.mc_det_rules.proofs.calls.+calls.Goals as goal
 
 -- what a goal names is there at a point with as many variables
