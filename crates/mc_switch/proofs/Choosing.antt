@@ -1,5 +1,5 @@
 -- The variable on which disjuncts are switched, from what is kept of them.
-use Rattle.std.proofs.Common.{◌≡◌, ℕ, suc, ◌<◌, ◌≤◌, List, [], ◌∷◌, length, map, drop, get_or, replicate, inl, inr, arith, Bool, true, false, not, ◌&&◌, if◌then◌else◌, Option, Some, None, refl, sym, ap, ap₂, ◌∙◌}
+use Rattle.std.proofs.Common.{◌≡◌, ℕ, suc, ◌<◌, ◌≤◌, List, [], ◌∷◌, length, map, drop, get_or, replicate, inl, inr, arith, Bool, true, false, not, nat_lt, ◌&&◌, if◌then◌else◌, Option, Some, None, refl, sym, ap, ap₂, ◌∙◌}
 use Rattle.std.specs.List.{list_all}
 use Rattle.std.specs.Option.{option_or}
 use Rattle.std.proofs.Math.Seq.{drop-cons}
@@ -12,7 +12,6 @@ use Rattle.mc_program.specs.declared.builtin.Builtin.{Builtin}
 use Rattle.mc_program.specs.declared.ty.Ty.{Ty}
 use Rattle.mc_model.specs.Good.{System}
 use Rattle.mc_model.specs.Outcomes.{Outcome}
-use Rattle.mc_model.specs.Scheduled.{Node}
 use Rattle.mc_model.specs.Stream.{is_bound}
 use Rattle.mc_accepted.specs.Determined.{allowed_in}
 use Rattle.mc_accepted.specs.Least.{lesser, least}
@@ -22,9 +21,9 @@ use Rattle.mc_procs.specs.Procedures.{PlainProcs, as_system}
 use Rattle.mc_switch.specs.declared.disjunct.Opened.{Opened}
 use Rattle.mc_switch.specs.declared.opening.Opening.{Opening}
 use Rattle.mc_switch.specs.Openings.{plain_openings}
-use Rattle.mc_switch.specs.Choosing.{disjunct, type_in, inst_in}
-use Rattle.mc_switch.specs.code.Labels.{is_opened_by}
-use Rattle.mc_switch.specs.code.Choices.{first_variables, may_be, those_that, Opens, Covers, MissesNone, AreSame, AreOf}
+use Rattle.mc_switch.specs.Grouping.{type_in, inst_in}
+use Rattle.mc_switch.specs.code.Labels.{plain_opened, is_opened_by}
+use Rattle.mc_switch.specs.code.Choices.{first_variables, may_be, those_that, Opens, Covers, MissesNone, MayBe, AreSame}
 
 least_same : (f g : ℕ → Bool) → ((x : ℕ) → f x ≡ g x) → (xs : List ℕ) → least f xs ≡ least g xs
 least_same f g e [] = refl
@@ -115,12 +114,41 @@ pub missed_past : (q : PlainProcs) (types : List Ty) (insts : List ℕ) (os : Li
 missed_past q types insts os x past outcome ds opens =
     no_type q outcome (type_in types) x (inst_in insts x) ds (type_in types x) (get_or_past (map plain_type types) x (variable_type x) past)
 
--- goals with what they deconstruct
-pub goals_open : (ns : List Node) (os : List Opened) → AreOf ns os → Opens (map disjunct ns) os
-goals_open [] [] h = tt
-goals_open (n ∷ ns) [] h = absurd h
-goals_open [] (o ∷ os) h = absurd h
-goals_open (n ∷ ns) (o ∷ os) h = (sym h.0.opens, goals_open ns os h.1)
+-- disjuncts are what is kept of them
+pub opens_self : (os : List Opened) → Opens (map plain_opened os) os
+opens_self [] = tt
+opens_self (o ∷ os) = (refl, opens_self os)
+
+-- the least of those that pass a test passes it
+least_passes : (f g : ℕ → Bool) (xs : List ℕ) (x : ℕ) → Some x ≡ least f (those_that g xs) → g x ≡ true
+least_passes f g [] x e = cc
+least_passes f g (y ∷ xs) x e = by_test (g y) refl (λ z h. least_passes f g xs z h) e
+  where
+    by_less : (t : Bool) (z : ℕ) → g y ≡ true → g z ≡ true → Some x ≡ Some (if t then z else y) → g x ≡ true
+    by_less true z p q e =
+        let same : x ≡ z = cc in
+        ap g same ∙ q
+    by_less false z p q e =
+        let same : x ≡ y = cc in
+        ap g same ∙ p
+
+    by_lesser : (o : Option ℕ) → g y ≡ true → ((z : ℕ) → Some z ≡ o → g z ≡ true) → Some x ≡ Some (lesser y o) → g x ≡ true
+    by_lesser None q again e =
+        let same : x ≡ y = cc in
+        ap g same ∙ q
+    by_lesser (Some z) q again e = by_less (nat_lt z y) z q (again z refl) e
+
+    by_count : (t : Bool) → g y ≡ true → ((z : ℕ) → Some z ≡ least f (those_that g xs) → g z ≡ true) → Some x ≡ (if t then Some (lesser y (least f (those_that g xs))) else least f (those_that g xs)) → g x ≡ true
+    by_count true q again e = by_lesser (least f (those_that g xs)) q again e
+    by_count false q again e = again x e
+
+    by_test : (t : Bool) → g y ≡ t → ((z : ℕ) → Some z ≡ least f (those_that g xs) → g z ≡ true) → Some x ≡ least f (if t then y ∷ those_that g xs else those_that g xs) → g x ≡ true
+    by_test true q again e = by_count (f y) q again e
+    by_test false q again e = again x e
+
+pub may_be_least : (f : ℕ → Bool) (insts : List ℕ) (out : List Bool) (os : List Opened) (xs : List ℕ) (o : Option ℕ) → o ≡ least f (those_that (may_be insts out os) xs) → MayBe insts out os o
+may_be_least f insts out os xs None e = tt
+may_be_least f insts out os xs (Some x) e = least_passes f (may_be insts out os) xs x e
 
 -- nothing is left out
 pub none_out : (n : ℕ) → AreSame [] (replicate n false)

@@ -3,3 +3,7 @@ pub mod Labelled
 pub mod Choosing
 pub mod Tables
 pub mod Pushing
+pub mod SameLabels
+pub mod Grouped
+pub mod Putting
+pub mod Arms

@@ -1,3 +1,3 @@
 pub mod Openings
-pub mod Choosing
+pub mod Grouping
 pub mod code

@@ -1,2 +1,4 @@
 pub mod Labels
 pub mod Choices
+pub mod Groups
+pub mod Parts

@@ -1,52 +1,21 @@
 ghost use Rattle.std.specs.Prelude.{◌≡◌, ◌++◌, ◌∷◌, [], length, map, true, if◌then◌else◌, All, IfOk, OnOk};
 ghost use Rattle.std.specs.List.{list_all};
-ghost use Rattle.mc_model.specs.PlainGoals.{plain_node};
 ghost use Rattle.mc_model.specs.Stream.{is_bound};
 ghost use Rattle.mc_accepted.specs.Least.{lesser, least};
 ghost use Rattle.mc_varset.specs.Members.{has};
-ghost use Rattle.mc_switch.specs.Choosing.{InstsFit, IsChosen, inst_in};
+ghost use Rattle.mc_switch.specs.Grouping.{InstsFit, inst_in};
 ghost use Rattle.mc_switch.specs.code.Labels.{KeepsFirst, is_opened_by};
-ghost use Rattle.mc_switch.specs.code.Choices.{first_variables, may_be, those_that, MissesNone, IsLeastOf, IsChosenOf, AreOf};
+ghost use Rattle.mc_switch.specs.code.Choices.{first_variables, may_be, those_that, MissesNone, IsLeastOf, IsChosenOf, MayBe};
 
 use crate::disjunct::Opened;
 use crate::opening::Opening;
 use crate::symbols::covers;
-use mc_base::{Memory, Row};
+use mc_base::Memory;
 use mc_model::inst::InstId;
-use mc_model::sched::GoalNode;
 use mc_procs::Procs;
 use mc_program::ty::Ty;
 use mc_varset::VarSet;
 use std::alloc::Global;
-
-/// The variable on which a disjunction of these goals is switched, from the insts before it; None where it is no switch.
-/// The one refusal is want of memory. (Manual: Determinism, switches.)
-pub fn choose(
-    alloc: Global,
-    procs: &Procs,
-    types: &Row<Ty>,
-    insts: &[InstId],
-    goals: &[GoalNode],
-) -> Result<Option<u32>, Memory>
-    requires { InstsFit procs.now types.now insts.now }
-    ensures { IfOk result (λ x. IsChosen procs.now types.now insts.now (map plain_node goals.now) x) }
-{
-    let disjuncts = all_opened(alloc, goals)?;
-    let out = VarSet::new(alloc, types.len())?;
-    let disjuncts = disjuncts.as_slice();
-    chosen(alloc, procs, types.as_slice(), insts, &out, disjuncts)
-}
-
-/// What goals deconstruct.
-fn all_opened<'a>(alloc: Global, goals: &'a [GoalNode]) -> Result<Vec<Opened<'a>>, Memory>
-    ensures { IfOk result (λ disjuncts. AreOf (map plain_node goals.now) disjuncts.items) }
-{
-    let mut disjuncts = Vec::new(alloc);
-    for goal in goals {
-        disjuncts.push(Opened::of(alloc, goal)?)?;
-    }
-    Ok(disjuncts)
-}
 
 /// The variable on which disjuncts are switched where these are left out.
 pub fn chosen(
@@ -60,7 +29,8 @@ pub fn chosen(
     requires insts { InstsFit procs.now types.now insts.now }
     requires out { length out.now ≡ length insts.now }
     requires first { All KeepsFirst disjuncts.now }
-    ensures { IfOk result (λ x. IsChosenOf procs.now types.now insts.now out.now disjuncts.now x) }
+    ensures chosen { IfOk result (λ x. IsChosenOf procs.now types.now insts.now out.now disjuncts.now x) }
+    ensures may_be { IfOk result (λ x. MayBe insts.now out.now disjuncts.now x) }
 {
     let candidates = candidates(alloc, insts, out, disjuncts)?;
     let candidates = candidates.as_slice();

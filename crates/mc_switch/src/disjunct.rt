@@ -1,7 +1,9 @@
 ghost use Rattle.std.specs.Prelude.{◌≡◌, nat_eq, IfOk};
 ghost use Rattle.std.specs.HashMap.{get};
 ghost use Rattle.mc_model.specs.PlainGoals.{plain_node};
-ghost use Rattle.mc_switch.specs.code.Labels.{AreFirst, IsOf, is_opened_by};
+ghost use Rattle.mc_accepted.specs.Switched.{openings};
+ghost use Rattle.mc_switch.specs.Openings.{plain_openings};
+ghost use Rattle.mc_switch.specs.code.Labels.{AreFirst, KeepsFirst, is_opened_by};
 
 use crate::opening::{Opening, OpeningLabel, openings};
 use mc_base::{Memory, Row};
@@ -9,22 +11,28 @@ use mc_model::sched::GoalNode;
 use std::alloc::Global;
 use std::collections::HashMap;
 
-/// A disjunct as the choice of a variable sees it: what it deconstructs, and each variable's first label. A look-up takes
-/// the time of one hash.
+/// A disjunct with what it deconstructs, and each variable's first label of these. A look-up takes the time of one hash.
 #[derive(Drop)]
 pub struct Opened<'a> {
     pub opens: Row<Opening<'a>>,
+    pub goal: GoalNode,
     labels: HashMap<u32, OpeningLabel<'a>>,
 }
 
 impl<'a> Opened<'a> {
-    /// What a disjunct deconstructs.
-    pub fn of(alloc: Global, goal: &'a GoalNode) -> Result<Opened<'a>, Memory>
-        ensures { IfOk result (λ o. IsOf (plain_node goal.now) o) }
+    /// A disjunct, and what its source deconstructs.
+    pub fn of(alloc: Global, source: &'a GoalNode, goal: GoalNode) -> Result<Opened<'a>, Memory>
+        ensures opens { IfOk result (λ o. plain_openings o.opens ≡ openings (plain_node source.now)) }
+        ensures goal { IfOk result (λ o. o.goal ≡ goal) }
+        ensures first { IfOk result (λ o. KeepsFirst o) }
     {
-        let opens = openings(alloc, goal)?;
+        let opens = openings(alloc, source)?;
         let labels = first_labels(alloc, opens.as_slice())?;
-        Ok(Opened { opens, labels })
+        Ok(Opened {
+            opens,
+            goal,
+            labels,
+        })
     }
 
     /// The first label with which a variable is deconstructed.
@@ -40,6 +48,18 @@ impl<'a> Opened<'a> {
         ensures { result ≡ is_opened_by x self.now }
     {
         self.label(x).is_some()
+    }
+
+    /// The disjunct alone.
+    pub fn into_goal(self) -> GoalNode
+        ensures { result ≡ self.entry.goal }
+    {
+        let Opened {
+            opens: _,
+            goal,
+            labels: _,
+        } = self;
+        goal
     }
 }
 

@@ -12,7 +12,7 @@ use mc_program::value::Value;
 use std::alloc::Global;
 
 /// What a goal takes a variable to be: a constructor, by its symbol, or a constant.
-#[derive(Clone, Copy)]
+#[derive(Clone, Copy, PartialEq, Eq, Hash)]
 pub enum OpeningLabel<'a> {
     Symbol(u32),
     Int(i64),

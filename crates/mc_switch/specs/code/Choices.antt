@@ -1,5 +1,5 @@
 -- The variables on which a disjunction may be switched, over what is kept of the disjuncts.
-use Rattle.std.specs.Prelude.{◌≡◌, ℕ, List, [], ◌∷◌, map, Option, Some, None, Bool, not, ◌&&◌, ◌||◌, if◌then◌else◌}
+use Rattle.std.specs.Prelude.{◌≡◌, ℕ, List, [], ◌∷◌, map, Option, Some, None, Bool, true, not, ◌&&◌, ◌||◌, if◌then◌else◌}
 use Rattle.std.specs.List.{list_all}
 use Rattle.mc_program.specs.Values.{Val}
 use Rattle.mc_program.specs.Programs.{TypeTerm, union_type}
@@ -7,7 +7,6 @@ use Rattle.mc_program.specs.declared.builtin.Builtin.{Builtin}
 use Rattle.mc_program.specs.declared.ty.Ty.{Ty}
 use Rattle.mc_model.specs.Lists.{is_in}
 use Rattle.mc_model.specs.Outcomes.{Outcome}
-use Rattle.mc_model.specs.Scheduled.{Node}
 use Rattle.mc_model.specs.Stream.{is_bound}
 use Rattle.mc_accepted.specs.Determined.{allows_name, allowed_in}
 use Rattle.mc_accepted.specs.Least.{least}
@@ -17,8 +16,8 @@ use Rattle.mc_varset.specs.Members.{has}
 use Rattle.mc_switch.specs.declared.disjunct.Opened.{Opened}
 use Rattle.mc_switch.specs.declared.opening.Opening.{Opening}
 use Rattle.mc_switch.specs.Openings.{plain_openings}
-use Rattle.mc_switch.specs.Choosing.{type_in, inst_in}
-use Rattle.mc_switch.specs.code.Labels.{IsOf, is_opened_by}
+use Rattle.mc_switch.specs.Grouping.{type_in, inst_in}
+use Rattle.mc_switch.specs.code.Labels.{is_opened_by}
 
 -- an inst allows a symbol
 abbrev pub allows_one : PlainProcs → (inst : ℕ) → ℕ → Bool
@@ -89,8 +88,7 @@ IsChosenOf q types insts set os answer =
     → Opens ds os
     → answer ≡ chosen (as_system outcome q) (type_in types) out (inst_in insts) ds
 
--- what is kept of disjuncts is of these goals
-abbrev pub AreOf : List Node → List Opened → Type 0
-AreOf [] [] = Unit {0}
-AreOf (n ∷ ns) (o ∷ os) = IsOf n o × AreOf ns os
-AreOf ns os = ⊥
+-- a variable that may be chosen, where there is one
+abbrev pub MayBe : List ℕ → List Bool → List Opened → Option ℕ → Type 0
+MayBe insts out os None = Unit {0}
+MayBe insts out os (Some x) = may_be insts out os x ≡ true
