@@ -1,0 +1,10 @@
+pub mod Meanings
+pub mod Writing
+pub mod ModesOver
+pub mod Leading
+pub mod Coming
+pub mod Finding
+pub mod Passing
+pub mod Needing
+pub mod Knowing
+pub mod Telling

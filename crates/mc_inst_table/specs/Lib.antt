@@ -1,0 +1,5 @@
+pub mod Written
+pub mod Plain
+pub mod Rules
+pub mod Told
+pub mod code

@@ -1,0 +1,4 @@
+pub mod Leading
+pub mod Ends
+pub mod Passed
+pub mod Known
