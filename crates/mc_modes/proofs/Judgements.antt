@@ -24,6 +24,7 @@ use Rattle.mc_mode_points.specs.declared.nodes.Nodes as N
 use Rattle.mc_mode_points.specs.declared.state.State.{State}
 use Rattle.mc_mode_points.specs.declared.part.Part.{Part}
 use Rattle.mc_mode_points.specs.declared.fault.ModeFault.{ModeFault}
+use Rattle.mc_mode_points.proofs.Steps.{moved-trans}
 use Rattle.mc_modes.specs.Signatures.{declared_in}
 use Rattle.mc_modes.specs.Fitting.{Known, GoalFits}
 use Rattle.mc_modes.specs.Tries.{with_types, trying, tells_outside, Runs, Breaks}
@@ -137,6 +138,9 @@ module _ (sigs : List Sig) (types : List Ty) (head first last : List ℕ) (g : F
         ∙ j.unmet (declared_in sigs) C U z.agrees))
         ∙ e));
     kept = types-kept t d.stepped.later.types;
+    stands = j.stepped.moved.stands;
+    others = (moved-trans q r u s t t d.stepped.moved j.stepped.moved).nodes.others;
+    grown = (moved-trans q r u s t t d.stepped.moved j.stepped.moved).nodes.grown;
   }
 
   -- it runs, and its end is judged
@@ -163,4 +167,7 @@ module _ (sigs : List Sig) (types : List Ty) (head first last : List ℕ) (g : F
   arranges-fault r t f d = record {
     verdict = λ C T z. arranged-is C T _ (d.outcome (length types) head C T told z);
     kept = types-kept t d.moved.types;
+    stands = d.moved.stands;
+    others = d.moved.nodes.others;
+    grown = d.moved.nodes.grown;
   }

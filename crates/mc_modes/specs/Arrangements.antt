@@ -9,8 +9,10 @@ use Rattle.mc_model.specs.declared.inst.Sig.{Sig}
 use Rattle.mc_accepted.specs.Arranged.{Verdict, in_order, faulty, unmet, arrange}
 use Rattle.mc_accepted.specs.Chosen.{Chosen, of_nodes}
 use Rattle.mc_accepted.specs.FreshTests.{TestsAlike}
-use Rattle.mc_procs.specs.Procedures.{PlainProcs, source_of}
+use Rattle.mc_insts.specs.Growing.{Grown}
+use Rattle.mc_procs.specs.Procedures.{PlainProcs, source_of, with_insts}
 use Rattle.mc_mode_points.specs.Nodes.{type_in}
+use Rattle.mc_mode_points.specs.Agreeing.{Stands}
 use Rattle.mc_mode_points.specs.Answers.{plain_fault}
 use Rattle.mc_mode_points.specs.declared.state.State.{State}
 use Rattle.mc_modes.specs.Signatures.{declared_in}
@@ -20,16 +22,20 @@ use Rattle.mc_modes.specs.declared.arranging.Refusal.{Refusal}
 use Rattle.mc_modes.specs.declared.arranging.Refusal.TheVariants as R
 
 -- Whatever comes later, this becomes of the goal. The state stands for the nodes that were found
--- and for the types of the variables at its end.
+-- and for the types of the variables at its end. Of the procedures nothing changed, but that their
+-- graph may have more nodes, and the nodes that were found are there.
 pub record Becomes (sigs : List Sig) (types : List Ty) (head first last : List ℕ) (g : Flat_goal) (q r : PlainProcs) (end : State) (v : Verdict) : Type 0 where
   pub verdict :
       (C : Chosen) (T : ℕ → TypeTerm) → Suits (length types) r end C T
       → arrange (of_nodes C) (source_of q) (declared_in sigs) T (length types) head first last g ≡ v
   pub kept : take (length types) end.types.items ≡ types
+  pub stands : Stands r end
+  pub others : r ≡ with_insts q r.insts
+  pub grown : Grown (source_of q) q.insts r.insts
 
 -- The order of the goal with the types of its variables, in which each test of a fresh variable
--- compares values of one type; or the fault that leaves it without one. Either way the procedures
--- stay, and their graph may have more nodes.
+-- compares values of one type; or the fault that leaves it without one. Where memory is wanting,
+-- nothing is said.
 abbrev pub Arranges :
     List Sig → List Ty → (head first last : List ℕ) → Flat_goal → (q r : PlainProcs)
     → Result Arrangement Refusal → Type 0
