@@ -6,20 +6,22 @@ use Rattle.mc_model.specs.Flat.{Flat_goal, variables_of}
 use Rattle.mc_model.specs.Stream.{is_bound}
 use Rattle.mc_model.specs.Lists.{In}
 use Rattle.mc_model.specs.Good.{System}
-use Rattle.mc_model.specs.Scheduled.{Procedure}
+use Rattle.mc_model.specs.Scheduled.{Node, Procedure}
 use Rattle.mc_accepted.specs.Accepted.{entered}
 use Rattle.mc_accepted.specs.Determined.{nothing_known}
 use Rattle.mc_accepted.specs.Fits.{goal_of, type_of}
 use Rattle.mc_accepted.specs.Ordered.{Insts, variables_of_node}
+use Rattle.mc_accepted.specs.Unmarked.{changed_node}
 use Rattle.mc_accepted.specs.Inferred.{system_of}
 use Rattle.mc_sound.specs.Soundness.{AcceptedAreGood}
 use Rattle.mc_order_laws.proofs.NormalScopes.{from_length}
 use Rattle.mc_order_laws.proofs.EndsMet.{in-order-is-ordered}
 use Rattle.mc_determinism_laws.proofs.Faultless.{faultless_meets}
-use Rattle.mc_acceptance_laws.specs.AcceptedLaws.{IsTold, FaultlessIsAccepted, FormIsAccepted, InOrderIsAccepted, ComputedAreGood}
+use Rattle.mc_acceptance_laws.specs.AcceptedLaws.{IsTold, IsFormed, FaultlessIsAccepted, FormIsAccepted, InOrderIsAccepted, ComputedAreGood}
 use Rattle.mc_acceptance_laws.specs.FormLaws.{BoundAreOutside}
+use Rattle.mc_acceptance_laws.specs.Told.{Retold}
 use Rattle.mc_acceptance_laws.proofs.FormedGoals.{forms_stay_ordered}
-use Rattle.mc_acceptance_laws.proofs.Retelling.{both_told}
+use Rattle.mc_acceptance_laws.proofs.Retelling.{both_told, changed_is_retold}
 use Rattle.mc_acceptance_laws.proofs.Telling.{told_stays_ordered}
 
 pub faultless_is_accepted : FaultlessIsAccepted
@@ -61,16 +63,22 @@ form_is_accepted D ds k n o closed lt insts e t h f =
 as_long : (S : System) (p : Procedure) → IsTold S p → length p.last ≡ length p.head
 as_long S p t = t.last ∙ sym (ap length t.head ∙ from_length 0 (goal_of S p).arity)
 
+-- the form of a goal is that of one that is told alike
+form_of_told : (S : System) (p : Procedure) (n m : Node) → Retold n m → IsFormed S p n → IsFormed S p m
+form_of_told S p n m r f = record { goal = f.goal; same = both_told r f.same; kept = f.kept; merge = f.merge; told = f.told; marks = f.marks }
+
 pub in_order_is_accepted : InOrderIsAccepted
 in_order_is_accepted D ds k x closed lt e t q =
     let S : System = system_of D ds in
     let p : Procedure = S.procs k in
-    let h = in-order-is-ordered S p q.choice q.modes q.truthful q.declared q.next (goal_of S p).body x (as_long S p t) q.head_below q.goal_below q.scopes q.order q.alike in (
-      h.1.0,
-      h.1.1,
-      (λ told marks. faultless_is_accepted D ds k h.0 closed lt e t
-          (told_stays_ordered S p p.head p.head (entered p.head p.first) nothing_known (goal_of S p).body h.1.0 p.body h.0 h.1.2 told marks t.determinisms, h.2)),
-      (λ insts form. form_is_accepted D ds k h.1.0 h.0 closed lt insts e t (h.1.2, h.2) form),
+    let h = in-order-is-ordered S p q.choice q.modes q.truthful q.declared q.next (goal_of S p).body x (as_long S p t) q.head_below q.goal_below q.scopes q.order q.alike in
+    let n : Node = h.1.0 in
+    let alike : (m : Node) → changed_node m ≡ x → Retold n m = λ m same. (changed_is_retold n m).0 (h.1.1 ∙ sym same) in
+    let back : (m : Node) → changed_node m ≡ x → Retold m n = λ m same. (changed_is_retold m n).0 (same ∙ sym h.1.1) in (
+      (n, h.1.1, (h.0, (h.1.2, h.2))),
+      (λ same marks. faultless_is_accepted D ds k h.0 closed lt e t
+          (told_stays_ordered S p p.head p.head (entered p.head p.first) nothing_known (goal_of S p).body n p.body h.0 h.1.2 (alike p.body same) marks t.determinisms, h.2)),
+      (λ m same insts form. form_is_accepted D ds k n h.0 closed lt insts e t (h.1.2, h.2) (form_of_told S p m n (back m same) form)),
     )
 
 pub computed_are_good : AcceptedAreGood → ComputedAreGood

@@ -1,15 +1,17 @@
 -- Goals that are told alike: a goal is told as itself, two that one goal is told as are told as each
 -- other, and such goals leave the same points unreachable and open the same variables.
-use Rattle.std.proofs.Common.{◌≡◌, ℕ, [], ◌++◌, if◌then◌else◌, ◌&&◌, ◌||◌, refl, ap, ap₂, ◌∙◌}
+use Rattle.std.proofs.Common.{◌≡◌, ℕ, false, [], ◌++◌, if◌then◌else◌, ◌&&◌, ◌||◌, refl, ap, ap₂, sym, ◌∙◌, subst}
 use Rattle.mc_program.specs.Programs.{TypeTerm}
+use Rattle.mc_source.specs.Determinism.{inferred, det}
 use Rattle.mc_model.specs.Scheduled.{Node, node, Scheduled, Conj, Disj, Switch, Ite, Not, Exists, Assign, Test, Build, Take, Const, TestConst, Call, Apply, Nodes, no_nodes, node_then, Arms, no_arms, arm_then}
 use Rattle.mc_model.specs.Good.{System}
 use Rattle.mc_accepted.specs.Ordered.{Insts, change_at}
 use Rattle.mc_accepted.specs.Determined.{insts_after}
+use Rattle.mc_accepted.specs.Unmarked.{all_kept, changed_node, changed_nodes, untold_scheduled, untold_arms}
 use Rattle.mc_accepted.specs.Switched.{is_equation, openings, openings_in, openings_all}
 use Rattle.mc_accepted.specs.MergedArms.{never_ends, never_ends_in, one_never_ends, each_never_ends, each_arm_never_ends}
 use Rattle.mc_acceptance_laws.specs.Told as W
-use Rattle.mc_acceptance_laws.specs.Told.{Retold, RetoldIn, RetoldAll, RetoldArms, retold}
+use Rattle.mc_acceptance_laws.specs.Told.{Retold, RetoldIn, RetoldAll, RetoldArms, retold, ChangedIsRetold}
 
 mutual
   pub self : (n : Node) → Retold n n
@@ -66,6 +68,67 @@ mutual
   both_arms : {ns ms ks : Arms} → RetoldArms ns ms → RetoldArms ns ks → RetoldArms ms ks
   both_arms W.no_arm W.no_arm = W.no_arm
   both_arms (W.arm r rs) (W.arm q qs) = W.arm (both_told r q) (both_arms rs qs)
+
+-- ---- a goal is told as its order, with what it changes
+mutual
+  changed_told : (n : Node) → Retold (changed_node n) n
+  changed_told (node s changes d m) = retold (changed_told_in s)
+
+  changed_told_in : (s : Scheduled) → RetoldIn (untold_scheduled all_kept s) s
+  changed_told_in (Conj ns) = W.conj (changed_told_all ns)
+  changed_told_in (Disj ns) = W.disj (changed_told_all ns)
+  changed_told_in (Switch x arms) = W.switch (changed_told_arms arms)
+  changed_told_in (Ite vs c t e) = W.ite (changed_told c) (changed_told t) (changed_told e)
+  changed_told_in (Not n) = W.neg (changed_told n)
+  changed_told_in (Exists vs n) = W.some (changed_told n)
+  changed_told_in (Assign x y) = W.assign
+  changed_told_in (Test x y) = W.test
+  changed_told_in (Build x s ys) = W.build
+  changed_told_in (Take x s ys) = W.take
+  changed_told_in (Const x v) = W.put
+  changed_told_in (TestConst x v) = W.test_constant
+  changed_told_in (Call p xs implied last) = W.call
+  changed_told_in (Apply op xs ys) = W.apply
+
+  changed_told_all : (ns : Nodes) → RetoldAll (changed_nodes ns) ns
+  changed_told_all no_nodes = W.done
+  changed_told_all (node_then n ns) = W.next (changed_told n) (changed_told_all ns)
+
+  changed_told_arms : (arms : Arms) → RetoldArms (untold_arms all_kept arms) arms
+  changed_told_arms no_arms = W.no_arm
+  changed_told_arms (arm_then l n arms) = W.arm (changed_told n) (changed_told_arms arms)
+
+mutual
+  told_changed : {n m : Node} → Retold n m → changed_node n ≡ changed_node m
+  told_changed (retold {changes = changes} r) = ap (λ s. node s changes (inferred det) false) (told_changed_in r)
+
+  told_changed_in : {s t : Scheduled} → RetoldIn s t → untold_scheduled all_kept s ≡ untold_scheduled all_kept t
+  told_changed_in (W.conj r) = ap Conj (told_changed_all r)
+  told_changed_in (W.disj r) = ap Disj (told_changed_all r)
+  told_changed_in (W.switch {x = x} r) = ap (Switch x) (told_changed_arms r)
+  told_changed_in (W.ite {vs = vs} {t = t} {e = e} {k = k} {u = u} p q r) =
+      ap (λ x. Ite vs x (changed_node t) (changed_node e)) (told_changed p) ∙ ap (λ x. Ite vs (changed_node k) x (changed_node e)) (told_changed q) ∙ ap (λ x. Ite vs (changed_node k) (changed_node u) x) (told_changed r)
+  told_changed_in (W.neg r) = ap Not (told_changed r)
+  told_changed_in (W.some {vs = vs} r) = ap (Exists vs) (told_changed r)
+  told_changed_in W.assign = refl
+  told_changed_in W.test = refl
+  told_changed_in W.build = refl
+  told_changed_in W.take = refl
+  told_changed_in W.put = refl
+  told_changed_in W.test_constant = refl
+  told_changed_in W.call = refl
+  told_changed_in W.apply = refl
+
+  told_changed_all : {ns ms : Nodes} → RetoldAll ns ms → changed_nodes ns ≡ changed_nodes ms
+  told_changed_all W.done = refl
+  told_changed_all (W.next r rs) = ap₂ node_then (told_changed r) (told_changed_all rs)
+
+  told_changed_arms : {ks ls : Arms} → RetoldArms ks ls → untold_arms all_kept ks ≡ untold_arms all_kept ls
+  told_changed_arms W.no_arm = refl
+  told_changed_arms (W.arm {l = l} r rs) = ap₂ (arm_then l) (told_changed r) (told_changed_arms rs)
+
+pub changed_is_retold : ChangedIsRetold
+changed_is_retold n m = ((λ e. both_told (changed_told n) (subst (λ k. Retold k m) (sym e) (changed_told m))), (λ r. told_changed r))
 
 module _ (S : System) (T : ℕ → TypeTerm) where
   mutual

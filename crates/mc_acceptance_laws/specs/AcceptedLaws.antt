@@ -13,7 +13,7 @@ use Rattle.mc_accepted.specs.MergedArms.{ArmsMerge}
 use Rattle.mc_accepted.specs.Switched.{Kept, formed}
 use Rattle.mc_accepted.specs.ProperTypes.{Parameters}
 use Rattle.mc_accepted.specs.Fits.{FitsInsts, Fits, goal_of, type_of}
-use Rattle.mc_accepted.specs.Unmarked.{unmarked_node}
+use Rattle.mc_accepted.specs.Unmarked.{changed_node}
 use Rattle.mc_accepted.specs.Arranged.{Declared, in_order, arrange}
 use Rattle.mc_accepted.specs.FreshTests.{TestsAlike}
 use Rattle.mc_accepted.specs.Chosen.{Chosen, of_nodes}
@@ -104,23 +104,26 @@ pub record IsInOrder (S : System) (p : Procedure) (x : Node) : Type 0 where
       ≡ in_order x
   pub alike : TestsAlike (type_of S p) next x
 
--- Such an order is that of an ordered goal, and a procedure without a fault of determinism is
--- accepted where its body is that goal, told, or its switch form, told.
+-- Such an order is that of an ordered goal. A procedure without a fault of determinism is accepted
+-- where its body has that order, or is the switch form, told, of a goal that has it.
 abbrev pub InOrderIsAccepted : Type 0
 InOrderIsAccepted =
     (D : DeclaredSystem) (ds : ℕ → Det) (k : ℕ) (x : Node) → Closed D ds → k < D.count
     → procedure_fault (system_of D ds) (D.procs k) ((system_of D ds).procs k) ≡ None
     → IsTold (system_of D ds) ((system_of D ds).procs k)
     → IsInOrder (system_of D ds) ((system_of D ds).procs k) x
-    → (n : Node)
-    × (unmarked_node n ≡ x)
-    × (Retold n ((system_of D ds).procs k).body
+    → ((n : Node)
+    × (changed_node n ≡ x)
+    × ((o : Option Insts) × BodyIsOrdered (system_of D ds) ((system_of D ds).procs k) n o))
+    × (changed_node ((system_of D ds).procs k).body ≡ x
     → KeepsMarks (system_of D ds) (type_of (system_of D ds) ((system_of D ds).procs k))
     ((system_of D ds).procs k).head
     (entered ((system_of D ds).procs k).head ((system_of D ds).procs k).first)
     ((system_of D ds).procs k).body
     → AcceptedProcedure (system_of D ds) ((system_of D ds).procs k))
-    × (FitsInsts D.insts
+    × ((n : Node)
+    → changed_node n ≡ x
+    → FitsInsts D.insts
     → IsFormed (system_of D ds) ((system_of D ds).procs k) n
     → AcceptedProcedure (system_of D ds) ((system_of D ds).procs k))
 

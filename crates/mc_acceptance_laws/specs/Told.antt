@@ -1,10 +1,11 @@
 -- Ordered goals as they are told: the same goals with other determinisms and marks. (Mercury Language
 -- Reference Manual: Determinism; this project's form of scheduled goals.)
-use Rattle.std.specs.Prelude.{ℕ, List, Bool}
+use Rattle.std.specs.Prelude.{◌≡◌, ◌↔◌, ℕ, List, Bool}
 use Rattle.mc_program.specs.Values.{Val}
 use Rattle.mc_program.specs.declared.builtin.Builtin.{Builtin}
 use Rattle.mc_source.specs.declared.det.Det.{Det}
 use Rattle.mc_model.specs.Scheduled.{Label, Node, node, Scheduled, Conj, Disj, Switch, Ite, Not, Exists, Assign, Test, Build, Take, Const, TestConst, Call, Apply, Nodes, no_nodes, node_then, Arms, no_arms, arm_then}
+use Rattle.mc_accepted.specs.Unmarked.{changed_node}
 
 -- Two goals with the same insts, which differ at most in determinisms, in marks for pruned goals and
 -- in marks for last calls.
@@ -45,3 +46,8 @@ mutual
     arm :
         {l : Label} {n m : Node} {ks ls : Arms} → Retold n m → RetoldArms ks ls
         → RetoldArms (arm_then l n ks) (arm_then l m ls)
+
+-- So they are told alike where they have one order, with the insts that each goal changes, and only
+-- there.
+abbrev pub ChangedIsRetold : Type 0
+ChangedIsRetold = (n m : Node) → (changed_node n ≡ changed_node m) ↔ Retold n m

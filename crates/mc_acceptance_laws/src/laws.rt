@@ -2,8 +2,15 @@
 ghost use Rattle.mc_acceptance_laws.specs.FormLaws.{FormsKeepVariables, FormsStayOrdered};
 ghost use Rattle.mc_acceptance_laws.specs.GroupLaws.{GroupsMergeAsAll, MergingKeepsSets};
 ghost use Rattle.mc_acceptance_laws.specs.AcceptedLaws.{ComputedAreGood, FaultlessIsAccepted, FormIsAccepted, InOrderIsAccepted, ToldStaysOrdered};
+ghost use Rattle.mc_acceptance_laws.specs.Told.{ChangedIsRetold};
 
 use mc_sound::laws::accepted_are_good;
+
+/// Goals that have one order, with the insts that each goal changes, are told alike: they differ in determinisms and
+/// marks alone.
+pub fn changed_is_retold()
+    ensures { ChangedIsRetold }
+{}
 
 /// An ordered goal stays ordered where its determinisms and marks are told.
 pub fn told_stays_ordered()
@@ -21,7 +28,7 @@ pub fn form_is_accepted()
 {}
 
 /// The order over nodes of a procedure's goal is that of an ordered goal, and a procedure without a fault of
-/// determinism is accepted where its body is that goal or its switch form, told.
+/// determinism is accepted where its body has that order, or is the switch form, told, of a goal that has it.
 pub fn in_order_is_accepted()
     ensures { InOrderIsAccepted }
 {}

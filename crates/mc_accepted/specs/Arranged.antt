@@ -14,9 +14,9 @@ use Rattle.mc_model.specs.Outcomes.{inputs_of}
 use Rattle.mc_model.specs.Flat as F
 use Rattle.mc_model.specs.Flat.{Flat_goal, Flat_goals, no_flat, flat_then, variables_of, variables_of_all, free_in}
 use Rattle.mc_model.specs.Lists.{is_in, without}
-use Rattle.mc_model.specs.Scheduled.{Node, Scheduled, Conj, Disj, Ite, Not, Exists, Assign, Test, Build, Take, Const, TestConst, Call, Apply, Nodes, no_nodes, node_then}
+use Rattle.mc_model.specs.Scheduled.{Node, node, Scheduled, Conj, Disj, Ite, Not, Exists, Assign, Test, Build, Take, Const, TestConst, Call, Apply, Nodes, no_nodes, node_then}
 use Rattle.mc_model.specs.Stream.{is_bound}
-use Rattle.mc_source.specs.Determinism.{is_zero}
+use Rattle.mc_source.specs.Determinism.{is_zero, inferred, det}
 use Rattle.mc_accepted.specs.Least.{least}
 use Rattle.mc_accepted.specs.Unmarked.{unmarked}
 use Rattle.mc_accepted.specs.Ordered.{Mode, is_state, modes_of, implied_places, times_in, at_inputs, at_outputs, builtin_most}
@@ -24,8 +24,8 @@ use Rattle.mc_program.specs.declared.builtin.Builtin.{Builtin}
 
 -- Insts as the order asks for them: a node of the graph, whether one is bound or dead, one symbol
 -- over insts, what one of several allows at a type, the insts of a symbol's arguments where the
--- inst allows it, whether it allows constants, and whether it is included in a node at a type.
--- None: there is no such inst.
+-- inst allows it, whether it allows constants, whether it is included in a node at a type, and what
+-- is kept of an inst that isn't the one before. None: there is no such inst, or nothing is kept.
 pub record Operations (I : Type 0) : Type 0 where
   pub node : (node : ℕ) → I
   pub is_bound : I → Bool
@@ -35,6 +35,7 @@ pub record Operations (I : Type 0) : Type 0 where
   pub narrowed : I → (symbol : ℕ) → Option (List I)
   pub takes_constants : I → Bool
   pub fits : I → (node : ℕ) → TypeTerm → Bool
+  pub changed : (before after : I) → Option ℕ
 
 -- A mode of a predicate: its procedure, its arguments' insts, and whether a call never answers.
 pub record Declared : Type 0 where
@@ -80,11 +81,6 @@ those_in (x ∷ xs) ys = if is_in x ys then x ∷ those_in xs ys else those_in x
 abbrev pub is_there : {A : Type 0} → Option A → Bool
 is_there None = false
 is_there (Some a) = true
-
--- one goal stands alone, others are a conjunction
-abbrev pub alone : Nodes → Node
-alone (node_then g no_nodes) = g
-alone gs = unmarked (Conj gs)
 
 abbrev pub nodes_before : Nodes → Nodes → Nodes
 nodes_before no_nodes hs = hs
@@ -155,10 +151,26 @@ module _ (I : Type 0) where
     all_run : Nodes → (ends : List Point) → (next : ℕ) → Branches
     one_breaks : Fault → Branches
 
-module _ {I : Type 0} where
-  abbrev pub one : Scheduled → Option (Point I) → ℕ → Arranged I
-  one s o n = runs (node_then (unmarked s) no_nodes) o n []
+abbrev pub with_change : ℕ → Option ℕ → List (ℕ × ℕ) → List (ℕ × ℕ)
+with_change x None changes = changes
+with_change x (Some i) changes = (x, i) ∷ changes
 
+-- What a goal changes, by what is kept of an inst that isn't the one before: in order of variables,
+-- and nothing where the point after the goal is unreachable. Variables from the next number on have
+-- one inst before and after.
+module _ {I : Type 0} (changed : (before after : I) → Option ℕ) where
+  abbrev pub changes_from : (first count : ℕ) → Point I → Point I → List (ℕ × ℕ)
+  changes_from x zero b c = []
+  changes_from x (suc k) b c = with_change x (changed (b x) (c x)) (changes_from (suc x) k b c)
+
+  abbrev pub changes : (next : ℕ) → Point I → Option (Point I) → List (ℕ × ℕ)
+  changes n b None = []
+  changes n b (Some c) = changes_from 0 n b c
+
+  abbrev pub changing : (next : ℕ) → Point I → Option (Point I) → Scheduled → Node
+  changing n b o s = node s (changes n b o) (inferred det) false
+
+module _ {I : Type 0} where
   abbrev pub variables_of_waiting : List (Waiting I) → List ℕ
   variables_of_waiting [] = []
   variables_of_waiting (w ∷ ws) = w.variables ++ variables_of_waiting ws
@@ -202,24 +214,34 @@ module _ {I : Type 0} where
   with_branch g o (one_breaks f) = one_breaks f
   with_branch g o (all_run gs ends n) = all_run (node_then g gs) (with_end o ends) n
 
-  abbrev pub and_branches : Arranged I → (ℕ → Branches I) → Branches I
-  and_branches (breaks f) rest = one_breaks f
-  and_branches (runs gs o n zs) rest = with_branch (alone gs) o (rest n)
-
   abbrev pub no_branch : ℕ → Branches I
   no_branch n = all_run no_nodes [] n
-
-  abbrev pub each_branch : List (Waiting I) → List ℕ → ℕ → Point I → Branches I
-  each_branch [] O n b = no_branch n
-  each_branch (w ∷ ws) O n b = and_branches (w.trial O n b) (λ m. each_branch ws O m b)
 
   abbrev pub unless : Option ℕ → (ℕ → Fault) → Arranged I → Arranged I
   unless None f r = r
   unless (Some v) f r = breaks (f v)
 
-  abbrev pub wrapped : (Nodes → Scheduled) → Arranged I → Arranged I
-  wrapped f (breaks e) = breaks e
-  wrapped f (runs gs o n zs) = one (f gs) o n
+module _ {I : Type 0} (Op : Operations I) where
+  abbrev pub one : Point I → Scheduled → Option (Point I) → ℕ → Arranged I
+  one b s o n = runs (node_then (changing Op.changed n b o s) no_nodes) o n []
+
+  -- one goal stands alone, others are a conjunction
+  abbrev pub alone : (next : ℕ) → Point I → Option (Point I) → Nodes → Node
+  alone n b o (node_then g no_nodes) = g
+  alone n b o gs = changing Op.changed n b o (Conj gs)
+
+  abbrev pub and_branches : Point I → Arranged I → (ℕ → Branches I) → Branches I
+  and_branches b (breaks f) rest = one_breaks f
+  and_branches b (runs gs o n zs) rest = with_branch (alone n b o gs) o (rest n)
+
+  abbrev pub each_branch : List (Waiting I) → List ℕ → ℕ → Point I → Branches I
+  each_branch [] O n b = no_branch n
+  each_branch (w ∷ ws) O n b = and_branches b (w.trial O n b) (λ m. each_branch ws O m b)
+
+  abbrev pub wrapped :
+      (ℕ → Option (Point I) → Nodes → Scheduled) → Point I → Arranged I → Arranged I
+  wrapped f b (breaks e) = breaks e
+  wrapped f b (runs gs o n zs) = one b (f n o gs) o n
 
 module _ {I : Type 0} (Op : Operations I) (P : Source) (declared : ℕ → List Declared)
     (T : ℕ → TypeTerm) where
@@ -252,9 +274,9 @@ module _ {I : Type 0} (Op : Operations I) (P : Source) (declared : ℕ → List 
   same x y n b =
       if Op.is_bound (b x)
       then (if Op.is_bound (b y)
-      then (if is_state (T x) then wait (x ∷ y ∷ []) b else one (Test x y) (Some b) n)
-      else one (Assign y x) (Some (assigned y x b)) n)
-      else (if Op.is_bound (b y) then one (Assign x y) (Some (assigned x y b)) n
+      then (if is_state (T x) then wait (x ∷ y ∷ []) b else one Op b (Test x y) (Some b) n)
+      else one Op b (Assign y x) (Some (assigned y x b)) n)
+      else (if Op.is_bound (b y) then one Op b (Assign x y) (Some (assigned x y b)) n
       else wait (x ∷ y ∷ []) b)
 
   -- free variables of a deconstruction get the insts of the symbol's arguments
@@ -265,15 +287,15 @@ module _ {I : Type 0} (Op : Operations I) (P : Source) (declared : ℕ → List 
 
   abbrev pub built : ℕ → ℕ → List ℕ → ℕ → Point I → Option I → Arranged I
   built x s ys n b None = breaks lacks
-  built x s ys n b (Some i) = one (Build x s ys) (Some (with_inst I x i b)) n
+  built x s ys n b (Some i) = one Op b (Build x s ys) (Some (with_inst I x i b)) n
 
   abbrev pub took : ℕ → ℕ → List ℕ → List I → ℕ → Point I → Option I → Arranged I
   took x s ys is n b None = breaks lacks
-  took x s ys is n b (Some i) = one (Take x s ys) (Some (taken ys is (with_inst I x i b))) n
+  took x s ys is n b (Some i) = one Op b (Take x s ys) (Some (taken ys is (with_inst I x i b))) n
 
   -- where the inst excludes the symbol, the point after it is unreachable
   abbrev pub take : ℕ → ℕ → List ℕ → ℕ → Point I → Option (List I) → Arranged I
-  take x s ys n b None = one (Take x s ys) None n
+  take x s ys n b None = one Op b (Take x s ys) None n
   take x s ys n b (Some is) = took x s ys is n b (Op.over s is)
 
   abbrev pub made : ℕ → ℕ → List ℕ → ℕ → Point I → Arranged I
@@ -285,8 +307,8 @@ module _ {I : Type 0} (Op : Operations I) (P : Source) (declared : ℕ → List 
   abbrev pub constant : ℕ → Val → ℕ → Point I → Arranged I
   constant x v n b =
       if Op.is_bound (b x)
-      then one (TestConst x v) (if Op.takes_constants (b x) then Some b else None) n
-      else one (Const x v) (Some (with_inst I x (Op.node 1) b)) n
+      then one Op b (TestConst x v) (if Op.takes_constants (b x) then Some b else None) n
+      else one Op b (Const x v) (Some (with_inst I x (Op.node 1) b)) n
 
   -- Modes: an input is bound and included, and one that dies stands at no other place; any other
   -- argument is an output or implied, or isn't passed.
@@ -338,22 +360,23 @@ module _ {I : Type 0} (Op : Operations I) (P : Source) (declared : ℕ → List 
   abbrev pub called : Option Declared → List ℕ → ℕ → Point I → Arranged I
   called None xs n b = wait xs b
   called (Some d) xs n b =
-      one (Call d.proc xs (implied_in d.modes xs b) false)
+      one Op b (Call d.proc xs (implied_in d.modes xs b) false)
       (if d.never then None else Some (after d.modes xs b)) n
 
-  abbrev pub apply_node : Builtin → List ℕ → Node
-  apply_node op xs =
-      unmarked (Apply op (at_inputs (inputs_of op) xs) (at_outputs (inputs_of op) xs))
+  abbrev pub applying : Builtin → List ℕ → Scheduled
+  applying op xs = Apply op (at_inputs (inputs_of op) xs) (at_outputs (inputs_of op) xs)
 
   abbrev pub applied_to : Builtin → List ℕ → ℕ → Point I → Arranged I
   applied_to op xs n b =
-      runs (node_then (apply_node op xs) no_nodes)
-      (if is_zero (builtin_most op) then None else Some (after (modes_of op) xs b)) n []
+      one Op b (applying op xs)
+      (if is_zero (builtin_most op) then None else Some (after (modes_of op) xs b)) n
 
   abbrev pub applied_freshly :
       Builtin → (freshened : List ℕ) → List (ℕ × ℕ) → ℕ → Point I → Arranged I
   applied_freshly op zs ts n b =
-      runs (node_then (apply_node op zs) (test_nodes ts)) (Some (after (modes_of op) zs b))
+      let o = Some (after (modes_of op) zs b) in
+      runs
+      (node_then (changing Op.changed (n + length ts) b o (applying op zs)) (test_nodes ts)) o
       (n + length ts) zs
 
   abbrev pub applied_with : (implied : List ℕ) → Builtin → List ℕ → ℕ → Point I → Arranged I
@@ -411,7 +434,8 @@ module _ {I : Type 0} (Op : Operations I) (P : Source) (declared : ℕ → List 
   branched v f own O b (all_run gs ends n) =
       unless v negated_binds
       (unless (least (differs ends) (those_in own O)) branches_differ
-      (if merges (those_in own O) ends then one (f gs) (merged own O b ends) n else breaks lacks))
+      (if merges (those_in own O) ends then one Op b (f gs) (merged own O b ends) n
+      else breaks lacks))
 
   -- A condition binds none of the variables that are free in it and that it doesn't quantify.
   -- Behind an unreachable point the then part stands as the empty conjunction.
@@ -420,17 +444,17 @@ module _ {I : Type 0} (Op : Operations I) (P : Source) (declared : ℕ → List 
       → (then_part : ℕ → Point I → Arranged I) → (else_part : ℕ → Arranged I) → Arranged I
   conditional vs xs own O b (breaks f) t e = breaks f
   conditional vs xs own O b (runs gs None n zs) t e =
-      branched None (two_goals (Ite vs (alone gs))) own O b
-      (with_branch (unmarked (Conj no_nodes)) None (and_branches (e n) no_branch))
+      branched None (two_goals (Ite vs (alone Op n b None gs))) own O b
+      (with_branch (unmarked (Conj no_nodes)) None (and_branches Op b (e n) no_branch))
   conditional vs xs own O b (runs gs (Some c) n zs) t e =
-      branched (binds xs b (Some c)) (two_goals (Ite vs (alone gs))) own O b
-      (and_branches (t n c) (λ m. and_branches (e m) no_branch))
+      branched (binds xs b (Some c)) (two_goals (Ite vs (alone Op n b (Some c) gs))) own O b
+      (and_branches Op c (t n c) (λ m. and_branches Op b (e m) no_branch))
 
   -- after a negation the insts are those before it
   abbrev pub negation : (free_here : List ℕ) → Point I → Arranged I → Arranged I
   negation xs b (breaks f) = breaks f
   negation xs b (runs gs o n zs) =
-      unless (binds xs b o) negated_binds (one (Not (alone gs)) (Some b) n)
+      unless (binds xs b o) negated_binds (one Op b (Not (alone Op n b o gs)) (Some b) n)
 
   -- What a goal does when it is tried. Its free variables count as outside a negation and a
   -- condition in it.
@@ -440,15 +464,17 @@ module _ {I : Type 0} (Op : Operations I) (P : Source) (declared : ℕ → List 
     trial (F.Made x s ys) O n b = atom (x ∷ ys) b (made x s ys n b)
     trial (F.Is x v) O n b = atom (x ∷ []) b (constant x v n b)
     trial (F.Call p xs) O n b = atom xs b (call_of (P.preds p).builtin p xs n b)
-    trial (F.And gs) O n b = wrapped Conj (in_turn (count_flat gs) (trials gs) O n b)
+    trial (F.And gs) O n b =
+        wrapped Op (λ m o hs. Conj hs) b (in_turn (count_flat gs) (trials gs) O n b)
     trial (F.Or gs) O n b =
-        branched None Disj (variables_of_all gs) O b (each_branch (trials gs) O n b)
+        branched None Disj (variables_of_all gs) O b (each_branch Op (trials gs) O n b)
     trial (F.If vs g h k) O n b =
         conditional vs (without (free_in g) vs) (variables_of (F.If vs g h k)) O b
         (trial g (O ++ (without (free_in g) vs ++ variables_of h)) n b)
         (λ m c. trial h (O ++ variables_of g) m c) (λ m. trial k O m b)
     trial (F.Not g) O n b = negation (free_in g) b (trial g (O ++ free_in g) n b)
-    trial (F.Exists vs g) O n b = wrapped (λ gs. Exists vs (alone gs)) (trial g O n b)
+    trial (F.Exists vs g) O n b =
+        wrapped Op (λ m o gs. Exists vs (alone Op m b o gs)) b (trial g O n b)
 
     pub trials : Flat_goals → List (Waiting I)
     trials no_flat = []
@@ -460,10 +486,11 @@ module _ {I : Type 0} (Op : Operations I) (P : Source) (declared : ℕ → List 
       if Op.fits (c x) l (T x) then first_unmet (suc k) xs ls c else Some k
   first_unmet k _ _ c = None
 
-  abbrev pub judged : (head last : List ℕ) → Arranged I → Verdict
-  judged xs ls (breaks f) = faulty f
-  judged xs ls (runs gs None n zs) = in_order (alone gs)
-  judged xs ls (runs gs (Some c) n zs) = unless_unmet (alone gs) (first_unmet 0 xs ls c)
+  abbrev pub judged : (head last : List ℕ) → Point I → Arranged I → Verdict
+  judged xs ls b (breaks f) = faulty f
+  judged xs ls b (runs gs None n zs) = in_order (alone Op n b None gs)
+  judged xs ls b (runs gs (Some c) n zs) =
+      unless_unmet (alone Op n b (Some c) gs) (first_unmet 0 xs ls c)
 
   abbrev pub entry : (head first : List ℕ) → Point I
   entry [] is = λ x. Op.node 0
@@ -473,4 +500,5 @@ module _ {I : Type 0} (Op : Operations I) (P : Source) (declared : ℕ → List 
   -- a procedure's goal from its initial insts, every other variable free; variables from next on
   -- are in no goal
   abbrev pub arrange : (next : ℕ) → (head first last : List ℕ) → Flat_goal → Verdict
-  arrange next head first last g = judged head last (trial g head next (entry head first))
+  arrange next head first last g =
+      judged head last (entry head first) (trial g head next (entry head first))

@@ -1,6 +1,6 @@
 -- Insts as nodes of a graph. Where a function that looks for a node answers None, the graph has no
 -- such node yet.
-use Rattle.std.specs.Prelude.{ℕ, List, Option, Bool}
+use Rattle.std.specs.Prelude.{ℕ, List, Option, Some, None, Bool, nat_eq, if◌then◌else◌}
 use Rattle.mc_program.specs.Programs.{TypeTerm}
 use Rattle.mc_model.specs.Stream.{is_bound}
 use Rattle.mc_accepted.specs.Arranged.{Operations}
@@ -13,6 +13,10 @@ pub record Chosen : Type 0 where
   pub takes_constants : ℕ → Bool
   pub fits : ℕ → (node : ℕ) → TypeTerm → Bool
 
+-- the node after a goal, where it isn't the one before
+abbrev pub other_node : (before after : ℕ) → Option ℕ
+other_node i j = if nat_eq i j then None else Some j
+
 abbrev pub of_nodes : Chosen → Operations ℕ
 of_nodes C =
     record {
@@ -24,4 +28,5 @@ of_nodes C =
       narrowed = C.narrowed;
       takes_constants = C.takes_constants;
       fits = C.fits;
+      changed = other_node;
     }

@@ -91,7 +91,7 @@ module _ (P : Source) (G : Graph) where
   takes_constants (only s is) = false
   takes_constants (either i j) = takes_constants i || takes_constants j
 
-  -- A fresh variable has the type of the one for which it stands, so nothing is asked of it.
+  -- Forms have no numbers, so none is kept where an inst changes.
   abbrev pub of_forms : (fits : Form → (node : ℕ) → TypeTerm → Bool) → Operations Form
   of_forms fits =
       record {
@@ -103,4 +103,5 @@ module _ (P : Source) (G : Graph) where
         narrowed = λ i s. narrowed i (P.symbols s).name;
         takes_constants = takes_constants;
         fits = fits;
+        changed = λ i j. None;
       }

@@ -20,7 +20,7 @@ use Rattle.mc_accepted.specs.Arranged as G
 use Rattle.mc_accepted.specs.Chosen.{Chosen, of_nodes}
 use Rattle.mc_accepted.specs.code.Truthful.{AllAre, Truthful, IsNarrowed, IsDeclared, AllDeclared}
 use Rattle.mc_accepted.specs.code.Standing as S
-use Rattle.mc_accepted.specs.code.Standing.{implied_of, freshened, fresh_tests, Freshly, fresh_nodes, JoinedOwn, Standing, StandingAll, StandingAny}
+use Rattle.mc_accepted.specs.code.Standing.{implied_of, freshened, fresh_tests, Freshly, keeping, fresh_nodes, JoinedOwn, Standing, StandingAll, StandingAny}
 use Rattle.mc_program.specs.declared.builtin.Builtin.{Builtin}
 use Rattle.mc_source.specs.declared.det.Most.{Most}
 use Rattle.mc_source.specs.declared.det.Most.TheVariants.{Zero, One, Many}
@@ -37,11 +37,15 @@ module _ (Y : System) (T : ℕ → TypeTerm) (C : Chosen) (declared : ℕ → Li
   abbrev P : Source
   P = Y.world.source
 
+  -- one goal stands alone, others are a conjunction
+  abbrev alone_at : ℕ → Insts → Option Insts → Nodes → Node
+  alone_at m b o gs = alone (of_nodes C) m b o gs
+
   -- what a trial that runs gives
   data Goes (O : List ℕ) (n : ℕ) (b : Insts) (g : Flat_goal) : Nodes → Option Insts → ℕ → List ℕ → Type 0 where
     single : {x : Node} {o : Option Insts} {m : ℕ} → Standing Y T O n b g x o m → Goes O n b g (node_then x no_nodes) o m []
     several : {c : Insts} {p : ℕ} {op : Builtin} {xs : List ℕ} → g ≡ F.Call p xs → Freshly Y T n b c p op xs →
-        Goes O n b g (fresh_nodes Y T n b op xs) (Some c) (n + length (fresh_tests Y T n b op xs)) (freshened Y T n b op xs)
+        Goes O n b g (fresh_nodes Y T n b c op xs) (Some c) (n + length (fresh_tests Y T n b op xs)) (freshened Y T n b op xs)
 
   abbrev Good : List ℕ → ℕ → Insts → Flat_goal → Arranged ℕ → Type 0
   Good O n b g (runs gs o m zs) = Goes O n b g gs o m zs
@@ -67,7 +71,7 @@ module _ (Y : System) (T : ℕ → TypeTerm) (C : Chosen) (declared : ℕ → Li
       at : (r : Option ℕ) → C.over s is ≡ r → Good O n b (F.Made x s ys) (took (of_nodes C) P declared T x s ys is n b r)
       at None e = tt
       at (Some i) e =
-          subst (λ c. Goes O n b (F.Made x s ys) (node_then (unmarked (Take x s ys)) no_nodes) (Some c) n []) (sym (A.took-all Y T C declared truth ys is (also x i b)))
+          subst (λ c. Goes O n b (F.Made x s ys) (node_then (keeping Y T n b (Some c) (Take x s ys)) no_nodes) (Some c) n []) (sym (A.took-all Y T C declared truth ys is (also x i b)))
           (single (S.take set alive h (truth.over s i is e)))
 
   good-made : (O : List ℕ) (n : ℕ) (b : Insts) (x s : ℕ) (ys : List ℕ) → NoneDead Y T (x ∷ ys) b → Good O n b (F.Made x s ys) (made (of_nodes C) P declared T x s ys n b)
@@ -82,7 +86,7 @@ module _ (Y : System) (T : ℕ → TypeTerm) (C : Chosen) (declared : ℕ → Li
   good-constant : (O : List ℕ) (n : ℕ) (b : Insts) (x : ℕ) (v : Val) → NoneDead Y T (x ∷ []) b → Good O n b (F.Is x v) (constant (of_nodes C) P declared T x v n b)
   good-constant O n b x v alive = good-cond O n b (F.Is x v) (is_bound (b x)) _ _ (λ t. at t (C.takes_constants (b x)) refl) (λ t. single (S.put (is-unset (b x) t)))
     where
-      at : is_bound (b x) ≡ true → (u : Bool) → C.takes_constants (b x) ≡ u → Good O n b (F.Is x v) (one (TestConst x v) (cond u (Some b) None) n)
+      at : is_bound (b x) ≡ true → (u : Bool) → C.takes_constants (b x) ≡ u → Good O n b (F.Is x v) (one (of_nodes C) b (TestConst x v) (cond u (Some b) None) n)
       at t true e = single (S.test_constant (is-set (b x) t) alive (truth.constants (b x) e))
       at t false e = single (S.test_never (is-set (b x) t) alive (truth.no_constants (b x) e))
 
@@ -104,14 +108,20 @@ module _ (Y : System) (T : ℕ → TypeTerm) (C : Chosen) (declared : ℕ → Li
       at true u None k = (h.0, u)
       at true u (Some e) k = fewer (nat_lt (length (implied_in (of_nodes C) P declared T e.modes xs b)) (length (implied_in (of_nodes C) P declared T d.modes xs b))) e u k
 
+  abbrev end_of : List Mode → List ℕ → Insts → Insts
+  end_of ms xs b = G.after (of_nodes C) P declared T ms xs b
+
+  abbrev CallStands : List ℕ → ℕ → Insts → List ℕ → (p q : ℕ) → List Mode → Option Insts → Type 0
+  CallStands O n b xs p q ms o = Standing Y T O n b (F.Call p xs) (keeping Y T n b o (Call q xs (implied_places 0 ms xs (λ x. is_bound (b x))) false)) o n
+
   called-as : (O : List ℕ) (n : ℕ) (b : Insts) (xs : List ℕ) (p q : ℕ) (ms : List Mode) (never : Bool) → q < Y.count → (Y.procs q).pred ≡ p → ms ≡ modes_of_procedure (Y.procs q) → never ≡ is_zero (Y.procs q).det.most →
       NoneDead Y T xs b → usable (of_nodes C) P declared T xs ms xs b ≡ true →
-      Standing Y T O n b (F.Call p xs) (unmarked (Call q xs (implied_places 0 ms xs (λ x. is_bound (b x))) false)) (cond never None (Some (G.after (of_nodes C) P declared T ms xs b))) n
+      CallStands O n b xs p q ms (cond never None (Some (end_of ms xs b)))
   called-as O n b xs p q ms never below is_pred is_modes is_never alive u =
-      subst (λ r. Standing Y T O n b (F.Call r xs) (unmarked (Call q xs (implied_places 0 ms xs (λ x. is_bound (b x))) false)) (cond never None (Some (G.after (of_nodes C) P declared T ms xs b))) n) is_pred
-      (subst (λ t. Standing Y T O n b (F.Call (Y.procs q).pred xs) (unmarked (Call q xs (implied_places 0 ms xs (λ x. is_bound (b x))) false)) (cond t None (Some (G.after (of_nodes C) P declared T ms xs b))) n) (sym is_never)
-      (subst (λ ks. Standing Y T O n b (F.Call (Y.procs q).pred xs) (unmarked (Call q xs (implied_places 0 ks xs (λ x. is_bound (b x))) false)) (cond (is_zero (Y.procs q).det.most) None (Some (G.after (of_nodes C) P declared T ks xs b))) n) (sym is_modes)
-      (subst (λ o. Standing Y T O n b (F.Call (Y.procs q).pred xs) (unmarked (Call q xs (implied_places 0 (modes_of_procedure (Y.procs q)) xs (λ x. is_bound (b x))) false)) o n) (sym (never-is (Y.procs q).det.most (G.after (of_nodes C) P declared T (modes_of_procedure (Y.procs q)) xs b)))
+      subst (λ r. CallStands O n b xs r q ms (cond never None (Some (end_of ms xs b)))) is_pred
+      (subst (λ t. CallStands O n b xs (Y.procs q).pred q ms (cond t None (Some (end_of ms xs b)))) (sym is_never)
+      (subst (λ ks. CallStands O n b xs (Y.procs q).pred q ks (cond (is_zero (Y.procs q).det.most) None (Some (end_of ks xs b)))) (sym is_modes)
+      (subst (λ o. CallStands O n b xs (Y.procs q).pred q (modes_of_procedure (Y.procs q)) o) (sym (never-is (Y.procs q).det.most (end_of (modes_of_procedure (Y.procs q)) xs b)))
       (S.call below uses alive (A.after Y T C declared truth (modes_of_procedure (Y.procs q)) xs b (A.usable-length Y T C declared truth xs (modes_of_procedure (Y.procs q)) xs b uses))))))
     where
       uses : Usable Y T (modes_of_procedure (Y.procs q)) xs b
@@ -121,15 +131,20 @@ module _ (Y : System) (T : ℕ → TypeTerm) (C : Chosen) (declared : ℕ → Li
   good-called O n b p xs alive None h = tt
   good-called O n b p xs alive (Some d) h = single (called-as O n b xs p d.proc d.modes d.never h.0.known h.0.pred h.0.modes h.0.never alive h.1)
 
+  abbrev applying : Builtin → List ℕ → Scheduled
+  applying op xs = Apply op (at_inputs (inputs_of op) xs) (at_outputs (inputs_of op) xs)
+
   abbrev goes_with : List ℕ → ℕ → Insts → ℕ → Builtin → List ℕ → List ℕ → Type 0
   goes_with O n b p op xs ks =
-      Goes O n b (F.Call p xs) (node_then (unmarked (Apply op (at_inputs (inputs_of op) (fresh_at 0 ks xs n)) (at_outputs (inputs_of op) (fresh_at 0 ks xs n)))) (test_nodes (tests_at 0 ks xs n)))
-      (Some (G.after (of_nodes C) P declared T (modes_of op) (fresh_at 0 ks xs n) b)) (n + length (tests_at 0 ks xs n)) (fresh_at 0 ks xs n)
+      let zs = fresh_at 0 ks xs n in
+      let ts = tests_at 0 ks xs n in
+      let o = Some (end_of (modes_of op) zs b) in
+      Goes O n b (F.Call p xs) (node_then (keeping Y T (n + length ts) b o (applying op zs)) (test_nodes ts)) o (n + length ts) zs
 
   good-applied-with : (O : List ℕ) (n : ℕ) (b : Insts) (p : ℕ) (op : Builtin) (xs : List ℕ) → (P.preds p).builtin ≡ Some op → NoneDead Y T xs b → usable (of_nodes C) P declared T xs (modes_of op) xs b ≡ true →
       (is : List ℕ) → implied_of Y T op xs b ≡ is → Good O n b (F.Call p xs) (applied_with (of_nodes C) P declared T is op xs n b)
   good-applied-with O n b p op xs builtin alive u [] e =
-      single (subst (λ o. Standing Y T O n b (F.Call p xs) (unmarked (Apply op (at_inputs (inputs_of op) xs) (at_outputs (inputs_of op) xs))) o n) (sym (never-is (builtin_most op) (G.after (of_nodes C) P declared T (modes_of op) xs b)))
+      single (subst (λ o. Standing Y T O n b (F.Call p xs) (keeping Y T n b o (applying op xs)) o n) (sym (never-is (builtin_most op) (end_of (modes_of op) xs b)))
       (S.apply builtin uses alive e (A.after Y T C declared truth (modes_of op) xs b (A.usable-length Y T C declared truth xs (modes_of op) xs b uses))))
     where
       uses : Usable Y T (modes_of op) xs b
@@ -162,16 +177,17 @@ module _ (Y : System) (T : ℕ → TypeTerm) (C : Chosen) (declared : ℕ → Li
   AllHold no_flat = Unit {0}
   AllHold (flat_then g gs) = Holds g × AllHold gs
 
-  tests-stand : (a : Node) (ts : List (ℕ × ℕ)) → ts ≢ [] → alone (node_then a (test_nodes ts)) ≡ unmarked (Conj (node_then a (test_nodes ts)))
-  tests-stand a [] ne = absurd (ne refl)
-  tests-stand a (t ∷ ts) ne = refl
+  tests-stand : (m : ℕ) (b : Insts) (o : Option Insts) (a : Node) (ts : List (ℕ × ℕ)) → ts ≢ [] → alone_at m b o (node_then a (test_nodes ts)) ≡ keeping Y T m b o (Conj (node_then a (test_nodes ts)))
+  tests-stand m b o a [] ne = absurd (ne refl)
+  tests-stand m b o a (t ∷ ts) ne = refl
 
-  alone-is : (O : List ℕ) (n : ℕ) (b : Insts) (g : Flat_goal) {gs : Nodes} {o : Option Insts} {m : ℕ} {zs : List ℕ} → Goes O n b g gs o m zs → Standing Y T O n b g (alone gs) o m
+  alone-is : (O : List ℕ) (n : ℕ) (b : Insts) (g : Flat_goal) {gs : Nodes} {o : Option Insts} {m : ℕ} {zs : List ℕ} → Goes O n b g gs o m zs → Standing Y T O n b g (alone_at m b o gs) o m
   alone-is O n b g (single s) = s
   alone-is O n b g (several {c = c} {p = p} {op = op} {xs = xs} e f) =
-      subst (λ h. Standing Y T O n b h (alone (fresh_nodes Y T n b op xs)) (Some c) (n + length (fresh_tests Y T n b op xs))) (sym e)
-      (subst (λ k. Standing Y T O n b (F.Call p xs) k (Some c) (n + length (fresh_tests Y T n b op xs)))
-      (sym (tests-stand (unmarked (Apply op (at_inputs (inputs_of op) (freshened Y T n b op xs)) (at_outputs (inputs_of op) (freshened Y T n b op xs)))) (fresh_tests Y T n b op xs)
+      let m : ℕ = n + length (fresh_tests Y T n b op xs) in
+      subst (λ h. Standing Y T O n b h (alone_at m b (Some c) (fresh_nodes Y T n b c op xs)) (Some c) m) (sym e)
+      (subst (λ k. Standing Y T O n b (F.Call p xs) k (Some c) m)
+      (sym (tests-stand m b (Some c) (keeping Y T m b (Some c) (applying op (freshened Y T n b op xs))) (fresh_tests Y T n b op xs)
       (has-tests 0 (modes_of op) xs (λ x. is_bound (b x)) (implied_of Y T op xs b) n (λ j h. h) f.implies)))
       (S.apply_freshly f))
 
@@ -308,7 +324,7 @@ module _ (Y : System) (T : ℕ → TypeTerm) (C : Chosen) (declared : ℕ → Li
   conjunction-holds : (gs : Flat_goals) → AllHold gs → Holds (F.And gs)
   conjunction-holds gs hold O n b = at (in_turn (of_nodes C) P declared T (count_flat gs) (waiting gs) O n b) (turns (count_flat gs) gs O n b hold refl)
     where
-      at : (r : Arranged ℕ) → GoodAll O n b gs r → Good O n b (F.And gs) (wrapped Conj r)
+      at : (r : Arranged ℕ) → GoodAll O n b gs r → Good O n b (F.And gs) (wrapped (of_nodes C) (λ m o hs. Conj hs) b r)
       at (breaks f) h = tt
       at (runs ns o m zs) h = single (S.conj h)
 
@@ -386,31 +402,31 @@ module _ (Y : System) (T : ℕ → TypeTerm) (C : Chosen) (declared : ℕ → Li
   branch-on O n m b g gs x o s (one_breaks f) h = tt
   branch-on O n m b g gs x o s (all_run ns ends j) h = (o ∷ h.0, S.either s h.1, ends-are o h.0 ends h.2)
 
-  branches-hold : (gs : Flat_goals) (O : List ℕ) (n : ℕ) (b : Insts) → AllHold gs → GoodBranches O n b gs (each_branch (waiting gs) O n b)
+  branches-hold : (gs : Flat_goals) (O : List ℕ) (n : ℕ) (b : Insts) → AllHold gs → GoodBranches O n b gs (each_branch (of_nodes C) (waiting gs) O n b)
   branches-hold no_flat O n b hold = ([], S.no_other, refl)
   branches-hold (flat_then g gs) O n b hold = at (trial (of_nodes C) P declared T g O n b) (hold.0 O n b) (λ m. branches-hold gs O m b hold.1)
     where
-      at : (r : Arranged ℕ) → Good O n b g r → ((m : ℕ) → GoodBranches O m b gs (each_branch (waiting gs) O m b)) → GoodBranches O n b (flat_then g gs) (and_branches r (λ m. each_branch (waiting gs) O m b))
+      at : (r : Arranged ℕ) → Good O n b g r → ((m : ℕ) → GoodBranches O m b gs (each_branch (of_nodes C) (waiting gs) O m b)) → GoodBranches O n b (flat_then g gs) (and_branches (of_nodes C) b r (λ m. each_branch (of_nodes C) (waiting gs) O m b))
       at (breaks f) h rest = tt
-      at (runs hs o m zs) h rest = branch-on O n m b g gs (alone hs) o (alone-is O n b g h) (each_branch (waiting gs) O m b) (rest m)
+      at (runs hs o m zs) h rest = branch-on O n m b g gs (alone_at m b o hs) o (alone-is O n b g h) (each_branch (of_nodes C) (waiting gs) O m b) (rest m)
 
   abbrev EndsGood : (own O : List ℕ) → ℕ → Insts → Flat_goal → Option ℕ → (Nodes → Scheduled) → Branches ℕ → Type 0
   EndsGood own O n b g v f (one_breaks e) = Unit {0}
-  EndsGood own O n b g v f (all_run ns ends m) = v ≡ None → (o : Option Insts) → JoinedOwn Y T own O b ends o → Standing Y T O n b g (unmarked (f ns)) o m
+  EndsGood own O n b g v f (all_run ns ends m) = v ≡ None → (o : Option Insts) → JoinedOwn Y T own O b ends o → Standing Y T O n b g (keeping Y T m b o (f ns)) o m
 
   good-branched : (own O : List ℕ) (n : ℕ) (b : Insts) (g : Flat_goal) (v : Option ℕ) (f : Nodes → Scheduled) (B : Branches ℕ) → EndsGood own O n b g v f B → Good O n b g (branched (of_nodes C) P declared T v f own O b B)
   good-branched own O n b g v f (one_breaks e) h = tt
   good-branched own O n b g (Some v) f (all_run ns ends m) h = tt
   good-branched own O n b g None f (all_run ns ends m) h = at (least (ends_differ ends) (those_in own O)) refl
     where
-      at : (r : Option ℕ) → least (ends_differ ends) (those_in own O) ≡ r → Good O n b g (unless r branches_differ (cond (merges (of_nodes C) P declared T (those_in own O) ends) (one (f ns) (merged_of own O b ends) m) (breaks lacks)))
+      at : (r : Option ℕ) → least (ends_differ ends) (those_in own O) ≡ r → Good O n b g (unless r branches_differ (cond (merges (of_nodes C) P declared T (those_in own O) ends) (one (of_nodes C) b (f ns) (merged_of own O b ends) m) (breaks lacks)))
       at (Some x) e = tt
       at None e =
           good-cond O n b g (merges (of_nodes C) P declared T (those_in own O) ends) _ _
           (λ q. single (h refl (merged_of own O b ends) (joined-is own O b ends (λ x i. none-passes (ends_differ ends) (those_in own O) x e i) q))) (λ q. tt)
 
   disjunction-holds : (gs : Flat_goals) → AllHold gs → Holds (F.Or gs)
-  disjunction-holds gs hold O n b = good-branched (variables_of_all gs) O n b (F.Or gs) None Disj (each_branch (waiting gs) O n b) (at (each_branch (waiting gs) O n b) (branches-hold gs O n b hold))
+  disjunction-holds gs hold O n b = good-branched (variables_of_all gs) O n b (F.Or gs) None Disj (each_branch (of_nodes C) (waiting gs) O n b) (at (each_branch (of_nodes C) (waiting gs) O n b) (branches-hold gs O n b hold))
     where
       at : (B : Branches ℕ) → GoodBranches O n b gs B → EndsGood (variables_of_all gs) O n b (F.Or gs) None Disj B
       at (one_breaks f) h = tt
@@ -427,14 +443,14 @@ module _ (Y : System) (T : ℕ → TypeTerm) (C : Chosen) (declared : ℕ → Li
       at (runs gs None m zs) h = single (S.neg (alone-is (O ++ free_in g) n b g h) tt)
       at (runs gs (Some c) m zs) h = on (bound_now (free_in g) b c) refl
         where
-          on : (r : Option ℕ) → bound_now (free_in g) b c ≡ r → Good O n b (F.Not g) (unless r negated_binds (one (Not (alone gs)) (Some b) m))
+          on : (r : Option ℕ) → bound_now (free_in g) b c ≡ r → Good O n b (F.Not g) (unless r negated_binds (one (of_nodes C) b (Not (alone_at m b (Some c) gs)) (Some b) m))
           on (Some x) e = tt
           on None e = single (S.neg (alone-is (O ++ free_in g) n b g h) (A.none-bound Y T C declared truth (free_in g) b c e))
 
   some-holds : (vs : List ℕ) (g : Flat_goal) → Holds g → Holds (F.Exists vs g)
   some-holds vs g hold O n b = at (trial (of_nodes C) P declared T g O n b) (hold O n b)
     where
-      at : (r : Arranged ℕ) → Good O n b g r → Good O n b (F.Exists vs g) (wrapped (λ gs. Exists vs (alone gs)) r)
+      at : (r : Arranged ℕ) → Good O n b g r → Good O n b (F.Exists vs g) (wrapped (of_nodes C) (λ m o gs. Exists vs (alone_at m b o gs)) b r)
       at (breaks f) h = tt
       at (runs gs o m zs) h = single (S.some (alone-is O n b g h))
 
@@ -455,31 +471,42 @@ module _ (Y : System) (T : ℕ → TypeTerm) (C : Chosen) (declared : ℕ → Li
     abbrev whole : Flat_goal
     whole = F.If vs g h k
 
-    never-ends : (gs : Nodes) (m : ℕ) → Standing Y T beside n b g (alone gs) None m → (r : Arranged ℕ) → Good O m b k r →
-        EndsGood own O n b whole None (two_goals (Ite vs (alone gs))) (with_branch (unmarked (Conj no_nodes)) None (and_branches r no_branch))
+    abbrev else_at : ℕ → Arranged ℕ
+    else_at j = trial (of_nodes C) P declared T k O j b
+
+    abbrev then_at : ℕ → Insts → Arranged ℕ
+    then_at m c = trial (of_nodes C) P declared T h (O ++ variables_of g) m c
+
+    -- the else part alone, and behind the then part
+    abbrev else_branch : Arranged ℕ → Branches ℕ
+    else_branch r = and_branches (of_nodes C) b r no_branch
+
+    abbrev with_else : Insts → Arranged ℕ → Branches ℕ
+    with_else c r = and_branches (of_nodes C) c r (λ j. else_branch (else_at j))
+
+    never-ends : (gs : Nodes) (m : ℕ) → Standing Y T beside n b g (alone_at m b None gs) None m → (r : Arranged ℕ) → Good O m b k r →
+        EndsGood own O n b whole None (two_goals (Ite vs (alone_at m b None gs))) (with_branch (unmarked (Conj no_nodes)) None (else_branch r))
     never-ends gs m s (breaks f) q = tt
     never-ends gs m s (runs hs o j zs) q = λ v e w. S.ite_never s (alone-is O m b k q) (subst (λ es. JoinedOwn Y T own O b es e) (sym (ends-are o [] [] refl)) w)
 
-    ends : (gs : Nodes) (c : Insts) (m : ℕ) → Standing Y T beside n b g (alone gs) (Some c) m → (r : Arranged ℕ) → Good (O ++ variables_of g) m c h r → ((j : ℕ) → Good O j b k (trial (of_nodes C) P declared T k O j b)) →
-        EndsGood own O n b whole (bound_now free_here b c) (two_goals (Ite vs (alone gs))) (and_branches r (λ j. and_branches (trial (of_nodes C) P declared T k O j b) no_branch))
+    ends : (gs : Nodes) (c : Insts) (m : ℕ) → Standing Y T beside n b g (alone_at m b (Some c) gs) (Some c) m → (r : Arranged ℕ) → Good (O ++ variables_of g) m c h r → ((j : ℕ) → Good O j b k (else_at j)) →
+        EndsGood own O n b whole (bound_now free_here b c) (two_goals (Ite vs (alone_at m b (Some c) gs))) (with_else c r)
     ends gs c m s (breaks f) q e = tt
-    ends gs c m s (runs hs o j zs) q e = at (trial (of_nodes C) P declared T k O j b) (e j)
+    ends gs c m s (runs hs o j zs) q e = at (else_at j) (e j)
       where
-        at : (r : Arranged ℕ) → Good O j b k r → EndsGood own O n b whole (bound_now free_here b c) (two_goals (Ite vs (alone gs))) (with_branch (alone hs) o (and_branches r no_branch))
+        at : (r : Arranged ℕ) → Good O j b k r → EndsGood own O n b whole (bound_now free_here b c) (two_goals (Ite vs (alone_at m b (Some c) gs))) (with_branch (alone_at j c o hs) o (else_branch r))
         at (breaks f) u = tt
         at (runs ks p i us) u = λ v d w.
             S.ite s (A.none-bound Y T C declared truth free_here b c v) (alone-is (O ++ variables_of g) m c h q) (alone-is O j b k u) (subst (λ es. JoinedOwn Y T own O b es d) (sym (two-ends o p)) w)
 
-    condition-holds : Holds h → Holds k → (r : Arranged ℕ) → Good beside n b g r →
-        Good O n b whole (conditional (of_nodes C) P declared T vs free_here own O b r (λ m c. trial (of_nodes C) P declared T h (O ++ variables_of g) m c) (λ m. trial (of_nodes C) P declared T k O m b))
+    condition-holds : Holds h → Holds k → (r : Arranged ℕ) → Good beside n b g r → Good O n b whole (conditional (of_nodes C) P declared T vs free_here own O b r then_at else_at)
     condition-holds hh hk (breaks f) q = tt
     condition-holds hh hk (runs gs None m zs) q =
-        good-branched own O n b whole None (two_goals (Ite vs (alone gs))) (with_branch (unmarked (Conj no_nodes)) None (and_branches (trial (of_nodes C) P declared T k O m b) no_branch))
-        (never-ends gs m (alone-is beside n b g q) (trial (of_nodes C) P declared T k O m b) (hk O m b))
+        good-branched own O n b whole None (two_goals (Ite vs (alone_at m b None gs))) (with_branch (unmarked (Conj no_nodes)) None (else_branch (else_at m)))
+        (never-ends gs m (alone-is beside n b g q) (else_at m) (hk O m b))
     condition-holds hh hk (runs gs (Some c) m zs) q =
-        good-branched own O n b whole (bound_now free_here b c) (two_goals (Ite vs (alone gs)))
-        (and_branches (trial (of_nodes C) P declared T h (O ++ variables_of g) m c) (λ j. and_branches (trial (of_nodes C) P declared T k O j b) no_branch))
-        (ends gs c m (alone-is beside n b g q) (trial (of_nodes C) P declared T h (O ++ variables_of g) m c) (hh (O ++ variables_of g) m c) (λ j. hk O j b))
+        good-branched own O n b whole (bound_now free_here b c) (two_goals (Ite vs (alone_at m b (Some c) gs))) (with_else c (then_at m c))
+        (ends gs c m (alone-is beside n b g q) (then_at m c) (hh (O ++ variables_of g) m c) (λ j. hk O j b))
 
   good-atom : (O : List ℕ) (n : ℕ) (b : Insts) (g : Flat_goal) (xs : List ℕ) (r : Arranged ℕ) → (NoneDead Y T xs b → Good O n b g r) → Good O n b g (atom (of_nodes C) P declared T xs b r)
   good-atom O n b g xs r f = good-cond O n b g (list_any (λ x. C.is_dead (b x)) xs) (wait (of_nodes C) P declared T xs b) r (λ e. tt) (λ e. f (A.none-dead Y T C declared truth xs b e))
@@ -503,5 +530,5 @@ module _ (Y : System) (T : ℕ → TypeTerm) (C : Chosen) (declared : ℕ → Li
     all-hold (flat_then g gs) = (holds g, all-hold gs)
 
   pub stands : (g : Flat_goal) (O : List ℕ) (n : ℕ) (b : Insts) (gs : Nodes) (o : Option Insts) (m : ℕ) (zs : List ℕ) → trial (of_nodes C) P declared T g O n b ≡ runs gs o m zs →
-      Standing Y T O n b g (alone gs) o m
+      Standing Y T O n b g (alone_at m b o gs) o m
   stands g O n b gs o m zs e = alone-is O n b g (subst (Good O n b g) e (holds g O n b))

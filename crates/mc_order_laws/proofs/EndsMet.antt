@@ -58,23 +58,26 @@ module _ (Y : System) (p : Procedure) (C : Chosen) (declared : ℕ → List Decl
     free_on : (y : ℕ) → n ≤ y → first_insts y ≡ 0
     free_on y le = entry-at p.head p.first y ∙ entered-off p.head p.first y (λ i. not-le_of_lt (bo y i) le)
 
-    as-ordered : (gs : Nodes) (o : Option Insts) (m : ℕ) → Standing Y T p.head n first_insts g (alone gs) o m → in_order (alone gs) ≡ in_order x → TestsAlike T n x → IsOrderOf Y T p.head p.head (entered p.head p.first) g x o
+    abbrev alone_at : ℕ → Option Insts → Nodes → Node
+    alone_at m o gs = alone (of_nodes C) m first_insts o gs
+
+    as-ordered : (gs : Nodes) (o : Option Insts) (m : ℕ) → Standing Y T p.head n first_insts g (alone_at m o gs) o m → in_order (alone_at m o gs) ≡ in_order x → TestsAlike T n x → IsOrderOf Y T p.head p.head (entered p.head p.first) g x o
     as-ordered gs o m s e al =
         subst (λ b. IsOrderOf Y T p.head p.head b g x o) (fun_ext (entry-at p.head p.first))
-        (subst (λ k. IsOrderOf Y T p.head p.head first_insts g k o) is-it (standing-is-ordered Y T p.head p.head n m first_insts g (alone gs) o s (subst (λ k. TestsAlike T n k) (sym is-it) al) bo bg sc (λ y i. inl (bo y i)) free_on))
+        (subst (λ k. IsOrderOf Y T p.head p.head first_insts g k o) is-it (standing-is-ordered Y T p.head p.head n m first_insts g (alone_at m o gs) o s (subst (λ k. TestsAlike T n k) (sym is-it) al) bo bg sc (λ y i. inl (bo y i)) free_on))
       where
-        is-it : alone gs ≡ x
-        is-it = (let q : in_order (alone gs) ≡ in_order x = e in cc)
+        is-it : alone_at m o gs ≡ x
+        is-it = (let q : in_order (alone_at m o gs) ≡ in_order x = e in cc)
 
     abbrev Found : Type 0
     Found = (o : Option Insts) × IsOrderOf Y T p.head p.head (entered p.head p.first) g x o × FinalAfter Y p o
 
-    found : (r : Arranged ℕ) → trial (of_nodes C) P declared T g p.head n first_insts ≡ r → judged (of_nodes C) P declared T p.head p.last r ≡ in_order x → TestsAlike T n x → Found
+    found : (r : Arranged ℕ) → trial (of_nodes C) P declared T g p.head n first_insts ≡ r → judged (of_nodes C) P declared T p.head p.last first_insts r ≡ in_order x → TestsAlike T n x → Found
     found (breaks f) q e al = cc
     found (runs gs None m zs) q e al = (None, as-ordered gs None m (ArrangedGoals.stands Y T C declared truth known g p.head n first_insts gs None m zs q) e al, tt)
     found (runs gs (Some c) m zs) q e al = at (first_unmet (of_nodes C) P declared T 0 p.head p.last c) refl e
       where
-        at : (r : Option ℕ) → first_unmet (of_nodes C) P declared T 0 p.head p.last c ≡ r → unless_unmet (alone gs) r ≡ in_order x → Found
+        at : (r : Option ℕ) → first_unmet (of_nodes C) P declared T 0 p.head p.last c ≡ r → unless_unmet (alone_at m (Some c) gs) r ≡ in_order x → Found
         at None u h = (Some c, as-ordered gs (Some c) m (ArrangedGoals.stands Y T C declared truth known g p.head n first_insts gs (Some c) m zs q) h al, ends-met 0 p.head p.last c same_length u)
         at (Some k) u h = cc
 

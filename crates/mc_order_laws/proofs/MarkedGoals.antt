@@ -15,11 +15,12 @@ use Rattle.mc_source.specs.Determinism.{inferred, det}
 use Rattle.mc_accepted.specs.Inclusion.{Merged, LeastAbove, MergedNodes, AllFree, NoneIs, NoneMore, NoMoreThere}
 use Rattle.mc_accepted.specs.Ordered as R
 use Rattle.mc_accepted.specs.Ordered.{Insts, Mode, modes_of, modes_of_procedure, implied_places, at_inputs, at_outputs, reachable, firsts, tested_by, is_pruned, UsableAt, change_at, RisesFrom, EachChanges, KeepsChanges, Joined, Picks, here, there, variables_of_node, variables_of_scheduled, variables_of_nodes, variables_of_arms, Ordered, OrderedNode, OrderedAll, OrderedAny, kept}
-use Rattle.mc_accepted.specs.Unmarked.{unmarked, unmarked_node, unmarked_scheduled, unmarked_nodes, unmarked_arms}
-use Rattle.mc_accepted.specs.Arranged.{test_nodes, nodes_before}
+use Rattle.mc_accepted.specs.Unmarked.{unmarked, all_kept, changed_node, changed_nodes, untold_scheduled, untold_arms}
+use Rattle.mc_accepted.specs.Arranged.{test_nodes, nodes_before, with_change, changes_from, changes}
+use Rattle.mc_accepted.specs.Chosen.{other_node}
 use Rattle.mc_accepted.specs.FreshTests.{TestsAlike, AllAlike}
 use Rattle.mc_accepted.specs.code.Standing as S
-use Rattle.mc_accepted.specs.code.Standing.{implied_of, freshened, fresh_tests, Freshly, JoinedOwn, Standing, StandingAll, StandingAny}
+use Rattle.mc_accepted.specs.code.Standing.{implied_of, freshened, fresh_tests, Freshly, keeping, JoinedOwn, Standing, StandingAll, StandingAny}
 use Rattle.mc_program.specs.declared.builtin.Builtin.{Builtin}
 use Rattle.mc_order_laws.specs.OrderLaws.{Below, Clear, FlatScopes, PartsScoped, DisjunctsScoped, StandingIsOrdered}
 use Rattle.mc_order_laws.proofs.OthersStay.{in-condition, in-then, in-else}
@@ -33,63 +34,61 @@ use Rattle.mc_laws.proofs.FlatWhole.{in_list, is_in_true}
 use Rattle.mc_laws.proofs.ClauseNumbers.{from_without}
 
 -- ---- kept changes
-abbrev changes_from : ℕ → ℕ → Insts → Insts → List (ℕ × ℕ)
-changes_from k zero b c = []
-changes_from k (suc j) b c = cond (nat_eq (b k) (c k)) (changes_from (suc k) j b c) ((k, c k) ∷ changes_from (suc k) j b c)
+abbrev kept_here : ℕ → Bool → (after : ℕ) → List (ℕ × ℕ) → List (ℕ × ℕ)
+kept_here k same i later = with_change k (cond same None (Some i)) later
+
+abbrev later_than : ℕ → ℕ → Insts → Insts → List (ℕ × ℕ)
+later_than k j b c = changes_from other_node (suc k) j b c
 
 rises-less : (k : ℕ) (xs : List (ℕ × ℕ)) → RisesFrom (suc k) xs → RisesFrom k xs
 rises-less k [] h = tt
 rises-less k (x ∷ xs) h = (omega (arith, h.0), h.1)
 
-rises : (j k : ℕ) (b c : Insts) → RisesFrom k (changes_from k j b c)
+rises : (j k : ℕ) (b c : Insts) → RisesFrom k (changes_from other_node k j b c)
 rises zero k b c = tt
 rises (suc j) k b c = at (nat_eq (b k) (c k)) (rises j (suc k) b c)
   where
-    at : (t : Bool) → RisesFrom (suc k) (changes_from (suc k) j b c) → RisesFrom k (cond t (changes_from (suc k) j b c) ((k, c k) ∷ changes_from (suc k) j b c))
-    at true h = rises-less k (changes_from (suc k) j b c) h
+    at : (t : Bool) → RisesFrom (suc k) (later_than k j b c) → RisesFrom k (kept_here k t (c k) (later_than k j b c))
+    at true h = rises-less k (later_than k j b c) h
     at false h = (le_refl k, h)
 
-each-changes : (j k : ℕ) (b c : Insts) → EachChanges b (changes_from k j b c)
+each-changes : (j k : ℕ) (b c : Insts) → EachChanges b (changes_from other_node k j b c)
 each-changes zero k b c = tt
 each-changes (suc j) k b c = at (nat_eq (b k) (c k)) refl (each-changes j (suc k) b c)
   where
-    at : (t : Bool) → nat_eq (b k) (c k) ≡ t → EachChanges b (changes_from (suc k) j b c) → EachChanges b (cond t (changes_from (suc k) j b c) ((k, c k) ∷ changes_from (suc k) j b c))
+    at : (t : Bool) → nat_eq (b k) (c k) ≡ t → EachChanges b (later_than k j b c) → EachChanges b (kept_here k t (c k) (later_than k j b c))
     at true e h = h
     at false e h = (eqb-false (b k) (c k) e, h)
 
-change-before : (j k : ℕ) (b c : Insts) (x i : ℕ) → x < k → change_at x (changes_from k j b c) i ≡ i
+change-before : (j k : ℕ) (b c : Insts) (x i : ℕ) → x < k → change_at x (changes_from other_node k j b c) i ≡ i
 change-before zero k b c x i lt = refl
 change-before (suc j) k b c x i lt = at (nat_eq (b k) (c k)) (change-before j (suc k) b c x i (omega (arith, lt)))
   where
-    at : (t : Bool) → change_at x (changes_from (suc k) j b c) i ≡ i → change_at x (cond t (changes_from (suc k) j b c) ((k, c k) ∷ changes_from (suc k) j b c)) i ≡ i
+    at : (t : Bool) → change_at x (later_than k j b c) i ≡ i → change_at x (kept_here k t (c k) (later_than k j b c)) i ≡ i
     at true h = h
-    at false h = ap (λ t. cond t (c k) (change_at x (changes_from (suc k) j b c) i)) (is-other x k (λ e. omega (arith, lt, e))) ∙ h
+    at false h = ap (λ t. cond t (c k) (change_at x (later_than k j b c) i)) (is-other x k (λ e. omega (arith, lt, e))) ∙ h
 
-change-at : (j k : ℕ) (b c : Insts) (x : ℕ) → k ≤ x → (k + j ≤ x → c x ≡ b x) → change_at x (changes_from k j b c) (b x) ≡ c x
+change-at : (j k : ℕ) (b c : Insts) (x : ℕ) → k ≤ x → (k + j ≤ x → c x ≡ b x) → change_at x (changes_from other_node k j b c) (b x) ≡ c x
 change-at zero k b c x le h = sym (h (omega (arith, le)))
 change-at (suc j) k b c x le h = at (nat_eq (b k) (c k)) refl (nat_eq x k) refl (λ lt. change-at j (suc k) b c x lt (λ q. h (omega (arith, q))))
   where
     later : nat_eq x k ≡ false → suc k ≤ x
     later e = (let ne = eqb-false x k e in omega (arith, le, ne))
 
-    at : (t : Bool) → nat_eq (b k) (c k) ≡ t → (u : Bool) → nat_eq x k ≡ u → (suc k ≤ x → change_at x (changes_from (suc k) j b c) (b x) ≡ c x) → change_at x (cond t (changes_from (suc k) j b c) ((k, c k) ∷ changes_from (suc k) j b c)) (b x) ≡ c x
+    at : (t : Bool) → nat_eq (b k) (c k) ≡ t → (u : Bool) → nat_eq x k ≡ u → (suc k ≤ x → change_at x (later_than k j b c) (b x) ≡ c x) → change_at x (kept_here k t (c k) (later_than k j b c)) (b x) ≡ c x
     at true p true q r = change-before j (suc k) b c x (b x) (let e = eqb-true x k q in omega (arith, e)) ∙ subst (λ y. b y ≡ c y) (sym (eqb-true x k q)) (eqb-true (b k) (c k) p)
     at true p false q r = r (later q)
-    at false p true q r = ap (λ t. cond t (c k) (change_at x (changes_from (suc k) j b c) (b x))) q ∙ ap c (sym (eqb-true x k q))
-    at false p false q r = ap (λ t. cond t (c k) (change_at x (changes_from (suc k) j b c) (b x))) q ∙ r (later q)
+    at false p true q r = ap (λ t. cond t (c k) (change_at x (later_than k j b c) (b x))) q ∙ ap c (sym (eqb-true x k q))
+    at false p false q r = ap (λ t. cond t (c k) (change_at x (later_than k j b c) (b x))) q ∙ r (later q)
 
-keeps-changes : (m : ℕ) (b c : Insts) → ((x : ℕ) → m ≤ x → c x ≡ b x) → KeepsChanges b (Some c) (changes_from 0 m b c)
+keeps-changes : (m : ℕ) (b c : Insts) → ((x : ℕ) → m ≤ x → c x ≡ b x) → KeepsChanges b (Some c) (changes other_node m b (Some c))
 keeps-changes m b c h = ((λ x. sym (change-at m 0 b c x (omega arith) (λ le. h x (omega (arith, le))))), rises m 0 b c, each-changes m 0 b c)
 
 abbrev EndFrom : ℕ → Insts → Option Insts → Type 0
 EndFrom m b None = Unit {0}
 EndFrom m b (Some c) = (x : ℕ) → m ≤ x → c x ≡ b x
 
-abbrev changes_to : ℕ → Insts → Option Insts → List (ℕ × ℕ)
-changes_to m b None = []
-changes_to m b (Some c) = changes_from 0 m b c
-
-keeps-end : (m : ℕ) (b : Insts) (o : Option Insts) → EndFrom m b o → KeepsChanges b o (changes_to m b o)
+keeps-end : (m : ℕ) (b : Insts) (o : Option Insts) → EndFrom m b o → KeepsChanges b o (changes other_node m b o)
 keeps-end m b None h = refl
 keeps-end m b (Some c) h = keeps-changes m b c h
 
@@ -98,17 +97,23 @@ end-from own n m b None bo le h = tt
 end-from own n m b (Some c) bo le h = λ x lx. h x (λ i. not-le_of_lt (lt_of_lt_of_le (bo x i) le) lx) (inr lx)
 
 -- ---- a goal has the variables of its order
+abbrev changed_scheduled : Scheduled → Scheduled
+changed_scheduled s = untold_scheduled all_kept s
+
+abbrev changed_arms : Arms → Arms
+changed_arms arms = untold_arms all_kept arms
+
 mutual
-  node-variables : (n : Node) → variables_of_node (unmarked_node n) ≡ variables_of_node n
+  node-variables : (n : Node) → variables_of_node (changed_node n) ≡ variables_of_node n
   node-variables (node s changes d pruned) = scheduled-variables s
 
-  scheduled-variables : (s : Scheduled) → variables_of_scheduled (unmarked_scheduled s) ≡ variables_of_scheduled s
+  scheduled-variables : (s : Scheduled) → variables_of_scheduled (changed_scheduled s) ≡ variables_of_scheduled s
   scheduled-variables (Conj ns) = nodes-variables ns
   scheduled-variables (Disj ns) = nodes-variables ns
   scheduled-variables (Switch v arms) = ap (λ xs. v ∷ xs) (arms-variables arms)
   scheduled-variables (Ite vs c t e) =
-      ap (λ xs. vs ++ (xs ++ (variables_of_node (unmarked_node t) ++ variables_of_node (unmarked_node e)))) (node-variables c)
-      ∙ ap (λ xs. vs ++ (variables_of_node c ++ (xs ++ variables_of_node (unmarked_node e)))) (node-variables t)
+      ap (λ xs. vs ++ (xs ++ (variables_of_node (changed_node t) ++ variables_of_node (changed_node e)))) (node-variables c)
+      ∙ ap (λ xs. vs ++ (variables_of_node c ++ (xs ++ variables_of_node (changed_node e)))) (node-variables t)
       ∙ ap (λ xs. vs ++ (variables_of_node c ++ (variables_of_node t ++ xs))) (node-variables e)
   scheduled-variables (Not n) = node-variables n
   scheduled-variables (Exists vs n) = ap (λ xs. vs ++ xs) (node-variables n)
@@ -121,15 +126,15 @@ mutual
   scheduled-variables (Call p xs is last) = refl
   scheduled-variables (Apply op xs ys) = refl
 
-  nodes-variables : (ns : Nodes) → variables_of_nodes (unmarked_nodes ns) ≡ variables_of_nodes ns
+  nodes-variables : (ns : Nodes) → variables_of_nodes (changed_nodes ns) ≡ variables_of_nodes ns
   nodes-variables no_nodes = refl
-  nodes-variables (node_then n ns) = ap (λ xs. xs ++ variables_of_nodes (unmarked_nodes ns)) (node-variables n) ∙ ap (λ xs. variables_of_node n ++ xs) (nodes-variables ns)
+  nodes-variables (node_then n ns) = ap (λ xs. xs ++ variables_of_nodes (changed_nodes ns)) (node-variables n) ∙ ap (λ xs. variables_of_node n ++ xs) (nodes-variables ns)
 
-  arms-variables : (arms : Arms) → variables_of_arms (unmarked_arms arms) ≡ variables_of_arms arms
+  arms-variables : (arms : Arms) → variables_of_arms (changed_arms arms) ≡ variables_of_arms arms
   arms-variables no_arms = refl
-  arms-variables (arm_then l n arms) = ap (λ xs. xs ++ variables_of_arms (unmarked_arms arms)) (node-variables n) ∙ ap (λ xs. variables_of_node n ++ xs) (arms-variables arms)
+  arms-variables (arm_then l n arms) = ap (λ xs. xs ++ variables_of_arms (changed_arms arms)) (node-variables n) ∙ ap (λ xs. variables_of_node n ++ xs) (arms-variables arms)
 
-tested-order : (ts : List (ℕ × ℕ)) (ns : Nodes) → unmarked_nodes (tested_by ts ns) ≡ nodes_before (test_nodes ts) (unmarked_nodes ns)
+tested-order : (ts : List (ℕ × ℕ)) (ns : Nodes) → changed_nodes (tested_by ts ns) ≡ nodes_before (test_nodes ts) (changed_nodes ns)
 tested-order [] ns = refl
 tested-order (t ∷ ts) ns = ap (λ ms. node_then (unmarked (Test t.0 t.1)) ms) (tested-order ts ns)
 
@@ -258,22 +263,27 @@ module _ (Y : System) (T : ℕ → TypeTerm) where
 
   record Marked (O Q : List ℕ) (b : Insts) (g : Flat_goal) (x : Node) (o : Option Insts) : Type 0 where
     goal : Node
-    order : unmarked_node goal ≡ x
+    order : changed_node goal ≡ x
     ordered : OrderedNode Y T O Q b g goal o
 
   record MarkedAll (O Q : List ℕ) (b : Insts) (gs : Flat_goals) (ns : Nodes) (o : Option Insts) : Type 0 where
     goals : Nodes
-    order : unmarked_nodes goals ≡ ns
+    order : changed_nodes goals ≡ ns
     ordered : OrderedAll Y T O Q b gs goals o
 
   record MarkedAny (O Q : List ℕ) (b : Insts) (gs : Flat_goals) (ns : Nodes) (os : List (Option Insts)) : Type 0 where
     goals : Nodes
-    order : unmarked_nodes goals ≡ ns
+    order : changed_nodes goals ≡ ns
     ordered : OrderedAny Y T O Q b gs goals os
 
-  finish : {O Q : List ℕ} {n m : ℕ} {b : Insts} {g : Flat_goal} {s : Scheduled} {o : Option Insts} → Standing Y T O n b g (unmarked s) o m → Below n (variables_of g) → (u : Scheduled) → unmarked_scheduled u ≡ s → Ordered Y T O Q b g u o → Marked O Q b g (unmarked s) o
+  finish : {O Q : List ℕ} {n m : ℕ} {b : Insts} {g : Flat_goal} {s : Scheduled} {o : Option Insts} → Standing Y T O n b g (keeping Y T m b o s) o m → Below n (variables_of g) → (u : Scheduled) → changed_scheduled u ≡ s → Ordered Y T O Q b g u o →
+      Marked O Q b g (keeping Y T m b o s) o
   finish {O = O} {Q = Q} {n = n} {m = m} {b = b} {g = g} {o = o} d bg u e r =
-      record { goal = node u (changes_to m b o) (inferred det) (is_pruned Q b o); order = ap unmarked e; ordered = kept r (keeps-end m b o (end-from (variables_of g) n m b o bg (W.stays Y T d).0 (W.stays Y T d).1)) }
+      record {
+        goal = node u (changes other_node m b o) (inferred det) (is_pruned Q b o);
+        order = ap (λ k. keeping Y T m b o k) e;
+        ordered = kept r (keeps-end m b o (end-from (variables_of g) n m b o bg (W.stays Y T d).0 (W.stays Y T d).1));
+      }
 
   implied-alone : {O Q xs : List ℕ} {b : Insts} {p : ℕ} {y : Node} {o : Option Insts} (ts : List (ℕ × ℕ)) → ts ≢ [] → OrderedAll Y T O Q b (flat_then (F.Call p xs) no_flat) (node_then y (tested_by ts no_nodes)) o →
       Ordered Y T O Q b (F.Call p xs) (Conj (node_then y (tested_by ts no_nodes))) o
@@ -284,8 +294,8 @@ module _ (Y : System) (T : ℕ → TypeTerm) where
   nothing-behind no_nodes = refl
   nothing-behind (node_then n ns) = ap (node_then n) (nothing-behind ns)
 
-  three-same : (vs : List ℕ) (c t e x y z : Node) → unmarked_node c ≡ x → unmarked_node t ≡ y → unmarked_node e ≡ z → unmarked_scheduled (Ite vs c t e) ≡ Ite vs x y z
-  three-same vs c t e x y z p q r = ap (λ k. Ite vs k (unmarked_node t) (unmarked_node e)) p ∙ ap (λ k. Ite vs x k (unmarked_node e)) q ∙ ap (λ k. Ite vs x y k) r
+  three-same : (vs : List ℕ) (c t e x y z : Node) → changed_node c ≡ x → changed_node t ≡ y → changed_node e ≡ z → changed_scheduled (Ite vs c t e) ≡ Ite vs x y z
+  three-same vs c t e x y z p q r = ap (λ k. Ite vs k (changed_node t) (changed_node e)) p ∙ ap (λ k. Ite vs x k (changed_node e)) q ∙ ap (λ k. Ite vs x y k) r
 
   -- a builtin with its tests before goals that are ordered
   module _ (O Q : List ℕ) (n m : ℕ) (b c : Insts) (p : ℕ) (op : Builtin) (xs : List ℕ) (f : Freshly Y T n b c p op xs) (gs rest : Flat_goals) (pick : Picks gs (F.Call p xs) rest) (bo : Below n O) (bg : Below n (variables_of_all gs)) (cl : Clear n m Q) (fr : FreeFrom n b)
@@ -321,7 +331,7 @@ module _ (Y : System) (T : ℕ → TypeTerm) where
     implied-before : (ns : Nodes) (o : Option Insts) → OrderedAll Y T (O ++ (xs ++ freshened Y T n b op xs)) (Q ++ (xs ++ freshened Y T n b op xs)) c rest ns o →
         OrderedAll Y T O Q b gs
         (node_then
-        (node (Apply op (at_inputs (inputs_of op) (freshened Y T n b op xs)) (at_outputs (inputs_of op) (freshened Y T n b op xs))) (changes_from 0 end b c) (inferred det)
+        (node (Apply op (at_inputs (inputs_of op) (freshened Y T n b op xs)) (at_outputs (inputs_of op) (freshened Y T n b op xs))) (changes other_node end b (Some c)) (inferred det)
         (is_pruned (Q ++ variables_of_nodes (tested_by (fresh_tests Y T n b op xs) ns)) b (Some c)))
         (tested_by (fresh_tests Y T n b op xs) ns)) o
     implied-before ns o h =
@@ -363,10 +373,10 @@ module _ (Y : System) (T : ℕ → TypeTerm) where
         finish (S.apply_freshly {O = O} f) bg
         (Conj
         (node_then
-        (node (Apply op (at_inputs (inputs_of op) (freshened Y T n b op xs)) (at_outputs (inputs_of op) (freshened Y T n b op xs))) (changes_from 0 (n + length (fresh_tests Y T n b op xs)) b c) (inferred det)
+        (node (Apply op (at_inputs (inputs_of op) (freshened Y T n b op xs)) (at_outputs (inputs_of op) (freshened Y T n b op xs))) (changes other_node (n + length (fresh_tests Y T n b op xs)) b (Some c)) (inferred det)
         (is_pruned (Q ++ variables_of_nodes (tested_by (fresh_tests Y T n b op xs) no_nodes)) b (Some c)))
         (tested_by (fresh_tests Y T n b op xs) no_nodes)))
-        (ap (λ ms. Conj (node_then (unmarked (Apply op (at_inputs (inputs_of op) (freshened Y T n b op xs)) (at_outputs (inputs_of op) (freshened Y T n b op xs)))) ms)) (tested-order (fresh_tests Y T n b op xs) no_nodes ∙ nothing-behind (test_nodes (fresh_tests Y T n b op xs))))
+        (ap (λ ms. Conj (node_then (keeping Y T (n + length (fresh_tests Y T n b op xs)) b (Some c) (Apply op (at_inputs (inputs_of op) (freshened Y T n b op xs)) (at_outputs (inputs_of op) (freshened Y T n b op xs)))) ms)) (tested-order (fresh_tests Y T n b op xs) no_nodes ∙ nothing-behind (test_nodes (fresh_tests Y T n b op xs))))
         (implied-alone (fresh_tests Y T n b op xs) (has-tests 0 (modes_of op) xs (λ x. is_bound (b x)) (implied_of Y T op xs b) n (λ j h. h) f.implies)
         (implied-before O Q n (n + length (fresh_tests Y T n b op xs)) b c p op xs f (flat_then (F.Call p xs) no_flat) no_flat here bo (below-both n xs [] bg (λ y i. absurd i)) cl fr (le_refl _) first le al.1 no_nodes (Some c) R.done))
     marked (S.conj {O = O} s) Q bo bg sc cl fr first le al = (let r = marked-all s Q bo bg sc cl fr first le al in finish (S.conj s) bg (Conj r.goals) (ap Conj r.order) (R.conj r.ordered))
@@ -423,7 +433,7 @@ module _ (Y : System) (T : ℕ → TypeTerm) where
         (clear-both n1 m Q (variables_of_node x) (clear-less n n1 m m Q sg.0 (le_refl m) cl) (placed-before (variables_of g) (variables_of_node x) n n1 m below_g sg.0 (λ w i. W.node-placed Y T s w i))) (free-later (variables_of g) n n1 b c below_g sg.0 sg.1 fr) first (le_trans le sg.0) al.1 in
         record {
           goals = node_then one.goal others.goals;
-          order = ap (λ k. node_then k (unmarked_nodes others.goals)) one.order ∙ ap (node_then x) others.order;
+          order = ap (λ k. node_then k (changed_nodes others.goals)) one.order ∙ ap (node_then x) others.order;
           ordered =
               R.next p (subst (λ ws. OrderedNode Y T (O ++ variables_of_all rest) (Q ++ ws) b g one.goal (Some c)) (ap variables_of_nodes (sym others.order) ∙ nodes-variables others.goals) one.ordered)
               (subst (λ ws. OrderedAll Y T (O ++ variables_of g) (Q ++ ws) c rest others.goals o) (ap variables_of_node (sym one.order) ∙ node-variables one.goal) others.ordered);
@@ -446,9 +456,9 @@ module _ (Y : System) (T : ℕ → TypeTerm) where
         record {
           goals =
               node_then
-              (node (Apply op (at_inputs (inputs_of op) zs) (at_outputs (inputs_of op) zs)) (changes_from 0 end b c) (inferred det) (is_pruned (Q ++ variables_of_nodes (tested_by ts others.goals)) b (Some c)))
+              (node (Apply op (at_inputs (inputs_of op) zs) (at_outputs (inputs_of op) zs)) (changes other_node end b (Some c)) (inferred det) (is_pruned (Q ++ variables_of_nodes (tested_by ts others.goals)) b (Some c)))
               (tested_by ts others.goals);
-          order = ap (node_then (unmarked (Apply op (at_inputs (inputs_of op) zs) (at_outputs (inputs_of op) zs)))) (tested-order ts others.goals ∙ ap (nodes_before (test_nodes ts)) others.order);
+          order = ap (node_then (keeping Y T end b (Some c) (Apply op (at_inputs (inputs_of op) zs) (at_outputs (inputs_of op) zs)))) (tested-order ts others.goals ∙ ap (nodes_before (test_nodes ts)) others.order);
           ordered = implied-before O Q n m b c p op xs f gs rest pick bo bg cl fr sr.0 first le alike.0 others.goals o others.ordered;
         })
 
@@ -458,7 +468,7 @@ module _ (Y : System) (T : ℕ → TypeTerm) where
         (let sg = W.stays Y T s in let sr = W.any-stays Y T r in
         let one = marked s Q bo (below-left n (variables_of g) (variables_of_all gs) bg) sc.0 (clear-less n n m n1 Q (le_refl n) sr.0 cl) fr first le al.0 in
         let others = marked-any r Q (below-more n n1 O sg.0 bo) (below-more n n1 (variables_of_all gs) sg.0 (below-right n (variables_of g) (variables_of_all gs) bg)) sc.1 (clear-less n n1 m m Q sg.0 (le_refl m) cl) (λ w lw. fr w (le_trans sg.0 lw)) first (le_trans le sg.0) al.1 in
-        record { goals = node_then one.goal others.goals; order = ap (λ k. node_then k (unmarked_nodes others.goals)) one.order ∙ ap (node_then x) others.order; ordered = R.either one.ordered others.ordered })
+        record { goals = node_then one.goal others.goals; order = ap (λ k. node_then k (changed_nodes others.goals)) one.order ∙ ap (node_then x) others.order; ordered = R.either one.ordered others.ordered })
 
 pub standing-is-ordered : StandingIsOrdered
 standing-is-ordered S T O Q n m b g x o s al bo bg sc cl fr = (let r = marked S T s Q bo bg sc cl fr n (le_refl n) al in (r.goal, r.order, r.ordered))

@@ -55,10 +55,6 @@ module _ {I : Type 0} where
   fine-unless None f r h k = k
   fine-unless (Some v) f r h k = h v
 
-  fine-wrapped : (f : Nodes → Scheduled) (r : Arranged I) → Fine r → Fine (wrapped f r)
-  fine-wrapped f (breaks e) k = k
-  fine-wrapped f (runs gs o m zs) k = tt
-
   all-try : (vs ws : List (Waiting I)) → AllTry vs → AllTry ws → AllTry (vs ++ ws)
   all-try [] ws h k = k
   all-try (v ∷ vs) ws h k = (h.0, all-try vs ws h.1 k)
@@ -91,13 +87,18 @@ module _ {I : Type 0} where
   fine-branch g o (one_breaks f) k = k
   fine-branch g o (all_run gs ends m) k = tt
 
-  fine-and : (r : Arranged I) (rest : ℕ → Branches I) → Fine r → ((m : ℕ) → FineBranches (rest m)) → FineBranches (and_branches r rest)
-  fine-and (breaks f) rest h k = h
-  fine-and (runs gs o m zs) rest h k = fine-branch (alone gs) o (rest m) (k m)
+module _ {I : Type 0} (Op : Operations I) where
+  fine-wrapped : (f : ℕ → Option (Point I) → Nodes → Scheduled) (b : Point I) (r : Arranged I) → Fine r → Fine (wrapped Op f b r)
+  fine-wrapped f b (breaks e) k = k
+  fine-wrapped f b (runs gs o m zs) k = tt
 
-  fine-each : (ws : List (Waiting I)) (O : List ℕ) (n : ℕ) (b : Point I) → AllTry ws → FineBranches (each_branch ws O n b)
+  fine-and : (b : Point I) (r : Arranged I) (rest : ℕ → Branches I) → Fine r → ((m : ℕ) → FineBranches (rest m)) → FineBranches (and_branches Op b r rest)
+  fine-and b (breaks f) rest h k = h
+  fine-and b (runs gs o m zs) rest h k = fine-branch (alone Op m b o gs) o (rest m) (k m)
+
+  fine-each : (ws : List (Waiting I)) (O : List ℕ) (n : ℕ) (b : Point I) → AllTry ws → FineBranches (each_branch Op ws O n b)
   fine-each [] O n b k = tt
-  fine-each (w ∷ ws) O n b k = fine-and (w.trial O n b) (λ m. each_branch ws O m b) (k.0 O n b) (λ m. fine-each ws O m b k.1)
+  fine-each (w ∷ ws) O n b k = fine-and b (w.trial O n b) (λ m. each_branch Op ws O m b) (k.0 O n b) (λ m. fine-each ws O m b k.1)
 
 module _ {I : Type 0} (Op : Operations I) (P : Source) (declared : ℕ → List Declared) (T : ℕ → TypeTerm) (over : (s : ℕ) (is : List I) → is_there (Op.over s is) ≡ true) (joins : (t : TypeTerm) (i : I) (is : List I) → is_there (Op.joined t (i ∷ is)) ≡ true) where
   fine-turn : (k : ℕ) (ws : List (Waiting I)) → AllTry ws → Tries (in_turn Op P declared T k ws)
@@ -163,11 +164,11 @@ module _ {I : Type 0} (Op : Operations I) (P : Source) (declared : ℕ → List 
   fine-conditional : (vs xs own O : List ℕ) (b : Point I) (r : Arranged I) (th tk : Trial I) (U V : List ℕ) → Fine r → Tries th → Tries tk → Fine (conditional Op P declared T vs xs own O b r (λ m c. th U m c) (λ m. tk V m b))
   fine-conditional vs xs own O b (breaks f) th tk U V k h e = k
   fine-conditional vs xs own O b (runs gs None m zs) th tk U V k h e =
-      fine-branched None (two_goals (Ite vs (alone gs))) own O b (with_branch (unmarked (Conj no_nodes)) None (and_branches (tk V m b) no_branch))
-      (fine-branch (unmarked (Conj no_nodes)) None (and_branches (tk V m b) no_branch) (fine-and (tk V m b) no_branch (e V m b) (λ j. tt)))
+      fine-branched None (two_goals (Ite vs (alone Op m b None gs))) own O b (with_branch (unmarked (Conj no_nodes)) None (and_branches Op b (tk V m b) no_branch))
+      (fine-branch (unmarked (Conj no_nodes)) None (and_branches Op b (tk V m b) no_branch) (fine-and Op b (tk V m b) no_branch (e V m b) (λ j. tt)))
   fine-conditional vs xs own O b (runs gs (Some c) m zs) th tk U V k h e =
-      fine-branched (binds Op P declared T xs b (Some c)) (two_goals (Ite vs (alone gs))) own O b (and_branches (th U m c) (λ j. and_branches (tk V j b) no_branch))
-      (fine-and (th U m c) (λ j. and_branches (tk V j b) no_branch) (h U m c) (λ j. fine-and (tk V j b) no_branch (e V j b) (λ i. tt)))
+      fine-branched (binds Op P declared T xs b (Some c)) (two_goals (Ite vs (alone Op m b (Some c) gs))) own O b (and_branches Op c (th U m c) (λ j. and_branches Op b (tk V j b) no_branch))
+      (fine-and Op c (th U m c) (λ j. and_branches Op b (tk V j b) no_branch) (h U m c) (λ j. fine-and Op b (tk V j b) no_branch (e V j b) (λ i. tt)))
 
   fine-negation : (xs : List ℕ) (b : Point I) (r : Arranged I) → Fine r → Fine (negation Op P declared T xs b r)
   fine-negation xs b (breaks f) k = k
@@ -179,31 +180,31 @@ module _ {I : Type 0} (Op : Operations I) (P : Source) (declared : ℕ → List 
     fine (F.Made x s ys) O n b = fine-atom (x ∷ ys) b (made Op P declared T x s ys n b) (fine-made x s ys n b)
     fine (F.Is x v) O n b = fine-atom (x ∷ []) b (constant Op P declared T x v n b) (fine-constant x v n b)
     fine (F.Call p xs) O n b = fine-atom xs b (call_of Op P declared T (P.preds p).builtin p xs n b) (fine-call (P.preds p).builtin p xs n b)
-    fine (F.And gs) O n b = fine-wrapped Conj (in_turn Op P declared T (count_flat gs) (trials Op P declared T gs) O n b) (fine-turn (count_flat gs) (trials Op P declared T gs) (all-fine gs) O n b)
-    fine (F.Or gs) O n b = fine-branched None Disj (variables_of_all gs) O b (each_branch (trials Op P declared T gs) O n b) (fine-each (trials Op P declared T gs) O n b (all-fine gs))
+    fine (F.And gs) O n b = fine-wrapped Op (λ m o hs. Conj hs) b (in_turn Op P declared T (count_flat gs) (trials Op P declared T gs) O n b) (fine-turn (count_flat gs) (trials Op P declared T gs) (all-fine gs) O n b)
+    fine (F.Or gs) O n b = fine-branched None Disj (variables_of_all gs) O b (each_branch Op (trials Op P declared T gs) O n b) (fine-each Op (trials Op P declared T gs) O n b (all-fine gs))
     fine (F.If vs g h k) O n b =
         fine-conditional vs (without (free_in g) vs) (variables_of (F.If vs g h k)) O b (trial Op P declared T g (O ++ (without (free_in g) vs ++ variables_of h)) n b) (trial Op P declared T h) (trial Op P declared T k) (O ++ variables_of g) O
         (fine g (O ++ (without (free_in g) vs ++ variables_of h)) n b) (fine h) (fine k)
     fine (F.Not g) O n b = fine-negation (free_in g) b (trial Op P declared T g (O ++ free_in g) n b) (fine g (O ++ free_in g) n b)
-    fine (F.Exists vs g) O n b = fine-wrapped (λ gs. Exists vs (alone gs)) (trial Op P declared T g O n b) (fine g O n b)
+    fine (F.Exists vs g) O n b = fine-wrapped Op (λ m o gs. Exists vs (alone Op m b o gs)) b (trial Op P declared T g O n b) (fine g O n b)
 
     all-fine : (gs : Flat_goals) → AllTry (trials Op P declared T gs)
     all-fine no_flat = tt
     all-fine (flat_then g gs) = (fine g, all-fine gs)
 
-  not-lacking : (head last : List ℕ) (r : Arranged I) → Fine r → judged Op P declared T head last r ≡ faulty lacks → ⊥
-  not-lacking head last (breaks (waits k vs)) h e = cc
-  not-lacking head last (breaks (negated_binds v)) h e = cc
-  not-lacking head last (breaks (branches_differ v)) h e = cc
-  not-lacking head last (breaks lacks) h e = h
-  not-lacking head last (runs gs None m zs) h e = cc
-  not-lacking head last (runs gs (Some c) m zs) h e = at (first_unmet Op P declared T 0 head last c) e
+  not-lacking : (head last : List ℕ) (b : Point I) (r : Arranged I) → Fine r → judged Op P declared T head last b r ≡ faulty lacks → ⊥
+  not-lacking head last b (breaks (waits k vs)) h e = cc
+  not-lacking head last b (breaks (negated_binds v)) h e = cc
+  not-lacking head last b (breaks (branches_differ v)) h e = cc
+  not-lacking head last b (breaks lacks) h e = h
+  not-lacking head last b (runs gs None m zs) h e = cc
+  not-lacking head last b (runs gs (Some c) m zs) h e = at (first_unmet Op P declared T 0 head last c) e
     where
-      at : (o : Option ℕ) → unless_unmet (alone gs) o ≡ faulty lacks → ⊥
+      at : (o : Option ℕ) → unless_unmet (alone Op m b (Some c) gs) o ≡ faulty lacks → ⊥
       at None q = cc
       at (Some k) q = cc
 
 pub nothing-lacks : NothingLacks
 nothing-lacks P G declared T f next head first last g e =
-    not-lacking (of_forms P G f) P declared T (λ s is. refl) (λ t i is. refl) head last (trial (of_forms P G f) P declared T g head next (entry (of_forms P G f) P declared T head first))
+    not-lacking (of_forms P G f) P declared T (λ s is. refl) (λ t i is. refl) head last (entry (of_forms P G f) P declared T head first) (trial (of_forms P G f) P declared T g head next (entry (of_forms P G f) P declared T head first))
     (fine (of_forms P G f) P declared T (λ s is. refl) (λ t i is. refl) g head next (entry (of_forms P G f) P declared T head first)) e

@@ -92,30 +92,11 @@ module _ {I : Type 0} where
   kept-unless own n b None f r k = k
   kept-unless own n b (Some v) f r k = tt
 
-  kept-wrapped : (own : List ℕ) (n : ℕ) (b : Point I) (f : Nodes → Scheduled) (r : Arranged I) → Kept own n b r → Kept own n b (wrapped f r)
-  kept-wrapped own n b f (breaks e) k = tt
-  kept-wrapped own n b f (runs gs o m zs) k = k
-
   -- ---- branches
   pub with-branch-keeps : (own : List ℕ) (n : ℕ) (b : Point I) (g : Node) (o : Option (Point I)) (B : Branches I) → EndStays own n b o → BranchesKeep own n b B → BranchesKeep own n b (with_branch g o B)
   with-branch-keeps own n b g o (one_breaks f) h k = tt
   with-branch-keeps own n b g None (all_run gs ends m) h k = k
   with-branch-keeps own n b g (Some c) (all_run gs ends m) h k = (k.0, (h, k.1))
-
-  pub and-branches-keep : (own : List ℕ) (n : ℕ) (b : Point I) (r : Arranged I) (rest : ℕ → Branches I) → Kept own n b r → ((m : ℕ) → n ≤ m → BranchesKeep own n b (rest m)) → BranchesKeep own n b (and_branches r rest)
-  and-branches-keep own n b (breaks f) rest k h = tt
-  and-branches-keep own n b (runs gs o m zs) rest k h = with-branch-keeps own n b (alone gs) o (rest m) k.1 (h m k.0)
-
-  from-later : (own : List ℕ) (n m : ℕ) (b : Point I) (r : Arranged I) → n ≤ m → Kept own m b r → Kept own n b r
-  from-later own n m b r le k = kept-on own own n m b b (λ x i. i) le (λ x off lt. refl) r k
-
-  each-branch-from : (own : List ℕ) (n m : ℕ) (b : Point I) (ws : List (Waiting I)) (O : List ℕ) → n ≤ m → AllKeep own ws → BranchesKeep own n b (each_branch ws O m b)
-  each-branch-from own n m b [] O le k = (le, tt)
-  each-branch-from own n m b (w ∷ ws) O le k =
-      and-branches-keep own n b (w.trial O m b) (λ j. each_branch ws O j b) (from-later own n m b (w.trial O m b) le (k.0 O m b)) (λ j lj. each-branch-from own n j b ws O lj k.1)
-
-  pub each-branch-keeps : (own : List ℕ) (n : ℕ) (b : Point I) (ws : List (Waiting I)) (O : List ℕ) → AllKeep own ws → BranchesKeep own n b (each_branch ws O n b)
-  each-branch-keeps own n b ws O k = each-branch-from own n n b ws O (le_refl n) k
 
   -- ---- conjunctions
   abbrev PickedKeeps : (own : List ℕ) → (n : ℕ) → Point I → Picked I → Type 0
@@ -146,6 +127,27 @@ module _ {I : Type 0} where
   behind-keeps : (own : List ℕ) (n : ℕ) (b : Point I) (gs : Nodes) (r : Arranged I) → Kept own n b r → Kept own n b (behind gs r)
   behind-keeps own n b gs (breaks f) k = tt
   behind-keeps own n b gs (runs hs o m zs) k = k
+
+module _ {I : Type 0} (Op : Operations I) where
+  kept-wrapped : (own : List ℕ) (n : ℕ) (b : Point I) (f : ℕ → Option (Point I) → Nodes → Scheduled) (r : Arranged I) → Kept own n b r → Kept own n b (wrapped Op f b r)
+  kept-wrapped own n b f (breaks e) k = tt
+  kept-wrapped own n b f (runs gs o m zs) k = k
+
+  -- a branch begins at a point c, which may be a later one
+  pub and-branches-keep : (own : List ℕ) (n : ℕ) (b c : Point I) (r : Arranged I) (rest : ℕ → Branches I) → Kept own n b r → ((m : ℕ) → n ≤ m → BranchesKeep own n b (rest m)) → BranchesKeep own n b (and_branches Op c r rest)
+  and-branches-keep own n b c (breaks f) rest k h = tt
+  and-branches-keep own n b c (runs gs o m zs) rest k h = with-branch-keeps own n b (alone Op m c o gs) o (rest m) k.1 (h m k.0)
+
+  from-later : (own : List ℕ) (n m : ℕ) (b : Point I) (r : Arranged I) → n ≤ m → Kept own m b r → Kept own n b r
+  from-later own n m b r le k = kept-on own own n m b b (λ x i. i) le (λ x off lt. refl) r k
+
+  each-branch-from : (own : List ℕ) (n m : ℕ) (b : Point I) (ws : List (Waiting I)) (O : List ℕ) → n ≤ m → AllKeep own ws → BranchesKeep own n b (each_branch Op ws O m b)
+  each-branch-from own n m b [] O le k = (le, tt)
+  each-branch-from own n m b (w ∷ ws) O le k =
+      and-branches-keep own n b b (w.trial O m b) (λ j. each_branch Op ws O j b) (from-later own n m b (w.trial O m b) le (k.0 O m b)) (λ j lj. each-branch-from own n j b ws O lj k.1)
+
+  pub each-branch-keeps : (own : List ℕ) (n : ℕ) (b : Point I) (ws : List (Waiting I)) (O : List ℕ) → AllKeep own ws → BranchesKeep own n b (each_branch Op ws O n b)
+  each-branch-keeps own n b ws O k = each-branch-from own n n b ws O (le_refl n) k
 
 module _ {I : Type 0} (Op : Operations I) (P : Source) (declared : ℕ → List Declared) (T : ℕ → TypeTerm) where
   in-turn-keeps : (k : ℕ) (own : List ℕ) (ws : List (Waiting I)) → AllKeep own ws → Keeps own (in_turn Op P declared T k ws)
@@ -275,25 +277,26 @@ module _ {I : Type 0} (Op : Operations I) (P : Source) (declared : ℕ → List 
 
   -- the branches of an if-then-else
   pub then-else-keep : (own : List ℕ) (n m : ℕ) (b c : Point I) (th tk : Trial I) (O U : List ℕ) → n ≤ m → Stays own n b c → Keeps own th → Keeps own tk →
-      BranchesKeep own n b (and_branches (th O m c) (λ j. and_branches (tk U j b) no_branch))
+      BranchesKeep own n b (and_branches Op c (th O m c) (λ j. and_branches Op b (tk U j b) no_branch))
   then-else-keep own n m b c th tk O U le s kh kk =
-      and-branches-keep own n b (th O m c) (λ j. and_branches (tk U j b) no_branch) (kept-on own own n m b c (λ x i. i) le s (th O m c) (kh O m c)) (λ j lj. else-keeps own n j b tk U lj kk)
+      and-branches-keep Op own n b c (th O m c) (λ j. and_branches Op b (tk U j b) no_branch) (kept-on own own n m b c (λ x i. i) le s (th O m c) (kh O m c)) (λ j lj. else-keeps own n j b tk U lj kk)
     where
-      else-keeps : (own : List ℕ) (n j : ℕ) (b : Point I) (tk : Trial I) (U : List ℕ) → n ≤ j → Keeps own tk → BranchesKeep own n b (and_branches (tk U j b) no_branch)
-      else-keeps own n j b tk U lj kk = and-branches-keep own n b (tk U j b) no_branch (kept-on own own n j b b (λ x i. i) lj (λ x off lt. refl) (tk U j b) (kk U j b)) (λ i li. (li, tt))
+      else-keeps : (own : List ℕ) (n j : ℕ) (b : Point I) (tk : Trial I) (U : List ℕ) → n ≤ j → Keeps own tk → BranchesKeep own n b (and_branches Op b (tk U j b) no_branch)
+      else-keeps own n j b tk U lj kk = and-branches-keep Op own n b b (tk U j b) no_branch (kept-on own own n j b b (λ x i. i) lj (λ x off lt. refl) (tk U j b) (kk U j b)) (λ i li. (li, tt))
 
-  pub never-keeps : (own : List ℕ) (n m : ℕ) (b : Point I) (g : Node) (tk : Trial I) (U : List ℕ) → n ≤ m → Keeps own tk → BranchesKeep own n b (with_branch g None (and_branches (tk U m b) no_branch))
+  pub never-keeps : (own : List ℕ) (n m : ℕ) (b : Point I) (g : Node) (tk : Trial I) (U : List ℕ) → n ≤ m → Keeps own tk → BranchesKeep own n b (with_branch g None (and_branches Op b (tk U m b) no_branch))
   never-keeps own n m b g tk U le kk =
-      with-branch-keeps own n b g None (and_branches (tk U m b) no_branch) tt
-      (and-branches-keep own n b (tk U m b) no_branch (kept-on own own n m b b (λ x i. i) le (λ x off lt. refl) (tk U m b) (kk U m b)) (λ i li. (li, tt)))
+      with-branch-keeps own n b g None (and_branches Op b (tk U m b) no_branch) tt
+      (and-branches-keep Op own n b b (tk U m b) no_branch (kept-on own own n m b b (λ x i. i) le (λ x off lt. refl) (tk U m b) (kk U m b)) (λ i li. (li, tt)))
 
   conditional-keeps : (vs xs own vg : List ℕ) (O : List ℕ) (n : ℕ) (b : Point I) (r : Arranged I) (th tk : Trial I) (U V : List ℕ) → Kept own n b r → Keeps own th → Keeps own tk →
       Kept own n b (conditional Op P declared T vs xs own O b r (λ m c. th U m c) (λ m. tk V m b))
   conditional-keeps vs xs own vg O n b (breaks f) th tk U V k kh kk = tt
   conditional-keeps vs xs own vg O n b (runs gs None m zs) th tk U V k kh kk =
-      branched-keeps own n b None (two_goals (Ite vs (alone gs))) O (with_branch (unmarked (Conj no_nodes)) None (and_branches (tk V m b) no_branch)) (never-keeps own n m b (unmarked (Conj no_nodes)) tk V k.0 kk)
+      branched-keeps own n b None (two_goals (Ite vs (alone Op m b None gs))) O (with_branch (unmarked (Conj no_nodes)) None (and_branches Op b (tk V m b) no_branch)) (never-keeps own n m b (unmarked (Conj no_nodes)) tk V k.0 kk)
   conditional-keeps vs xs own vg O n b (runs gs (Some c) m zs) th tk U V k kh kk =
-      branched-keeps own n b (binds Op P declared T xs b (Some c)) (two_goals (Ite vs (alone gs))) O (and_branches (th U m c) (λ j. and_branches (tk V j b) no_branch)) (then-else-keep own n m b c th tk U V k.0 k.1 kh kk)
+      branched-keeps own n b (binds Op P declared T xs b (Some c)) (two_goals (Ite vs (alone Op m b (Some c) gs))) O (and_branches Op c (th U m c) (λ j. and_branches Op b (tk V j b) no_branch))
+      (then-else-keep own n m b c th tk U V k.0 k.1 kh kk)
 
   negation-keeps : (own xs : List ℕ) (n : ℕ) (b : Point I) (r : Arranged I) → Kept own n b r → Kept own n b (negation Op P declared T xs b r)
   negation-keeps own xs n b (breaks f) k = tt
@@ -305,9 +308,9 @@ module _ {I : Type 0} (Op : Operations I) (P : Source) (declared : ℕ → List 
     keeps (F.Made x s ys) O n b = atom-keeps (x ∷ ys) (x ∷ ys) n b (made Op P declared T x s ys n b) (made-keeps x s ys n b)
     keeps (F.Is x v) O n b = atom-keeps (x ∷ []) (x ∷ []) n b (constant Op P declared T x v n b) (constant-keeps x v n b)
     keeps (F.Call p xs) O n b = atom-keeps xs xs n b (call_of Op P declared T (P.preds p).builtin p xs n b) (call-keeps (P.preds p).builtin p xs n b)
-    keeps (F.And gs) O n b = kept-wrapped (variables_of_all gs) n b Conj (in_turn Op P declared T (count_flat gs) (trials Op P declared T gs) O n b) (in-turn-keeps (count_flat gs) (variables_of_all gs) (trials Op P declared T gs) (all-keep gs) O n b)
+    keeps (F.And gs) O n b = kept-wrapped Op (variables_of_all gs) n b (λ m o hs. Conj hs) (in_turn Op P declared T (count_flat gs) (trials Op P declared T gs) O n b) (in-turn-keeps (count_flat gs) (variables_of_all gs) (trials Op P declared T gs) (all-keep gs) O n b)
     keeps (F.Or gs) O n b =
-        branched-keeps (variables_of_all gs) n b None Disj O (each_branch (trials Op P declared T gs) O n b) (each-branch-keeps (variables_of_all gs) n b (trials Op P declared T gs) O (all-keep gs))
+        branched-keeps (variables_of_all gs) n b None Disj O (each_branch Op (trials Op P declared T gs) O n b) (each-branch-keeps Op (variables_of_all gs) n b (trials Op P declared T gs) O (all-keep gs))
     keeps (F.If vs g h k) O n b =
         conditional-keeps vs (without (free_in g) vs) (variables_of (F.If vs g h k)) [] O n b (trial Op P declared T g (O ++ (without (free_in g) vs ++ variables_of h)) n b) (trial Op P declared T h) (trial Op P declared T k) (O ++ variables_of g) O
         (keeps-more (variables_of (F.If vs g h k)) (variables_of g) (trial Op P declared T g) (in-condition vs g h k) (keeps g) (O ++ (without (free_in g) vs ++ variables_of h)) n b)
@@ -315,7 +318,7 @@ module _ {I : Type 0} (Op : Operations I) (P : Source) (declared : ℕ → List 
         (keeps-more (variables_of (F.If vs g h k)) (variables_of k) (trial Op P declared T k) (in-else vs g h k) (keeps k))
     keeps (F.Not g) O n b = negation-keeps (variables_of g) (free_in g) n b (trial Op P declared T g (O ++ free_in g) n b) (keeps g (O ++ free_in g) n b)
     keeps (F.Exists vs g) O n b =
-        kept-wrapped (vs ++ variables_of g) n b (λ gs. Exists vs (alone gs)) (trial Op P declared T g O n b)
+        kept-wrapped Op (vs ++ variables_of g) n b (λ m o gs. Exists vs (alone Op m b o gs)) (trial Op P declared T g O n b)
         (keeps-more (vs ++ variables_of g) (variables_of g) (trial Op P declared T g) (λ x i. in_right x vs (variables_of g) i) (keeps g) O n b)
 
     pub all-keep : (gs : Flat_goals) → AllKeep (variables_of_all gs) (trials Op P declared T gs)

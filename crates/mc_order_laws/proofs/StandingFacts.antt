@@ -203,8 +203,8 @@ module _ (Y : System) (T : ℕ → TypeTerm) where
   placed-more : (own vs : List ℕ) (n n' m m' y : ℕ) → Within vs own → n' ≤ n → m ≤ m' → Placed vs n m y → Placed own n' m' y
   placed-more own vs n n' m m' y w p q r = ⊎_elim (λ i. inl (w y i)) (λ k. inr (le_trans p k.0, lt_of_lt_of_le k.1 q)) r
 
-  pub fresh-placed : (n : ℕ) (b : Insts) (op : Builtin) (xs : List ℕ) (y : ℕ) → In y (variables_of_nodes (fresh_nodes Y T n b op xs)) → Placed xs n (n + length (fresh_tests Y T n b op xs)) y
-  fresh-placed n b op xs y i =
+  pub fresh-placed : (n : ℕ) (b c : Insts) (op : Builtin) (xs : List ℕ) (y : ℕ) → In y (variables_of_nodes (fresh_nodes Y T n b c op xs)) → Placed xs n (n + length (fresh_tests Y T n b op xs)) y
+  fresh-placed n b c op xs y i =
       ⊎_elim (λ j. fresh-range 0 (implied_of Y T op xs b) xs n y (apply-in (inputs_of op) (freshened Y T n b op xs) y j)) (λ j. tests-range 0 (implied_of Y T op xs b) xs n y j)
       (in_either y (at_inputs (inputs_of op) (freshened Y T n b op xs) ++ at_outputs (inputs_of op) (freshened Y T n b op xs)) (variables_of_nodes (test_nodes (fresh_tests Y T n b op xs))) i)
 
@@ -221,7 +221,7 @@ module _ (Y : System) (T : ℕ → TypeTerm) where
     node-placed (S.test_never p q r) y i = inl i
     node-placed (S.call lt u a h) y i = inl i
     node-placed (S.apply {op = op} {xs = xs} e u a k h) y i = inl (apply-in (inputs_of op) xs y i)
-    node-placed (S.apply_freshly {n = n} {b = b} {op = op} {xs = xs} f) y i = fresh-placed n b op xs y i
+    node-placed (S.apply_freshly {n = n} {b = b} {c = c} {op = op} {xs = xs} f) y i = fresh-placed n b c op xs y i
     node-placed (S.conj s) y i = all-placed s y i
     node-placed (S.disj s j) y i = any-placed s y i
     node-placed (S.ite {n = n} {n1 = n1} {n2 = n2} {m = m} {vs = vs} {g = g} {h = h} {k = k} {x = xc} {y = xt} {z = xe} s p t u j) y i =
@@ -249,10 +249,10 @@ module _ (Y : System) (T : ℕ → TypeTerm) where
     all-placed (S.next {n = n} {n1 = n1} {m = m} {g = g} {gs = gs} {rest = rest} {x = x} {ns = ns} p s r) y i =
         ⊎_elim (λ l. placed-more (variables_of_all gs) (variables_of g) n n n1 m y (picks-goal p) (le_refl n) (all-stays r).0 (node-placed s y l))
         (λ l. placed-more (variables_of_all gs) (variables_of_all rest) n1 n m m y (picks-rest p) (stays s).0 (le_refl m) (all-placed r y l)) (in_either y (variables_of_node x) (variables_of_nodes ns) i)
-    all-placed (S.implied_outputs {n = n} {m = m} {b = b} {op = op} {xs = xs} {gs = gs} {rest = rest} {ns = ns} p f r) y i =
-        ⊎_elim (λ l. placed-more (variables_of_all gs) xs n n (n + length (fresh_tests Y T n b op xs)) m y (picks-goal p) (le_refl n) (all-stays r).0 (fresh-placed n b op xs y l))
+    all-placed (S.implied_outputs {n = n} {m = m} {b = b} {c = c} {op = op} {xs = xs} {gs = gs} {rest = rest} {ns = ns} p f r) y i =
+        ⊎_elim (λ l. placed-more (variables_of_all gs) xs n n (n + length (fresh_tests Y T n b op xs)) m y (picks-goal p) (le_refl n) (all-stays r).0 (fresh-placed n b c op xs y l))
         (λ l. placed-more (variables_of_all gs) (variables_of_all rest) (n + length (fresh_tests Y T n b op xs)) n m m y (picks-rest p) (omega arith) (le_refl m) (all-placed r y l))
-        (before-either (fresh_nodes Y T n b op xs) ns y i)
+        (before-either (fresh_nodes Y T n b c op xs) ns y i)
 
     pub any-placed : {O : List ℕ} {n m : ℕ} {b : Insts} {gs : Flat_goals} {ns : Nodes} {os : List (Option Insts)} → StandingAny Y T O n b gs ns os m → (y : ℕ) → In y (variables_of_nodes ns) → Placed (variables_of_all gs) n m y
     any-placed S.no_other y i = absurd i

@@ -11,7 +11,7 @@ use Rattle.mc_accepted.specs.Ordered.{Insts, OrderedNode}
 use Rattle.mc_accepted.specs.Fits.{type_of}
 use Rattle.mc_accepted.specs.Accepted.{entered, FinalAfter}
 use Rattle.mc_accepted.specs.Least.{least}
-use Rattle.mc_accepted.specs.Unmarked.{unmarked_node}
+use Rattle.mc_accepted.specs.Unmarked.{changed_node}
 use Rattle.mc_accepted.specs.Arranged.{Operations, Declared, Point, runs, trial, alone, lacks, in_order, faulty, ascending, arrange}
 use Rattle.mc_accepted.specs.Chosen.{Chosen, of_nodes}
 use Rattle.mc_accepted.specs.FreshTests.{TestsAlike}
@@ -60,19 +60,19 @@ ArrangedStands =
     → (g : Flat_goal) (O : List ℕ) (n : ℕ) (b : Insts) (gs : Nodes) (o : Option Insts) (m : ℕ)
     (zs : List ℕ)
     → trial (of_nodes C) S.world.source declared T g O n b ≡ runs gs o m zs
-    → Standing S T O n b g (alone gs) o m
+    → Standing S T O n b g (alone (of_nodes C) m b o gs) o m
 
 -- no variable of the list is one of those numbered from n on and below m
 abbrev pub Clear : (n m : ℕ) → List ℕ → Type 0
 Clear n m xs = (x : ℕ) → In x xs → (x < n) ⊎ (m ≤ x)
 
--- the order of a goal that is ordered
+-- the order of a goal that is ordered, with the insts that each goal changes
 abbrev pub IsOrderOf :
     System → (ℕ → TypeTerm) → (O Q : List ℕ) → Insts → Flat_goal → Node → Option Insts → Type 0
 IsOrderOf S T O Q b g x o =
-    (n : Node) × (unmarked_node n ≡ x) × OrderedNode S T O Q b g n o
+    (n : Node) × (changed_node n ≡ x) × OrderedNode S T O Q b g n o
 
--- A goal that stands in its order is the order of an ordered goal: kept insts and marks can be
+-- A goal that stands in its order is the order of an ordered goal: determinisms and marks can be
 -- told, where its scopes are written out, variables from the next number on are free and new, and
 -- those that stand for implied outputs are typed like them.
 abbrev pub StandingIsOrdered : Type 0

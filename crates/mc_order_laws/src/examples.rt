@@ -3,7 +3,7 @@
 ghost use Rattle.mc_order_laws.specs.code.ExamplesOfOrder.{NeededFirst, ModesChosen, ListsTakenApart, Conditions, Negations, ResultsCompared, StatesInTurn, StatesCompared};
 ghost use Rattle.mc_order_laws.specs.code.ExamplesOfDeterminisms.{NegationsTold, BranchesTold, AppendTold};
 ghost use Rattle.mc_order_laws.specs.code.ExamplesOfInOrder.{OnesInOrder};
-ghost use Rattle.mc_order_laws.specs.code.ExamplesOfNodes.{PremisesAreMet};
+ghost use Rattle.mc_order_laws.specs.code.ExamplesOfNodes.{ChangesAreKept, PremisesAreMet};
 ghost use Rattle.mc_order_laws.specs.code.ExamplesOfScopes.{ScopesAlone, ScopesApart};
 ghost use Rattle.mc_order_laws.specs.code.ExamplesOfTests.{ListsAreTold};
 ghost use Rattle.mc_order_laws.specs.code.ExamplesOfFaults.{NoGoalRuns, NegatedGoalsBind, BranchesDiffer, FinalInstsUnmet};
@@ -42,6 +42,11 @@ pub fn faults()
 /// Functions that look for nodes and tell the truth of their graph, and a goal that is in order over them.
 pub fn premises()
     ensures { PremisesAreMet }
+{}
+
+/// The insts that goals change, in their order over those nodes.
+pub fn changes()
+    ensures { ChangesAreKept }
 {}
 
 /// A goal that is in order whichever test tells inclusion, and one that isn't.

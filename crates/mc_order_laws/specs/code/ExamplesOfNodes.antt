@@ -1,15 +1,16 @@
 -- Functions that look for nodes and tell the truth of a graph: the laws of the order have premises
--- that can be met.
-use Rattle.std.specs.Prelude.{◌≡◌, ℕ, zero, suc, List, [], ◌∷◌, replicate, Option, Some, None, Bool, true, false, nat_eq, ◌&&◌, if◌then◌else◌}
+-- that can be met. Over nodes each goal in order has the insts that it changes.
+use Rattle.std.specs.Prelude.{◌≡◌, ◌≢◌, ℕ, zero, suc, List, [], ◌∷◌, map, replicate, Option, Some, None, Bool, true, false, nat_eq, ◌&&◌, if◌then◌else◌}
 use Rattle.mc_program.specs.Programs.{int_type}
 use Rattle.mc_model.specs.Outcomes.{fails}
 use Rattle.mc_model.specs.Insts.{free, ground, dead, Graph}
 use Rattle.mc_model.specs.Flat as F
-use Rattle.mc_model.specs.Scheduled.{Assign, Procedure}
+use Rattle.mc_model.specs.Flat.{Flat_goal, no_flat, flat_then}
+use Rattle.mc_model.specs.Scheduled.{Node, node, Scheduled, Conj, Disj, Not, Exists, Assign, Procedure, nodes}
 use Rattle.mc_model.specs.Good.{System}
 use Rattle.mc_accepted.specs.Fits.{type_of}
 use Rattle.mc_accepted.specs.Unmarked.{unmarked}
-use Rattle.mc_accepted.specs.Arranged.{in_order, arrange}
+use Rattle.mc_accepted.specs.Arranged.{Verdict, in_order, arrange}
 use Rattle.mc_accepted.specs.InOrder.{modes_declared}
 use Rattle.mc_accepted.specs.Chosen.{Chosen, of_nodes}
 use Rattle.mc_accepted.specs.code.Truthful.{Truthful, AllDeclared}
@@ -86,6 +87,10 @@ system =
       insts = few;
     }
 
+-- a goal with the variables that it changes, which become ground
+abbrev pub ground_after : List ℕ → Scheduled → Node
+ground_after xs s = node s (map (λ x. (x, 1)) xs) (inferred det) false
+
 abbrev pub PremisesAreMet : Type 0
 PremisesAreMet =
     Truthful system (type_of system copies) chosen
@@ -97,4 +102,49 @@ PremisesAreMet =
     × FlatScopes copies.head (F.Same 1 0)
     × (arrange (of_nodes chosen) example.source (modes_declared system) (type_of system copies) 2
     copies.head copies.first copies.last (F.Same 1 0)
-    ≡ in_order (unmarked (Assign 1 0)))
+    ≡ in_order (ground_after (1 ∷ []) (Assign 1 0)))
+
+-- a goal of X and Y, variables 0 and 1, in its order over nodes; it may have variable 2 too, W
+abbrev pub over_nodes : Flat_goal → Verdict
+over_nodes g =
+    arrange (of_nodes chosen) example.source (modes_declared system) (type_of system copies) 3
+    copies.head copies.first copies.last g
+
+abbrev pub both : Flat_goal → Flat_goal → Flat_goal
+both g h = F.And (flat_then g (flat_then h no_flat))
+
+abbrev pub fails_always : Flat_goal
+fails_always = F.Or no_flat
+
+-- `W = X, Y = W`, which is in order as it is and when it is turned
+abbrev pub by_another : Node
+by_another =
+    ground_after (1 ∷ 2 ∷ [])
+    (Conj (nodes (ground_after (2 ∷ []) (Assign 2 0) ∷ ground_after (1 ∷ []) (Assign 1 2) ∷ [])))
+
+-- What a conjunction changes is in order of variables. After a disjunction, W is free again. Where
+-- the end is unreachable a goal changes nothing, though a part of it does, and nor does a negation.
+abbrev pub ChangesAreKept : Type 0
+ChangesAreKept =
+    (over_nodes (F.Same 1 0) ≡ in_order (ground_after (1 ∷ []) (Assign 1 0)))
+    × (over_nodes (both (F.Same 1 2) (F.Same 2 0)) ≡ in_order by_another)
+    × (over_nodes
+    (F.Or (flat_then (both (F.Same 2 0) (F.Same 1 2)) (flat_then (F.Same 1 0) no_flat)))
+    ≡ in_order
+    (ground_after (1 ∷ [])
+    (Disj (nodes (by_another ∷ ground_after (1 ∷ []) (Assign 1 0) ∷ [])))))
+    × (over_nodes (both (F.Same 1 0) fails_always)
+    ≡ in_order
+    (ground_after []
+    (Conj
+    (nodes (ground_after (1 ∷ []) (Assign 1 0) ∷ ground_after [] (Disj (nodes [])) ∷ [])))))
+    × (over_nodes (both (F.Not (F.Exists (2 ∷ []) (F.Same 2 0))) (F.Same 1 0))
+    ≡ in_order
+    (ground_after (1 ∷ [])
+    (Conj
+    (nodes
+    (ground_after []
+    (Not
+    (ground_after (2 ∷ []) (Exists (2 ∷ []) (ground_after (2 ∷ []) (Assign 2 0)))))
+    ∷ ground_after (1 ∷ []) (Assign 1 0) ∷ [])))))
+    × (over_nodes (F.Same 1 0) ≢ in_order (unmarked (Assign 1 0)))
