@@ -10,15 +10,14 @@ use Rattle.mc_model.specs.declared.sched.Sched as D
 use Rattle.mc_procs.proofs.Views.{plain_sched-Test, plain_sched-Assign, plain_sched-Const, plain_sched-TestConst}
 use Rattle.mc_model.specs.Insts.{Graph}
 use Rattle.mc_model.specs.Stream.{is_bound}
-use Rattle.mc_model.specs.Scheduled.{Scheduled, Assign, Test, Const, TestConst, node_then, no_nodes, nodes}
+use Rattle.mc_model.specs.Scheduled.{Scheduled, Assign, Test, Const, TestConst, Nodes, node_then, no_nodes, nodes}
 use Rattle.mc_model.specs.PlainGoals.{plain_node, plain_sched}
-use Rattle.mc_accepted.specs.Unmarked.{unmarked}
 use Rattle.mc_accepted.specs.Fits.{FitsInsts}
 use Rattle.mc_accepted.specs.FreshTests.{AlikeIn, AllAlike}
 use Rattle.mc_accepted.specs.Forms.{node_takes_constants}
 use Rattle.mc_accepted.specs.Ordered.{is_state}
-use Rattle.mc_accepted.specs.Arranged.{Operations, Declared, Point, with_inst, Arranged, runs, breaks, one, atom, wait, same, assigned, constant}
-use Rattle.mc_accepted.specs.Chosen.{Chosen, of_nodes}
+use Rattle.mc_accepted.specs.Arranged.{Operations, Declared, Point, with_inst, Arranged, runs, breaks, one, changing, atom, wait, same, assigned, constant}
+use Rattle.mc_accepted.specs.Chosen.{Chosen, of_nodes, other_node}
 use Rattle.mc_procs.specs.Named.{NumbersBelow}
 use Rattle.mc_procs.specs.Procedures.{PlainProcs, source_of, insts_of}
 use Rattle.mc_mode_points.specs.Nodes.{type_in}
@@ -32,20 +31,24 @@ use Rattle.mc_mode_points.specs.declared.fault.Failed.TheVariants as E
 use Rattle.mc_mode_points.proofs.Ahead.{dead-is-three, agrees-before}
 use Rattle.mc_mode_points.proofs.Steps.{moved-refl, same-refl, stepped-refl}
 
+-- one goal that was tried from the first state and left the second
+abbrev pub one_goal : (s t : State) → (reachable : Bool) → Scheduled → Nodes
+one_goal s t reachable g = node_then (changing other_node (length t.insts.items) (point_of s.insts.items) (end_of reachable t) g) no_nodes
+
 -- one goal, in the form of an answer
-pub runs-one : (p : Part) (t : State) (s : Scheduled) (o : Option (Point ℕ)) (n : ℕ) (reachable : Bool)
-    → nodes (map plain_node p.goals.items) ≡ node_then (unmarked s) no_nodes → p.reachable ≡ reachable → p.freshened.items ≡ [] → o ≡ end_of reachable t → n ≡ length t.insts.items
-    → one s o n ≡ runs (nodes (map plain_node p.goals.items)) (end_of p.reachable t) (length t.insts.items) p.freshened.items
-runs-one p t s o n reachable g r f e c =
-    ap (λ x. one s x n) e
-    ∙ (ap (one s (end_of reachable t)) c
-    ∙ (ap (λ x. runs x (end_of reachable t) (length t.insts.items) []) (sym g)
+pub runs-one : (C : Chosen) (p : Part) (s t : State) (g : Scheduled) (o : Option (Point ℕ)) (n : ℕ) (reachable : Bool)
+    → nodes (map plain_node p.goals.items) ≡ one_goal s t reachable g → p.reachable ≡ reachable → p.freshened.items ≡ [] → o ≡ end_of reachable t → n ≡ length t.insts.items
+    → one (of_nodes C) (point_of s.insts.items) g o n ≡ runs (nodes (map plain_node p.goals.items)) (end_of p.reachable t) (length t.insts.items) p.freshened.items
+runs-one C p s t g o n reachable h r f e c =
+    ap (λ x. one (of_nodes C) (point_of s.insts.items) g x n) e
+    ∙ (ap (one (of_nodes C) (point_of s.insts.items) g (end_of reachable t)) c
+    ∙ (ap (λ x. runs x (end_of reachable t) (length t.insts.items) []) (sym h)
     ∙ (ap (λ x. runs (nodes (map plain_node p.goals.items)) (end_of x t) (length t.insts.items) []) (sym r)
     ∙ ap (runs (nodes (map plain_node p.goals.items)) (end_of p.reachable t) (length t.insts.items)) (sym f))))
 
 -- the tests of one goal
-pub alike-one : (T : ℕ → TypeTerm) (next : ℕ) (p : Part) (s : Scheduled) → nodes (map plain_node p.goals.items) ≡ node_then (unmarked s) no_nodes → AlikeIn T next s → AllAlike T next (nodes (map plain_node p.goals.items))
-alike-one T next p s e h = subst (AllAlike T next) (sym e) (h, tt)
+pub alike-one : (T : ℕ → TypeTerm) (next : ℕ) (p : Part) (s t : State) (reachable : Bool) (g : Scheduled) → nodes (map plain_node p.goals.items) ≡ one_goal s t reachable g → AlikeIn T next g → AllAlike T next (nodes (map plain_node p.goals.items))
+alike-one T next p s t reachable g e h = subst (AllAlike T next) (sym e) (h, tt)
 
 -- no fresh variables stand among its arguments
 pub none-fresh : (n : ℕ) (zs : List ℕ) → zs ≡ [] → NumbersBelow n zs
@@ -97,7 +100,7 @@ module _ (q : PlainProcs) (s : State) (declared : ℕ → List Declared) (st : S
         chosen true false v w e f g m p r i = cc
         chosen false u v w e f g m p r i = cc
 
-    pub same-tests : (x y n : ℕ) → x < length s.insts.items → is_bound (b x) ≡ true → is_bound (b y) ≡ true → is_state (type_in s.types.items x) ≡ false → same_of x y n ≡ one (Test x y) (Some b) n
+    pub same-tests : (x y n : ℕ) → x < length s.insts.items → is_bound (b x) ≡ true → is_bound (b y) ≡ true → is_state (type_in s.types.items x) ≡ false → same_of x y n ≡ one Op b (Test x y) (Some b) n
     same-tests x y n l h g k = chosen (is_bound (b x)) (is_bound (b y)) (is_state (T x)) _ _ _ _ _ h g (state-at x l ∙ k)
       where
         chosen : (t u v : Bool) (w e f g m : Arranged ℕ) → t ≡ true → u ≡ true → v ≡ false → (if t then (if u then (if v then w else e) else f) else (if u then g else m)) ≡ e
@@ -109,7 +112,7 @@ module _ (q : PlainProcs) (s : State) (declared : ℕ → List Declared) (st : S
     pub assigned-is : (x y : ℕ) → y < length s.insts.items → (d : Point ℕ) → d ≡ with_inst ℕ x (b y) (if is_state (type_in s.types.items y) then with_inst ℕ y 3 b else b) → assigned Op (source_of q) declared T x y b ≡ d
     assigned-is x y l d h = ap (λ t. with_inst ℕ x (b y) (if t then with_inst ℕ y 3 b else b)) (state-at y l) ∙ sym h
 
-    pub same-back : (x y n : ℕ) → is_bound (b x) ≡ true → is_bound (b y) ≡ false → same_of x y n ≡ one (Assign y x) (Some (assigned Op (source_of q) declared T y x b)) n
+    pub same-back : (x y n : ℕ) → is_bound (b x) ≡ true → is_bound (b y) ≡ false → same_of x y n ≡ one Op b (Assign y x) (Some (assigned Op (source_of q) declared T y x b)) n
     same-back x y n h g = chosen (is_bound (b x)) (is_bound (b y)) (is_state (T x)) _ _ _ _ _ h g
       where
         chosen : (t u v : Bool) (w e f g m : Arranged ℕ) → t ≡ true → u ≡ false → (if t then (if u then (if v then w else e) else f) else (if u then g else m)) ≡ f
@@ -117,7 +120,7 @@ module _ (q : PlainProcs) (s : State) (declared : ℕ → List Declared) (st : S
         chosen true false v w e f g m p r = refl
         chosen false u v w e f g m p r = cc
 
-    pub same-on : (x y n : ℕ) → is_bound (b x) ≡ false → is_bound (b y) ≡ true → same_of x y n ≡ one (Assign x y) (Some (assigned Op (source_of q) declared T x y b)) n
+    pub same-on : (x y n : ℕ) → is_bound (b x) ≡ false → is_bound (b y) ≡ true → same_of x y n ≡ one Op b (Assign x y) (Some (assigned Op (source_of q) declared T x y b)) n
     same-on x y n h g = chosen (is_bound (b x)) (is_bound (b y)) (is_state (T x)) _ _ _ _ _ h g
       where
         chosen : (t u v : Bool) (w e f g m : Arranged ℕ) → t ≡ false → u ≡ true → (if t then (if u then (if v then w else e) else f) else (if u then g else m)) ≡ g
@@ -133,14 +136,14 @@ module _ (q : PlainProcs) (s : State) (declared : ℕ → List Declared) (st : S
         chosen false true v w e f g m p r = cc
         chosen false false v w e f g m p r = refl
 
-    pub constant-tests : (x : ℕ) (v : Val) (n : ℕ) → is_bound (b x) ≡ true → constant Op (source_of q) declared T x v n b ≡ one (TestConst x v) (end_of (not (nat_eq (b x) 0) && nat_lt (b x) 4) s) n
+    pub constant-tests : (x : ℕ) (v : Val) (n : ℕ) → is_bound (b x) ≡ true → constant Op (source_of q) declared T x v n b ≡ one Op b (TestConst x v) (end_of (not (nat_eq (b x) 0) && nat_lt (b x) 4) s) n
     constant-tests x v n h =
-        ap (λ t. if t then one (TestConst x v) (if C.takes_constants (b x) then Some b else None) n else one (Const x v) (Some (with_inst ℕ x 1 b)) n) h
-        ∙ (ap (λ t. one (TestConst x v) (if t then Some b else None) n) (a.constants (b x) (st.insts x) ∙ takes-by-number (source_of q) (insts_of q) st.fit.program.insts_are.insts (b x))
-        ∙ ap (λ o. one (TestConst x v) o n) (end-by (not (nat_eq (b x) 0) && nat_lt (b x) 4) s))
+        ap (λ t. if t then one Op b (TestConst x v) (if C.takes_constants (b x) then Some b else None) n else one Op b (Const x v) (Some (with_inst ℕ x 1 b)) n) h
+        ∙ (ap (λ t. one Op b (TestConst x v) (if t then Some b else None) n) (a.constants (b x) (st.insts x) ∙ takes-by-number (source_of q) (insts_of q) st.fit.program.insts_are.insts (b x))
+        ∙ ap (λ o. one Op b (TestConst x v) o n) (end-by (not (nat_eq (b x) 0) && nat_lt (b x) 4) s))
 
-    pub constant-set : (x : ℕ) (v : Val) (n : ℕ) → is_bound (b x) ≡ false → constant Op (source_of q) declared T x v n b ≡ one (Const x v) (Some (with_inst ℕ x 1 b)) n
-    constant-set x v n h = ap (λ t. if t then one (TestConst x v) (if C.takes_constants (b x) then Some b else None) n else one (Const x v) (Some (with_inst ℕ x 1 b)) n) h
+    pub constant-set : (x : ℕ) (v : Val) (n : ℕ) → is_bound (b x) ≡ false → constant Op (source_of q) declared T x v n b ≡ one Op b (Const x v) (Some (with_inst ℕ x 1 b)) n
+    constant-set x v n h = ap (λ t. if t then one Op b (TestConst x v) (if C.takes_constants (b x) then Some b else None) n else one Op b (Const x v) (Some (with_inst ℕ x 1 b)) n) h
 
   -- an atom that waits
   pub waits-broke : (o : Outcome) (xs : List ℕ) (f : Failed) → IsWaiting xs b f
@@ -179,40 +182,40 @@ module _ (q : PlainProcs) (s : State) (declared : ℕ → List Declared) (O : Li
       (λ C T a. atom-runs q s declared st C T a (x ∷ y ∷ []) (same (of_nodes C) (source_of q) declared T x y count here) h ∙ same-free q s declared st C T a x y count g k)
 
   pub same-tested : (p : Part) → No_dead false → is_bound (here x) ≡ true → is_bound (here y) ≡ true → is_state (type_in s.types.items x) ≡ false
-      → nodes (map plain_node p.goals.items) ≡ node_then (unmarked (plain_sched (D.Test x y))) no_nodes → p.reachable ≡ true → p.freshened.items ≡ [] → Answers (tried declared (F.Same x y) O q s) q q s s (Ok p)
+      → nodes (map plain_node p.goals.items) ≡ one_goal s s true (plain_sched (D.Test x y)) → p.reachable ≡ true → p.freshened.items ≡ [] → Answers (tried declared (F.Same x y) O q s) q q s s (Ok p)
   same-tested p h g k l e r f = record {
     outcome = λ C T a.
         atom-runs q s declared st C T a (x ∷ y ∷ []) (same (of_nodes C) (source_of q) declared T x y count here) h
         ∙ (same-tests q s declared st C T a x y count hx g k l
-        ∙ runs-one p s (Test x y) (Some here) count true (e ∙ ap (λ (z : Scheduled). node_then (unmarked z) no_nodes) (plain_sched-Test x y)) r f refl refl);
+        ∙ runs-one C p s s (Test x y) (Some here) count true (e ∙ ap (one_goal s s true) (plain_sched-Test x y)) r f refl refl);
     fresh = none-fresh (length s.insts.items) p.freshened.items f;
     stepped = stepped-refl q s st;
   }
 
   pub same-assigned-back : (t : State) (p : Part) → No_dead false → is_bound (here x) ≡ true → is_bound (here y) ≡ false
       → point_of t.insts.items ≡ with_inst ℕ y (here x) (if is_state (type_in s.types.items x) then with_inst ℕ x 3 here else here) → length t.insts.items ≡ length s.insts.items → Stepped q q s t
-      → nodes (map plain_node p.goals.items) ≡ node_then (unmarked (plain_sched (D.Assign y x))) no_nodes → p.reachable ≡ true → p.freshened.items ≡ [] → Answers (tried declared (F.Same x y) O q s) q q s t (Ok p)
+      → nodes (map plain_node p.goals.items) ≡ one_goal s t true (plain_sched (D.Assign y x)) → p.reachable ≡ true → p.freshened.items ≡ [] → Answers (tried declared (F.Same x y) O q s) q q s t (Ok p)
   same-assigned-back t p h g k point n step e r f = record {
     outcome = λ C T a.
         let b = agrees-before q q s t C T st step.moved a in
         atom-runs q s declared st C T b (x ∷ y ∷ []) (same (of_nodes C) (source_of q) declared T x y count here) h
         ∙ (same-back q s declared st C T b x y count g k
-        ∙ (ap (λ (d : Point ℕ). one (Assign y x) (Some d) count) (assigned-is q s declared st C T b y x hx (point_of t.insts.items) point)
-        ∙ runs-one p t (Assign y x) (Some (point_of t.insts.items)) count true (e ∙ ap (λ (z : Scheduled). node_then (unmarked z) no_nodes) (plain_sched-Assign y x)) r f refl (sym n)));
+        ∙ (ap (λ (d : Point ℕ). one (of_nodes C) here (Assign y x) (Some d) count) (assigned-is q s declared st C T b y x hx (point_of t.insts.items) point)
+        ∙ runs-one C p s t (Assign y x) (Some (point_of t.insts.items)) count true (e ∙ ap (one_goal s t true) (plain_sched-Assign y x)) r f refl (sym n)));
     fresh = none-fresh (length t.insts.items) p.freshened.items f;
     stepped = step;
   }
 
   pub same-assigned-on : (t : State) (p : Part) → No_dead false → is_bound (here x) ≡ false → is_bound (here y) ≡ true
       → point_of t.insts.items ≡ with_inst ℕ x (here y) (if is_state (type_in s.types.items y) then with_inst ℕ y 3 here else here) → length t.insts.items ≡ length s.insts.items → Stepped q q s t
-      → nodes (map plain_node p.goals.items) ≡ node_then (unmarked (plain_sched (D.Assign x y))) no_nodes → p.reachable ≡ true → p.freshened.items ≡ [] → Answers (tried declared (F.Same x y) O q s) q q s t (Ok p)
+      → nodes (map plain_node p.goals.items) ≡ one_goal s t true (plain_sched (D.Assign x y)) → p.reachable ≡ true → p.freshened.items ≡ [] → Answers (tried declared (F.Same x y) O q s) q q s t (Ok p)
   same-assigned-on t p h g k point n step e r f = record {
     outcome = λ C T a.
         let b = agrees-before q q s t C T st step.moved a in
         atom-runs q s declared st C T b (x ∷ y ∷ []) (same (of_nodes C) (source_of q) declared T x y count here) h
         ∙ (same-on q s declared st C T b x y count g k
-        ∙ (ap (λ (d : Point ℕ). one (Assign x y) (Some d) count) (assigned-is q s declared st C T b x y hy (point_of t.insts.items) point)
-        ∙ runs-one p t (Assign x y) (Some (point_of t.insts.items)) count true (e ∙ ap (λ (z : Scheduled). node_then (unmarked z) no_nodes) (plain_sched-Assign x y)) r f refl (sym n)));
+        ∙ (ap (λ (d : Point ℕ). one (of_nodes C) here (Assign x y) (Some d) count) (assigned-is q s declared st C T b x y hy (point_of t.insts.items) point)
+        ∙ runs-one C p s t (Assign x y) (Some (point_of t.insts.items)) count true (e ∙ ap (one_goal s t true) (plain_sched-Assign x y)) r f refl (sym n)));
     fresh = none-fresh (length t.insts.items) p.freshened.items f;
     stepped = step;
   }
@@ -234,29 +237,29 @@ module _ (q : PlainProcs) (s : State) (declared : ℕ → List Declared) (O : Li
       (λ C T a. atom-waits q s declared st C T a (x ∷ []) (constant (of_nodes C) (source_of q) declared T x (plain_value v) many there) h)
 
   pub constant-tested : (p : Part) → Dies false → is_bound (there x) ≡ true
-      → nodes (map plain_node p.goals.items) ≡ node_then (unmarked (plain_sched (D.TestConst x v))) no_nodes → p.reachable ≡ (not (nat_eq (there x) 0) && nat_lt (there x) 4) → p.freshened.items ≡ []
+      → nodes (map plain_node p.goals.items) ≡ one_goal s s (not (nat_eq (there x) 0) && nat_lt (there x) 4) (plain_sched (D.TestConst x v)) → p.reachable ≡ (not (nat_eq (there x) 0) && nat_lt (there x) 4) → p.freshened.items ≡ []
       → Answers (tried declared (F.Is x (plain_value v)) O q s) q q s s (Ok p)
   constant-tested p h g e r f = record {
     outcome = λ C T a.
         atom-runs q s declared st C T a (x ∷ []) (constant (of_nodes C) (source_of q) declared T x (plain_value v) many there) h
         ∙ (constant-tests q s declared st C T a x (plain_value v) many g
-        ∙ runs-one p s (TestConst x (plain_value v)) (end_of (not (nat_eq (there x) 0) && nat_lt (there x) 4) s) many (not (nat_eq (there x) 0) && nat_lt (there x) 4)
-        (e ∙ ap (λ (z : Scheduled). node_then (unmarked z) no_nodes) (plain_sched-TestConst x v)) r f refl refl);
+        ∙ runs-one C p s s (TestConst x (plain_value v)) (end_of (not (nat_eq (there x) 0) && nat_lt (there x) 4) s) many (not (nat_eq (there x) 0) && nat_lt (there x) 4)
+        (e ∙ ap (one_goal s s (not (nat_eq (there x) 0) && nat_lt (there x) 4)) (plain_sched-TestConst x v)) r f refl refl);
     fresh = none-fresh (length s.insts.items) p.freshened.items f;
     stepped = stepped-refl q s st;
   }
 
   pub constant-put : (t : State) (p : Part) → Dies false → is_bound (there x) ≡ false
       → point_of t.insts.items ≡ with_inst ℕ x 1 there → length t.insts.items ≡ length s.insts.items → Stepped q q s t
-      → nodes (map plain_node p.goals.items) ≡ node_then (unmarked (plain_sched (D.Const x v))) no_nodes → p.reachable ≡ true → p.freshened.items ≡ []
+      → nodes (map plain_node p.goals.items) ≡ one_goal s t true (plain_sched (D.Const x v)) → p.reachable ≡ true → p.freshened.items ≡ []
       → Answers (tried declared (F.Is x (plain_value v)) O q s) q q s t (Ok p)
   constant-put t p h g point n step e r f = record {
     outcome = λ C T a.
         let b = agrees-before q q s t C T st step.moved a in
         atom-runs q s declared st C T b (x ∷ []) (constant (of_nodes C) (source_of q) declared T x (plain_value v) many there) h
         ∙ (constant-set q s declared st C T b x (plain_value v) many g
-        ∙ runs-one p t (Const x (plain_value v)) (Some (with_inst ℕ x 1 there)) many true
-        (e ∙ ap (λ (z : Scheduled). node_then (unmarked z) no_nodes) (plain_sched-Const x v)) r f (ap Some (sym point)) (sym n));
+        ∙ runs-one C p s t (Const x (plain_value v)) (Some (with_inst ℕ x 1 there)) many true
+        (e ∙ ap (one_goal s t true) (plain_sched-Const x v)) r f (ap Some (sym point)) (sym n));
     fresh = none-fresh (length t.insts.items) p.freshened.items f;
     stepped = step;
   }

@@ -1,5 +1,5 @@
 -- What becomes of builtins.
-use Rattle.std.proofs.Common.{◌≡◌, ℕ, ◌+◌, Bool, true, false, not, List, [], ◌∷◌, length, map, Option, Some, None, Ok, Err, nat_eq, if◌then◌else◌, refl, sym, ap, ◌∙◌, subst}
+use Rattle.std.proofs.Common.{◌≡◌, ℕ, ◌+◌, Bool, true, false, not, List, [], ◌∷◌, length, map, Some, None, Ok, Err, nat_eq, if◌then◌else◌, refl, sym, ap, ◌∙◌, subst}
 use Rattle.std.specs.List.{list_any}
 use Rattle.mc_source.specs.Determinism.{is_zero}
 use Rattle.mc_program.specs.Programs.{TypeTerm}
@@ -7,12 +7,11 @@ use Rattle.mc_program.specs.declared.builtin.Builtin.{Builtin}
 use Rattle.mc_model.specs.Flat as F
 use Rattle.mc_model.specs.Outcomes.{inputs_of}
 use Rattle.mc_model.specs.PlainGoals.{plain_node}
-use Rattle.mc_model.specs.Scheduled.{Scheduled, Apply, Nodes, node_then, no_nodes, nodes}
+use Rattle.mc_model.specs.Scheduled.{Scheduled, Apply, Nodes, node_then, nodes}
 use Rattle.mc_model.specs.Stream.{is_bound}
-use Rattle.mc_accepted.specs.Arranged.{Declared, Point, Arranged, runs, breaks, wait, call_of, usable, after, applied, applied_to, applied_freshly, applied_with, fresh_at, tests_at, test_nodes}
-use Rattle.mc_accepted.specs.Chosen.{Chosen, of_nodes}
+use Rattle.mc_accepted.specs.Arranged.{Declared, Point, Arranged, runs, breaks, changing, wait, call_of, usable, after, applied, applied_to, applied_freshly, applied_with, fresh_at, tests_at, test_nodes}
+use Rattle.mc_accepted.specs.Chosen.{Chosen, of_nodes, other_node}
 use Rattle.mc_accepted.specs.Ordered.{Mode, builtin_most, modes_of, implied_places, at_inputs, at_outputs}
-use Rattle.mc_accepted.specs.Unmarked.{unmarked}
 use Rattle.mc_procs.specs.Named.{NumbersBelow}
 use Rattle.mc_procs.specs.Procedures.{PlainProcs, source_of}
 use Rattle.mc_mode_points.specs.States.{point_of}
@@ -23,17 +22,22 @@ use Rattle.mc_mode_points.specs.declared.part.Part.{Part}
 use Rattle.mc_mode_points.specs.declared.fault.Failed.{Failed}
 use Rattle.mc_mode_points.specs.declared.fault.Failed.TheVariants as E
 use Rattle.mc_mode_points.proofs.Ahead.{agrees-before}
-use Rattle.mc_mode_points.proofs.AtomOutcomes.{none-fresh, waits-broke, atom-waits, atom-runs}
+use Rattle.mc_mode_points.proofs.AtomOutcomes.{one_goal, runs-one, none-fresh, waits-broke, atom-waits, atom-runs}
 use Rattle.mc_mode_points.proofs.Steps.{same-refl, stepped-trans}
 
--- goals, in the form of an answer
-runs-many : (p : Part) (t : State) (g : Nodes) (o : Option (Point ℕ)) (n : ℕ) (zs : List ℕ) (reachable : Bool)
-    → nodes (map plain_node p.goals.items) ≡ g → p.reachable ≡ reachable → p.freshened.items ≡ zs → o ≡ end_of reachable t → n ≡ length t.insts.items
-    → runs g o n zs ≡ runs (nodes (map plain_node p.goals.items)) (end_of p.reachable t) (length t.insts.items) p.freshened.items
-runs-many p t g o n zs reachable h r f e c =
-    ap (λ x. runs g x n zs) e
-    ∙ (ap (λ x. runs g (end_of reachable t) x zs) c
-    ∙ (ap (λ x. runs x (end_of reachable t) (length t.insts.items) zs) (sym h)
+-- a builtin that was tried from the first state and left the second, and then tests
+abbrev pub freshly_goals : (s t : State) → Scheduled → List (ℕ × ℕ) → Nodes
+freshly_goals s t g ts = node_then (changing other_node (length t.insts.items) (point_of s.insts.items) (end_of true t) g) (test_nodes ts)
+
+-- in the form of an answer
+runs-freshly : (p : Part) (s t : State) (g : Scheduled) (ts : List (ℕ × ℕ)) (c : Point ℕ) (n : ℕ) (zs : List ℕ)
+    → nodes (map plain_node p.goals.items) ≡ freshly_goals s t g ts → p.reachable ≡ true → p.freshened.items ≡ zs → c ≡ point_of t.insts.items → n ≡ length t.insts.items
+    → runs (node_then (changing other_node n (point_of s.insts.items) (Some c) g) (test_nodes ts)) (Some c) n zs
+    ≡ runs (nodes (map plain_node p.goals.items)) (end_of p.reachable t) (length t.insts.items) p.freshened.items
+runs-freshly p s t g ts c n zs h r f e k =
+    ap (λ (d : Point ℕ). runs (node_then (changing other_node n (point_of s.insts.items) (Some d) g) (test_nodes ts)) (Some d) n zs) e
+    ∙ (ap (λ m. runs (node_then (changing other_node m (point_of s.insts.items) (end_of true t) g) (test_nodes ts)) (end_of true t) m zs) k
+    ∙ (ap (λ x. runs x (end_of true t) (length t.insts.items) zs) (sym h)
     ∙ (ap (λ x. runs (nodes (map plain_node p.goals.items)) (end_of x t) (length t.insts.items) zs) (sym r)
     ∙ ap (runs (nodes (map plain_node p.goals.items)) (end_of p.reachable t) (length t.insts.items)) (sym f))))
 
@@ -50,13 +54,13 @@ Leaves q r ms zs b t = (declared : ℕ → List Declared) (C : Chosen) (T : ℕ 
 
 pub ran-plainly : (q r : PlainProcs) (s t : State) (declared : ℕ → List Declared) (op : Builtin) (xs : List ℕ) (part : Part)
     → Stepped q r s t → Leaves q r (modes_of op) xs (point_of s.insts.items) t → length t.insts.items ≡ length s.insts.items
-    → nodes (map plain_node part.goals.items) ≡ node_then (unmarked (apply_of op xs)) no_nodes → part.reachable ≡ not (is_zero (builtin_most op)) → part.freshened.items ≡ []
+    → nodes (map plain_node part.goals.items) ≡ one_goal s t (not (is_zero (builtin_most op))) (apply_of op xs) → part.reachable ≡ not (is_zero (builtin_most op)) → part.freshened.items ≡ []
     → Ran (λ C T. applied_to (of_nodes C) (source_of q) declared T op xs (length s.insts.items) (point_of s.insts.items)) q r s t part
 ran-plainly q r s t declared op xs part step left count g e f = record {
   outcome = λ C T a.
-      runs-many part t (node_then (unmarked (apply_of op xs)) no_nodes)
+      runs-one C part s t (apply_of op xs)
       (if is_zero (builtin_most op) then None else Some (after (of_nodes C) (source_of q) declared T (modes_of op) xs (point_of s.insts.items)))
-      (length s.insts.items) [] (not (is_zero (builtin_most op))) g e f
+      (length s.insts.items) (not (is_zero (builtin_most op))) g e f
       (ended (is_zero (builtin_most op)) (after (of_nodes C) (source_of q) declared T (modes_of op) xs (point_of s.insts.items)) t (left declared C T a))
       (sym count);
   fresh = none-fresh (length t.insts.items) part.freshened.items f;
@@ -65,15 +69,13 @@ ran-plainly q r s t declared op xs part step left count g e f = record {
 
 pub ran-freshly : (q r : PlainProcs) (s u t : State) (declared : ℕ → List Declared) (op : Builtin) (zs : List ℕ) (ts : List (ℕ × ℕ)) (part : Part)
     → Stepped q q s u → Stepped q r u t → Leaves q r (modes_of op) zs (point_of s.insts.items) t → length t.insts.items ≡ length s.insts.items + length ts
-    → nodes (map plain_node part.goals.items) ≡ node_then (unmarked (apply_of op zs)) (test_nodes ts) → part.reachable ≡ true → part.freshened.items ≡ zs → NumbersBelow (length t.insts.items) zs
+    → nodes (map plain_node part.goals.items) ≡ freshly_goals s t (apply_of op zs) ts → part.reachable ≡ true → part.freshened.items ≡ zs → NumbersBelow (length t.insts.items) zs
     → Ran (λ C T. applied_freshly (of_nodes C) (source_of q) declared T op zs ts (length s.insts.items) (point_of s.insts.items)) q r s t part
 ran-freshly q r s u t declared op zs ts part first step left count g e f there = record {
   outcome = λ C T a.
-      runs-many part t (node_then (unmarked (apply_of op zs)) (test_nodes ts))
-      (Some (after (of_nodes C) (source_of q) declared T (modes_of op) zs (point_of s.insts.items)))
-      (length s.insts.items + length ts) zs true g e f
-      (ap Some (left declared C T a))
-      (sym count);
+      runs-freshly part s t (apply_of op zs) ts
+      (after (of_nodes C) (source_of q) declared T (modes_of op) zs (point_of s.insts.items))
+      (length s.insts.items + length ts) zs g e f (left declared C T a) (sym count);
   fresh = subst (NumbersBelow (length t.insts.items)) (sym f) there;
   stepped = stepped-trans q q r s u t first step;
 }

@@ -24,7 +24,7 @@ use Rattle.mc_mode_points.proofs.Numbers.{cons_at}
 use Rattle.mc_mode_points.proofs.Steps.{stepped-nodes}
 
 -- a graph that is the same
-grown-same : (P : Source) (I J : Insts) → graph_of J ≡ graph_of I → count_of J ≡ count_of I → Grown P I J
+pub grown-same : (P : Source) (I J : Insts) → graph_of J ≡ graph_of I → count_of J ≡ count_of I → Grown P I J
 grown-same P I J g n = record {
   more = omega (arith, n);
   same = λ i l. ap (λ G. G i) g;

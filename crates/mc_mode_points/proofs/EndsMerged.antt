@@ -132,11 +132,11 @@ module _ (C : Chosen) (P : Source) (declared : ℕ → List Declared) (T : ℕ �
   pub branches-differ : (ends : List (Point ℕ)) (v : ℕ) → least (λ x. f x && ends_differ ends x) own ≡ Some v
       → branched (of_nodes C) P declared T None wrap own O b (all_run gs ends n) ≡ breaks (branches_differ v)
   branches-differ ends v e =
-      ap (λ (o : Option ℕ). unless o branches_differ (if merges (of_nodes C) P declared T (those_in own O) ends then one (wrap gs) (merged (of_nodes C) P declared T own O b ends) n else breaks lacks))
+      ap (λ (o : Option ℕ). unless o branches_differ (if merges (of_nodes C) P declared T (those_in own O) ends then one (of_nodes C) b (wrap gs) (merged (of_nodes C) P declared T own O b ends) n else breaks lacks))
       (least-is ends (Some v) e)
 
-  pub no-end : branched (of_nodes C) P declared T None wrap own O b (all_run gs [] n) ≡ one (wrap gs) None n
-  no-end = ap (λ (o : Option ℕ). unless o branches_differ (one (wrap gs) None n)) (never (those_in own O))
+  pub no-end : branched (of_nodes C) P declared T None wrap own O b (all_run gs [] n) ≡ one (of_nodes C) b (wrap gs) None n
+  no-end = ap (λ (o : Option ℕ). unless o branches_differ (one (of_nodes C) b (wrap gs) None n)) (never (those_in own O))
 
   module _ (c : Point ℕ) (cs : List (Point ℕ)) (d : Point ℕ)
       (joined : (x : ℕ) → is_in x (ascending f own) ≡ true → C.joined (T x) (map (λ (e : Point ℕ). e x) (c ∷ cs)) ≡ Some (d x))
@@ -163,26 +163,26 @@ module _ (C : Chosen) (P : Source) (declared : ℕ → List Declared) (T : ℕ �
         (λ x i j. ap is_there (joined x (seen-is x true true i (sym (outside x) ∙ j))))
 
     pub branches-join : least (λ x. f x && ends_differ (c ∷ cs) x) own ≡ None
-        → branched (of_nodes C) P declared T None wrap own O b (all_run gs (c ∷ cs) n) ≡ one (wrap gs) (Some (freed f own d)) n
+        → branched (of_nodes C) P declared T None wrap own O b (all_run gs (c ∷ cs) n) ≡ one (of_nodes C) b (wrap gs) (Some (freed f own d)) n
     branches-join e =
-        ap (λ (o : Option ℕ). unless o branches_differ (if merges (of_nodes C) P declared T (those_in own O) (c ∷ cs) then one (wrap gs) (merged (of_nodes C) P declared T own O b (c ∷ cs)) n else breaks lacks))
+        ap (λ (o : Option ℕ). unless o branches_differ (if merges (of_nodes C) P declared T (those_in own O) (c ∷ cs) then one (of_nodes C) b (wrap gs) (merged (of_nodes C) P declared T own O b (c ∷ cs)) n else breaks lacks))
         (least-is (c ∷ cs) None e)
-        ∙ (ap (λ (t : Bool). if t then one (wrap gs) (merged (of_nodes C) P declared T own O b (c ∷ cs)) n else breaks lacks) all-merge
-        ∙ ap (λ (o : Option (Point ℕ)). one (wrap gs) o n) merged-is)
+        ∙ (ap (λ (t : Bool). if t then one (of_nodes C) b (wrap gs) (merged (of_nodes C) P declared T own O b (c ∷ cs)) n else breaks lacks) all-merge
+        ∙ ap (λ (o : Option (Point ℕ)). one (of_nodes C) b (wrap gs) o n) merged-is)
 
 -- no end is reachable
-pub leaves-none : (own seen : List ℕ) (rows : List (List ℕ)) (q : PlainProcs) (s : State) → rows ≡ [] → Leave own seen rows q q s s (λ f gs n. one (f gs) None n)
+pub leaves-none : (own seen : List ℕ) (rows : List (List ℕ)) (q : PlainProcs) (s : State) → rows ≡ [] → Leave own seen rows q q s s (λ C f gs n. one (of_nodes C) (point_of s.insts.items) (f gs) None n)
 leaves-none own seen rows q s z = λ ends O declared f gs n C T e o a. at ends O declared f gs n C T e o
   where
     at : (ends : List (Point ℕ)) (O : List ℕ) (declared : ℕ → List Declared) (f : Nodes → Scheduled) (gs : Nodes) (n : ℕ) (C : Chosen) (T : ℕ → TypeTerm)
         → rows ≡ rows_at seen ends → ((x : ℕ) → is_in x O ≡ is_outside s.outside.items x)
-        → branched (of_nodes C) (source_of q) declared T None f own O (point_of s.insts.items) (all_run gs ends n) ≡ one (f gs) None n
+        → branched (of_nodes C) (source_of q) declared T None f own O (point_of s.insts.items) (all_run gs ends n) ≡ one (of_nodes C) (point_of s.insts.items) (f gs) None n
     at [] O declared f gs n C T e o = no-end C (source_of q) declared T own O (is_outside s.outside.items) o f gs n (point_of s.insts.items)
     at (c ∷ cs) O declared f gs n C T e o = absurd (cc (sym z ∙ e))
 
 -- only some of the ends bind a variable
 pub leaves-differing : (own seen : List ℕ) (rows : List (List ℕ)) (q r : PlainProcs) (s t : State) (v : ℕ) → seen ≡ ascending (is_outside s.outside.items) own
-    → FirstDiffering seen rows (Some v) → Leave own seen rows q r s t (λ f gs n. breaks (branches_differ v))
+    → FirstDiffering seen rows (Some v) → Leave own seen rows q r s t (λ C f gs n. breaks (branches_differ v))
 leaves-differing own seen rows q r s t v i d = λ ends O declared f gs n C T e o a.
     branches-differ C (source_of q) declared T own O (is_outside s.outside.items) o f gs n (point_of s.insts.items) ends v (d ends e (is_outside s.outside.items) own i)
 
@@ -190,7 +190,7 @@ leaves-differing own seen rows q r s t v i d = λ ends O declared f gs n C T e o
 pub leaves-joined : (own seen : List ℕ) (rows : List (List ℕ)) (q r : PlainProcs) (s t u : State) → seen ≡ ascending (is_outside s.outside.items) own → 0 < length rows
     → FirstDiffering seen rows None → JoinedSoFar seen seen rows r s t → Stepped q r s t → Stepped r r t u
     → point_of u.insts.items ≡ freed (is_outside t.outside.items) own (point_of t.insts.items)
-    → Leave own seen rows q r s u (λ f gs n. one (f gs) (Some (point_of u.insts.items)) n)
+    → Leave own seen rows q r s u (λ C f gs n. one (of_nodes C) (point_of s.insts.items) (f gs) (Some (point_of u.insts.items)) n)
 leaves-joined own seen rows q r s t u i h d j p m point = λ ends O declared f gs n C T e o a. at ends O declared f gs n C T e o a
   where
     now : point_of u.insts.items ≡ freed (is_outside s.outside.items) own (point_of t.insts.items)
@@ -198,14 +198,14 @@ leaves-joined own seen rows q r s t u i h d j p m point = λ ends O declared f g
 
     at : (ends : List (Point ℕ)) (O : List ℕ) (declared : ℕ → List Declared) (f : Nodes → Scheduled) (gs : Nodes) (n : ℕ) (C : Chosen) (T : ℕ → TypeTerm)
         → rows ≡ rows_at seen ends → ((x : ℕ) → is_in x O ≡ is_outside s.outside.items x) → Agrees r u C T
-        → branched (of_nodes C) (source_of q) declared T None f own O (point_of s.insts.items) (all_run gs ends n) ≡ one (f gs) (Some (point_of u.insts.items)) n
+        → branched (of_nodes C) (source_of q) declared T None f own O (point_of s.insts.items) (all_run gs ends n) ≡ one (of_nodes C) (point_of s.insts.items) (f gs) (Some (point_of u.insts.items)) n
     at [] O declared f gs n C T e o a = absurd (omega (arith, h, ap length e))
     at (c ∷ cs) O declared f gs n C T e o a =
         branches-join C (source_of q) declared T own O (is_outside s.outside.items) o f gs n (point_of s.insts.items) c cs (point_of t.insts.items)
         (λ x k. j.found (c ∷ cs) e C T (agrees-before r r t u C T p.moved.stands m.moved a) x (ap (is_in x) i ∙ k))
         (λ x k. j.others x (ap (is_in x) i ∙ k))
         (d (c ∷ cs) e (is_outside s.outside.items) own i)
-        ∙ ap (λ (b : Point ℕ). one (f gs) (Some b) n) (sym now)
+        ∙ ap (λ (b : Point ℕ). one (of_nodes C) (point_of s.insts.items) (f gs) (Some b) n) (sym now)
 
 -- what isn't bound is free
 pub unbound-free : (i : ℕ) → is_bound i ≡ false → i ≡ 0

@@ -23,3 +23,5 @@ pub mod Joins
 pub mod OneOrMany
 pub mod EndColumns
 pub mod EndsMerged
+pub mod ChangesTold
+pub mod Growths

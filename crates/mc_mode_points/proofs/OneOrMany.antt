@@ -1,12 +1,13 @@
 -- One goal, or a conjunction.
-use Rattle.std.proofs.Common.{◌≡◌, List, [], ◌∷◌, length, map, refl}
+use Rattle.std.proofs.Common.{◌≡◌, ℕ, Option, List, [], ◌∷◌, length, map, refl}
 use Rattle.mc_model.specs.PlainGoals.{plain_node}
 use Rattle.mc_model.specs.Scheduled.{Conj, nodes}
 use Rattle.mc_model.specs.declared.sched.GoalNode.{GoalNode}
-use Rattle.mc_accepted.specs.Arranged.{alone}
-use Rattle.mc_accepted.specs.Unmarked.{unmarked}
+use Rattle.mc_accepted.specs.Arranged.{Point, alone, changing}
+use Rattle.mc_accepted.specs.Chosen.{Chosen, of_nodes, other_node}
 
-pub several : (gs : List GoalNode) → (length gs ≡ 1 → ⊥) → alone (nodes (map plain_node gs)) ≡ unmarked (Conj (nodes (map plain_node gs)))
-several [] h = refl
-several (g ∷ []) h = absurd (h refl)
-several (g ∷ f ∷ gs) h = refl
+pub several : (C : Chosen) (n : ℕ) (b : Point ℕ) (o : Option (Point ℕ)) (gs : List GoalNode) → (length gs ≡ 1 → ⊥)
+    → alone (of_nodes C) n b o (nodes (map plain_node gs)) ≡ changing other_node n b o (Conj (nodes (map plain_node gs)))
+several C n b o [] h = refl
+several C n b o (g ∷ []) h = absurd (h refl)
+several C n b o (g ∷ f ∷ gs) h = refl

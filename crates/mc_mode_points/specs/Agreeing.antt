@@ -7,8 +7,9 @@ use Rattle.mc_accepted.specs.Forms.{node_takes_constants}
 use Rattle.mc_accepted.specs.Inclusion.{Included}
 use Rattle.mc_accepted.specs.Chosen.{Chosen}
 use Rattle.mc_insts.specs.Graphs.{count_of}
+use Rattle.mc_insts.specs.Growing.{Grown}
 use Rattle.mc_insts.specs.Narrowed.{Narrowed}
-use Rattle.mc_procs.specs.Procedures.{PlainProcs, source_of, insts_of}
+use Rattle.mc_procs.specs.Procedures.{PlainProcs, source_of, insts_of, with_insts}
 use Rattle.mc_procs.specs.Fitting.{AllFit}
 use Rattle.mc_mode_points.specs.Tables.{node_in}
 use Rattle.mc_mode_points.specs.Nodes.{type_in, NodesAre, NodesMoved}
@@ -58,3 +59,9 @@ pub record Moved (q r : PlainProcs) (s t : State) : Type 0 where
 pub record Stepped (q r : PlainProcs) (s t : State) : Type 0 where
   pub later : Later s t
   pub moved : Moved q r s t
+
+-- Of the procedures nothing changed, but that their graph may have more nodes. So it is after every
+-- refusal, want of memory too.
+pub record OnlyGrown (q r : PlainProcs) : Type 0 where
+  pub others : r ≡ with_insts q r.insts
+  pub grown : Grown (source_of q) q.insts r.insts

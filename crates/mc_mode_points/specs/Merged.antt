@@ -27,7 +27,7 @@ RowsFit m n (row ∷ rows) = (length row ≡ m) × NumbersBelow n row × RowsFit
 -- comes later.
 abbrev pub Leave :
     (own seen : List ℕ) → (rows : List (List ℕ)) → (q r : PlainProcs) → (s t : State)
-    → ((Nodes → Scheduled) → Nodes → (next : ℕ) → Arranged ℕ) → Type 0
+    → (Chosen → (Nodes → Scheduled) → Nodes → (next : ℕ) → Arranged ℕ) → Type 0
 Leave own seen rows q r s t left =
     (ends : List (Point ℕ)) (O : List ℕ) (declared : ℕ → List Declared) (f : Nodes → Scheduled)
     (gs : Nodes) (n : ℕ) (C : Chosen) (T : ℕ → TypeTerm)
@@ -35,7 +35,7 @@ Leave own seen rows q r s t left =
     → Agrees r t C T
     → branched (of_nodes C) (source_of q) declared T None f own O (point_of s.insts.items)
     (all_run gs ends n)
-    ≡ left f gs n
+    ≡ left C f gs n
 
 -- The ends are merged, and whether one is reachable; or the rule that is broken. Either way the log
 -- leads back.
@@ -43,7 +43,9 @@ abbrev pub Merged :
     (own seen : List ℕ) → (rows : List (List ℕ)) → (q r : PlainProcs) → (s t : State)
     → Result Bool Failed → Type 0
 Merged own seen rows q r s t (Ok reachable) =
-    Leave own seen rows q r s t (λ f gs n. one (f gs) (end_of reachable t) n) × Stepped q r s t
+    Leave own seen rows q r s t
+    (λ C f gs n. one (of_nodes C) (point_of s.insts.items) (f gs) (end_of reachable t) n)
+    × Stepped q r s t
 Merged own seen rows q r s t (Err (E.Fault e)) =
-    Leave own seen rows q r s t (λ f gs n. breaks (plain_fault e)) × Stepped q r s t
+    Leave own seen rows q r s t (λ C f gs n. breaks (plain_fault e)) × Stepped q r s t
 Merged own seen rows q r s t (Err E.Memory) = Unit {0}

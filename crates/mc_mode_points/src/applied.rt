@@ -5,7 +5,6 @@ ghost use Rattle.mc_model.specs.Scheduled.{Apply, nodes, node_then};
 ghost use Rattle.mc_model.specs.Stream.{is_bound};
 ghost use Rattle.mc_accepted.specs.Arranged.{test_nodes};
 ghost use Rattle.mc_accepted.specs.Ordered.{at_inputs, at_outputs, modes_of, zipped};
-ghost use Rattle.mc_accepted.specs.Unmarked.{unmarked};
 ghost use Rattle.mc_mode_points.specs.code.Applying.{at_sides};
 
 use crate::asking::is_bound;
@@ -73,14 +72,14 @@ pub(crate) fn apply_goal(
 /// A goal, and then tests of variables.
 pub(crate) fn with_tests(
     alloc: Global,
-    goal: Sched,
+    goal: GoalNode,
     tests: &[(u32, u32)],
 ) -> Result<Vec<GoalNode>, Memory>
     ensures { IfOk result (λ goals. nodes (map plain_node goals.items)
-        ≡ node_then (unmarked (plain_sched goal)) (test_nodes tests.now)) }
+        ≡ node_then (plain_node goal) (test_nodes tests.now)) }
 {
     let mut goals = Vec::with_capacity(alloc, 1)?;
-    goals.push(unmarked(alloc, goal))?;
+    goals.push(goal)?;
     for test in tests {
         goals.push(unmarked(alloc, Sched::Test(test.0, test.1)))?;
     }

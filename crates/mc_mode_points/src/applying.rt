@@ -1,4 +1,4 @@
-ghost use Rattle.std.specs.Prelude.{◌≡◌, ◌<◌, ℕ, List, Some, None, length, IfOk};
+ghost use Rattle.std.specs.Prelude.{◌≡◌, ◌<◌, ℕ, List, Some, None, length, IfOk, OnErr};
 ghost use Rattle.mc_source.specs.Determinism.{is_zero};
 ghost use Rattle.mc_model.specs.Flat.{Call};
 ghost use Rattle.mc_model.specs.Stream.{is_bound};
@@ -9,7 +9,7 @@ ghost use Rattle.mc_insts.specs.Graphs.{count_of};
 ghost use Rattle.mc_procs.specs.Named.{NumbersBelow};
 ghost use Rattle.mc_procs.specs.Procedures.{source_of};
 ghost use Rattle.mc_mode_points.specs.States.{point_of};
-ghost use Rattle.mc_mode_points.specs.Agreeing.{Stands};
+ghost use Rattle.mc_mode_points.specs.Agreeing.{Stands, OnlyGrown};
 ghost use Rattle.mc_mode_points.specs.Answers.{tried, Ran, Answers, FreshAlike};
 ghost use Rattle.mc_mode_points.specs.code.Applying.{TestsAgree};
 ghost use Rattle.mc_mode_points.specs.Modes.{ModeFits};
@@ -18,7 +18,7 @@ use crate::applied::{apply_goal, with_tests};
 use crate::builtin_modes::builtin_mode;
 use crate::fault::Failed;
 use crate::fresh::Freshened;
-use crate::part::{Part, one};
+use crate::part::Part;
 use crate::state::State;
 use mc_base::{Memory, Row};
 use mc_model::inst::ModeDecl;
@@ -36,6 +36,7 @@ fn never_returns(op: Builtin) -> bool
 impl State {
     /// A call of a predicate that is a builtin. Where an output is implied, a fresh variable stands for it and is tested
     /// directly afterwards.
+    #[tactic(auto, using(crate::proofs::Growths::refused_here, crate::proofs::Growths::refused_by, crate::proofs::Growths::refused_stepped, crate::proofs::Growths::refused_after))]
     pub fn apply(
         &mut self,
         alloc: Global,
@@ -51,6 +52,7 @@ impl State {
             → Answers (tried declared (Call pred xs.now) outside procs.old self.old) procs.old
             procs.new self.old self.new result }
         ensures alike { IfOk result (FreshAlike (Call pred xs.now) self.new) }
+        ensures kept { OnErr result (OnlyGrown procs.old procs.new) }
     {
         let _ = pred;
         if self.one_is_dead(xs) {
@@ -66,6 +68,7 @@ impl State {
     }
 
     /// A builtin in its mode, which is usable.
+    #[tactic(auto, using(crate::proofs::Growths::refused_here, crate::proofs::Growths::refused_by, crate::proofs::Growths::refused_stepped, crate::proofs::Growths::refused_after))]
     fn apply_in(
         &mut self,
         alloc: Global,
@@ -85,6 +88,7 @@ impl State {
             op xs.now (length self.old.insts.items) (point_of self.old.insts.items)) procs.old
             procs.new self.old self.new part) }
         ensures alike { IfOk result (TestsAgree self.new) }
+        ensures kept { OnErr result (OnlyGrown procs.old procs.new) }
     {
         let implied = self.implied(alloc, mode, xs)?;
         if implied.is_empty() {
@@ -96,6 +100,7 @@ impl State {
     }
 
     /// A builtin that has no implied outputs.
+    #[tactic(auto, using(crate::proofs::Growths::refused_here, crate::proofs::Growths::refused_by, crate::proofs::Growths::refused_stepped, crate::proofs::Growths::refused_after))]
     fn apply_plainly(
         &mut self,
         alloc: Global,
@@ -114,14 +119,17 @@ impl State {
             (length self.old.insts.items) (point_of self.old.insts.items)) procs.old procs.new
             self.old self.new part) }
         ensures alike { IfOk result (TestsAgree self.new) }
+        ensures kept { OnErr result (OnlyGrown procs.old procs.new) }
     {
+        let log = self.log.len();
         let goal = apply_goal(alloc, op, mode, xs)?;
         self.leave_arguments(alloc, procs, mode, xs)?;
-        let part = one(alloc, goal, !never_returns(op))?;
+        let part = self.one(alloc, goal, log, !never_returns(op))?;
         Ok(part)
     }
 
     /// A builtin of which these outputs are implied.
+    #[tactic(auto, using(crate::proofs::Growths::refused_here, crate::proofs::Growths::refused_by, crate::proofs::Growths::refused_stepped, crate::proofs::Growths::refused_after))]
     fn apply_freshly(
         &mut self,
         alloc: Global,
@@ -143,11 +151,14 @@ impl State {
             (length self.old.insts.items) (point_of self.old.insts.items)) procs.old procs.new
             self.old self.new part) }
         ensures alike { IfOk result (TestsAgree self.new) }
+        ensures kept { OnErr result (OnlyGrown procs.old procs.new) }
     {
+        let log = self.log.len();
         let Freshened { args, tests } = self.freshen(alloc, mode, implied, xs)?;
         let goal = apply_goal(alloc, op, mode, args.as_slice())?;
         self.leave_arguments(alloc, procs, mode, args.as_slice())?;
-        let goals = with_tests(alloc, goal, tests.as_slice())?;
+        let node = self.keeping(alloc, goal, log, true)?;
+        let goals = with_tests(alloc, node, tests.as_slice())?;
         Ok(Part {
             goals,
             reachable: true,

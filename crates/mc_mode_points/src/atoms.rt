@@ -12,7 +12,7 @@ ghost use Rattle.mc_mode_points.specs.Answers.{tried, Answers, FreshAlike};
 
 use crate::asking::{DEAD, GROUND, is_bound};
 use crate::fault::Failed;
-use crate::part::{Part, one};
+use crate::part::Part;
 use crate::state::State;
 use mc_base::Memory;
 use mc_model::inst::InstId;
@@ -40,6 +40,7 @@ impl State {
         ensures alike { IfOk result (FreshAlike (Same x y) self.new) }
     {
         let _ = procs;
+        let log = self.log.len();
         if self.one_is_dead(&[x, y]) {
             return Err(self.waiting(alloc, &[x, y]));
         }
@@ -49,17 +50,17 @@ impl State {
             if self.is_state(x) {
                 return Err(self.waiting(alloc, &[x, y]));
             }
-            let part = one(alloc, Sched::Test(x, y), true)?;
+            let part = self.one(alloc, Sched::Test(x, y), log, true)?;
             return Ok(part);
         }
         if x_is_bound {
             self.assign(y, x)?;
-            let part = one(alloc, Sched::Assign(y, x), true)?;
+            let part = self.one(alloc, Sched::Assign(y, x), log, true)?;
             return Ok(part);
         }
         if y_is_bound {
             self.assign(x, y)?;
-            let part = one(alloc, Sched::Assign(x, y), true)?;
+            let part = self.one(alloc, Sched::Assign(x, y), log, true)?;
             return Ok(part);
         }
         Err(self.waiting(alloc, &[x, y]))
@@ -104,17 +105,19 @@ impl State {
         ensures alike { IfOk result (FreshAlike (Is x (plain_value value.now)) self.new) }
     {
         let _ = procs;
+        let log = self.log.len();
         if self.one_is_dead(&[x]) {
             return Err(self.waiting(alloc, &[x]));
         }
         let inst = self.inst(x);
         let value = copy_value(alloc, value)?;
         if is_bound(inst) {
-            let part = one(alloc, Sched::TestConst(x, value), takes_constants(inst))?;
+            let goal = Sched::TestConst(x, value);
+            let part = self.one(alloc, goal, log, takes_constants(inst))?;
             return Ok(part);
         }
         self.set(x, GROUND)?;
-        let part = one(alloc, Sched::Const(x, value), true)?;
+        let part = self.one(alloc, Sched::Const(x, value), log, true)?;
         Ok(part)
     }
 }

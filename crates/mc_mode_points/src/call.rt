@@ -1,4 +1,4 @@
-ghost use Rattle.std.specs.Prelude.{◌≡◌, ◌<◌, ℕ, List, None, Some, length, map, IfOk};
+ghost use Rattle.std.specs.Prelude.{◌≡◌, ◌<◌, ℕ, List, None, Some, length, map, IfOk, OnErr};
 ghost use Rattle.mc_model.specs.Flat.{Call};
 ghost use Rattle.mc_model.specs.Stream.{is_bound};
 ghost use Rattle.mc_accepted.specs.Arranged.{Declared, called};
@@ -8,14 +8,14 @@ ghost use Rattle.mc_insts.specs.Graphs.{count_of};
 ghost use Rattle.mc_procs.specs.Named.{NumbersBelow};
 ghost use Rattle.mc_procs.specs.Procedures.{source_of};
 ghost use Rattle.mc_mode_points.specs.States.{point_of};
-ghost use Rattle.mc_mode_points.specs.Agreeing.{Stands};
+ghost use Rattle.mc_mode_points.specs.Agreeing.{Stands, OnlyGrown};
 ghost use Rattle.mc_mode_points.specs.Answers.{tried, Ran, Answers, FreshAlike};
 ghost use Rattle.mc_mode_points.specs.code.Applying.{TestsAgree};
 ghost use Rattle.mc_mode_points.specs.Modes.{declared_mode, never_answers, ModeFits, ModesFit};
 
 use crate::fault::Failed;
 use crate::made::row_of;
-use crate::part::{Part, one};
+use crate::part::Part;
 use crate::picking::Pick;
 use crate::state::State;
 use mc_base::{Memory, Row};
@@ -38,6 +38,7 @@ fn never_answers(det: Option<Det>) -> bool
 impl State {
     /// A call of a predicate that has these modes. The usable mode with the fewest implied arguments is taken, the
     /// earliest of these.
+    #[tactic(auto, using(crate::proofs::Growths::refused_here, crate::proofs::Growths::refused_by, crate::proofs::Growths::refused_stepped, crate::proofs::Growths::refused_after))]
     pub fn call(
         &mut self,
         alloc: Global,
@@ -55,6 +56,7 @@ impl State {
             → Answers (tried declared (Call pred xs.now) outside procs.old self.old) procs.old
             procs.new self.old self.new result }
         ensures alike { IfOk result (FreshAlike (Call pred xs.now) self.new) }
+        ensures kept { OnErr result (OnlyGrown procs.old procs.new) }
     {
         let _ = pred;
         if self.one_is_dead(xs) {
@@ -71,6 +73,7 @@ impl State {
     }
 
     /// A call in this mode, with these implied arguments.
+    #[tactic(auto, using(crate::proofs::Growths::refused_here, crate::proofs::Growths::refused_by, crate::proofs::Growths::refused_stepped, crate::proofs::Growths::refused_after))]
     fn run(
         &mut self,
         alloc: Global,
@@ -90,10 +93,12 @@ impl State {
             (Some (declared_mode mode.now)) xs.now (length self.old.insts.items)
             (point_of self.old.insts.items)) procs.old procs.new self.old self.new part) }
         ensures alike { IfOk result (TestsAgree self.new) }
+        ensures kept { OnErr result (OnlyGrown procs.old procs.new) }
     {
+        let log = self.log.len();
         let goal = Sched::Call(mode.proc, row_of(alloc, xs)?, implied);
         self.leave_arguments(alloc, procs, mode, xs)?;
-        let part = one(alloc, goal, !never_answers(mode.det))?;
+        let part = self.one(alloc, goal, log, !never_answers(mode.det))?;
         Ok(part)
     }
 }

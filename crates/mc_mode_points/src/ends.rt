@@ -1,4 +1,4 @@
-ghost use Rattle.std.specs.Prelude.{◌≡◌, ◌<◌, ℕ, false, length, get_or, nat_eq, Some, None, IfOk, OnOk, IfNone};
+ghost use Rattle.std.specs.Prelude.{◌≡◌, ◌<◌, ℕ, false, length, get_or, nat_eq, Some, None, IfOk, OnOk, IfNone, OnErr};
 ghost use Rattle.mc_program.specs.Programs.{TypeTerm};
 ghost use Rattle.mc_accepted.specs.Arranged.{ascending};
 ghost use Rattle.mc_accepted.specs.Chosen.{Chosen};
@@ -6,7 +6,7 @@ ghost use Rattle.mc_insts.specs.Graphs.{count_of};
 ghost use Rattle.mc_procs.specs.Named.{NumbersBelow};
 ghost use Rattle.mc_procs.specs.Procedures.{PlainProcs};
 ghost use Rattle.mc_mode_points.specs.States.{point_of, is_outside, Even};
-ghost use Rattle.mc_mode_points.specs.Agreeing.{Agrees, Stands, Stepped};
+ghost use Rattle.mc_mode_points.specs.Agreeing.{Agrees, Stands, Stepped, OnlyGrown};
 ghost use Rattle.mc_mode_points.specs.Merged.{RowsFit, Merged};
 ghost use Rattle.mc_mode_points.specs.code.Columns.{column, LongerThan, FirstDiffering, JoinedSoFar, freed_one, freed};
 
@@ -33,6 +33,7 @@ fn column(alloc: Global, ends: &[Row<InstId>], k: u32) -> Result<Vec<InstId>, Me
 
 impl State {
     /// The variable gets what one of these insts allows.
+    #[tactic(auto, using(crate::proofs::Growths::refused_here, crate::proofs::Growths::refused_by, crate::proofs::Growths::refused_stepped, crate::proofs::Growths::refused_after))]
     fn join_one(
         &mut self,
         alloc: Global,
@@ -50,6 +51,7 @@ impl State {
             → point_of self.new.insts.items y ≡ point_of self.old.insts.items y) }
         ensures count { OnOk result (length self.new.insts.items ≡ length self.old.insts.items) }
         ensures stepped { OnOk result (Stepped procs.old procs.new self.old self.new) }
+        ensures kept { OnErr result (OnlyGrown procs.old procs.new) }
     {
         let node = self.joined(alloc, procs, x, insts)?;
         self.set(x, node)?;
@@ -58,6 +60,7 @@ impl State {
 
     /// Each of these variables gets what one of its insts at the ends allows, up to the first that only some of the ends
     /// bind.
+    #[tactic(auto, using(crate::proofs::Growths::refused_here, crate::proofs::Growths::refused_by, crate::proofs::Growths::refused_stepped, crate::proofs::Growths::refused_after))]
     fn join_seen(
         &mut self,
         alloc: Global,
@@ -74,6 +77,7 @@ impl State {
             (JoinedSoFar seen.now seen.now ends.now procs.new self.old self.new)) }
         ensures count { OnOk result (length self.new.insts.items ≡ length self.old.insts.items) }
         ensures stepped { OnOk result (Stepped procs.old procs.new self.old self.new) }
+        ensures kept { OnErr result (OnlyGrown procs.old procs.new) }
     {
         for k in 0..seen.len() {
             let x = *seen.get(k);
@@ -125,6 +129,7 @@ impl State {
 
     /// What branches of a goal over these variables leave, as the seen ones have these insts at each reachable end: they
     /// get what one of these allows, and the goal's other variables are free. Answers whether an end is reachable.
+    #[tactic(auto, using(crate::proofs::Growths::refused_here, crate::proofs::Growths::refused_by, crate::proofs::Growths::refused_stepped, crate::proofs::Growths::refused_after))]
     pub fn join(
         &mut self,
         alloc: Global,
@@ -139,6 +144,7 @@ impl State {
         requires rows { RowsFit (length seen.now) (count_of procs.old.insts) ends.now }
         ensures merged { Merged own.now seen.now ends.now procs.old procs.new self.old self.new result }
         ensures count { OnOk result (length self.new.insts.items ≡ length self.old.insts.items) }
+        ensures kept { OnErr result (OnlyGrown procs.old procs.new) }
     {
         if ends.is_empty() {
             return Ok(false);

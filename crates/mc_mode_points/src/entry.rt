@@ -1,4 +1,4 @@
-ghost use Rattle.std.specs.Prelude.{◌≡◌, ◌<◌, ℕ, List, [], length, get_or, IfOk};
+ghost use Rattle.std.specs.Prelude.{◌≡◌, ◌<◌, ℕ, List, [], length, get_or, IfOk, OnErr};
 ghost use Rattle.mc_program.specs.Programs.{TypeTerm, Source};
 ghost use Rattle.mc_model.specs.Lists.{is_in};
 ghost use Rattle.mc_accepted.specs.Arranged.{Declared, entry, first_unmet, with_inst};
@@ -9,7 +9,7 @@ ghost use Rattle.mc_procs.specs.Named.{NumbersBelow};
 ghost use Rattle.mc_procs.specs.Procedures.{PlainProcs, source_of};
 ghost use Rattle.mc_mode_points.specs.Nodes.{NodesAre};
 ghost use Rattle.mc_mode_points.specs.States.{point_of, is_outside};
-ghost use Rattle.mc_mode_points.specs.Agreeing.{Agrees, Stands, Stepped};
+ghost use Rattle.mc_mode_points.specs.Agreeing.{Agrees, Stands, Stepped, OnlyGrown};
 ghost use Rattle.mc_mode_points.specs.code.Entries.{entered};
 
 use crate::nodes::Nodes;
@@ -98,6 +98,7 @@ impl State {
     }
 
     /// The place of the first argument whose final inst isn't met.
+    #[tactic(auto, using(crate::proofs::Growths::refused_here, crate::proofs::Growths::refused_by, crate::proofs::Growths::refused_stepped, crate::proofs::Growths::refused_after))]
     pub fn unmet(
         &self,
         alloc: Global,
@@ -114,6 +115,7 @@ impl State {
             → first_unmet (of_nodes C) (source_of procs.old) declared T 0 head.now last.now
             (point_of self.now.insts.items) ≡ place) }
         ensures stepped { IfOk result (λ place. Stepped procs.old procs.new self.now self.now) }
+        ensures kept { OnErr result (OnlyGrown procs.old procs.new) }
     {
         for k in 0..head.len() {
             let fits = self.fits(alloc, procs, *head.get(k), *last.get(k))?;

@@ -1,9 +1,10 @@
-ghost use Rattle.std.specs.Prelude.{◌≡◌, ◌<◌, ◌+◌, ℕ, [], Some, None, length, get_or, map, IfOk, OnOk, MatchOption, take};
+ghost use Rattle.std.specs.Prelude.{◌≡◌, ◌<◌, ◌+◌, ℕ, [], Some, None, length, get_or, map, IfOk, OnOk, MatchOption, take, OnErr};
 ghost use Rattle.mc_program.specs.PlainPrograms.{plain_type};
 ghost use Rattle.mc_model.specs.declared.inst.InstRef.TheVariants as inst_ref;
 ghost use Rattle.mc_insts.specs.Graphs.{count_of};
 ghost use Rattle.mc_insts.specs.Growing.{Grown};
 ghost use Rattle.mc_procs.specs.Procedures.{source_of, insts_of, with_insts};
+ghost use Rattle.mc_mode_points.specs.Agreeing.{OnlyGrown};
 ghost use Rattle.mc_mode_points.specs.Tables.{node_in};
 ghost use Rattle.mc_insts.specs.Defining.{plain_definitions};
 ghost use Rattle.mc_mode_points.specs.Nodes.{IsOver, Once, NodesAre, NodesMoved, type_in};
@@ -19,6 +20,7 @@ use std::alloc::Global;
 
 impl Nodes {
     /// The inst of one symbol over insts, none of which is free.
+    #[tactic(auto, using(crate::proofs::Growths::refused_here, crate::proofs::Growths::refused_by, crate::proofs::Growths::refused_stepped, crate::proofs::Growths::refused_after))]
     pub fn over(
         &mut self,
         alloc: Global,
@@ -32,6 +34,7 @@ impl Nodes {
         requires insts { (n : ℕ) → n < length insts.now → get_or insts.now n 0 < count_of procs.old.insts }
         ensures found { IfOk result (λ node. node_in self.new.overs symbol insts.now ≡ Some node) }
         ensures moved { OnOk result (NodesMoved procs.old procs.new self.old self.new) }
+        ensures kept { OnErr result (OnlyGrown procs.old procs.new) }
     {
         match self.overs.get(alloc, symbol, insts)? {
             Some(node) => {
@@ -48,6 +51,7 @@ impl Nodes {
     }
 
     /// The least inst above these at a type.
+    #[tactic(auto, using(crate::proofs::Growths::refused_here, crate::proofs::Growths::refused_by, crate::proofs::Growths::refused_stepped, crate::proofs::Growths::refused_after))]
     pub fn joined(
         &mut self,
         alloc: Global,
@@ -62,6 +66,7 @@ impl Nodes {
             × (type_in self.new.types.items place ≡ plain_type ty.now)
             × (node_in self.new.joins place insts.now ≡ Some node)) }
         ensures moved { OnOk result (NodesMoved procs.old procs.new self.old self.new) }
+        ensures kept { OnErr result (OnlyGrown procs.old procs.new) }
     {
         let place = self.place_of(alloc, ty)?;
         match self.joins.get(alloc, place, insts)? {
@@ -143,6 +148,7 @@ fn over_definition(
 }
 
 /// Adds the inst of one symbol over insts. A definition is refused where one of them is free; that is none of these.
+#[tactic(auto, using(crate::proofs::Growths::refused_here, crate::proofs::Growths::refused_by, crate::proofs::Growths::refused_stepped, crate::proofs::Growths::refused_after))]
 fn define_over(
     alloc: Global,
     procs: &mut Procs,
@@ -156,6 +162,7 @@ fn define_over(
     ensures over { IfOk result (λ node. IsOver (source_of procs.old) (insts_of procs.new) node symbol insts.now) }
     ensures others { OnOk result (procs.new ≡ with_insts procs.old procs.new.insts) }
     ensures grown { OnOk result (Grown (source_of procs.old) procs.old.insts procs.new.insts) }
+    ensures kept { OnErr result (OnlyGrown procs.old procs.new) }
 {
     let defs = over_definition(alloc, procs, symbol, insts)?;
     match procs.define(alloc, &defs) {

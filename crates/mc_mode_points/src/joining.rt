@@ -1,10 +1,10 @@
-ghost use Rattle.std.specs.Prelude.{◌≡◌, ◌<◌, ◌&&◌, ℕ, Some, length, get_or, not, IfOk, OnOk};
+ghost use Rattle.std.specs.Prelude.{◌≡◌, ◌<◌, ◌&&◌, ℕ, Some, length, get_or, not, IfOk, OnOk, OnErr};
 ghost use Rattle.std.specs.List.{list_any};
 ghost use Rattle.mc_program.specs.Programs.{TypeTerm};
 ghost use Rattle.mc_model.specs.Stream.{is_bound};
 ghost use Rattle.mc_accepted.specs.Chosen.{Chosen};
 ghost use Rattle.mc_insts.specs.Graphs.{count_of};
-ghost use Rattle.mc_mode_points.specs.Agreeing.{Agrees, Stands, Stepped};
+ghost use Rattle.mc_mode_points.specs.Agreeing.{Agrees, Stands, Stepped, OnlyGrown};
 
 use crate::asking::is_bound;
 use crate::state::State;
@@ -45,6 +45,7 @@ pub fn differs(insts: &[InstId]) -> bool
 
 impl State {
     /// What one of these insts, which a variable has at ends of branches, allows.
+    #[tactic(auto, using(crate::proofs::Growths::refused_here, crate::proofs::Growths::refused_by, crate::proofs::Growths::refused_stepped, crate::proofs::Growths::refused_after))]
     pub fn joined(
         &mut self,
         alloc: Global,
@@ -61,6 +62,7 @@ impl State {
         ensures there { IfOk result (λ node. node < count_of procs.new.insts) }
         ensures insts { OnOk result (self.new.insts ≡ self.old.insts) }
         ensures stepped { OnOk result (Stepped procs.old procs.new self.old self.new) }
+        ensures kept { OnErr result (OnlyGrown procs.old procs.new) }
     {
         let node = self
             .nodes

@@ -1,4 +1,4 @@
-ghost use Rattle.std.specs.Prelude.{◌≡◌, ◌<◌, ◌∷◌, [], ◌&&◌, ◌||◌, ℕ, List, length, map, get_or, not, IfOk, OnOk, if◌then◌else◌};
+ghost use Rattle.std.specs.Prelude.{◌≡◌, ◌<◌, ◌∷◌, [], ◌&&◌, ◌||◌, ℕ, List, length, map, get_or, not, IfOk, OnOk, if◌then◌else◌, OnErr};
 ghost use Rattle.mc_program.specs.Programs.{TypeTerm};
 ghost use Rattle.mc_model.specs.Lists.{is_in};
 ghost use Rattle.mc_model.specs.Stream.{is_bound};
@@ -9,7 +9,7 @@ ghost use Rattle.mc_insts.specs.Graphs.{count_of};
 ghost use Rattle.mc_procs.specs.Named.{NumbersBelow};
 ghost use Rattle.mc_procs.specs.Procedures.{source_of};
 ghost use Rattle.mc_mode_points.specs.States.{point_of};
-ghost use Rattle.mc_mode_points.specs.Agreeing.{Agrees, Stands, Stepped};
+ghost use Rattle.mc_mode_points.specs.Agreeing.{Agrees, Stands, Stepped, OnlyGrown};
 ghost use Rattle.mc_mode_points.specs.Modes.{ModeFits};
 ghost use Rattle.mc_mode_points.specs.code.Leaving.{left_by};
 
@@ -49,6 +49,7 @@ fn stays(last: InstId, is_there: bool) -> bool
 
 impl State {
     /// What a call in a mode leaves of its arguments.
+    #[tactic(auto, using(crate::proofs::Growths::refused_here, crate::proofs::Growths::refused_by, crate::proofs::Growths::refused_stepped, crate::proofs::Growths::refused_after))]
     pub fn leave_arguments(
         &mut self,
         alloc: Global,
@@ -67,6 +68,7 @@ impl State {
             ≡ point_of self.new.insts.items) }
         ensures count { OnOk result (length self.new.insts.items ≡ length self.old.insts.items) }
         ensures stepped { OnOk result (Stepped procs.old procs.new self.old self.new) }
+        ensures kept { OnErr result (OnlyGrown procs.old procs.new) }
     {
         let insts = self.insts_at(alloc, xs)?;
         let before = insts.as_slice();
@@ -82,6 +84,7 @@ impl State {
     }
 
     /// What a call leaves of one argument.
+    #[tactic(auto, using(crate::proofs::Growths::refused_here, crate::proofs::Growths::refused_by, crate::proofs::Growths::refused_stepped, crate::proofs::Growths::refused_after))]
     fn leave_one(
         &mut self,
         alloc: Global,
@@ -100,6 +103,7 @@ impl State {
             (point_of self.old.insts.items) ≡ point_of self.new.insts.items) }
         ensures count { OnOk result (length self.new.insts.items ≡ length self.old.insts.items) }
         ensures stepped { OnOk result (Stepped procs.old procs.new self.old self.new) }
+        ensures kept { OnErr result (OnlyGrown procs.old procs.new) }
     {
         if is_bound(first) {
             self.leave_input(alloc, procs, x, first, last)?;
@@ -114,6 +118,7 @@ impl State {
 
     /// An input becomes dead where its final inst is; any other keeps its inst where the final inst includes it, else
     /// has the final inst.
+    #[tactic(auto, using(crate::proofs::Growths::refused_here, crate::proofs::Growths::refused_by, crate::proofs::Growths::refused_stepped, crate::proofs::Growths::refused_after))]
     fn leave_input(
         &mut self,
         alloc: Global,
@@ -131,6 +136,7 @@ impl State {
             (point_of self.old.insts.items) ≡ point_of self.new.insts.items) }
         ensures count { OnOk result (length self.new.insts.items ≡ length self.old.insts.items) }
         ensures stepped { OnOk result (Stepped procs.old procs.new self.old self.new) }
+        ensures kept { OnErr result (OnlyGrown procs.old procs.new) }
     {
         let _ = first;
         if last == DEAD {

@@ -1,4 +1,4 @@
-ghost use Rattle.std.specs.Prelude.{◌≡◌, ◌<◌, ◌∷◌, [], ◌||◌, ℕ, List, length, map, get_or, not, nat_eq, Some, IfOk, OnOk};
+ghost use Rattle.std.specs.Prelude.{◌≡◌, ◌<◌, ◌∷◌, [], ◌||◌, ℕ, List, length, map, get_or, not, nat_eq, Some, IfOk, OnOk, OnErr};
 ghost use Rattle.std.specs.List.{list_any};
 ghost use Rattle.mc_program.specs.Programs.{TypeTerm};
 ghost use Rattle.mc_model.specs.Flat.{Made};
@@ -12,14 +12,14 @@ ghost use Rattle.mc_procs.specs.Named.{NumbersBelow};
 ghost use Rattle.mc_procs.specs.Procedures.{PlainProcs, source_of};
 ghost use Rattle.mc_mode_points.specs.Nodes.{type_in};
 ghost use Rattle.mc_mode_points.specs.States.{point_of};
-ghost use Rattle.mc_mode_points.specs.Agreeing.{Agrees, Stands, Stepped};
+ghost use Rattle.mc_mode_points.specs.Agreeing.{Agrees, Stands, Stepped, OnlyGrown};
 ghost use Rattle.mc_mode_points.specs.Answers.{tried, IsWaiting, Ran, Answers, FreshAlike};
 ghost use Rattle.mc_mode_points.specs.code.Applying.{TestsAgree};
 ghost use Rattle.mc_mode_points.specs.code.Taking.{take_each};
 
 use crate::asking::{DEAD, is_bound};
 use crate::fault::Failed;
-use crate::part::{Part, one};
+use crate::part::Part;
 use crate::state::State;
 use mc_base::{Memory, Row};
 use mc_model::inst::InstId;
@@ -66,6 +66,7 @@ impl State {
     }
 
     /// An equation of a variable and a constructor over variables.
+    #[tactic(auto, using(crate::proofs::Growths::refused_here, crate::proofs::Growths::refused_by, crate::proofs::Growths::refused_stepped, crate::proofs::Growths::refused_after))]
     pub fn made(
         &mut self,
         alloc: Global,
@@ -82,6 +83,7 @@ impl State {
             → Answers (tried declared (Made x symbol ys.now) outside procs.old self.old) procs.old
             procs.new self.old self.new result }
         ensures alike { IfOk result (FreshAlike (Made x symbol ys.now) self.new) }
+        ensures kept { OnErr result (OnlyGrown procs.old procs.new) }
     {
         if self.one_dies(x, ys) {
             return Err(self.waiting_on(alloc, x, ys));
@@ -98,6 +100,7 @@ impl State {
     }
 
     /// A bound variable is taken apart.
+    #[tactic(auto, using(crate::proofs::Growths::refused_here, crate::proofs::Growths::refused_by, crate::proofs::Growths::refused_stepped, crate::proofs::Growths::refused_after))]
     fn take(
         &mut self,
         alloc: Global,
@@ -116,22 +119,25 @@ impl State {
             (C.narrowed (point_of self.old.insts.items x) symbol))
             procs.old procs.new self.old self.new part) }
         ensures alike { IfOk result (TestsAgree self.new) }
+        ensures kept { OnErr result (OnlyGrown procs.old procs.new) }
     {
+        let log = self.log.len();
         let goal = Sched::Take(x, symbol, row_of(alloc, ys)?);
         match procs.narrow(alloc, self.inst(x), symbol)? {
             None => {
-                let part = one(alloc, goal, false)?;
+                let part = self.one(alloc, goal, log, false)?;
                 Ok(part)
             }
             Some(insts) => {
                 self.take_as(alloc, procs, x, symbol, ys, insts.as_slice())?;
-                let part = one(alloc, goal, true)?;
+                let part = self.one(alloc, goal, log, true)?;
                 Ok(part)
             }
         }
     }
 
     /// A variable is taken apart, where these are the insts of the constructor's arguments.
+    #[tactic(auto, using(crate::proofs::Growths::refused_here, crate::proofs::Growths::refused_by, crate::proofs::Growths::refused_stepped, crate::proofs::Growths::refused_after))]
     fn take_as(
         &mut self,
         alloc: Global,
@@ -151,10 +157,11 @@ impl State {
             → Agrees procs.new self.new C T
             → took (of_nodes C) (source_of procs.old) declared T x symbol ys.now insts.now
             (length self.old.insts.items) (point_of self.old.insts.items) (C.over symbol insts.now)
-            ≡ one (Take x symbol ys.now) (Some (point_of self.new.insts.items))
-            (length self.old.insts.items)) }
+            ≡ one (of_nodes C) (point_of self.old.insts.items) (Take x symbol ys.now)
+            (Some (point_of self.new.insts.items)) (length self.old.insts.items)) }
         ensures stepped { OnOk result (Stepped procs.old procs.new self.old self.new) }
         ensures count { OnOk result (length self.new.insts.items ≡ length self.old.insts.items) }
+        ensures kept { OnErr result (OnlyGrown procs.old procs.new) }
     {
         let inst = self.over(alloc, procs, symbol, insts)?;
         self.set(x, inst)?;
@@ -222,6 +229,7 @@ impl State {
     }
 
     /// A free variable gets a constructor over bound ones.
+    #[tactic(auto, using(crate::proofs::Growths::refused_here, crate::proofs::Growths::refused_by, crate::proofs::Growths::refused_stepped, crate::proofs::Growths::refused_after))]
     fn build(
         &mut self,
         alloc: Global,
@@ -240,12 +248,14 @@ impl State {
             (C.over symbol (map (point_of self.old.insts.items) ys.now)))
             procs.old procs.new self.old self.new part) }
         ensures alike { IfOk result (TestsAgree self.new) }
+        ensures kept { OnErr result (OnlyGrown procs.old procs.new) }
     {
+        let log = self.log.len();
         let goal = Sched::Build(x, symbol, row_of(alloc, ys)?);
         let insts = self.insts_at(alloc, ys)?;
         let inst = self.over(alloc, procs, symbol, &insts)?;
         self.set(x, inst)?;
-        let part = one(alloc, goal, true)?;
+        let part = self.one(alloc, goal, log, true)?;
         Ok(part)
     }
 }

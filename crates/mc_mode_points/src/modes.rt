@@ -1,4 +1,4 @@
-ghost use Rattle.std.specs.Prelude.{◌≡◌, ◌<◌, ◌∷◌, [], ◌||◌, ◌&&◌, nat_eq, IsTrue, ℕ, List, Some, None, length, map, not, IfOk, OnOk, IfSome};
+ghost use Rattle.std.specs.Prelude.{◌≡◌, ◌<◌, ◌∷◌, [], ◌||◌, ◌&&◌, nat_eq, IsTrue, ℕ, List, Some, None, length, map, not, IfOk, OnOk, IfSome, OnErr};
 ghost use Rattle.mc_program.specs.Programs.{TypeTerm};
 ghost use Rattle.mc_model.specs.Flat.{Call};
 ghost use Rattle.mc_model.specs.Stream.{is_bound};
@@ -11,7 +11,7 @@ ghost use Rattle.mc_procs.specs.Procedures.{source_of};
 ghost use Rattle.mc_program.specs.PlainPrograms.{plain_type};
 ghost use Rattle.mc_mode_points.specs.Nodes.{type_in};
 ghost use Rattle.mc_mode_points.specs.States.{point_of};
-ghost use Rattle.mc_mode_points.specs.Agreeing.{Agrees, Stands, Stepped};
+ghost use Rattle.mc_mode_points.specs.Agreeing.{Agrees, Stands, Stepped, OnlyGrown};
 ghost use Rattle.mc_mode_points.specs.Modes.{ModeFits};
 
 use crate::asking::{DEAD, is_bound};
@@ -45,6 +45,7 @@ impl State {
     }
 
     /// Whether a variable's inst is included in another at its type.
+    #[tactic(auto, using(crate::proofs::Growths::refused_here, crate::proofs::Growths::refused_by, crate::proofs::Growths::refused_stepped, crate::proofs::Growths::refused_after))]
     pub(crate) fn fits(
         &self,
         alloc: Global,
@@ -58,6 +59,7 @@ impl State {
         ensures fits { IfOk result (λ t. (C : Chosen) (T : ℕ → TypeTerm)
             → Agrees procs.new self.now C T → C.fits (point_of self.now.insts.items x) inst (T x) ≡ t) }
         ensures stepped { OnOk result (Stepped procs.old procs.new self.now self.now) }
+        ensures kept { OnErr result (OnlyGrown procs.old procs.new) }
     {
         let fits = procs.includes(alloc, self.inst(x), inst, self.type_of(x))?;
         procs.fit();
@@ -74,6 +76,7 @@ impl State {
     }
 
     /// Whether a variable can be at an input with these insts.
+    #[tactic(auto, using(crate::proofs::Growths::refused_here, crate::proofs::Growths::refused_by, crate::proofs::Growths::refused_stepped, crate::proofs::Growths::refused_after))]
     fn takes_input(
         &self,
         alloc: Global,
@@ -92,6 +95,7 @@ impl State {
             → is_input (of_nodes C) (source_of procs.old) declared T all.now (first, last) x
             (point_of self.now.insts.items) ≡ t) }
         ensures stepped { OnOk result (Stepped procs.old procs.new self.now self.now) }
+        ensures kept { OnErr result (OnlyGrown procs.old procs.new) }
     {
         if self.is_barred(all, x, last) {
             return Ok(false);
@@ -101,6 +105,7 @@ impl State {
     }
 
     /// Whether a mode takes an argument as it is: at an input, or anywhere else.
+    #[tactic(auto, using(crate::proofs::Growths::refused_here, crate::proofs::Growths::refused_by, crate::proofs::Growths::refused_stepped, crate::proofs::Growths::refused_after))]
     fn takes(
         &self,
         alloc: Global,
@@ -119,6 +124,7 @@ impl State {
             → (not (is_bound first) || is_input (of_nodes C) (source_of procs.old) declared T all.now
             (first, last) x (point_of self.now.insts.items)) ≡ t) }
         ensures stepped { OnOk result (Stepped procs.old procs.new self.now self.now) }
+        ensures kept { OnErr result (OnlyGrown procs.old procs.new) }
     {
         if is_bound(first) {
             let takes = self.takes_input(alloc, procs, all, x, first, last)?;
@@ -128,6 +134,7 @@ impl State {
     }
 
     /// Whether a mode is usable.
+    #[tactic(auto, using(crate::proofs::Growths::refused_here, crate::proofs::Growths::refused_by, crate::proofs::Growths::refused_stepped, crate::proofs::Growths::refused_after))]
     pub fn usable(
         &self,
         alloc: Global,
@@ -144,6 +151,7 @@ impl State {
             (zipped mode.now.first mode.now.last) xs.now (point_of self.now.insts.items) ≡ t) }
         ensures many { IfOk result (λ t. IsTrue t → length mode.now.first ≡ length xs.now) }
         ensures stepped { OnOk result (Stepped procs.old procs.new self.now self.now) }
+        ensures kept { OnErr result (OnlyGrown procs.old procs.new) }
     {
         if mode.first.len() as usize != xs.len() {
             return Ok(false);

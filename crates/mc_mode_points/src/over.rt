@@ -1,9 +1,9 @@
-ghost use Rattle.std.specs.Prelude.{◌≡◌, ◌<◌, ℕ, Some, length, get_or, IfOk, OnOk};
+ghost use Rattle.std.specs.Prelude.{◌≡◌, ◌<◌, ℕ, Some, length, get_or, IfOk, OnOk, OnErr};
 ghost use Rattle.mc_program.specs.Programs.{TypeTerm};
 ghost use Rattle.mc_accepted.specs.Chosen.{Chosen};
 ghost use Rattle.mc_insts.specs.Graphs.{count_of};
 ghost use Rattle.mc_procs.specs.Procedures.{source_of};
-ghost use Rattle.mc_mode_points.specs.Agreeing.{Agrees, Stands, Stepped};
+ghost use Rattle.mc_mode_points.specs.Agreeing.{Agrees, Stands, Stepped, OnlyGrown};
 
 use crate::state::State;
 use mc_base::Memory;
@@ -13,6 +13,7 @@ use std::alloc::Global;
 
 impl State {
     /// The inst of one symbol over insts, none of which is free.
+    #[tactic(auto, using(crate::proofs::Growths::refused_here, crate::proofs::Growths::refused_by, crate::proofs::Growths::refused_stepped, crate::proofs::Growths::refused_after))]
     pub(crate) fn over(
         &mut self,
         alloc: Global,
@@ -29,6 +30,7 @@ impl State {
         ensures there { IfOk result (λ node. node < count_of procs.new.insts) }
         ensures insts { OnOk result (self.new.insts ≡ self.old.insts) }
         ensures stepped { OnOk result (Stepped procs.old procs.new self.old self.new) }
+        ensures kept { OnErr result (OnlyGrown procs.old procs.new) }
     {
         let node = self.nodes.over(alloc, procs, symbol, insts)?;
         Ok(node)

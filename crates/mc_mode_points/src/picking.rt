@@ -1,4 +1,4 @@
-ghost use Rattle.std.specs.Prelude.{◌≡◌, ◌<◌, ℕ, List, Option, Some, None, length, get_or, map, IfOk, OnOk, if◌then◌else◌};
+ghost use Rattle.std.specs.Prelude.{◌≡◌, ◌<◌, ℕ, List, Option, Some, None, length, get_or, map, IfOk, OnOk, if◌then◌else◌, OnErr};
 ghost use Rattle.mc_program.specs.Programs.{TypeTerm};
 ghost use Rattle.mc_model.specs.declared.inst.ModeDecl.{ModeDecl};
 ghost use Rattle.mc_accepted.specs.Arranged.{Declared, best, better, usable};
@@ -7,7 +7,7 @@ ghost use Rattle.mc_insts.specs.Graphs.{count_of};
 ghost use Rattle.mc_procs.specs.Named.{NumbersBelow};
 ghost use Rattle.mc_procs.specs.Procedures.{source_of};
 ghost use Rattle.mc_mode_points.specs.States.{point_of};
-ghost use Rattle.mc_mode_points.specs.Agreeing.{Agrees, Stands, Stepped};
+ghost use Rattle.mc_mode_points.specs.Agreeing.{Agrees, Stands, Stepped, OnlyGrown};
 ghost use Rattle.mc_mode_points.specs.Modes.{declared_mode, ModeFits, ModesFit};
 ghost use Rattle.mc_mode_points.specs.code.Picking.{better_pick, PickFits, IsPicked};
 
@@ -43,6 +43,7 @@ fn better(place: usize, implied: Row<u32>, found: Option<Pick>) -> Pick
 
 impl State {
     /// Of the usable modes the one with the fewest implied arguments, the earliest of these.
+    #[tactic(auto, using(crate::proofs::Growths::refused_here, crate::proofs::Growths::refused_by, crate::proofs::Growths::refused_stepped, crate::proofs::Growths::refused_after))]
     pub(crate) fn best(
         &self,
         alloc: Global,
@@ -60,6 +61,7 @@ impl State {
             (point_of self.now.insts.items))) }
         ensures fits { IfOk result (PickFits modes.now xs.now (point_of self.now.insts.items)) }
         ensures stepped { OnOk result (Stepped procs.old procs.new self.now self.now) }
+        ensures kept { OnErr result (OnlyGrown procs.old procs.new) }
     {
         let mut found = None;
         let mut k = modes.len();
@@ -72,6 +74,7 @@ impl State {
     }
 
     /// The mode in a place where it is usable and better than what was found behind it; else what was found.
+    #[tactic(auto, using(crate::proofs::Growths::refused_here, crate::proofs::Growths::refused_by, crate::proofs::Growths::refused_stepped, crate::proofs::Growths::refused_after))]
     fn pick(
         &self,
         alloc: Global,
@@ -100,6 +103,7 @@ impl State {
             → PickFits modes xs.now (point_of self.now.insts.items) found
             → PickFits modes xs.now (point_of self.now.insts.items) picked) }
         ensures stepped { OnOk result (Stepped procs.old procs.new self.now self.now) }
+        ensures kept { OnErr result (OnlyGrown procs.old procs.new) }
     {
         let usable = self.usable(alloc, procs, mode, xs)?;
         if usable {

@@ -1,7 +1,6 @@
 use Rattle.std.proofs.Common.{◌∙◌, ◌≤◌, ℕ, List, length, map, ap, arith}
-use Rattle.mc_model.specs.PlainGoals.{plain_sched}
+use Rattle.mc_model.specs.PlainGoals.{plain_node}
 use Rattle.mc_model.specs.Scheduled.{nodes, node_then}
-use Rattle.mc_accepted.specs.Unmarked.{unmarked}
 use Rattle.mc_mode_points.specs.code.Applying.{test_of}
 use Rattle.mc_mode_points.proofs.Freshening.{tests-are, take-past}
 use Rattle.mc_mode_points.proofs.applied.with_tests.Goals as goal
@@ -12,4 +11,4 @@ returns c =
     let k = c.loop-test.test-index in
     let h : length ts ≤ k = omega arith in
     ap nodes c.loop-test.invariant
-    ∙ ap (node_then (unmarked (plain_sched c.args.goal))) (ap (λ (us : List (ℕ × ℕ)). nodes (map test_of us)) (take-past ts k h) ∙ tests-are ts)
+    ∙ ap (node_then (plain_node c.args.goal)) (ap (λ (us : List (ℕ × ℕ)). nodes (map test_of us)) (take-past ts k h) ∙ tests-are ts)

@@ -1,11 +1,12 @@
-use Rattle.std.proofs.Common.{◌∙◌, List, not, ap, subst}
-use Rattle.mc_model.specs.Scheduled.{Scheduled, node_then, no_nodes}
+use Rattle.std.proofs.Common.{◌∙◌, List, not, ap, ap₂, subst, arith}
 use Rattle.mc_accepted.specs.Ordered.{Mode}
-use Rattle.mc_accepted.specs.Unmarked.{unmarked}
 use Rattle.mc_mode_points.specs.States.{point_of}
-use Rattle.mc_mode_points.proofs.AtomOutcomes.{alike-one}
+use Rattle.mc_mode_points.proofs.AtomOutcomes.{one_goal, alike-one}
 use Rattle.mc_mode_points.proofs.BuiltinOutcomes.{Leaves, apply_of, ran-plainly}
 use Rattle.mc_mode_points.proofs.state.State.apply_plainly.Goals as goal
+
+pub one-requires : goal.one-requires
+one-requires c = c.in_ok-leave_arguments.ensures.stepped.moved.stands.log
 
 pub returns-clause-ran : goal.returns-clause-ran
 returns-clause-ran c = λ declared.
@@ -19,10 +20,13 @@ returns-clause-ran c = λ declared.
     ran-plainly q r s t declared c.args.op xs c.in_ok-part.part e.stepped
     (subst (λ (ms : List Mode). Leaves q r ms xs (point_of s.insts.items) t) c.requires.modes e.after)
     e.count
-    (p.goals ∙ ap (λ (z : Scheduled). node_then (unmarked z) no_nodes) c.in_ok-goal.ensures)
+    (p.goals s e.stepped.later.leads (omega (arith, c.len-log.ensures, c.args.self.now.log.ok.0)) ∙ ap₂ (one_goal s t) (ap not c.never_returns.ensures) c.in_ok-goal.ensures)
     (p.reachable ∙ ap not c.never_returns.ensures) p.freshened
 
 pub returns-clause-alike : goal.returns-clause-alike
 returns-clause-alike c = λ T next same.
-    alike-one T next c.in_ok-part.part (apply_of c.args.op c.args.xs.now)
-    (c.in_ok-part.ensures.goals ∙ ap (λ (z : Scheduled). node_then (unmarked z) no_nodes) c.in_ok-goal.ensures) tt
+    let s = c.args.self.now in
+    let t = c.leave_arguments.new.self in
+    let r = not c.never_returns.result in
+    alike-one T next c.in_ok-part.part s t r (apply_of c.args.op c.args.xs.now)
+    (c.in_ok-part.ensures.goals s c.in_ok-leave_arguments.ensures.stepped.later.leads (omega (arith, c.len-log.ensures, c.args.self.now.log.ok.0)) ∙ ap (one_goal s t r) c.in_ok-goal.ensures) tt

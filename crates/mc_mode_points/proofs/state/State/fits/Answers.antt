@@ -4,7 +4,8 @@ use Rattle.mc_accepted.specs.Inclusion.{Included}
 use Rattle.mc_procs.specs.Procedures.{source_of, insts_of}
 use Rattle.mc_mode_points.specs.Nodes.{type_in}
 use Rattle.mc_mode_points.specs.States.{point_of}
-use Rattle.mc_mode_points.proofs.CallOutcomes.{asked, fits-is}
+use Rattle.mc_mode_points.proofs.CallOutcomes.{grown-same, asked, fits-is}
+use Rattle.mc_mode_points.proofs.Growths.{refused_by}
 use Rattle.mc_mode_points.proofs.state.State.fits.Goals as goal
 
 pub returns-clause-fits : goal.returns-clause-fits
@@ -22,3 +23,10 @@ pub returns-clause-stepped : goal.returns-clause-stepped
 returns-clause-stepped c =
     let e = c.in_ok-fits.ensures in
     asked c.args.procs.now c.includes.new.self c.args.self.now c.requires.stands c.fit.ensures.all e.others e.graph e.count
+
+pub returns-in_err-fits-clause-kept : goal.returns-in_err-fits-clause-kept
+returns-in_err-fits-clause-kept c =
+    let q = c.args.procs.now in
+    let r = c.includes.new.self in
+    let e = c.in_err-fits.ensures in
+    refused_by c.from_residual.result q r (record { others = e.others; grown = grown-same (source_of q) q.insts r.insts e.graph e.count })

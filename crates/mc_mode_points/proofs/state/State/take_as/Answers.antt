@@ -62,5 +62,5 @@ returns-clause-took c = λ declared C T a.
     let both : Stepped r r u t = stepped-trans r r r u v t set each in
     let point : point_of v.insts.items ≡ with_inst ℕ x i b = e.point ∙ ap (λ (w : Vec ℕ Global). with_inst ℕ x i (point_of w.items)) o.insts in
     ap (took (of_nodes C) (source_of q) declared T x f ys is n b) (o.found C T (agrees-before r r u t C T o.stepped.moved.stands both.moved a))
-    ∙ ap (λ (d : Point ℕ). one (S.Take x f ys) (Some d) n)
+    ∙ ap (λ (d : Point ℕ). one (of_nodes C) b (S.Take x f ys) (Some d) n)
     (taken-each C (source_of q) declared T ys is (with_inst ℕ x i b) ∙ (ap (take_each ys is) (sym point) ∙ sym c.in_ok-take_each.ensures.point))

@@ -1,0 +1,151 @@
+ghost use Rattle.std.specs.Prelude.{◌≡◌, ◌<◌, ◌∷◌, ◌++◌, [], ℕ, length, map, drop, IfOk, OnOk};
+ghost use Rattle.std.specs.List.{All};
+ghost use Rattle.std.specs.List.Sorted.{IsNonDecreasingBy};
+ghost use Rattle.mc_model.specs.Scheduled.{nodes, node_then, no_nodes};
+ghost use Rattle.mc_model.specs.PlainGoals.{plain_node, plain_sched};
+ghost use Rattle.mc_accepted.specs.Arranged.{alone, changes_from, changing, with_change};
+ghost use Rattle.mc_accepted.specs.Chosen.{Chosen, of_nodes, other_node};
+ghost use Rattle.mc_mode_points.specs.States.{point_of, rewound, LogWithin, LeadsBack};
+ghost use Rattle.mc_mode_points.specs.Answers.{end_of};
+ghost use Rattle.mc_mode_points.specs.declared.state.State.{State};
+
+use crate::part::{Part, unmarked};
+use crate::state::State;
+use mc_base::{Memory, Row};
+use mc_model::inst::InstId;
+use mc_model::sched::{GoalNode, Sched};
+use std::alloc::Global;
+
+/// The one goal of a row that holds no other.
+fn only(row: Row<GoalNode>) -> GoalNode
+    requires { length row ≡ 1 }
+    ensures { row ≡ result ∷ [] }
+{
+    let mut row = row;
+    match row.pop() {
+        Some(goal) => goal,
+        None => unreachable!(),
+    }
+}
+
+impl State {
+    /// The insts that were replaced since the log had this length, in order of variables, and of one variable the first
+    /// first.
+    fn replaced_since(&self, alloc: Global, log: usize) -> Result<Vec<(u32, InstId)>, Memory>
+        requires { LogWithin (length self.now.insts.items) self.now.log.items }
+        ensures within { IfOk result (λ replaced.
+            All (λ e. e.0 < length self.now.insts.items) replaced.items) }
+        ensures sorted { IfOk result (λ replaced. IsNonDecreasingBy (λ e. e.0) replaced.items) }
+        ensures same { IfOk result (λ replaced. (b : ℕ → ℕ) (x : ℕ)
+            → rewound replaced.items b x ≡ rewound (drop log self.now.log.items) b x) }
+    {
+        let start = log.min(self.log.len());
+        let mut replaced = Vec::from_slice(alloc, &self.log[start..])?;
+        replaced.sort_by_key(|(x, _)| *x)?;
+        Ok(replaced)
+    }
+
+    /// Tells a variable that has another inst than this, with the inst that it has.
+    fn tell(&self, changes: &mut Vec<(u32, InstId)>, x: u32, was: InstId) -> Result<(), Memory>
+        requires { x < length self.now.insts.items }
+        ensures { OnOk result (changes.new.items ≡ changes.old.items
+            ++ with_change x (other_node was (point_of self.now.insts.items x)) []) }
+    {
+        let inst = self.inst(x);
+        if inst != was {
+            changes.push((x, inst))?;
+        }
+        Ok(())
+    }
+
+    /// What variables have other insts than when the log had this length: each with the inst that it has now, in order of
+    /// variables.
+    pub fn changes_since(&self, alloc: Global, log: usize) -> Result<Row<(u32, InstId)>, Memory>
+        requires { LogWithin (length self.now.insts.items) self.now.log.items }
+        ensures { IfOk result (λ row. (s : State) → LeadsBack s self.now → length s.log.items ≡ log
+            → row ≡ changes_from other_node 0 (length self.now.insts.items) (point_of s.insts.items)
+            (point_of self.now.insts.items)) }
+    {
+        let replaced = self.replaced_since(alloc, log)?;
+        let mut changes = Vec::new(alloc);
+        // Variables below this one are done: of several insts of one variable that were replaced, the first counts.
+        let mut next: usize = 0;
+        for (x, was) in &replaced {
+            if (*x as usize) < next {
+                continue;
+            }
+            self.tell(&mut changes, *x, *was)?;
+            next = *x as usize + 1;
+        }
+        let row = Row::of(changes)?;
+        Ok(row)
+    }
+
+    /// A goal with what it changed since the log had this length. Where the point after it is unreachable it keeps none.
+    pub fn keeping(
+        &self,
+        alloc: Global,
+        goal: Sched,
+        log: usize,
+        reachable: bool,
+    ) -> Result<GoalNode, Memory>
+        requires { LogWithin (length self.now.insts.items) self.now.log.items }
+        ensures { IfOk result (λ node. (s : State) → LeadsBack s self.now → length s.log.items ≡ log
+            → plain_node node ≡ changing other_node (length self.now.insts.items)
+            (point_of s.insts.items) (end_of reachable self.now) (plain_sched goal)) }
+    {
+        let mut node = unmarked(alloc, goal);
+        if reachable {
+            node.changes = self.changes_since(alloc, log)?;
+        }
+        Ok(node)
+    }
+
+    /// One goal, with what it changed since the log had this length.
+    pub fn one(
+        &self,
+        alloc: Global,
+        goal: Sched,
+        log: usize,
+        reachable: bool,
+    ) -> Result<Part, Memory>
+        requires { LogWithin (length self.now.insts.items) self.now.log.items }
+        ensures goals { IfOk result (λ part. (s : State) → LeadsBack s self.now
+            → length s.log.items ≡ log
+            → nodes (map plain_node part.goals.items) ≡ node_then
+            (changing other_node (length self.now.insts.items) (point_of s.insts.items)
+            (end_of reachable self.now) (plain_sched goal)) no_nodes) }
+        ensures reachable { IfOk result (λ part. part.reachable ≡ reachable) }
+        ensures freshened { IfOk result (λ part. part.freshened.items ≡ []) }
+    {
+        let node = self.keeping(alloc, goal, log, reachable)?;
+        let mut goals = Vec::with_capacity(alloc, 1)?;
+        goals.push(node)?;
+        Ok(Part {
+            goals,
+            reachable,
+            freshened: Vec::new(alloc),
+        })
+    }
+
+    /// One goal stands alone. Others are a conjunction, with what it changed since the log had this length.
+    pub fn alone(
+        &self,
+        alloc: Global,
+        goals: Vec<GoalNode>,
+        log: usize,
+        reachable: bool,
+    ) -> Result<GoalNode, Memory>
+        requires { LogWithin (length self.now.insts.items) self.now.log.items }
+        ensures { IfOk result (λ goal. (s : State) → LeadsBack s self.now → length s.log.items ≡ log
+            → (C : Chosen) → plain_node goal ≡ alone (of_nodes C) (length self.now.insts.items)
+            (point_of s.insts.items) (end_of reachable self.now) (nodes (map plain_node goals.items))) }
+    {
+        let row = Row::of(goals)?;
+        if row.len() == 1 {
+            return Ok(only(row));
+        }
+        let goal = self.keeping(alloc, Sched::Conj(row), log, reachable)?;
+        Ok(goal)
+    }
+}
