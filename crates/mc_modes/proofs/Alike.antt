@@ -1,23 +1,24 @@
 -- Tests of fresh variables are typed alike in a goal, by those of its parts.
-use Rattle.std.proofs.Common.{◌≡◌, ◌∙◌, ℕ, ◌≤◌, List, [], ◌∷◌, ◌++◌, map, length, take, Option, Some, None, Result, Ok, Err, OnOk, IfOk, sym, ap, subst, arith}
+use Rattle.std.proofs.Common.{◌≡◌, ◌∙◌, ℕ, ◌≤◌, List, [], ◌∷◌, ◌++◌, map, length, take, false, Option, Some, None, Result, Ok, Err, OnOk, IfOk, sym, ap, subst, arith}
 use Rattle.std.proofs.lemmas.List.{length-take, map-append}
 use Rattle.mc_program.specs.Programs.{TypeTerm}
 use Rattle.mc_model.specs.Flat.{Flat_goal, variables_of}
 use Rattle.mc_model.specs.Scheduled.{Scheduled, Node, Nodes, no_nodes, node_then, nodes}
 use Rattle.mc_model.specs.PlainGoals.{plain_node}
 use Rattle.mc_model.specs.declared.sched.GoalNode.{GoalNode}
-use Rattle.mc_accepted.specs.Arranged.{alone}
-use Rattle.mc_accepted.specs.Unmarked.{unmarked}
+use Rattle.mc_accepted.specs.Arranged.{Point, alone}
+use Rattle.mc_accepted.specs.Chosen.{Chosen, of_nodes}
 use Rattle.mc_accepted.specs.FreshTests.{TestsAlike, AlikeIn, AllAlike}
 use Rattle.mc_procs.specs.Named.{NumbersBelow}
 use Rattle.mc_procs.specs.Procedures.{PlainProcs}
+use Rattle.mc_mode_points.specs.States.{point_of, LeadsBack}
 use Rattle.mc_mode_points.specs.Agreeing.{TypedAs}
-use Rattle.mc_mode_points.specs.Answers.{FreshAlike}
+use Rattle.mc_mode_points.specs.Answers.{FreshAlike, end_of}
 use Rattle.mc_mode_points.specs.declared.state.State.{State}
 use Rattle.mc_mode_points.specs.declared.part.Part.{Part}
 use Rattle.mc_mode_points.specs.declared.fault.Failed.{Failed}
 use Rattle.mc_mode_points.proofs.Found.{type-kept}
-use Rattle.mc_modes.specs.code.Parts.{IsOne, MergedAs, ChosenAs}
+use Rattle.mc_modes.specs.code.Parts.{IsOne, AloneSince, MergedAs, ChosenAs}
 use Rattle.mc_modes.specs.code.Alike.{NodeAlike}
 
 -- the types that are there later are those that are there before
@@ -49,29 +50,42 @@ settled-alike g t u tried (Ok p) e k a =
     subst (λ (v : State). FreshAlike g v p) (sym k) b
 settled-alike g t u tried (Err x) e k a = tt
 
-pub alone-alike : (T : ℕ → TypeTerm) (next : ℕ) (gs : Nodes) → AllAlike T next gs → TestsAlike T next (alone gs)
-alone-alike T next no_nodes w = tt
-alone-alike T next (node_then g no_nodes) w = w.0
-alone-alike T next (node_then g (node_then h gs)) w = w
+pub alone-alike : (T : ℕ → TypeTerm) (next : ℕ) (C : Chosen) (n : ℕ) (b : Point ℕ) (o : Option (Point ℕ)) (gs : Nodes) → AllAlike T next gs → TestsAlike T next (alone (of_nodes C) n b o gs)
+alone-alike T next C n b o no_nodes w = tt
+alone-alike T next C n b o (node_then g no_nodes) w = w.0
+alone-alike T next C n b o (node_then g (node_then h gs)) w = w
 
--- a part's goals as one
-pub node-alone : (g : Flat_goal) (s t : State) (p : Part) (node : GoalNode) → Keeps s t → plain_node node ≡ alone (nodes (map plain_node p.goals.items)) → FreshAlike g s p
-    → NodeAlike (variables_of g) t node
-node-alone g s t p node k e a T next h w = subst (TestsAlike T next) (sym e) (alone-alike T next (nodes (map plain_node p.goals.items)) (a T next (k T h) w))
+-- A part's goals as one. Whatever functions look for nodes, its tests are the same, so here are some.
+pub none_chosen : Chosen
+none_chosen = record {
+  is_dead = λ i. false;
+  over = λ s is. None;
+  joined = λ t is. None;
+  narrowed = λ i s. None;
+  takes_constants = λ i. false;
+  fits = λ i j t. false;
+}
+
+pub node-alone : (g : Flat_goal) (s t u : State) (log : ℕ) (p : Part) (node : GoalNode) → Keeps t u → LeadsBack s t → length s.log.items ≡ log → AloneSince log t p node → FreshAlike g t p
+    → NodeAlike (variables_of g) u node
+node-alone g s t u log p node k l m e a T next h w =
+    subst (TestsAlike T next) (sym (e s l m none_chosen))
+    (alone-alike T next none_chosen (length t.insts.items) (point_of s.insts.items) (end_of p.reachable t) (nodes (map plain_node p.goals.items)) (a T next (k T h) w))
 
 -- one goal
-pub one-alike : (g : Flat_goal) (t : State) (s : Scheduled) (p : Part) → nodes (map plain_node p.goals.items) ≡ node_then (unmarked s) no_nodes
+pub one-alike : (g : Flat_goal) (t : State) (n : ℕ) (b : Point ℕ) (o : Option (Point ℕ)) (s : Scheduled) (p : Part) → IsOne n b o s p
     → ((T : ℕ → TypeTerm) (next : ℕ) → TypedAs t T → NumbersBelow next (variables_of g) → AlikeIn T next s) → FreshAlike g t p
-one-alike g t s p e a T next h w = subst (AllAlike T next) (sym e) (a T next h w, tt)
+one-alike g t n b o s p e a T next h w = subst (AllAlike T next) (sym e.goals) (a T next h w, tt)
 
 -- a goal around what runs
-pub fresh-around : (g h : Flat_goal) (f : Node → Scheduled) (s t : State) (p w : Part)
+pub fresh-around : (g h : Flat_goal) (f : Node → Scheduled) (s t : State) (n : ℕ) (b : Point ℕ) (o : Option (Point ℕ)) (p w : Part) (m : Node)
     → ((next : ℕ) → NumbersBelow next (variables_of h) → NumbersBelow next (variables_of g))
-    → ((T : ℕ → TypeTerm) (next : ℕ) (n : Node) → TestsAlike T next n → AlikeIn T next (f n))
-    → Keeps s t → IsOne (f (alone (nodes (map plain_node p.goals.items)))) w → FreshAlike g s p → FreshAlike h t w
-fresh-around g h f s t p w below wrap k i a =
-    one-alike h t (f (alone (nodes (map plain_node p.goals.items)))) w i.goals
-    (λ T next y v. wrap T next (alone (nodes (map plain_node p.goals.items))) (alone-alike T next (nodes (map plain_node p.goals.items)) (a T next (k T y) (below next v))))
+    → ((T : ℕ → TypeTerm) (next : ℕ) (k : Node) → TestsAlike T next k → AlikeIn T next (f k))
+    → Keeps s t → IsOne n b o (f m) w
+    → ((T : ℕ → TypeTerm) (next : ℕ) → AllAlike T next (nodes (map plain_node p.goals.items)) → TestsAlike T next m)
+    → FreshAlike g s p → FreshAlike h t w
+fresh-around g h f s t n b o p w m below wrap k i alike a =
+    one-alike h t n b o (f m) w i (λ T next y v. wrap T next m (alike T next (a T next (k T y) (below next v))))
 
 -- goals behind others
 nodes-alike : (T : ℕ → TypeTerm) (next : ℕ) (ms ns : List Node) → AllAlike T next (nodes ms) → AllAlike T next (nodes ns) → AllAlike T next (nodes (ms ++ ns))
@@ -87,7 +101,7 @@ more-alike T next done part all e v w =
 -- a goal whose branches are merged
 pub merged-alike : (h : Flat_goal) (g : Scheduled) (own seen : List ℕ) (rows : List (List ℕ)) (q r : PlainProcs) (s t : State) (res : Result Part Failed) → MergedAs g own seen rows q r s t res
     → ((T : ℕ → TypeTerm) (next : ℕ) → TypedAs s T → NumbersBelow next (variables_of h) → AlikeIn T next g) → IfOk res (FreshAlike h t)
-merged-alike h g own seen rows q r s t (Ok p) d a = one-alike h t g p d.1.goals (λ T next y w. a T next (keeps-taken s t d.0.1.moved.types T y) w)
+merged-alike h g own seen rows q r s t (Ok p) d a = one-alike h t (length t.insts.items) (point_of s.insts.items) (end_of p.reachable t) g p d.1 (λ T next y w. a T next (keeps-taken s t d.0.1.moved.types T y) w)
 merged-alike h g own seen rows q r s t (Err e) d a = tt
 
 pub chosen-alike : (v : Option ℕ) (h : Flat_goal) (g : Scheduled) (own seen : List ℕ) (rows : List (List ℕ)) (q r : PlainProcs) (s t : State) (res : Result Part Failed) → ChosenAs v g own seen rows q r s t res

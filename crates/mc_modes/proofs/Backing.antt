@@ -27,6 +27,9 @@ backed s t u mark e leads back count outside types nodes =
     let k = back s leads (sym (ap (λ (m : Mark). m.log) e)) in
     record { point = k.0; log = k.1; count = count; outside = outside; types = types; nodes = nodes }
 
+pub log-marked : (s : State) (mark : Mark) → mark ≡ mark_of s → length s.log.items ≡ mark.log
+log-marked s mark e = sym (ap (λ (m : Mark). m.log) e)
+
 -- the variables that a goal must not bind, from those of them that are free
 pub bound-by : (s : State) (xs vs free : List ℕ) (o : Option (Point ℕ)) (x : Option ℕ) → vs ≡ xs → free ≡ ascending (λ y. not (is_bound (point_of s.insts.items y))) vs
     → ((b : Point ℕ) (ys : List ℕ) → free ≡ ascending (λ y. not (is_bound (b y))) ys → BindsIs ys b o x) → BindsIs xs (point_of s.insts.items) o x

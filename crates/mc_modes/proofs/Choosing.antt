@@ -1,9 +1,9 @@
 -- Parts of an if-then-else, and the whole.
-use Rattle.std.proofs.Common.{◌≡◌, ◌∙◌, ℕ, Bool, false, not, nat_eq, List, [], ◌∷◌, ◌++◌, length, Option, Some, None, Result, Ok, Err, OnOk, refl, sym, ap, ap₂, subst, arith, append-nil}
+use Rattle.std.proofs.Common.{◌≡◌, ◌∙◌, ℕ, Bool, true, false, not, nat_eq, List, [], ◌∷◌, ◌++◌, length, Option, Some, None, Result, Ok, Err, OnOk, refl, sym, ap, ap₂, subst, arith, append-nil}
 use Rattle.mc_program.specs.Programs.{TypeTerm, Source}
 use Rattle.mc_model.specs.Flat as F
 use Rattle.mc_model.specs.Flat.{Flat_goal, variables_of}
-use Rattle.mc_model.specs.Scheduled.{Scheduled, Conj, Ite, Nodes, no_nodes, node_then}
+use Rattle.mc_model.specs.Scheduled.{Scheduled, Node, Conj, Ite, Nodes, no_nodes, node_then}
 use Rattle.mc_model.specs.PlainGoals.{plain_node}
 use Rattle.mc_model.specs.declared.inst.Sig.{Sig}
 use Rattle.mc_model.specs.declared.sched.GoalNode.{GoalNode}
@@ -24,7 +24,7 @@ use Rattle.mc_mode_points.specs.declared.fault.Failed.TheVariants as E
 use Rattle.mc_mode_points.proofs.Steps.{stepped-refl, stepped-trans}
 use Rattle.mc_modes.specs.Signatures.{declared_in}
 use Rattle.mc_modes.specs.Tries.{Suits, Told, trying, tells_outside, Fails, Goes}
-use Rattle.mc_modes.specs.code.Parts.{trying_beside, then_try, then_at, IsBranch, IsCondition, IsBegun, BreaksBefore, MergedAs, outer_of, condition_does, then_does}
+use Rattle.mc_modes.specs.code.Parts.{GoesFrom, trying_beside, then_try, then_at, IsBranch, IsCondition, IsBegun, BreaksBefore, MergedAs, outer_of, condition_does, then_does}
 use Rattle.mc_modes.specs.declared.ending.Condition.{Condition}
 use Rattle.mc_modes.specs.declared.ending.Begun.{Begun}
 use Rattle.mc_modes.proofs.Closing.{Back, back-step, back-suits}
@@ -41,17 +41,25 @@ nothing-branch told vs sigs h seen q s es g st e = record {
   fresh = [];
   end = None;
   outcome = λ first O C T k v. refl;
-  goal = e;
+  goal = λ C. e;
   ends = record { rows = sym (append-nil es); fit = tt };
   point = refl;
   stepped = stepped-refl q s st;
 }
 
-conditional-runs : (C : Chosen) (P : Source) (declared : ℕ → List Declared) (T : ℕ → TypeTerm) (ws xs own O : List ℕ) (b : Point ℕ) (gs : Nodes) (o : Option (Point ℕ)) (n : ℕ) (zs : List ℕ) (t : ℕ → Point ℕ → Arranged ℕ) (e : ℕ → Arranged ℕ)
+conditional-runs : (C : Chosen) (P : Source) (declared : ℕ → List Declared) (T : ℕ → TypeTerm) (ws xs own O : List ℕ) (b from : Point ℕ) (gs : Nodes) (o : Option (Point ℕ)) (n : ℕ) (zs : List ℕ) (t : ℕ → Point ℕ → Arranged ℕ) (e : ℕ → Arranged ℕ)
+    → GoesFrom o from
     → conditional (of_nodes C) P declared T ws xs own O b (runs gs o n zs) t e
-    ≡ branched (of_nodes C) P declared T (binds (of_nodes C) P declared T xs b o) (two_goals (Ite ws (alone gs))) own O b (and_branches (then_at o n t) (λ m. and_branches (e m) no_branch))
-conditional-runs C P declared T ws xs own O b gs None n zs t e = refl
-conditional-runs C P declared T ws xs own O b gs (Some c) n zs t e = refl
+    ≡ branched (of_nodes C) P declared T (binds (of_nodes C) P declared T xs b o) (two_goals (Ite ws (alone (of_nodes C) n b o gs))) own O b
+    (and_branches (of_nodes C) from (then_at o n t) (λ m. and_branches (of_nodes C) b (e m) no_branch))
+conditional-runs C P declared T ws xs own O b from gs None n zs t e f = refl
+conditional-runs C P declared T ws xs own O b from gs (Some c) n zs t e f =
+    ap (λ k. branched (of_nodes C) P declared T (binds (of_nodes C) P declared T xs b (Some c)) (two_goals (Ite ws (alone (of_nodes C) n b (Some c) gs))) own O b
+    (and_branches (of_nodes C) k (t n c) (λ m. and_branches (of_nodes C) b (e m) no_branch))) f
+
+goes-from : (reachable : Bool) (u : State) → GoesFrom (end_of reachable u) (point_of u.insts.items)
+goes-from true u = refl
+goes-from false u = tt
 
 module _ (vs : List ℕ) (g h : Flat_goal) (sigs : List Sig) (q : PlainProcs) (s : State) where
   abbrev both : Told
@@ -97,9 +105,11 @@ module _ (vs : List ℕ) (g h : Flat_goal) (sigs : List Sig) (q : PlainProcs) (s
       outcome = λ first O C T w z own e.
           ap (λ a. conditional (of_nodes C) (source_of q) (declared_in sigs) T vs (outer_of vs g h sigs q s) own O (point_of s.insts.items) a (then_does vs g h sigs q s O C T) e)
           (condition-later r t st b.stepped first O C T w z)
-          ∙ (conditional-runs C (source_of q) (declared_in sigs) T vs (outer_of vs g h sigs q s) own O (point_of s.insts.items) d.goals (end_of c.reachable u) (length u.insts.items) d.fresh (then_does vs g h sigs q s O C T) e
+          ∙ (conditional-runs C (source_of q) (declared_in sigs) T vs (outer_of vs g h sigs q s) own O (point_of s.insts.items) (point_of u.insts.items) d.goals (end_of c.reachable u) (length u.insts.items) d.fresh (then_does vs g h sigs q s O C T) e
+          (goes-from c.reachable u)
           ∙ ap (λ a. branched (of_nodes C) (source_of q) (declared_in sigs) T (binds (of_nodes C) (source_of q) (declared_in sigs) T (outer_of vs g h sigs q s) (point_of s.insts.items) (end_of c.reachable u))
-          (two_goals (Ite vs (alone d.goals))) own O (point_of s.insts.items) (and_branches a (λ m. and_branches (e m) no_branch)))
+          (two_goals (Ite vs (alone (of_nodes C) (length u.insts.items) (point_of s.insts.items) (end_of c.reachable u) d.goals))) own O (point_of s.insts.items)
+          (and_branches (of_nodes C) (point_of u.insts.items) a (λ m. and_branches (of_nodes C) (point_of s.insts.items) (e m) no_branch)))
           (then-is O C T ∙ b.outcome first O C T (of-then p u d.stepped first O w) z));
       stepped = stepped-trans q p r s u t d.stepped b.stepped;
     }
@@ -112,6 +122,7 @@ module _ (vs : List ℕ) (g h : Flat_goal) (sigs : List Sig) (q : PlainProcs) (s
       goals = d.goals;
       fresh = d.fresh;
       middle = end_of c.reachable u;
+      from = point_of u.insts.items;
       next = length u.insts.items;
       then_goals = k.goals;
       then_fresh = k.fresh;
@@ -121,8 +132,11 @@ module _ (vs : List ℕ) (g h : Flat_goal) (sigs : List Sig) (q : PlainProcs) (s
           then-is O C T
           ∙ (k.outcome first O C T (of-then p u d.stepped first O w) (back-suits first r s t v C T back z)
           ∙ ap (λ n. runs k.goals k.end n k.fresh) (sym back.count));
-      condition_goal = ap plain_node e₁ ∙ d.goal;
-      then_goal = ap plain_node e₃ ∙ k.goal;
+      goes_from = goes-from c.reachable u;
+      condition_goal = λ C. ap plain_node e₁ ∙ d.goal C;
+      then_goal = λ C.
+          ap plain_node e₃
+          ∙ (k.goal C ∙ ap (λ n. alone (of_nodes C) n (point_of u.insts.items) k.end k.goals) (sym back.count));
       bound = λ C P declared T. d.bound C P declared T ∙ sym e₂;
       ends = k.ends;
       point = back.point;
@@ -169,21 +183,27 @@ module _ (vs : List ℕ) (g h k : Flat_goal) (sigs : List Sig) (q : PlainProcs) 
         ap₂ (λ (P : Source) (c : Point ℕ). trial (of_nodes C) P (declared_in sigs) T k O (length t.insts.items) c) (sym (same-source q r s t d.stepped.moved)) (sym d.point)
         ∙ ap (λ V. trial (of_nodes C) (source_of r) (declared_in sigs) T k V (length t.insts.items) (point_of t.insts.items)) (sym (append-nil O))
 
+    abbrev condition_node : Chosen → Node
+    condition_node C = alone (of_nodes C) d.next (point_of s.insts.items) d.middle d.goals
+
+    abbrev then_node : Chosen → Node
+    then_node C = alone (of_nodes C) (length t.insts.items) d.from d.end d.then_goals
+
     -- the whole, by what the else part does
     choice-is : (first : ℕ) (O : List ℕ) (C : Chosen) (T : ℕ → TypeTerm) (x : Arranged ℕ) → tells_outside own s first O → Suits first r t C T → trying_beside [] sigs k r t O C T ≡ x
         → trying sigs goal q s O C T
-        ≡ branched (of_nodes C) (source_of q) (declared_in sigs) T b.bound (two_goals (Ite vs (alone d.goals))) own O (point_of s.insts.items)
-        (with_branch (alone d.then_goals) d.end (and_branches x no_branch))
+        ≡ branched (of_nodes C) (source_of q) (declared_in sigs) T b.bound (two_goals (Ite vs (condition_node C))) own O (point_of s.insts.items)
+        (with_branch (then_node C) d.end (and_branches (of_nodes C) (point_of s.insts.items) x no_branch))
     choice-is first O C T x w z e =
         let P = source_of q in
         let D = declared_in sigs in
         let here = point_of s.insts.items in
         let else_part : ℕ → Arranged ℕ = λ m. trial (of_nodes C) P D T k O m here in
         ap (λ a. conditional (of_nodes C) P D T vs outer own O here a (then_does vs g h sigs q s O C T) else_part) (d.condition first O C T (of-parts first O w) z)
-        ∙ (conditional-runs C P D T vs outer own O here d.goals d.middle d.next d.fresh (then_does vs g h sigs q s O C T) else_part
-        ∙ (ap₂ (λ v a. branched (of_nodes C) P D T v (two_goals (Ite vs (alone d.goals))) own O here (and_branches a (λ m. and_branches (else_part m) no_branch)))
+        ∙ (conditional-runs C P D T vs outer own O here d.from d.goals d.middle d.next d.fresh (then_does vs g h sigs q s O C T) else_part d.goes_from
+        ∙ (ap₂ (λ v a. branched (of_nodes C) P D T v (two_goals (Ite vs (condition_node C))) own O here (and_branches (of_nodes C) d.from a (λ m. and_branches (of_nodes C) here (else_part m) no_branch)))
         (d.bound C P D T) (d.then_part first O C T (of-parts first O w) z)
-        ∙ ap (λ a. branched (of_nodes C) P D T b.bound (two_goals (Ite vs (alone d.goals))) own O here (with_branch (alone d.then_goals) d.end (and_branches a no_branch))) (else-is O C T ∙ e)))
+        ∙ ap (λ a. branched (of_nodes C) P D T b.bound (two_goals (Ite vs (condition_node C))) own O here (with_branch (then_node C) d.end (and_branches (of_nodes C) here a no_branch))) (else-is O C T ∙ e)))
 
     -- the else part breaks a rule
     pub else-fails : (p : PlainProcs) (u : State) (f : ModeFault) → Fails (tells_outside (variables_of k) t) (trying_beside [] sigs k r t) r p t u f → Fails (tells_outside own s) (trying sigs goal q s) q p s u f
@@ -206,15 +226,25 @@ module _ (vs : List ℕ) (g h k : Flat_goal) (sigs : List Sig) (q : PlainProcs) 
       abbrev whole : Scheduled
       whole = Ite vs (plain_node b.condition) (plain_node b.then_part) (plain_node node)
 
-      whole-is : Ite vs (alone d.goals) (alone d.then_goals) (alone a.goals) ≡ whole
-      whole-is =
-          ap (λ n. Ite vs n (alone d.then_goals) (alone a.goals)) (sym d.condition_goal)
-          ∙ ap₂ (Ite vs (plain_node b.condition)) (sym d.then_goal) (sym a.goal)
+      -- the else part goes from where the whole does
+      abbrev else_node : Chosen → Node
+      else_node C = alone (of_nodes C) (length u.insts.items) (point_of s.insts.items) a.end a.goals
+
+      else-node-is : (C : Chosen) → else_node C ≡ plain_node node
+      else-node-is C = ap (λ c. alone (of_nodes C) (length u.insts.items) c a.end a.goals) (sym d.point) ∙ sym (a.goal C)
+
+      whole-is : (C : Chosen) → Ite vs (condition_node C) (then_node C) (else_node C) ≡ whole
+      whole-is C =
+          ap (λ n. Ite vs n (then_node C) (else_node C)) (sym (d.condition_goal C))
+          ∙ ap₂ (Ite vs (plain_node b.condition)) (sym (d.then_goal C)) (else-node-is C)
+
+      abbrev both_nodes : Chosen → Nodes
+      both_nodes C = node_then (then_node C) (node_then (else_node C) no_nodes)
 
       chosen-is : (first : ℕ) (O : List ℕ) (C : Chosen) (T : ℕ → TypeTerm) → tells_outside own s first O → Suits first p u C T
           → trying sigs goal q s O C T
-          ≡ branched (of_nodes C) (source_of q) (declared_in sigs) T b.bound (two_goals (Ite vs (alone d.goals))) own O (point_of s.insts.items)
-          (all_run (node_then (alone d.then_goals) (node_then (alone a.goals) no_nodes)) reached (length u.insts.items))
+          ≡ branched (of_nodes C) (source_of q) (declared_in sigs) T b.bound (two_goals (Ite vs (condition_node C))) own O (point_of s.insts.items)
+          (all_run (both_nodes C) reached (length u.insts.items))
       chosen-is first O C T w z =
           choice-is first O C T (runs a.goals a.end (length u.insts.items) a.fresh) w (suits-before first C r p t u T st a.stepped.moved z) (a.outcome first O C T (of-else r t d.stepped first O w) z)
 
@@ -226,8 +256,8 @@ module _ (vs : List ℕ) (g h k : Flat_goal) (sigs : List Sig) (q : PlainProcs) 
       choice-binds x f e i = record {
         outcome = λ first O C T w z.
             chosen-is first O C T w z
-            ∙ (ap (λ o. branched (of_nodes C) (source_of q) (declared_in sigs) T o (two_goals (Ite vs (alone d.goals))) own O (point_of s.insts.items)
-            (all_run (node_then (alone d.then_goals) (node_then (alone a.goals) no_nodes)) reached (length u.insts.items))) e
+            ∙ (ap (λ o. branched (of_nodes C) (source_of q) (declared_in sigs) T o (two_goals (Ite vs (condition_node C))) own O (point_of s.insts.items)
+            (all_run (both_nodes C) reached (length u.insts.items))) e
             ∙ ap (λ m. let y : Arranged ℕ = breaks m in y) (sym i));
         stepped = step;
       }
@@ -238,11 +268,11 @@ module _ (vs : List ℕ) (g h k : Flat_goal) (sigs : List Sig) (q : PlainProcs) 
       choice-goes m v (Ok part) e point count x = record {
         outcome = λ first O C T w z.
             chosen-is first O C T w (suits-before first C p m u v T su x.0.1.moved z)
-            ∙ (ap (λ o. branched (of_nodes C) (source_of q) (declared_in sigs) T o (two_goals (Ite vs (alone d.goals))) own O (point_of s.insts.items)
-            (all_run (node_then (alone d.then_goals) (node_then (alone a.goals) no_nodes)) reached (length u.insts.items))) e
-            ∙ (leaves sigs (two_goals (Ite vs (alone d.goals))) own seen rows q p m s u v (λ f gs n. one (f gs) (end_of part.reachable v) n) step.moved (point ∙ d.point) step.later.outside x.0.0 reached rows-are
-            (node_then (alone d.then_goals) (node_then (alone a.goals) no_nodes)) (length u.insts.items) first O C T w z
-            ∙ (ap₂ (λ i n. one i (end_of part.reachable v) n) whole-is (sym count)
+            ∙ (ap (λ o. branched (of_nodes C) (source_of q) (declared_in sigs) T o (two_goals (Ite vs (condition_node C))) own O (point_of s.insts.items)
+            (all_run (both_nodes C) reached (length u.insts.items))) e
+            ∙ (leaves sigs (two_goals (Ite vs (condition_node C))) own seen rows q p m s u v (λ D f gs n. one (of_nodes D) (point_of u.insts.items) (f gs) (end_of part.reachable v) n) step.moved (point ∙ d.point) step.later.outside x.0.0 reached rows-are
+            (both_nodes C) (length u.insts.items) first O C T w z
+            ∙ (ap₂ (λ i n. one (of_nodes C) (point_of u.insts.items) i (end_of part.reachable v) n) (whole-is C) (sym count)
             ∙ ap₂ (λ gs zs. runs gs (end_of part.reachable v) (length v.insts.items) zs) (sym x.1.goals) (sym x.1.freshened))));
         fresh = subst (NumbersBelow (length v.insts.items)) (sym x.1.freshened) tt;
         stepped = stepped-trans q p m s u v step x.0.1;
@@ -250,10 +280,10 @@ module _ (vs : List ℕ) (g h k : Flat_goal) (sigs : List Sig) (q : PlainProcs) 
       choice-goes m v (Err (E.Fault f)) e point count x = record {
         outcome = λ first O C T w z.
             chosen-is first O C T w (suits-before first C p m u v T su x.1.moved z)
-            ∙ (ap (λ o. branched (of_nodes C) (source_of q) (declared_in sigs) T o (two_goals (Ite vs (alone d.goals))) own O (point_of s.insts.items)
-            (all_run (node_then (alone d.then_goals) (node_then (alone a.goals) no_nodes)) reached (length u.insts.items))) e
-            ∙ leaves sigs (two_goals (Ite vs (alone d.goals))) own seen rows q p m s u v (λ wrap gs n. breaks (plain_fault f)) step.moved (point ∙ d.point) step.later.outside x.0 reached rows-are
-            (node_then (alone d.then_goals) (node_then (alone a.goals) no_nodes)) (length u.insts.items) first O C T w z);
+            ∙ (ap (λ o. branched (of_nodes C) (source_of q) (declared_in sigs) T o (two_goals (Ite vs (condition_node C))) own O (point_of s.insts.items)
+            (all_run (both_nodes C) reached (length u.insts.items))) e
+            ∙ leaves sigs (two_goals (Ite vs (condition_node C))) own seen rows q p m s u v (λ D wrap gs n. breaks (plain_fault f)) step.moved (point ∙ d.point) step.later.outside x.0 reached rows-are
+            (both_nodes C) (length u.insts.items) first O C T w z);
         stepped = stepped-trans q p m s u v step x.1;
       }
       choice-goes m v (Err E.Memory) e point count x = tt

@@ -3,11 +3,11 @@ use Rattle.std.proofs.Common.{◌≡◌, ◌∙◌, ℕ, suc, ◌<◌, Bool, tru
 use Rattle.mc_program.specs.Programs.{TypeTerm, Source}
 use Rattle.mc_model.specs.Flat as F
 use Rattle.mc_model.specs.Flat.{Flat_goal, variables_of, free_in}
-use Rattle.mc_model.specs.Scheduled.{Not, nodes}
+use Rattle.mc_model.specs.Scheduled.{Scheduled, Node, Not, nodes}
 use Rattle.mc_model.specs.PlainGoals.{plain_node}
 use Rattle.mc_model.specs.declared.inst.Sig.{Sig}
 use Rattle.mc_model.specs.declared.sched.GoalNode.{GoalNode}
-use Rattle.mc_accepted.specs.Arranged.{Point, Declared, runs, negated_binds, one, alone, negation, unless, binds, with_end}
+use Rattle.mc_accepted.specs.Arranged.{Point, Declared, Arranged, runs, negated_binds, one, alone, negation, unless, binds, with_end}
 use Rattle.mc_accepted.specs.Chosen.{Chosen, of_nodes}
 use Rattle.mc_insts.specs.Graphs.{count_of}
 use Rattle.mc_procs.specs.Named.{NumbersBelow}
@@ -22,8 +22,9 @@ use Rattle.mc_mode_points.specs.declared.fault.ModeFault.TheVariants as M
 use Rattle.mc_mode_points.proofs.Returns.{stepped-back}
 use Rattle.mc_modes.specs.Signatures.{declared_in}
 use Rattle.mc_modes.specs.Tries.{Suits, Try, Told, trying, tells_outside, Runs, Fails}
-use Rattle.mc_modes.specs.code.Parts.{IsOne, trying_beside, Ends, IsBranch, IsCondition}
+use Rattle.mc_modes.specs.code.Parts.{IsOne, alone_at, trying_beside, Ends, IsBranch, IsCondition}
 use Rattle.mc_modes.specs.declared.ending.Condition.{Condition}
+use Rattle.mc_modes.proofs.Alike.{none_chosen}
 use Rattle.mc_modes.proofs.Frames.{suits-out}
 
 -- variables got back the insts of an earlier moment, and new variables stayed
@@ -47,20 +48,23 @@ BindsIs xs b o x = (C : Chosen) (P : Source) (declared : ℕ → List Declared) 
 
 module _ (sigs : List Sig) (g : Flat_goal) (q r : PlainProcs) (s t : State) (p : Part)
     (d : Runs (tells_outside (variables_of g) s) (trying_beside (free_in g) sigs g q s) q r s t p) where
+  -- the negation after it
+  abbrev negated : Chosen → Arranged ℕ
+  negated C = one (of_nodes C) (point_of s.insts.items) (Not (alone_at C t p (point_of s.insts.items))) (Some (point_of s.insts.items)) (length t.insts.items)
+
   -- the negated goal binds nothing
   pub negation-runs : (u : State) (w : Part) → Stands q s → BindsIs (free_in g) (point_of s.insts.items) (end_of p.reachable t) None → Back s t u
-      → IsOne (Not (alone (nodes (map plain_node p.goals.items)))) w → w.reachable ≡ true
+      → ((C : Chosen) → IsOne (length u.insts.items) (point_of s.insts.items) (end_of true u) (Not (alone_at C t p (point_of s.insts.items))) w) → w.reachable ≡ true
       → Runs (tells_outside (variables_of g) s) (trying sigs (F.Not g) q s) q r s u w
   negation-runs u w st none b i e = record {
     outcome = λ first O C T k v.
         let P = source_of q in
-        let gs = nodes (map plain_node p.goals.items) in
         ap (negation (of_nodes C) P (declared_in sigs) T (free_in g) (point_of s.insts.items)) (d.outcome first O C T k (back-suits first r s t u C T b v))
-        ∙ (ap (λ x. unless x negated_binds (one (Not (alone gs)) (Some (point_of s.insts.items)) (length t.insts.items))) (none C P (declared_in sigs) T)
-        ∙ (ap₂ (λ c n. one (Not (alone gs)) (Some c) n) (sym b.point) (sym b.count)
-        ∙ (ap (λ ns. runs ns (end_of true u) (length u.insts.items) []) (sym i.goals)
-        ∙ ap₂ (λ t zs. runs (nodes (map plain_node w.goals.items)) (end_of t u) (length u.insts.items) zs) (sym e) (sym i.freshened))));
-    fresh = subst (NumbersBelow (length u.insts.items)) (sym i.freshened) tt;
+        ∙ (ap (λ x. unless x negated_binds (negated C)) (none C P (declared_in sigs) T)
+        ∙ (ap₂ (λ c n. one (of_nodes C) (point_of s.insts.items) (Not (alone_at C t p (point_of s.insts.items))) (Some c) n) (sym b.point) (sym b.count)
+        ∙ (ap (λ ns. runs ns (end_of true u) (length u.insts.items) []) (sym (i C).goals)
+        ∙ ap₂ (λ t zs. runs (nodes (map plain_node w.goals.items)) (end_of t u) (length u.insts.items) zs) (sym e) (sym (i C).freshened))));
+    fresh = subst (NumbersBelow (length u.insts.items)) (sym (i none_chosen).freshened) tt;
     stepped = back-step q r s t u st d.stepped b;
   }
 
@@ -70,11 +74,15 @@ module _ (sigs : List Sig) (g : Flat_goal) (q r : PlainProcs) (s t : State) (p :
   negation-binds x some = record {
     outcome = λ first O C T k v.
         let P = source_of q in
-        let gs = nodes (map plain_node p.goals.items) in
         ap (negation (of_nodes C) P (declared_in sigs) T (free_in g) (point_of s.insts.items)) (d.outcome first O C T k v)
-        ∙ ap (λ x. unless x negated_binds (one (Not (alone gs)) (Some (point_of s.insts.items)) (length t.insts.items))) (some C P (declared_in sigs) T);
+        ∙ ap (λ x. unless x negated_binds (negated C)) (some C P (declared_in sigs) T);
     stepped = d.stepped;
   }
+
+-- a part's goals as one, and a goal around it
+pub around-as : (f : Node → Scheduled) (s v w : State) (o : Option (Point ℕ)) (C : Chosen) (p whole : Part) (goal : GoalNode) → plain_node goal ≡ alone_at C v p (point_of s.insts.items)
+    → IsOne (length w.insts.items) (point_of s.insts.items) o (f (plain_node goal)) whole → IsOne (length w.insts.items) (point_of s.insts.items) o (f (alone_at C v p (point_of s.insts.items))) whole
+around-as f s v w o C p whole goal e i = subst (λ (n : Node). IsOne (length w.insts.items) (point_of s.insts.items) o (f n) whole) e i
 
 pub negation-fails : (sigs : List Sig) (g : Flat_goal) (q r : PlainProcs) (s t : State) (f : ModeFault)
     → Fails (tells_outside (variables_of g) s) (trying_beside (free_in g) sigs g q s) q r s t f → Fails (tells_outside (variables_of g) s) (trying sigs (F.Not g) q s) q r s t f
@@ -101,7 +109,7 @@ ends-at seen r t false es fs w h e = record { rows = e ∙ sym (append-nil es); 
 -- a branch that runs
 pub branch-runs : (told : Told) (a : Try) (seen : List ℕ) (q r : PlainProcs) (s t u : State) (es fs : List (List ℕ)) (p : Part) (g : GoalNode) → Stands q s
     → NumbersBelow (length t.insts.items) seen → Runs told a q r s t p → Back s t u
-    → plain_node g ≡ alone (nodes (map plain_node p.goals.items))
+    → ((C : Chosen) → plain_node g ≡ alone_at C t p (point_of s.insts.items))
     → fs ≡ (if p.reachable then es ++ map (point_of t.insts.items) seen ∷ [] else es)
     → IsBranch told a seen q r s u es fs g
 branch-runs told a seen q r s t u es fs p g st w d b e f = record {
@@ -111,7 +119,7 @@ branch-runs told a seen q r s t u es fs p g st w d b e f = record {
   outcome = λ first O C T k v.
       d.outcome first O C T k (back-suits first r s t u C T b v)
       ∙ ap (λ n. runs (nodes (map plain_node p.goals.items)) (end_of p.reachable t) n p.freshened.items) (sym b.count);
-  goal = e;
+  goal = λ C. e C ∙ ap (λ n. alone (of_nodes C) n (point_of s.insts.items) (end_of p.reachable t) (nodes (map plain_node p.goals.items))) (sym b.count);
   ends = ends-at seen r t p.reachable es fs w d.stepped.moved.stands.insts f;
   point = b.point;
   stepped = back-step q r s t u st d.stepped b;
@@ -119,7 +127,7 @@ branch-runs told a seen q r s t u es fs p g st w d b e f = record {
 
 -- a condition that runs
 pub condition-runs : (told : Told) (a : Try) (xs : List ℕ) (q r : PlainProcs) (s t : State) (p : Part) (c : Condition) → Runs told a q r s t p
-    → plain_node c.goal ≡ alone (nodes (map plain_node p.goals.items)) → c.reachable ≡ p.reachable
+    → ((C : Chosen) → plain_node c.goal ≡ alone_at C t p (point_of s.insts.items)) → c.reachable ≡ p.reachable
     → BindsIs xs (point_of s.insts.items) (end_of p.reachable t) c.bound → IsCondition told a xs q r s t c
 condition-runs told a xs q r s t p c d g e b = record {
   goals = nodes (map plain_node p.goals.items);
@@ -127,7 +135,7 @@ condition-runs told a xs q r s t p c d g e b = record {
   outcome = λ first O C T k v.
       d.outcome first O C T k v
       ∙ ap (λ t. runs (nodes (map plain_node p.goals.items)) (t-end t) (length-of t) p.freshened.items) (sym e);
-  goal = g;
+  goal = λ C. g C ∙ ap (λ v. alone (of_nodes C) (length t.insts.items) (point_of s.insts.items) (end_of v t) (nodes (map plain_node p.goals.items))) (sym e);
   bound = λ C P declared T. ap (λ v. binds (of_nodes C) P declared T xs (point_of s.insts.items) (end_of v t)) e ∙ b C P declared T;
   stepped = d.stepped;
 }

@@ -1,10 +1,11 @@
 -- Where a part of a goal has no order, the goal has none.
-use Rattle.std.proofs.Common.{◌≡◌, ℕ, true, List, [], ◌∷◌, ◌++◌, length, Err, refl, sym, subst}
+use Rattle.std.proofs.Common.{◌≡◌, ℕ, true, List, [], ◌∷◌, ◌++◌, length, Option, Some, Err, refl, sym, subst}
 use Rattle.mc_model.specs.Flat as F
 use Rattle.mc_model.specs.Flat.{Flat_goal, flats, variables_of, variables_of_all, free_in, no_flat}
 use Rattle.mc_model.specs.Scheduled.{Scheduled, Nodes, no_nodes, Conj}
 use Rattle.mc_model.specs.declared.inst.Sig.{Sig}
 use Rattle.mc_accepted.specs.Arranged.{Point, wrapped}
+use Rattle.mc_accepted.specs.Chosen.{Chosen, of_nodes}
 use Rattle.mc_procs.specs.Named.{NumbersBelow}
 use Rattle.mc_procs.specs.Procedures.{PlainProcs}
 use Rattle.mc_mode_points.specs.States.{point_of}
@@ -24,9 +25,10 @@ use Rattle.mc_modes.proofs.Merging.{BranchesSoFar, branch-breaks, disjunction-fa
 use Rattle.mc_modes.proofs.Ways.{goes, fails-wrapped}
 use Rattle.mc_mode_points.proofs.Steps.{stepped-trans}
 
-pub failed-wrapped : (told : Told) (a : Try) (f : Nodes → Scheduled) (q r : PlainProcs) (s t : State) (e : Failed) → Does told a q r s t (Err e) → Goes told (λ O C T. wrapped f (a O C T)) q r s t (Err e)
-failed-wrapped told a f q r s t (E.Fault m) d = fails-wrapped told a f q r s t m (goes told a q r s t (Err (E.Fault m)) d)
-failed-wrapped told a f q r s t E.Memory d = tt
+pub failed-wrapped : (told : Told) (a : Try) (b : Point ℕ) (f : Chosen → ℕ → Option (Point ℕ) → Nodes → Scheduled) (q r : PlainProcs) (s t : State) (e : Failed)
+    → Does told a q r s t (Err e) → Goes told (λ O C T. wrapped (of_nodes C) (f C) b (a O C T)) q r s t (Err e)
+failed-wrapped told a b f q r s t (E.Fault m) d = fails-wrapped told a b f q r s t m (goes told a q r s t (Err (E.Fault m)) d)
+failed-wrapped told a b f q r s t E.Memory d = tt
 
 pub failed-negation : (sigs : List Sig) (g : Flat_goal) (q r : PlainProcs) (s t : State) (e : Failed)
     → Does (tells_outside (variables_of g) s) (trying_beside (free_in g) sigs g q s) q r s t (Err e) → Goes (tells_outside (variables_of g) s) (trying sigs (F.Not g) q s) q r s t (Err e)
@@ -80,7 +82,7 @@ failed-else vs g h k sigs q r p s t u seen fs rows b (E.Fault m) d st a = else-f
 failed-else vs g h k sigs q r p s t u seen fs rows b E.Memory d st a = tt
 
 -- the empty conjunction
-pub true-runs : (sigs : List Sig) (q : PlainProcs) (s : State) (p : Part) → Stands q s → IsOne (Conj no_nodes) p → p.reachable ≡ true
+pub true-runs : (sigs : List Sig) (q : PlainProcs) (s : State) (p : Part) → Stands q s → IsOne (length s.insts.items) (point_of s.insts.items) (Some (point_of s.insts.items)) (Conj no_nodes) p → p.reachable ≡ true
     → Runs (tells_outside [] s) (trying sigs (F.And no_flat) q s) q q s s p
 true-runs sigs q s p st i e = record {
   outcome = λ first O C T k u.

@@ -24,16 +24,18 @@ use Rattle.mc_mode_points.specs.declared.nodes.Nodes as N
 use Rattle.mc_mode_points.specs.declared.state.State.{State}
 use Rattle.mc_mode_points.specs.declared.part.Part.{Part}
 use Rattle.mc_mode_points.specs.declared.fault.ModeFault.{ModeFault}
+use Rattle.mc_mode_points.proofs.Growths.{stepped_then_grown}
 use Rattle.mc_mode_points.proofs.Steps.{moved-trans}
 use Rattle.mc_modes.specs.Signatures.{declared_in}
 use Rattle.mc_modes.specs.Fitting.{Known, GoalFits}
 use Rattle.mc_modes.specs.Tries.{with_types, trying, tells_outside, Runs, Breaks}
 use Rattle.mc_modes.specs.Arrangements.{Becomes, Arranges}
+use Rattle.mc_modes.specs.code.Parts.{alone_at}
 use Rattle.mc_modes.specs.code.Judging.{IsBeginning, unmet_at, IsUnmet, Judges}
 use Rattle.mc_modes.specs.declared.arranging.Arrangement.{Arrangement}
 use Rattle.mc_modes.specs.declared.arranging.Refusal.{Refusal}
 use Rattle.mc_modes.specs.declared.arranging.Refusal.TheVariants as R
-use Rattle.mc_modes.proofs.Alike.{alone-alike}
+use Rattle.mc_modes.proofs.Alike.{none_chosen, alone-alike}
 use Rattle.mc_modes.proofs.Counts.{below-more}
 use Rattle.mc_modes.proofs.Passing.{same-source}
 use Rattle.mc_modes.proofs.Ways.{suits-before, first-types}
@@ -91,10 +93,10 @@ module _ (C : Chosen) (P : Source) (declared : ℕ → List Declared) (T U : ℕ
   unmet-by head last None w = refl
   unmet-by head last (Some c) w = unmet-locally 0 head last c w
 
-judged-is : (C : Chosen) (P : Source) (declared : ℕ → List Declared) (T : ℕ → TypeTerm) (head last : List ℕ) (gs : Nodes) (o : Option (Point ℕ)) (n : ℕ) (zs : List ℕ)
-    → judged (of_nodes C) P declared T head last (runs gs o n zs) ≡ unless_unmet (alone gs) (unmet_at C P declared T head last o)
-judged-is C P declared T head last gs None n zs = refl
-judged-is C P declared T head last gs (Some c) n zs = refl
+judged-is : (C : Chosen) (P : Source) (declared : ℕ → List Declared) (T : ℕ → TypeTerm) (head last : List ℕ) (b : Point ℕ) (gs : Nodes) (o : Option (Point ℕ)) (n : ℕ) (zs : List ℕ)
+    → judged (of_nodes C) P declared T head last b (runs gs o n zs) ≡ unless_unmet (alone (of_nodes C) n b o gs) (unmet_at C P declared T head last o)
+judged-is C P declared T head last b gs None n zs = refl
+judged-is C P declared T head last b gs (Some c) n zs = refl
 
 -- a goal that is tried from the beginning of its clause
 module _ (sigs : List Sig) (types : List Ty) (head first last : List ℕ) (g : Flat_goal) (q : PlainProcs) (s : State)
@@ -113,17 +115,18 @@ module _ (sigs : List Sig) (types : List Ty) (head first last : List ℕ) (g : F
   told = (omega (arith, count-begun), within, λ x. sym (begun.outside x))
 
   arranged-is : (C : Chosen) (T : ℕ → TypeTerm) (a : Arranged ℕ) → trying sigs g q s head C T ≡ a
-      → arrange (of_nodes C) (source_of q) (declared_in sigs) T (length types) head first last g ≡ judged (of_nodes C) (source_of q) (declared_in sigs) T head last a
+      → arrange (of_nodes C) (source_of q) (declared_in sigs) T (length types) head first last g ≡ judged (of_nodes C) (source_of q) (declared_in sigs) T head last (point_of s.insts.items) a
   arranged-is C T a e =
-      ap (judged (of_nodes C) (source_of q) (declared_in sigs) T head last)
-      (ap₂ (λ (n : ℕ) (b : Point ℕ). trial (of_nodes C) (source_of q) (declared_in sigs) T g head n b) (sym count-begun) (begun.point (source_of q) (declared_in sigs) C T) ∙ e)
+      ap₂ (λ (n : ℕ) (b : Point ℕ). judged (of_nodes C) (source_of q) (declared_in sigs) T head last b (trial (of_nodes C) (source_of q) (declared_in sigs) T g head n b))
+      (sym count-begun) (begun.point (source_of q) (declared_in sigs) C T)
+      ∙ ap (judged (of_nodes C) (source_of q) (declared_in sigs) T head last (point_of s.insts.items)) e
 
   types-kept : (t : State) → take (length s.types.items) t.types.items ≡ s.types.items → take (length types) t.types.items ≡ types
   types-kept t k = subst (λ (ts : List Ty). take (length ts) t.types.items ≡ ts) begun.typed k
 
   becomes-ran : (r u : PlainProcs) (t : State) (p : Part) (place : Option ℕ) (v : Verdict)
       → Runs (tells_outside (variables_of g) s) (trying sigs g q s) q r s t p → IsUnmet head last p.reachable r u t place
-      → unless_unmet (alone (nodes (map plain_node p.goals.items))) place ≡ v → Becomes sigs types head first last g q u t v
+      → ((C : Chosen) → unless_unmet (alone_at C t p (point_of s.insts.items)) place ≡ v) → Becomes sigs types head first last g q u t v
   becomes-ran r u t p place v d j e = record {
     verdict = λ C T z.
         let gs = nodes (map plain_node p.goals.items) in
@@ -131,12 +134,12 @@ module _ (sigs : List Sig) (types : List Ty) (head first last : List ℕ) (g : F
         let U = with_types (length types) t T in
         arranged-is C T (runs gs o (length t.insts.items) p.freshened.items)
         (d.outcome (length types) head C T told (suits-before (length types) C r u t t T d.stepped.moved.stands j.stepped.moved z))
-        ∙ (judged-is C (source_of q) (declared_in sigs) T head last gs o (length t.insts.items) p.freshened.items
-        ∙ (ap (unless_unmet (alone gs))
+        ∙ (judged-is C (source_of q) (declared_in sigs) T head last (point_of s.insts.items) gs o (length t.insts.items) p.freshened.items
+        ∙ (ap (unless_unmet (alone_at C t p (point_of s.insts.items)))
         (unmet-by C (source_of q) (declared_in sigs) T U (length types) (first-types (length types) C t T) head last o heads
         ∙ (ap (λ (P : Source). unmet_at C P (declared_in sigs) U head last o) (sym (same-source q r s t d.stepped.moved))
         ∙ j.unmet (declared_in sigs) C U z.agrees))
-        ∙ e));
+        ∙ e C));
     kept = types-kept t d.stepped.later.types;
     stands = j.stepped.moved.stands;
     others = (moved-trans q r u s t t d.stepped.moved j.stepped.moved).nodes.others;
@@ -145,21 +148,24 @@ module _ (sigs : List Sig) (types : List Ty) (head first last : List ℕ) (g : F
 
   -- it runs, and its end is judged
   pub arranges-judged : (r u : PlainProcs) (t : State) (p : Part) (res : Result Arrangement Refusal)
-      → Runs (tells_outside (variables_of g) s) (trying sigs g q s) q r s t p → FreshAlike g t p → Judges head last p r u t res → Arranges sigs types head first last g q u res
+      → Runs (tells_outside (variables_of g) s) (trying sigs g q s) q r s t p → FreshAlike g t p → Judges head last p (length s.log.items) r u t res → Arranges sigs types head first last g q u res
   arranges-judged r u t p (Ok a) d f j = (
     t,
-    becomes-ran r u t p None _ d j.0 (ap (unless-none) (sym j.2)),
+    becomes-ran r u t p None _ d j.0 (λ C. ap unless-none (sym (body C))),
     ap (λ (ts : Vec Ty Global). ts.items) j.1,
-    subst (TestsAlike (type_in a.types.items) (length types)) (sym j.2)
-        (alone-alike (type_in a.types.items) (length types) (nodes (map plain_node p.goals.items))
+    subst (TestsAlike (type_in a.types.items) (length types)) (sym (body none_chosen))
+        (alone-alike (type_in a.types.items) (length types) none_chosen (length t.insts.items) (point_of s.insts.items) (end_of p.reachable t) (nodes (map plain_node p.goals.items))
         (f (type_in a.types.items) (length types) (λ x l. ap (λ (ts : Vec Ty Global). type_in ts.items x) j.1) within)),
   )
     where
+      body : (C : Chosen) → plain_node a.body ≡ alone_at C t p (point_of s.insts.items)
+      body = j.2 s d.stepped.later.leads refl
+
       unless-none : Node → Verdict
       unless-none n = unless_unmet n None
   arranges-judged r u t p (Err (R.Fault e)) d f j = absurd j
-  arranges-judged r u t p (Err (R.Unmet k)) d f j = (t, becomes-ran r u t p (Some k) _ d j refl)
-  arranges-judged r u t p (Err R.Memory) d f j = tt
+  arranges-judged r u t p (Err (R.Unmet k)) d f j = (t, becomes-ran r u t p (Some k) _ d j (λ C. refl))
+  arranges-judged r u t p (Err R.Memory) d f j = stepped_then_grown q r u s t d.stepped j
 
   -- it breaks a rule
   pub arranges-fault : (r : PlainProcs) (t : State) (f : ModeFault) → Breaks (tells_outside (variables_of g) s) (trying sigs g q s) q r s t f

@@ -26,3 +26,5 @@ pub mod Scanning
 pub mod Backing
 pub mod Free
 pub mod Halves
+pub mod MadeProcedures
+pub mod Refusals

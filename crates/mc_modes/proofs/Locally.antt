@@ -8,9 +8,9 @@ use Rattle.mc_program.specs.declared.builtin.Builtin.{Builtin}
 use Rattle.mc_model.specs.Flat as F
 use Rattle.mc_model.specs.Lists.{is_in}
 use Rattle.mc_model.specs.Stream.{is_bound}
-use Rattle.mc_model.specs.Scheduled.{Scheduled, Nodes, node_then, no_nodes, Assign, Test, Call}
-use Rattle.mc_accepted.specs.Arranged.{Point, Declared, Arranged, Branches, runs, breaks, lacks, all_run, one_breaks, with_inst, one, unless, branches_differ, negated_binds, wait, same, made, call_of, called, applied, applied_with, usable, best, better, implied_in, after_call, input_after, fresh_at, tests_at, test_nodes, apply_node, built, take, atom, trial, is_there, or_free, merges, merged, those_in, differs, branched}
-use Rattle.mc_accepted.specs.Chosen.{Chosen, of_nodes}
+use Rattle.mc_model.specs.Scheduled.{Scheduled, Nodes, node_then, Assign, Test, Call}
+use Rattle.mc_accepted.specs.Arranged.{Point, Declared, Arranged, Branches, runs, breaks, lacks, all_run, one_breaks, with_inst, one, unless, branches_differ, negated_binds, wait, same, made, call_of, called, applied, applied_with, usable, best, better, implied_in, after_call, input_after, fresh_at, tests_at, test_nodes, changing, applying, built, take, atom, trial, is_there, or_free, merges, merged, those_in, differs, branched}
+use Rattle.mc_accepted.specs.Chosen.{Chosen, of_nodes, other_node}
 use Rattle.mc_accepted.specs.Least.{least}
 use Rattle.mc_accepted.specs.Ordered.{Mode, is_state, times_in, implied_places, modes_of, builtin_most}
 use Rattle.mc_source.specs.Determinism.{is_zero}
@@ -98,9 +98,9 @@ module _ (C : Chosen) (P : Source) (declared : ℕ → List Declared) (T U : ℕ
       chosen t u =
           if is_bound (b x)
           then (if is_bound (b y)
-          then (if is_state t then wait (of_nodes C) P declared T (x ∷ y ∷ []) b else one (Test x y) (Some b) n)
-          else one (Assign y x) (Some (with_inst ℕ y (b x) (if is_state t then with_inst ℕ x 3 b else b))) n)
-          else (if is_bound (b y) then one (Assign x y) (Some (with_inst ℕ x (b y) (if is_state u then with_inst ℕ y 3 b else b))) n
+          then (if is_state t then wait (of_nodes C) P declared T (x ∷ y ∷ []) b else one (of_nodes C) b (Test x y) (Some b) n)
+          else one (of_nodes C) b (Assign y x) (Some (with_inst ℕ y (b x) (if is_state t then with_inst ℕ x 3 b else b))) n)
+          else (if is_bound (b y) then one (of_nodes C) b (Assign x y) (Some (with_inst ℕ x (b y) (if is_state u then with_inst ℕ y 3 b else b))) n
           else wait (of_nodes C) P declared T (x ∷ y ∷ []) b)
 
   free-or-state : (ys : List ℕ) (b : Point ℕ) → NumbersBelow first ys → list_any (λ y. not (is_bound (b y)) || is_state (T y)) ys ≡ list_any (λ y. not (is_bound (b y)) || is_state (U y)) ys
@@ -155,18 +155,18 @@ module _ (C : Chosen) (P : Source) (declared : ℕ → List Declared) (T U : ℕ
   called-locally : (o : Option Declared) (xs : List ℕ) (n : ℕ) (b : Point ℕ) → NumbersBelow first xs → called (of_nodes C) P declared T o xs n b ≡ called (of_nodes C) P declared U o xs n b
   called-locally None xs n b w = refl
   called-locally (Some d) xs n b w =
-      ap (λ c. one (Call d.proc xs (implied_in (of_nodes C) P declared T d.modes xs b) false) (if d.never then None else Some c) n)
+      ap (λ c. one (of_nodes C) b (Call d.proc xs (implied_in (of_nodes C) P declared T d.modes xs b) false) (if d.never then None else Some c) n)
       (after-locally (λ x. is_bound (b x)) d.modes xs b (inputs-below first d.modes xs w))
 
   with-locally : (is : List ℕ) (op : Builtin) (xs : List ℕ) (n : ℕ) (b : Point ℕ) → NumbersBelow first xs → ((i : ℕ) → is_in (0 + i) is ≡ true → is_bound (mode_at (modes_of op) i).0 ≡ false)
       → applied_with (of_nodes C) P declared T is op xs n b ≡ applied_with (of_nodes C) P declared U is op xs n b
   with-locally [] op xs n b w f =
-      ap (λ c. runs (node_then (apply_node (of_nodes C) P declared T op xs) no_nodes) (if is_zero (builtin_most op) then None else Some c) n [])
+      ap (λ c. one (of_nodes C) b (applying (of_nodes C) P declared T op xs) (if is_zero (builtin_most op) then None else Some c) n)
       (after-locally (λ x. is_bound (b x)) (modes_of op) xs b (inputs-below first (modes_of op) xs w))
   with-locally (j ∷ is) op xs n b w f =
       let zs = fresh_at 0 (j ∷ is) xs n in
       let ts = tests_at 0 (j ∷ is) xs n in
-      ap (λ c. runs (node_then (apply_node (of_nodes C) P declared T op zs) (test_nodes ts)) (Some c) (n + length ts) zs)
+      ap (λ c. runs (node_then (changing other_node (n + length ts) b (Some c) (applying (of_nodes C) P declared T op zs)) (test_nodes ts)) (Some c) (n + length ts) zs)
       (after-locally (λ x. is_bound (b x)) (modes_of op) zs b (fresh-inputs first 0 n (j ∷ is) (modes_of op) xs w f))
 
   applied-locally : (op : Builtin) (xs : List ℕ) (n : ℕ) (b : Point ℕ) → NumbersBelow first xs → applied (of_nodes C) P declared T op xs n b ≡ applied (of_nodes C) P declared U op xs n b
@@ -236,5 +236,5 @@ module _ (C : Chosen) (P : Source) (declared : ℕ → List Declared) (T U : ℕ
   branched-locally v f own O b (all_run gs ends n) w =
       ap₂ (λ t c. unless v negated_binds
       (unless (least (differs (of_nodes C) P declared T ends) (those_in own O)) branches_differ
-      (if t then one (f gs) c n else breaks lacks)))
+      (if t then one (of_nodes C) b (f gs) c n else breaks lacks)))
       (merges-locally (those_in own O) ends (those-below own O w)) (merged-locally own O b ends w)

@@ -1,5 +1,5 @@
 -- From what one try does to what another does.
-use Rattle.std.proofs.Common.{◌≡◌, ◌∙◌, ℕ, Vec, Global, ◌<◌, ◌≤◌, Bool, true, false, nat_lt, if◌then◌else◌, List, [], ◌++◌, map, length, get_or, take, Result, Ok, Err, refl, sym, ap, ap₂, subst, arith}
+use Rattle.std.proofs.Common.{◌≡◌, ◌∙◌, ℕ, Vec, Global, ◌<◌, ◌≤◌, Bool, true, false, nat_lt, if◌then◌else◌, List, [], ◌++◌, map, length, get_or, take, Option, Result, Ok, Err, refl, sym, ap, ap₂, subst, arith}
 use Rattle.std.proofs.lemmas.Bool.Decides.{nat_tests}
 use Rattle.mc_program.specs.Programs.{TypeTerm}
 use Rattle.mc_program.specs.declared.ty.Ty.{Ty}
@@ -8,7 +8,7 @@ use Rattle.mc_model.specs.Flat.{Flat_goal, flats, variables_of, variables_of_all
 use Rattle.mc_model.specs.Scheduled.{Scheduled, Conj, Nodes, nodes}
 use Rattle.mc_model.specs.PlainGoals.{plain_node}
 use Rattle.mc_model.specs.declared.inst.Sig.{Sig}
-use Rattle.mc_accepted.specs.Arranged.{Point, Arranged, runs, one, wrapped, trial, trials, count_flat, in_turn, Waiting}
+use Rattle.mc_accepted.specs.Arranged.{Point, Arranged, runs, wrapped, trial, trials, count_flat, in_turn, Waiting}
 use Rattle.mc_accepted.specs.Chosen.{Chosen, of_nodes}
 use Rattle.mc_accepted.specs.Ordered.{times_in}
 use Rattle.mc_procs.specs.Named.{NumbersBelow}
@@ -29,6 +29,7 @@ use Rattle.mc_modes.specs.Signatures.{declared_in}
 use Rattle.mc_modes.specs.Tries.{with_types, Suits, Try, trying, Told, tells_outside, Runs, Breaks, Fails, Does, Goes}
 use Rattle.mc_modes.specs.code.Parts.{IsOne, trying_beside}
 use Rattle.mc_modes.specs.code.Waiting.{tells_around, all_waiting, turns}
+use Rattle.mc_modes.proofs.Alike.{none_chosen}
 use Rattle.mc_modes.proofs.Counts.{entered-around, left-around, entered-beside}
 use Rattle.mc_modes.proofs.Frames.{with_outside, stepped-out, moved-out, same-out, suits-out, end-out, Frame, Entered, Left, frame-is, in-and-out}
 use Rattle.mc_modes.proofs.Turns.{trials-are, count-is}
@@ -87,20 +88,24 @@ module _ (told other : Told) (a b : Try) (by : IsBy told other a b) (q r : Plain
   }
 
 -- a goal around what runs
-pub runs-wrapped : (told : Told) (a : Try) (f : Nodes → Scheduled) (q r : PlainProcs) (s t : State) (p w : Part) → Runs told a q r s t p
-    → IsOne (f (nodes (map plain_node p.goals.items))) w → w.reachable ≡ p.reachable
-    → Runs told (λ O C T. wrapped f (a O C T)) q r s t w
-runs-wrapped told a f q r s t p w d i e = record {
-  outcome = λ first O C T k u.
-      ap (wrapped f) (d.outcome first O C T k u)
-      ∙ (ap (λ gs. runs gs (end_of p.reachable t) (length t.insts.items) []) (sym i.goals)
-      ∙ ap₂ (λ v zs. runs (nodes (map plain_node w.goals.items)) (end_of v t) (length t.insts.items) zs) (sym e) (sym i.freshened));
-  fresh = subst (NumbersBelow (length t.insts.items)) (sym i.freshened) tt;
-  stepped = d.stepped;
-}
+module _ (told : Told) (a : Try) (b : Point ℕ) (f : Chosen → ℕ → Option (Point ℕ) → Nodes → Scheduled) where
+  abbrev around : Try
+  around O C T = wrapped (of_nodes C) (f C) b (a O C T)
 
-pub fails-wrapped : (told : Told) (a : Try) (f : Nodes → Scheduled) (q r : PlainProcs) (s t : State) (e : ModeFault) → Fails told a q r s t e → Fails told (λ O C T. wrapped f (a O C T)) q r s t e
-fails-wrapped told a f q r s t e d = record { outcome = λ first O C T k u. ap (wrapped f) (d.outcome first O C T k u); stepped = d.stepped }
+  pub runs-wrapped : (q r : PlainProcs) (s t : State) (p w : Part) → Runs told a q r s t p
+      → ((C : Chosen) → IsOne (length t.insts.items) b (end_of p.reachable t) (f C (length t.insts.items) (end_of p.reachable t) (nodes (map plain_node p.goals.items))) w)
+      → w.reachable ≡ p.reachable → Runs told around q r s t w
+  runs-wrapped q r s t p w d i e = record {
+    outcome = λ first O C T k u.
+        ap (wrapped (of_nodes C) (f C) b) (d.outcome first O C T k u)
+        ∙ (ap (λ gs. runs gs (end_of p.reachable t) (length t.insts.items) []) (sym (i C).goals)
+        ∙ ap₂ (λ v zs. runs (nodes (map plain_node w.goals.items)) (end_of v t) (length t.insts.items) zs) (sym e) (sym (i C).freshened));
+    fresh = subst (NumbersBelow (length t.insts.items)) (sym (i none_chosen).freshened) tt;
+    stepped = d.stepped;
+  }
+
+  pub fails-wrapped : (q r : PlainProcs) (s t : State) (e : ModeFault) → Fails told a q r s t e → Fails told around q r s t e
+  fails-wrapped q r s t e d = record { outcome = λ first O C T k u. ap (wrapped (of_nodes C) (f C) b) (d.outcome first O C T k u); stepped = d.stepped }
 
 -- what suits a later state suits an earlier one
 module _ (first : ℕ) (C : Chosen) where
@@ -269,17 +274,23 @@ module _ (sigs : List Sig) (gs : List Flat_goal) (q r : PlainProcs) (s u v w : S
   abbrev turns_of : Try
   turns_of O C T = in_turn (of_nodes C) (source_of q) (declared_in sigs) T (count_flat (flats gs)) (trials (of_nodes C) (source_of q) (declared_in sigs) T (flats gs)) O (length s.insts.items) (point_of s.insts.items)
 
-  pub conjunction-runs : (part whole : Part) → Entered vars_of s u → Left vars_of v w → Runs (tells_around vars_of u) (turns sigs gs q u) q r u v part
-      → IsOne (Conj (nodes (map plain_node part.goals.items))) whole → whole.reachable ≡ part.reachable
+  abbrev conjoined : Chosen → ℕ → Option (Point ℕ) → Nodes → Scheduled
+  conjoined C n o hs = Conj hs
+
+  pub conjunction-between : (part : Part) → Entered vars_of s u → Left vars_of v w → Runs (tells_around vars_of u) (turns sigs gs q u) q r u v part
+      → Runs (tells_outside vars_of s) turns_of q r s w part
+  conjunction-between part i j d =
+      runs-between (tells_outside vars_of s) (tells_around vars_of u) turns_of (turns sigs gs q u) (by-turns sigs gs vars_of q s u i) q r s u v w i.frame j.frame
+      (in-and-out vars_of s u v w i d.stepped.later.outside j) part d
+
+  pub conjunction-runs : (part whole : Part) → Runs (tells_outside vars_of s) turns_of q r s w part
+      → IsOne (length w.insts.items) (point_of s.insts.items) (end_of part.reachable w) (Conj (nodes (map plain_node part.goals.items))) whole → whole.reachable ≡ part.reachable
       → Runs (tells_outside vars_of s) (trying sigs (F.And (flats gs)) q s) q r s w whole
-  conjunction-runs part whole i j d one e =
-      runs-wrapped (tells_outside vars_of s) turns_of Conj q r s w part whole
-      (runs-between (tells_outside vars_of s) (tells_around vars_of u) turns_of (turns sigs gs q u) (by-turns sigs gs vars_of q s u i) q r s u v w i.frame j.frame
-      (in-and-out vars_of s u v w i d.stepped.later.outside j) part d) one e
+  conjunction-runs part whole d one e = runs-wrapped (tells_outside vars_of s) turns_of (point_of s.insts.items) conjoined q r s w part whole d (λ C. one) e
 
   pub conjunction-fails : (f : ModeFault) → Entered vars_of s u → Left vars_of v w → Fails (tells_around vars_of u) (turns sigs gs q u) q r u v f
       → Fails (tells_outside vars_of s) (trying sigs (F.And (flats gs)) q s) q r s w f
   conjunction-fails f i j d =
-      fails-wrapped (tells_outside vars_of s) turns_of Conj q r s w f
+      fails-wrapped (tells_outside vars_of s) turns_of (point_of s.insts.items) conjoined q r s w f
       (fails-between (tells_outside vars_of s) (tells_around vars_of u) turns_of (turns sigs gs q u) (by-turns sigs gs vars_of q s u i) q r s u v w i.frame j.frame
       (in-and-out vars_of s u v w i d.stepped.later.outside j) f d)

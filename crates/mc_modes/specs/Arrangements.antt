@@ -12,7 +12,7 @@ use Rattle.mc_accepted.specs.FreshTests.{TestsAlike}
 use Rattle.mc_insts.specs.Growing.{Grown}
 use Rattle.mc_procs.specs.Procedures.{PlainProcs, source_of, with_insts}
 use Rattle.mc_mode_points.specs.Nodes.{type_in}
-use Rattle.mc_mode_points.specs.Agreeing.{Stands}
+use Rattle.mc_mode_points.specs.Agreeing.{Stands, OnlyGrown}
 use Rattle.mc_mode_points.specs.Answers.{plain_fault}
 use Rattle.mc_mode_points.specs.declared.state.State.{State}
 use Rattle.mc_modes.specs.Signatures.{declared_in}
@@ -35,7 +35,7 @@ pub record Becomes (sigs : List Sig) (types : List Ty) (head first last : List �
 
 -- The order of the goal with the types of its variables, in which each test of a fresh variable
 -- compares values of one type; or the fault that leaves it without one. Where memory is wanting,
--- nothing is said.
+-- nothing of the procedures changed but that their graph may have more nodes.
 abbrev pub Arranges :
     List Sig → List Ty → (head first last : List ℕ) → Flat_goal → (q r : PlainProcs)
     → Result Arrangement Refusal → Type 0
@@ -48,4 +48,4 @@ Arranges sigs types head first last g q r (Err (R.Fault f)) =
     (end : State) × Becomes sigs types head first last g q r end (faulty (plain_fault f))
 Arranges sigs types head first last g q r (Err (R.Unmet k)) =
     (end : State) × Becomes sigs types head first last g q r end (unmet k)
-Arranges sigs types head first last g q r (Err R.Memory) = Unit {0}
+Arranges sigs types head first last g q r (Err R.Memory) = OnlyGrown q r

@@ -2,3 +2,4 @@ pub mod Waiting
 pub mod Parts
 pub mod Alike
 pub mod Judging
+pub mod Making

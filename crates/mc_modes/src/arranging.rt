@@ -1,17 +1,18 @@
-ghost use Rattle.std.specs.Prelude.{◌≡◌, ◌<◌, length, map, IfOk};
+ghost use Rattle.std.specs.Prelude.{◌≡◌, ◌<◌, length, map, IfOk, OnErr};
 ghost use Rattle.mc_model.specs.Flat.{variables_of};
 ghost use Rattle.mc_model.specs.PlainGoals.{plain_flat};
 ghost use Rattle.mc_insts.specs.Graphs.{count_of};
 ghost use Rattle.mc_procs.specs.Named.{NumbersBelow};
 ghost use Rattle.mc_modes.specs.Signatures.{SigsFit};
 ghost use Rattle.mc_modes.specs.Fitting.{Known};
-ghost use Rattle.mc_mode_points.specs.Agreeing.{Stands};
+ghost use Rattle.mc_mode_points.specs.Agreeing.{Stands, OnlyGrown};
 ghost use Rattle.mc_modes.specs.Arrangements.{Arranges};
 ghost use Rattle.mc_modes.specs.code.Judging.{IsBeginning, IsUnmet, Judges};
 
+use crate::ending::as_one;
 use crate::order::try_goal;
 use mc_base::{Memory, Row};
-use mc_mode_points::{Failed, ModeFault, Nodes, Part, State, alone};
+use mc_mode_points::{Failed, ModeFault, Nodes, Part, State};
 use mc_model::flat::Flat;
 use mc_model::inst::{InstId, Sig};
 use mc_model::sched::GoalNode;
@@ -70,8 +71,9 @@ pub fn arrange(
         procs.old procs.new result }
 {
     let mut state = beginning(alloc, procs, types, head, first)?;
+    let mark = state.mark();
     match try_goal(alloc, procs, sigs, &mut state, body) {
-        Ok(part) => ended(alloc, procs, state, head, last, part),
+        Ok(part) => ended(alloc, procs, state, head, last, part, mark.log),
         Err(Failed::Fault(fault)) => Err(Refusal::Fault(fault)),
         Err(Failed::Memory) => Err(Refusal::Memory),
     }
@@ -103,22 +105,18 @@ fn ended(
     head: &Row<u32>,
     last: &Row<InstId>,
     part: Part,
+    log: usize,
 ) -> Result<Arrangement, Refusal>
     requires stands { Stands procs.old state }
     requires head { NumbersBelow (length state.insts.items) head.now }
     requires last { NumbersBelow (count_of procs.old.insts) last.now }
     requires lasts { length last.now ≡ length head.now }
-    ensures { Judges head.now last.now part procs.old procs.new state result }
+    ensures { Judges head.now last.now part log procs.old procs.new state result }
 {
     match unmet(alloc, procs, &state, head, last, part.reachable)? {
         Some(place) => Err(Refusal::Unmet(place)),
         None => {
-            let Part {
-                goals,
-                reachable: _,
-                freshened: _,
-            } = part;
-            let body = alone(alloc, goals)?;
+            let body = as_one(alloc, &state, part, log)?;
             Ok(Arrangement {
                 body,
                 types: state.types,
@@ -128,6 +126,7 @@ fn ended(
 }
 
 /// The place of the first argument whose final inst isn't met at this point, where it is reachable.
+#[tactic(auto, using(mc_mode_points::proofs::Growths::refused_here, mc_mode_points::proofs::Growths::refused_by, mc_mode_points::proofs::Growths::refused_stepped, crate::proofs::Refusals::refused_moved, mc_mode_points::proofs::Growths::refused_after, crate::proofs::Refusals::refused_moved_after, crate::proofs::Refusals::refused_after_two))]
 fn unmet(
     alloc: Global,
     procs: &mut Procs,
@@ -140,7 +139,8 @@ fn unmet(
     requires head { NumbersBelow (length state.now.insts.items) head.now }
     requires last { NumbersBelow (count_of procs.old.insts) last.now }
     requires lasts { length last.now ≡ length head.now }
-    ensures { IfOk result (IsUnmet head.now last.now reachable procs.old procs.new state.now) }
+    ensures unmet { IfOk result (IsUnmet head.now last.now reachable procs.old procs.new state.now) }
+    ensures kept { OnErr result (OnlyGrown procs.old procs.new) }
 {
     if reachable {
         state.unmet(alloc, procs, head, last)

@@ -1,8 +1,8 @@
-ghost use Rattle.std.specs.Prelude.{◌≡◌, ◌<◌, ℕ, List, length, IfOk};
+ghost use Rattle.std.specs.Prelude.{◌≡◌, ◌<◌, ℕ, List, length, IfOk, OnErr};
 ghost use Rattle.mc_model.specs.Flat.{Call};
 ghost use Rattle.mc_insts.specs.Graphs.{count_of};
 ghost use Rattle.mc_procs.specs.Named.{NumbersBelow};
-ghost use Rattle.mc_mode_points.specs.Agreeing.{Stands};
+ghost use Rattle.mc_mode_points.specs.Agreeing.{Stands, OnlyGrown};
 ghost use Rattle.mc_mode_points.specs.Answers.{tried, Answers, FreshAlike};
 ghost use Rattle.mc_modes.specs.Signatures.{modes_at, declared_in, SigsFit};
 
@@ -12,7 +12,7 @@ use mc_procs::Procs;
 use std::alloc::Global;
 
 /// The modes of a predicate; none where it has no signature.
-fn modes_at(sigs: &[Sig], pred: u32) -> &[ModeDecl]
+pub fn modes_at(sigs: &[Sig], pred: u32) -> &[ModeDecl]
     ensures { result.now ≡ modes_at sigs.now pred }
 {
     let k = pred as usize;
@@ -24,6 +24,7 @@ fn modes_at(sigs: &[Sig], pred: u32) -> &[ModeDecl]
 }
 
 /// A call: of a builtin, or of a predicate in one of its modes.
+#[tactic(auto, using(mc_mode_points::proofs::Growths::refused_here, mc_mode_points::proofs::Growths::refused_by, mc_mode_points::proofs::Growths::refused_stepped, crate::proofs::Refusals::refused_moved, mc_mode_points::proofs::Growths::refused_after, crate::proofs::Refusals::refused_moved_after, crate::proofs::Refusals::refused_after_two))]
 pub fn call(
     alloc: Global,
     procs: &mut Procs,
@@ -39,6 +40,7 @@ pub fn call(
     ensures answer { (O : List ℕ) → Answers (tried (declared_in sigs.now) (Call pred xs.now) O
         procs.old state.old) procs.old procs.new state.old state.new result }
     ensures alike { IfOk result (FreshAlike (Call pred xs.now) state.new) }
+    ensures kept { OnErr result (OnlyGrown procs.old procs.new) }
 {
     let builtin = procs.program().preds.get(pred).builtin;
     match builtin {

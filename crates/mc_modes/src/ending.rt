@@ -1,21 +1,21 @@
-ghost use Rattle.std.specs.Prelude.{◌≡◌, ◌++◌, ◌∷◌, ℕ, List, [], length, map, not, true, IfOk, OnOk, if◌then◌else◌};
+ghost use Rattle.std.specs.Prelude.{◌≡◌, ◌++◌, ◌∷◌, ℕ, List, [], length, map, not, true, IfOk, OnOk, if◌then◌else◌, OnErr};
 ghost use Rattle.mc_program.specs.Programs.{TypeTerm, Source};
 ghost use Rattle.mc_model.specs.Scheduled.{nodes, no_nodes, Conj, Ite, Not, Exists};
 ghost use Rattle.mc_model.specs.PlainGoals.{plain_node, plain_sched};
 ghost use Rattle.mc_model.specs.Stream.{is_bound};
-ghost use Rattle.mc_accepted.specs.Arranged.{Point, Declared, ascending, alone, binds};
+ghost use Rattle.mc_accepted.specs.Arranged.{Point, Declared, ascending, binds};
 ghost use Rattle.mc_accepted.specs.Chosen.{Chosen, of_nodes};
 ghost use Rattle.mc_accepted.specs.Unmarked.{unmarked};
 ghost use Rattle.mc_insts.specs.Graphs.{count_of};
 ghost use Rattle.mc_procs.specs.Named.{NumbersBelow};
-ghost use Rattle.mc_mode_points.specs.States.{point_of, is_outside};
-ghost use Rattle.mc_mode_points.specs.Agreeing.{Stands};
+ghost use Rattle.mc_mode_points.specs.States.{point_of, is_outside, LogWithin};
+ghost use Rattle.mc_mode_points.specs.Agreeing.{Stands, OnlyGrown};
 ghost use Rattle.mc_mode_points.specs.Answers.{end_of};
 ghost use Rattle.mc_mode_points.specs.Merged.{RowsFit};
-ghost use Rattle.mc_modes.specs.code.Parts.{IsOne, MergedAs, ChosenAs};
+ghost use Rattle.mc_modes.specs.code.Parts.{OneSince, AloneSince, MergedAs, ChosenAs};
 
 use mc_base::{Copied, Memory, Row};
-use mc_mode_points::{Failed, ModeFault, Part, State, alone, one, unmarked};
+use mc_mode_points::{Failed, ModeFault, Part, State, unmarked};
 use mc_model::inst::InstId;
 use mc_model::sched::{GoalNode, Sched};
 use mc_procs::Procs;
@@ -37,31 +37,40 @@ pub struct Begun {
     pub then_part: GoalNode,
 }
 
-/// A branch's goals as one, and the insts of the variables that occur outside at its end, where it is reachable.
-pub fn ended(
-    alloc: Global,
-    state: &State,
-    seen: &Row<u32>,
-    part: Part,
-    ends: &mut Vec<Row<InstId>>,
-) -> Result<GoalNode, Memory>
-    requires { NumbersBelow (length state.now.insts.items) seen.now }
-    ensures goal { IfOk result (λ goal. plain_node goal
-        ≡ alone (nodes (map plain_node part.goals.items))) }
-    ensures ends { OnOk result (ends.new.items ≡ (if part.reachable
-        then ends.old.items ++ map (point_of state.now.insts.items) seen.now ∷ []
-        else ends.old.items)) }
+/// A part's goals as one goal, with what it changed since the log had this length.
+pub fn as_one(alloc: Global, state: &State, part: Part, log: usize) -> Result<GoalNode, Memory>
+    requires { LogWithin (length state.now.insts.items) state.now.log.items }
+    ensures { IfOk result (AloneSince log state.now part) }
 {
     let Part {
         goals,
         reachable,
         freshened: _,
     } = part;
-    if reachable {
+    state.alone(alloc, goals, log, reachable)
+}
+
+/// A branch's goals as one, and the insts of the variables that occur outside at its end, where it is reachable.
+pub fn ended(
+    alloc: Global,
+    state: &State,
+    seen: &Row<u32>,
+    part: Part,
+    log: usize,
+    ends: &mut Vec<Row<InstId>>,
+) -> Result<GoalNode, Memory>
+    requires seen { NumbersBelow (length state.now.insts.items) seen.now }
+    requires log { LogWithin (length state.now.insts.items) state.now.log.items }
+    ensures goal { IfOk result (AloneSince log state.now part) }
+    ensures ends { OnOk result (ends.new.items ≡ (if part.reachable
+        then ends.old.items ++ map (point_of state.now.insts.items) seen.now ∷ []
+        else ends.old.items)) }
+{
+    if part.reachable {
         let insts = state.insts_at(alloc, seen.as_slice())?;
         ends.push(Row::of(insts)?)?;
     }
-    alone(alloc, goals)
+    as_one(alloc, state, part, log)
 }
 
 /// What stands for a then part that is never run.
@@ -72,18 +81,20 @@ pub fn nothing(alloc: Global) -> GoalNode
 }
 
 /// A condition that runs.
-pub fn condition_of(alloc: Global, part: Part, bound: Option<u32>) -> Result<Condition, Memory>
-    ensures goal { IfOk result (λ c. plain_node c.goal
-        ≡ alone (nodes (map plain_node part.goals.items))) }
+pub fn condition_of(
+    alloc: Global,
+    state: &State,
+    part: Part,
+    log: usize,
+    bound: Option<u32>,
+) -> Result<Condition, Memory>
+    requires { LogWithin (length state.now.insts.items) state.now.log.items }
+    ensures goal { IfOk result (λ c. AloneSince log state.now part c.goal) }
     ensures reachable { IfOk result (λ c. c.reachable ≡ part.reachable) }
     ensures bound { IfOk result (λ c. c.bound ≡ bound) }
 {
-    let Part {
-        goals,
-        reachable,
-        freshened: _,
-    } = part;
-    let goal = alone(alloc, goals)?;
+    let reachable = part.reachable;
+    let goal = as_one(alloc, state, part, log)?;
     Ok(Condition {
         goal,
         reachable,
@@ -106,6 +117,7 @@ pub fn first_bound(state: &State, vars: &Row<u32>, reachable: bool) -> Option<u3
 }
 
 /// A goal whose branches all run, at the insts before them: the ends are merged.
+#[tactic(auto, using(mc_mode_points::proofs::Growths::refused_here, mc_mode_points::proofs::Growths::refused_by, mc_mode_points::proofs::Growths::refused_stepped, crate::proofs::Refusals::refused_moved, mc_mode_points::proofs::Growths::refused_after, crate::proofs::Refusals::refused_moved_after, crate::proofs::Refusals::refused_after_two))]
 pub fn merged(
     alloc: Global,
     procs: &mut Procs,
@@ -122,10 +134,12 @@ pub fn merged(
     ensures merged { MergedAs (plain_sched goal) own.now seen.now ends.now procs.old procs.new
         state.old state.new result }
     ensures count { OnOk result (length state.new.insts.items ≡ length state.old.insts.items) }
+    ensures kept { OnErr result (OnlyGrown procs.old procs.new) }
 {
+    let mark = state.mark();
     match state.join(alloc, procs, own, seen, ends) {
         Ok(reachable) => {
-            let part = one(alloc, goal, reachable)?;
+            let part = state.one(alloc, goal, mark.log, reachable)?;
             Ok(part)
         }
         Err(failed) => Err(failed),
@@ -133,6 +147,7 @@ pub fn merged(
 }
 
 /// An if-then-else whose parts all run, at the insts before it.
+#[tactic(auto, using(mc_mode_points::proofs::Growths::refused_here, mc_mode_points::proofs::Growths::refused_by, mc_mode_points::proofs::Growths::refused_stepped, crate::proofs::Refusals::refused_moved, mc_mode_points::proofs::Growths::refused_after, crate::proofs::Refusals::refused_moved_after, crate::proofs::Refusals::refused_after_two))]
 pub fn chosen(
     alloc: Global,
     procs: &mut Procs,
@@ -152,6 +167,7 @@ pub fn chosen(
         (plain_node begun.then_part) (plain_node else_part)) own.now seen.now ends.now procs.old
         procs.new state.old state.new result }
     ensures count { OnOk result (length state.new.insts.items ≡ length state.old.insts.items) }
+    ensures kept { OnErr result (OnlyGrown procs.old procs.new) }
 {
     let Begun {
         condition,
@@ -185,34 +201,35 @@ fn choice(
     Ok(Sched::Ite(vars, condition, then_part, else_part))
 }
 
-/// A negated goal that runs, back at the point before it.
-pub fn negated(alloc: Global, part: Part) -> Result<Part, Memory>
-    ensures goal { IfOk result (λ whole.
-        IsOne (Not (alone (nodes (map plain_node part.goals.items)))) whole) }
+/// The negation of a goal, back at the point before it, where the log had this length.
+pub fn negated(alloc: Global, state: &State, goal: GoalNode, log: usize) -> Result<Part, Memory>
+    requires { LogWithin (length state.now.insts.items) state.now.log.items }
+    ensures goal { IfOk result (OneSince log state.now true (Not (plain_node goal))) }
     ensures reachable { IfOk result (λ whole. whole.reachable ≡ true) }
 {
-    let Part {
-        goals,
-        reachable: _,
-        freshened: _,
-    } = part;
-    let goal = Box::new(alloc, alone(alloc, goals)?)?;
-    let whole = one(alloc, Sched::Not(goal), true)?;
-    Ok(whole)
+    let goal = Box::new(alloc, goal)?;
+    state.one(alloc, Sched::Not(goal), log, true)
 }
 
-/// A goal that runs, with variables quantified around it.
-pub fn quantified_over(alloc: Global, vars: &Row<u32>, part: Part) -> Result<Part, Memory>
-    ensures goal { IfOk result (λ whole.
-        IsOne (Exists vars.now (alone (nodes (map plain_node part.goals.items)))) whole) }
-    ensures reachable { IfOk result (λ whole. whole.reachable ≡ part.reachable) }
+/// A goal with variables quantified around it, with what it changed since the log had this length.
+pub fn quantified_over(
+    alloc: Global,
+    state: &State,
+    vars: &Row<u32>,
+    goal: GoalNode,
+    log: usize,
+    reachable: bool,
+) -> Result<Part, Memory>
+    requires { LogWithin (length state.now.insts.items) state.now.log.items }
+    ensures goal { IfOk result (OneSince log state.now reachable
+        (Exists vars.now (plain_node goal))) }
+    ensures reachable { IfOk result (λ whole. whole.reachable ≡ reachable) }
 {
-    let Part {
-        goals,
+    let goal = Box::new(alloc, goal)?;
+    state.one(
+        alloc,
+        Sched::Some(vars.copied(alloc)?, goal),
+        log,
         reachable,
-        freshened: _,
-    } = part;
-    let goal = Box::new(alloc, alone(alloc, goals)?)?;
-    let whole = one(alloc, Sched::Some(vars.copied(alloc)?, goal), reachable)?;
-    Ok(whole)
+    )
 }

@@ -6,8 +6,11 @@ mod arranging;
 mod atoms;
 mod ending;
 mod order;
+mod scheduling;
 mod variables;
 mod waiting;
 
 pub use arranging::{Arrangement, Refusal, arrange};
+pub use atoms::modes_at;
 pub use order::try_goal;
+pub use scheduling::schedule;

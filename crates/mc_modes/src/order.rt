@@ -1,4 +1,6 @@
-ghost use Rattle.std.specs.Prelude.{◌≡◌, ◌<◌, ◌^◌, ◌++◌, ℕ, List, [], length, map, Some, None, IfOk, if◌then◌else◌};
+#![tactic(auto, using(mc_mode_points::proofs::Growths::refused_here, mc_mode_points::proofs::Growths::refused_by, mc_mode_points::proofs::Growths::refused_stepped, crate::proofs::Refusals::refused_moved, mc_mode_points::proofs::Growths::refused_after, crate::proofs::Refusals::refused_moved_after, crate::proofs::Refusals::refused_after_two))]
+
+ghost use Rattle.std.specs.Prelude.{◌≡◌, ◌<◌, ◌^◌, ◌++◌, ℕ, List, [], length, map, Some, None, IfOk, if◌then◌else◌, OnErr};
 ghost use Rattle.mc_program.specs.Programs.{Source};
 ghost use Rattle.mc_model.specs.Flat.{Flat_goal, flats, variables_of, variables_of_all, And, Or, If, Not, Exists, free_in};
 ghost use Rattle.mc_model.specs.Lists.{without};
@@ -9,7 +11,7 @@ ghost use Rattle.mc_insts.specs.Graphs.{count_of};
 ghost use Rattle.mc_procs.specs.Named.{NumbersBelow};
 ghost use Rattle.mc_procs.specs.Procedures.{source_of};
 ghost use Rattle.mc_mode_points.specs.States.{point_of, mark_of, LogWithin, Even, SameState};
-ghost use Rattle.mc_mode_points.specs.Agreeing.{Stands, Moved, Stepped};
+ghost use Rattle.mc_mode_points.specs.Agreeing.{Stands, Moved, Stepped, OnlyGrown};
 ghost use Rattle.mc_mode_points.specs.Answers.{FreshAlike};
 ghost use Rattle.mc_modes.specs.Signatures.{SigsFit, declared_in};
 ghost use Rattle.mc_modes.specs.Fitting.{GoalFits, GoalsFit};
@@ -20,7 +22,7 @@ ghost use Rattle.mc_modes.specs.code.Alike.{NodeAlike, FoundAlike, BegunAlike};
 
 use crate::atoms::call;
 use crate::ending::{
-    Begun, Condition, chosen, condition_of, ended, first_bound, merged, negated, nothing,
+    Begun, Condition, as_one, chosen, condition_of, ended, first_bound, merged, negated, nothing,
     quantified_over,
 };
 use crate::variables::{
@@ -28,7 +30,7 @@ use crate::variables::{
 };
 use crate::waiting::{Found, conjunction_of, goal_at, note, places, settled, stuck, taken};
 use mc_base::{Memory, Row};
-use mc_mode_points::{Failed, ModeFault, Part, State, one};
+use mc_mode_points::{Failed, ModeFault, Part, State};
 use mc_model::flat::Flat;
 use mc_model::inst::{InstId, Sig};
 use mc_model::sched::{GoalNode, Sched};
@@ -51,6 +53,7 @@ pub fn try_goal(
         (trying sigs.now (plain_flat goal.now) procs.old state.old) procs.old procs.new state.old
         state.new result }
     ensures alike { IfOk result (FreshAlike (plain_flat goal.now) state.new) }
+    ensures kept { OnErr result (OnlyGrown procs.old procs.new) }
 {
     let mark = state.mark();
     let tried = attempt(alloc, procs, sigs, state, goal);
@@ -73,10 +76,12 @@ fn attempt(
         (trying sigs.now (plain_flat goal.now) procs.old state.old) procs.old procs.new state.old
         state.new result }
     ensures alike { IfOk result (FreshAlike (plain_flat goal.now) state.new) }
+    ensures kept { OnErr result (OnlyGrown procs.old procs.new) }
 {
     match goal {
         Flat::True => {
-            let part = one(alloc, Sched::Conj(Row::new(alloc)), true)?;
+            let mark = state.mark();
+            let part = state.one(alloc, Sched::Conj(Row::new(alloc)), mark.log, true)?;
             Ok(part)
         }
         Flat::Conj(goals) => conjunction(alloc, procs, sigs, state, goals.as_slice()),
@@ -110,13 +115,15 @@ fn conjunction(
         (trying sigs.now (And (flats (map plain_flat goals.now))) procs.old state.old) procs.old
         procs.new state.old state.new result }
     ensures alike { IfOk result (FreshAlike (And (flats (map plain_flat goals.now))) state.new) }
+    ensures kept { OnErr result (OnlyGrown procs.old procs.new) }
 {
+    let mark = state.mark();
     let vars = variables_of_all(alloc, goals)?;
     state.enter(&vars)?;
     match in_turn(alloc, procs, sigs, state, goals) {
         Ok(part) => {
             state.leave(&vars);
-            let part = conjunction_of(alloc, part)?;
+            let part = conjunction_of(alloc, state, part, mark.log)?;
             Ok(part)
         }
         Err(Failed::Fault(fault)) => {
@@ -146,6 +153,7 @@ fn in_turn(
         (turns sigs.now (map plain_flat goals.now) procs.old state.old) procs.old procs.new
         state.old state.new result }
     ensures alike { IfOk result (FreshAlike (And (flats (map plain_flat goals.now))) state.new) }
+    ensures kept { OnErr result (OnlyGrown procs.old procs.new) }
 {
     let mut waiting = places(alloc, goals.len())?;
     let mut done = Vec::new(alloc);
@@ -190,6 +198,7 @@ fn first_ready(
     ensures does { IfOk result (Finds sigs.now (goals_at goals.now waiting.now) procs.old procs.new
         state.old state.new) }
     ensures alike { IfOk result (FoundAlike (goals_at goals.now waiting.now) state.new) }
+    ensures kept { OnErr result (OnlyGrown procs.old procs.new) }
 {
     let mut found = None;
     for place in 0..waiting.len() {
@@ -219,6 +228,7 @@ fn try_among(
         (trying sigs.now (plain_flat goal.now) procs.old state.old) procs.old procs.new state.old
         state.new result }
     ensures alike { IfOk result (FreshAlike (plain_flat goal.now) state.new) }
+    ensures kept { OnErr result (OnlyGrown procs.old procs.new) }
 {
     let vars = variables_of(alloc, goal)?;
     state.leave(&vars);
@@ -253,6 +263,7 @@ fn beside(
         (trying_beside vars.now sigs.now (plain_flat goal.now) procs.old state.old) procs.old
         procs.new state.old state.new result }
     ensures alike { IfOk result (FreshAlike (plain_flat goal.now) state.new) }
+    ensures kept { OnErr result (OnlyGrown procs.old procs.new) }
 {
     state.enter(vars)?;
     match try_goal(alloc, procs, sigs, state, goal) {
@@ -285,10 +296,14 @@ fn quantified(
         (trying sigs.now (Exists vars.now (plain_flat goal.now)) procs.old state.old) procs.old
         procs.new state.old state.new result }
     ensures alike { IfOk result (FreshAlike (Exists vars.now (plain_flat goal.now)) state.new) }
+    ensures kept { OnErr result (OnlyGrown procs.old procs.new) }
 {
+    let mark = state.mark();
     match try_goal(alloc, procs, sigs, state, goal) {
         Ok(part) => {
-            let part = quantified_over(alloc, vars, part)?;
+            let reachable = part.reachable;
+            let goal = as_one(alloc, state, part, mark.log)?;
+            let part = quantified_over(alloc, state, vars, goal, mark.log, reachable)?;
             Ok(part)
         }
         Err(failed) => Err(failed),
@@ -311,6 +326,7 @@ fn negation(
         (trying sigs.now (Not (plain_flat goal.now)) procs.old state.old) procs.old procs.new
         state.old state.new result }
     ensures alike { IfOk result (FreshAlike (Not (plain_flat goal.now)) state.new) }
+    ensures kept { OnErr result (OnlyGrown procs.old procs.new) }
 {
     let vars = free_in(alloc, goal)?;
     let free = state.free(alloc, &vars)?;
@@ -319,8 +335,9 @@ fn negation(
         Ok(part) => match first_bound(state, &free, part.reachable) {
             Some(x) => Err(Failed::Fault(ModeFault::NegatedBinds(x))),
             None => {
+                let goal = as_one(alloc, state, part, mark.log)?;
                 state.back(mark.log);
-                let part = negated(alloc, part)?;
+                let part = negated(alloc, state, goal, mark.log)?;
                 Ok(part)
             }
         },
@@ -349,11 +366,12 @@ fn branch(
         (trying_beside vars.now sigs.now (plain_flat goal.now) procs.old state.old) seen.now
         procs.old procs.new state.old state.new ends.old.items ends.new.items result }
     ensures alike { IfOk result (NodeAlike (variables_of (plain_flat goal.now)) state.new) }
+    ensures kept { OnErr result (OnlyGrown procs.old procs.new) }
 {
     let mark = state.mark();
     match beside(alloc, procs, sigs, state, vars, goal) {
         Ok(part) => {
-            let goal = ended(alloc, state, seen, part, ends)?;
+            let goal = ended(alloc, state, seen, part, mark.log, ends)?;
             state.back(mark.log);
             Ok(goal)
         }
@@ -377,6 +395,7 @@ fn disjunction(
         (trying sigs.now (Or (flats (map plain_flat goals.now))) procs.old state.old) procs.old
         procs.new state.old state.new result }
     ensures alike { IfOk result (FreshAlike (Or (flats (map plain_flat goals.now))) state.new) }
+    ensures kept { OnErr result (OnlyGrown procs.old procs.new) }
 {
     let own = variables_of_all(alloc, goals)?;
     let seen = state.seen(alloc, &own)?;
@@ -413,14 +432,16 @@ fn test(
         (plain_flat condition.now) procs.old state.old) xs procs.old procs.new state.old state.new
         result }
     ensures alike { IfOk result (λ c. NodeAlike (variables_of (plain_flat condition.now)) state.new c.goal) }
+    ensures kept { OnErr result (OnlyGrown procs.old procs.new) }
 {
     let outer = free_without(alloc, condition, vars.as_slice())?;
     let free = state.free(alloc, &outer)?;
     let others = with_variables(alloc, &outer, then_part)?;
+    let mark = state.mark();
     match beside(alloc, procs, sigs, state, &others, condition) {
         Ok(part) => {
             let bound = first_bound(state, &free, part.reachable);
-            let condition = condition_of(alloc, part, bound)?;
+            let condition = condition_of(alloc, state, part, mark.log, bound)?;
             Ok(condition)
         }
         Err(failed) => Err(failed),
@@ -450,6 +471,7 @@ fn then_branch(
         (plain_flat then_part.now) procs.old state.old) seen.now procs.old procs.new state.old
         state.new ends.old.items ends.new.items result }
     ensures alike { IfOk result (NodeAlike (variables_of (plain_flat then_part.now)) state.new) }
+    ensures kept { OnErr result (OnlyGrown procs.old procs.new) }
 {
     if !reachable {
         return Ok(nothing(alloc));
@@ -480,6 +502,7 @@ fn test_and_then(
         sigs.now procs.old state.old seen.now procs.new state.new ends.old.items ends.new.items
         result }
     ensures alike { IfOk result (BegunAlike (variables_of (plain_flat condition.now) ++ variables_of (plain_flat then_part.now)) state.new) }
+    ensures kept { OnErr result (OnlyGrown procs.old procs.new) }
 {
     let mark = state.mark();
     let first = match test(alloc, procs, sigs, state, vars, condition, then_part) {
@@ -527,6 +550,7 @@ fn if_then_else(
         Goes (tells_outside (variables_of goal) state.old)
         (trying sigs.now goal procs.old state.old) procs.old procs.new state.old state.new result }
     ensures alike { IfOk result (FreshAlike (If vars.now (plain_flat condition.now) (plain_flat then_part.now) (plain_flat else_part.now)) state.new) }
+    ensures kept { OnErr result (OnlyGrown procs.old procs.new) }
 {
     let own = variables_of_parts(alloc, vars.as_slice(), condition, then_part, else_part)?;
     let seen = state.seen(alloc, &own)?;

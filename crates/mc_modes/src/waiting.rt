@@ -1,17 +1,17 @@
-ghost use Rattle.std.specs.Prelude.{◌≡◌, ◌<◌, ◌+◌, ◌++◌, ◌^◌, ℕ, [], length, get_or, slice_index_or, map, IfOk, OnOk};
-ghost use Rattle.mc_model.specs.Scheduled.{nodes, node_then, no_nodes, Conj};
+ghost use Rattle.std.specs.Prelude.{◌≡◌, ◌<◌, ◌+◌, ◌++◌, ◌^◌, ℕ, length, get_or, slice_index_or, map, IfOk, OnOk};
+ghost use Rattle.mc_model.specs.Scheduled.{nodes, Conj};
 ghost use Rattle.mc_model.specs.PlainGoals.{plain_node};
 ghost use Rattle.mc_accepted.specs.Ordered.{times_in};
-ghost use Rattle.mc_accepted.specs.Unmarked.{unmarked};
 ghost use Rattle.mc_procs.specs.Named.{NumbersBelow};
 ghost use Rattle.mc_mode_points.specs.States.{point_of, mark_of, LogWithin, SameState, Later, Even};
 ghost use Rattle.mc_mode_points.specs.declared.state.State.{State};
 ghost use Rattle.mc_modes.specs.Tries.{OnFault};
+ghost use Rattle.mc_modes.specs.code.Parts.{OneSince};
 ghost use Rattle.mc_modes.specs.code.Waiting.{goals_at, variables_of_each, below, noted, IsStuck};
 
 use crate::variables::push_variables;
 use mc_base::{Memory, Row};
-use mc_mode_points::{Failed, Mark, ModeFault, Part, State, one};
+use mc_mode_points::{Failed, Mark, ModeFault, Part, State};
 use mc_model::flat::Flat;
 use mc_model::sched::{GoalNode, Sched};
 use std::alloc::Global;
@@ -90,20 +90,19 @@ pub fn stuck(
     }
 }
 
-/// A conjunction's goals as one goal.
-pub fn conjunction_of(alloc: Global, part: Part) -> Result<Part, Memory>
-    ensures goals { IfOk result (λ whole. nodes (map plain_node whole.goals.items)
-        ≡ node_then (unmarked (Conj (nodes (map plain_node part.goals.items)))) no_nodes) }
+/// A conjunction's goals as one goal, with what it changed since the log had this length.
+pub fn conjunction_of(alloc: Global, state: &State, part: Part, log: usize) -> Result<Part, Memory>
+    requires { LogWithin (length state.now.insts.items) state.now.log.items }
+    ensures goals { IfOk result (OneSince log state.now part.reachable
+        (Conj (nodes (map plain_node part.goals.items)))) }
     ensures reachable { IfOk result (λ whole. whole.reachable ≡ part.reachable) }
-    ensures freshened { IfOk result (λ whole. whole.freshened.items ≡ []) }
 {
     let Part {
         goals,
         reachable,
         freshened: _,
     } = part;
-    let whole = one(alloc, Sched::Conj(Row::of(goals)?), reachable)?;
-    Ok(whole)
+    state.one(alloc, Sched::Conj(Row::of(goals)?), log, reachable)
 }
 
 /// Puts a part's goals behind those that ran, and its fresh variables outside; whether its end is reachable.

@@ -1,18 +1,17 @@
 -- The beginning of a clause's goal, and how one that runs is judged by its end.
-use Rattle.std.specs.Prelude.{◌≡◌, ℕ, Bool, List, map, Option, Some, None, Result, Ok, Err}
+use Rattle.std.specs.Prelude.{◌≡◌, ℕ, Bool, List, Option, Some, None, Result, Ok, Err}
 use Rattle.mc_program.specs.Programs.{TypeTerm, Source}
 use Rattle.mc_program.specs.declared.ty.Ty.{Ty}
 use Rattle.mc_model.specs.Lists.{is_in}
-use Rattle.mc_model.specs.Scheduled.{nodes}
-use Rattle.mc_model.specs.PlainGoals.{plain_node}
-use Rattle.mc_accepted.specs.Arranged.{Point, Declared, alone, entry, first_unmet}
+use Rattle.mc_accepted.specs.Arranged.{Point, Declared, entry, first_unmet}
 use Rattle.mc_accepted.specs.Chosen.{Chosen, of_nodes}
 use Rattle.mc_procs.specs.Procedures.{PlainProcs, source_of}
 use Rattle.mc_mode_points.specs.States.{point_of, is_outside}
-use Rattle.mc_mode_points.specs.Agreeing.{Agrees, Stands, Stepped}
+use Rattle.mc_mode_points.specs.Agreeing.{Agrees, Stands, Stepped, OnlyGrown}
 use Rattle.mc_mode_points.specs.Answers.{end_of}
 use Rattle.mc_mode_points.specs.declared.state.State.{State}
 use Rattle.mc_mode_points.specs.declared.part.Part.{Part}
+use Rattle.mc_modes.specs.code.Parts.{AloneSince}
 use Rattle.mc_modes.specs.declared.arranging.Arrangement.{Arrangement}
 use Rattle.mc_modes.specs.declared.arranging.Refusal.{Refusal}
 use Rattle.mc_modes.specs.declared.arranging.Refusal.TheVariants as R
@@ -42,11 +41,10 @@ pub record IsUnmet (head last : List ℕ) (reachable : Bool) (q r : PlainProcs) 
   pub stepped : Stepped q r s s
 
 abbrev pub Judges :
-    (head last : List ℕ) → Part → (q r : PlainProcs) → State → Result Arrangement Refusal
-    → Type 0
-Judges head last p q r s (Ok a) =
-    IsUnmet head last p.reachable q r s None × (a.types ≡ s.types)
-    × (plain_node a.body ≡ alone (nodes (map plain_node p.goals.items)))
-Judges head last p q r s (Err (R.Fault f)) = ⊥
-Judges head last p q r s (Err (R.Unmet k)) = IsUnmet head last p.reachable q r s (Some k)
-Judges head last p q r s (Err R.Memory) = Unit {0}
+    (head last : List ℕ) → Part → (log : ℕ) → (q r : PlainProcs) → State
+    → Result Arrangement Refusal → Type 0
+Judges head last p log q r s (Ok a) =
+    IsUnmet head last p.reachable q r s None × (a.types ≡ s.types) × AloneSince log s p a.body
+Judges head last p log q r s (Err (R.Fault f)) = ⊥
+Judges head last p log q r s (Err (R.Unmet k)) = IsUnmet head last p.reachable q r s (Some k)
+Judges head last p log q r s (Err R.Memory) = OnlyGrown q r

@@ -3,16 +3,16 @@ use Rattle.std.specs.Prelude.{◌≡◌, ℕ, Bool, List, [], ◌++◌, length, 
 use Rattle.mc_program.specs.Programs.{TypeTerm, Source}
 use Rattle.mc_model.specs.Flat.{Flat_goal, variables_of, free_in}
 use Rattle.mc_model.specs.Lists.{without}
-use Rattle.mc_model.specs.Scheduled.{Scheduled, Nodes, no_nodes, node_then, nodes, Conj}
+use Rattle.mc_model.specs.Scheduled.{Scheduled, Node, Nodes, no_nodes, node_then, nodes, Conj}
 use Rattle.mc_model.specs.PlainGoals.{plain_node}
 use Rattle.mc_model.specs.declared.sched.GoalNode.{GoalNode}
 use Rattle.mc_model.specs.declared.inst.Sig.{Sig}
-use Rattle.mc_accepted.specs.Arranged.{Point, Declared, Arranged, runs, breaks, negated_binds, Branches, all_run, one_breaks, alone, with_end, binds, trial, conditional}
-use Rattle.mc_accepted.specs.Chosen.{Chosen, of_nodes}
+use Rattle.mc_accepted.specs.Arranged.{Point, Declared, Arranged, runs, breaks, negated_binds, Branches, all_run, one_breaks, changing, alone, with_end, binds, trial, conditional}
+use Rattle.mc_accepted.specs.Chosen.{Chosen, of_nodes, other_node}
 use Rattle.mc_accepted.specs.Unmarked.{unmarked}
 use Rattle.mc_insts.specs.Graphs.{count_of}
 use Rattle.mc_procs.specs.Procedures.{PlainProcs, source_of}
-use Rattle.mc_mode_points.specs.States.{point_of}
+use Rattle.mc_mode_points.specs.States.{point_of, LeadsBack}
 use Rattle.mc_mode_points.specs.Agreeing.{Stepped}
 use Rattle.mc_mode_points.specs.Answers.{plain_fault, end_of}
 use Rattle.mc_mode_points.specs.Merged.{rows_at, RowsFit, Merged}
@@ -25,6 +25,32 @@ use Rattle.mc_modes.specs.Signatures.{declared_in}
 use Rattle.mc_modes.specs.Tries.{Suits, Try, trying, Told, tells_outside, Fails}
 use Rattle.mc_modes.specs.declared.ending.Condition.{Condition}
 use Rattle.mc_modes.specs.declared.ending.Begun.{Begun}
+
+-- one goal, with what it changed
+pub record IsOne (next : ℕ) (b : Point ℕ) (o : Option (Point ℕ)) (g : Scheduled) (p : Part) :
+    Type 0 where
+  pub goals :
+      nodes (map plain_node p.goals.items)
+      ≡ node_then (changing other_node next b o g) no_nodes
+  pub freshened : p.freshened.items ≡ []
+
+-- whatever state was there when the log had this length
+abbrev pub Since : (log : ℕ) → State → (Point ℕ → Type 0) → Type 0
+Since log t X = (s : State) → LeadsBack s t → length s.log.items ≡ log → X (point_of s.insts.items)
+
+-- one goal from there to here
+abbrev pub OneSince : (log : ℕ) → State → (reachable : Bool) → Scheduled → Part → Type 0
+OneSince log t reachable g p =
+    Since log t (λ b. IsOne (length t.insts.items) b (end_of reachable t) g p)
+
+-- a part's goals as one, from there to here
+abbrev pub alone_at : Chosen → State → Part → Point ℕ → Node
+alone_at C t p b =
+    alone (of_nodes C) (length t.insts.items) b (end_of p.reachable t)
+    (nodes (map plain_node p.goals.items))
+
+abbrev pub AloneSince : (log : ℕ) → State → Part → GoalNode → Type 0
+AloneSince log t p g = Since log t (λ b. (C : Chosen) → plain_node g ≡ alone_at C t p b)
 
 -- these insts at reachable ends come behind those of earlier branches
 pub record Ends (seen : List ℕ) (r : PlainProcs) (ends : List (Point ℕ)) (es fs : List (List ℕ)) : Type 0 where
@@ -39,7 +65,10 @@ pub record IsBranch (told : Told) (a : Try) (seen : List ℕ) (q r : PlainProcs)
   pub outcome :
       (first : ℕ) (O : List ℕ) (C : Chosen) (T : ℕ → TypeTerm) → told first O
       → Suits first r t C T → a O C T ≡ runs goals end (length t.insts.items) fresh
-  pub goal : plain_node g ≡ alone goals
+  pub goal :
+      (C : Chosen)
+      → plain_node g
+      ≡ alone (of_nodes C) (length t.insts.items) (point_of s.insts.items) end goals
   pub ends : Ends seen r (with_end end []) es fs
   pub point : point_of t.insts.items ≡ point_of s.insts.items
   pub stepped : Stepped q r s t
@@ -87,7 +116,11 @@ pub record IsCondition (told : Told) (a : Try) (xs : List ℕ) (q r : PlainProcs
       (first : ℕ) (O : List ℕ) (C : Chosen) (T : ℕ → TypeTerm) → told first O
       → Suits first r t C T
       → a O C T ≡ runs goals (end_of c.reachable t) (length t.insts.items) fresh
-  pub goal : plain_node c.goal ≡ alone goals
+  pub goal :
+      (C : Chosen)
+      → plain_node c.goal
+      ≡ alone (of_nodes C) (length t.insts.items) (point_of s.insts.items) (end_of c.reachable t)
+      goals
   pub bound :
       (C : Chosen) (P : Source) (declared : ℕ → List Declared) (T : ℕ → TypeTerm)
       → binds (of_nodes C) P declared T xs (point_of s.insts.items) (end_of c.reachable t)
@@ -114,16 +147,18 @@ then_try reachable vs sigs g q s = λ O C T.
     then_at (end_of reachable s) (length s.insts.items)
     (λ n c. trial (of_nodes C) (source_of q) (declared_in sigs) T g (O ++ vs) n c)
 
--- one goal
-pub record IsOne (g : Scheduled) (p : Part) : Type 0 where
-  pub goals : nodes (map plain_node p.goals.items) ≡ node_then (unmarked g) no_nodes
-  pub freshened : p.freshened.items ≡ []
+-- the insts from which a then part goes, which is never run behind an unreachable point
+abbrev pub GoesFrom : Option (Point ℕ) → Point ℕ → Type 0
+GoesFrom None b = Unit {0}
+GoesFrom (Some c) b = c ≡ b
 
 -- a goal whose branches are merged
 abbrev pub MergedAs :
     Scheduled → (own seen : List ℕ) → (rows : List (List ℕ)) → (q r : PlainProcs)
     → (s t : State) → Result Part Failed → Type 0
-MergedAs g own seen rows q r s t (Ok p) = Merged own seen rows q r s t (Ok p.reachable) × IsOne g p
+MergedAs g own seen rows q r s t (Ok p) =
+    Merged own seen rows q r s t (Ok p.reachable)
+    × IsOne (length t.insts.items) (point_of s.insts.items) (end_of p.reachable t) g p
 MergedAs g own seen rows q r s t (Err e) = Merged own seen rows q r s t (Err e)
 
 -- a condition must not bind that variable
@@ -159,6 +194,7 @@ module _ (vs : List ℕ) (g h : Flat_goal) (sigs : List Sig) (q : PlainProcs) (s
     pub goals : Nodes
     pub fresh : List ℕ
     pub middle : Option (Point ℕ)
+    pub from : Point ℕ
     pub next : ℕ
     pub then_goals : Nodes
     pub then_fresh : List ℕ
@@ -172,8 +208,13 @@ module _ (vs : List ℕ) (g h : Flat_goal) (sigs : List Sig) (q : PlainProcs) (s
         → tells_outside (variables_of g ++ variables_of h) s first O → Suits first r t C T
         → then_at middle next (then_does O C T)
         ≡ runs then_goals end (length t.insts.items) then_fresh
-    pub condition_goal : plain_node b.condition ≡ alone goals
-    pub then_goal : plain_node b.then_part ≡ alone then_goals
+    pub goes_from : GoesFrom middle from
+    pub condition_goal :
+        (C : Chosen)
+        → plain_node b.condition ≡ alone (of_nodes C) next (point_of s.insts.items) middle goals
+    pub then_goal :
+        (C : Chosen)
+        → plain_node b.then_part ≡ alone (of_nodes C) (length t.insts.items) from end then_goals
     pub bound :
         (C : Chosen) (P : Source) (declared : ℕ → List Declared) (T : ℕ → TypeTerm)
         → binds (of_nodes C) P declared T outer_of (point_of s.insts.items) middle ≡ b.bound

@@ -6,20 +6,21 @@ use Rattle.mc_model.specs.Stream.{is_bound}
 use Rattle.mc_model.specs.PlainGoals.{plain_flat, plain_node, plain_sched}
 use Rattle.mc_model.specs.declared.flat.Flat.{Flat, size-Flat}
 use Rattle.mc_model.specs.declared.sched.GoalNode.{GoalNode}
-use Rattle.mc_accepted.specs.Arranged.{alone, ascending}
+use Rattle.mc_accepted.specs.Arranged.{alone, ascending, changing}
+use Rattle.mc_accepted.specs.Chosen.{of_nodes, other_node}
 use Rattle.mc_procs.specs.Named.{NumbersBelow}
 use Rattle.mc_mode_points.specs.States.{point_of, is_outside}
 use Rattle.mc_mode_points.specs.Answers.{end_of, FreshAlike}
 use Rattle.mc_mode_points.specs.declared.part.Part.{Part}
 use Rattle.mc_mode_points.proofs.EndColumns.{ascending-below}
-use Rattle.mc_mode_points.proofs.Steps.{same-refl, moved-refl, moved-trans, stepped-trans}
+use Rattle.mc_mode_points.proofs.Steps.{same-refl, moved-refl, moved-trans, stepped-refl, stepped-trans}
 use Rattle.mc_modes.specs.Fitting.{GoalFits}
 use Rattle.mc_modes.specs.Tries.{trying, tells_outside, Does}
 use Rattle.mc_modes.specs.code.Waiting.{IsReady, NoneIsReady, IsStuck, goals_at, variables_of_each, tells_around, Counted, nothing}
-use Rattle.mc_modes.specs.code.Parts.{trying_beside, DoesBranch, MergedAs}
-use Rattle.mc_modes.proofs.Alike.{keeps-same, fresh-kept, settled-alike, one-alike, node-alone, fresh-around, keeps-taken}
-use Rattle.mc_modes.proofs.Backing.{backed, bound-by, beside-same, then-nothing, then-branch}
-use Rattle.mc_modes.proofs.Closing.{Back, negation-runs, negation-binds, branch-runs, condition-runs}
+use Rattle.mc_modes.specs.code.Parts.{alone_at, trying_beside, DoesBranch, MergedAs}
+use Rattle.mc_modes.proofs.Alike.{none_chosen, alone-alike, keeps-same, fresh-kept, settled-alike, one-alike, node-alone, fresh-around, keeps-taken}
+use Rattle.mc_modes.proofs.Backing.{backed, log-marked, bound-by, beside-same, then-nothing, then-branch}
+use Rattle.mc_modes.proofs.Closing.{Back, back-step, around-as, negation-runs, negation-binds, branch-runs, condition-runs}
 use Rattle.mc_modes.proofs.Counts.{below-second, below-more, below-both}
 use Rattle.mc_modes.proofs.Failing.{failed-wrapped, failed-branch, failed-negation, failed-before, failed-else, failed-condition, failed-then, true-runs}
 use Rattle.mc_modes.proofs.Fits.{sigs-moved, goal-at, goal-later}
@@ -31,14 +32,13 @@ use Rattle.mc_modes.proofs.Scanning.{same-trans, found-on, found-ready, found-al
 use Rattle.mc_modes.proofs.Settling.{goes-settles, settled-does, goes-as}
 use Rattle.mc_modes.proofs.Taking.{some-wait, none-wait, Turned, turned-begins, turned-counted, turned-on, turned-breaks, turned-runs, turned-alike}
 use Rattle.mc_modes.proofs.Turning.{each-below}
-use Rattle.mc_modes.proofs.Ways.{count-same, conjunction-runs, conjunction-fails, runs-between, breaks-between, by-leaving, by-entering, runs-wrapped}
+use Rattle.mc_modes.proofs.Ways.{count-same, conjunction-between, conjunction-runs, conjunction-fails, runs-between, breaks-between, by-leaving, by-entering, runs-wrapped}
 use Rattle.std.proofs.lemmas.List.{drop_more, drop_all, get_or-map, length-map}
 use Rattle.mc_model.specs.declared.sched.Sched as D
 use Rattle.mc_procs.proofs.Views.{plain_sched-Disj, plain_sched-Conj}
 use Rattle.mc_modes.proofs.Branches.{goal-below}
 use Rattle.mc_modes.proofs.Forking.{Forked, forked-begins, forked-on, forked-fails, forked-goes, forked-alike}
 use denote.Param.Weighed.{at_most}
-use Rattle.mc_accepted.specs.Unmarked.{unmarked}
 use Rattle.mc_insts.specs.Graphs.{count_of}
 use Rattle.mc_mode_points.specs.Merged.{RowsFit}
 use Rattle.mc_model.specs.Lists.{without}
@@ -103,14 +103,28 @@ conjunction-returns-in-Ok-clause-does t c =
     let i : Entered vs s u = entered-as s u c.deref.result.now vs is e.insts e.log e.types e.nodes e.len e.counts in
     let j : Left vs v w = left-as v w c.deref-in-Ok.result.now vs js l.insts l.log l.types l.nodes l.len l.counts in
     let o = c.in_ok-part-in-Ok.ensures in
-    conjunction-runs c.args.sigs.now (map plain_flat c.args.goals.now) c.args.procs.now c.in_turn.new.procs s u v w c.in-Ok.part c.in_ok-part-in-Ok.part i j c.in-Ok.ensures.does
-    (record { goals = o.goals; freshened = o.freshened }) o.reachable
+    let gs = map plain_flat c.args.goals.now in
+    let d = conjunction-between c.args.sigs.now gs c.args.procs.now c.in_turn.new.procs s u v w c.in-Ok.part i j c.in-Ok.ensures.does in
+    conjunction-runs c.args.sigs.now gs c.args.procs.now c.in_turn.new.procs s u v w c.in-Ok.part c.in_ok-part-in-Ok.part d
+    (o.goals s d.stepped.later.leads (log-marked s c.mark-mark.result c.mark-mark.ensures)) o.reachable
 
 pub conjunction-returns-in-Ok-clause-alike : goal.conjunction-returns-in-Ok-clause-alike
 conjunction-returns-in-Ok-clause-alike t c =
+    let s = c.args.state.now in
+    let u = c.enter.new.self in
     let v = c.in_turn.new.state in
     let w = c.leave.new.self in
-    one-alike (And (flats (map plain_flat c.args.goals.now))) w (Conj (nodes (map plain_node c.in-Ok.part.goals.items))) c.in_ok-part-in-Ok.part c.in_ok-part-in-Ok.ensures.goals
+    let e = c.in_ok-enter.ensures in
+    let l = c.leave.ensures in
+    let gs = map plain_flat c.args.goals.now in
+    let vs = variables_of_all (flats gs) in
+    let is : c.deref.result.now ≡ vs = c.deref.ensures.value ∙ c.in_ok-vars.ensures in
+    let js : c.deref-in-Ok.result.now ≡ vs = c.deref-in-Ok.ensures.value ∙ c.in_ok-vars.ensures in
+    let i : Entered vs s u = entered-as s u c.deref.result.now vs is e.insts e.log e.types e.nodes e.len e.counts in
+    let j : Left vs v w = left-as v w c.deref-in-Ok.result.now vs js l.insts l.log l.types l.nodes l.len l.counts in
+    let d = conjunction-between c.args.sigs.now gs c.args.procs.now c.in_turn.new.procs s u v w c.in-Ok.part i j c.in-Ok.ensures.does in
+    one-alike (And (flats gs)) w (length w.insts.items) (point_of s.insts.items) (end_of c.in-Ok.part.reachable w) (Conj (nodes (map plain_node c.in-Ok.part.goals.items))) c.in_ok-part-in-Ok.part
+    (c.in_ok-part-in-Ok.ensures.goals s d.stepped.later.leads (log-marked s c.mark-mark.result c.mark-mark.ensures))
     (λ T next h b. c.in-Ok.ensures.alike T next (keeps-same v w c.leave.ensures.types T h) b)
 
 pub conjunction-returns-in-Err-Fault-clause-does : goal.conjunction-returns-in-Err-Fault-clause-does
@@ -239,25 +253,40 @@ quantified-returns-in_ok-part-in-Ok-clause-does t c =
     let g = plain_flat c.args.goal.now in
     let vs = c.args.vars.now in
     let o = c.in_ok-part-in-Ok.ensures in
-    runs-wrapped (tells_outside (variables_of g) s) (trying c.args.sigs.now g q s) (λ gs. Exists vs (alone gs)) q c.try_goal.new.procs s c.try_goal.new.state c.in-Ok.part c.in_ok-part-in-Ok.part
-    c.in-Ok.ensures.does o.goal o.reachable
+    let d = c.in-Ok.ensures.does in
+    runs-wrapped (tells_outside (variables_of g) s) (trying c.args.sigs.now g q s) (point_of s.insts.items) (λ C n e gs. Exists vs (alone (of_nodes C) n (point_of s.insts.items) e gs)) q c.try_goal.new.procs s c.try_goal.new.state
+    c.in-Ok.part c.in_ok-part-in-Ok.part d
+    (λ C. around-as (Exists vs) s c.try_goal.new.state c.try_goal.new.state (end_of c.in-Ok.part.reachable c.try_goal.new.state) C c.in-Ok.part c.in_ok-part-in-Ok.part c.in_ok-goal-in-Ok.goal
+    (c.in_ok-goal-in-Ok.ensures s d.stepped.later.leads (log-marked s c.mark-mark.result c.mark-mark.ensures) C)
+    (o.goal s d.stepped.later.leads (log-marked s c.mark-mark.result c.mark-mark.ensures))) o.reachable
 
 pub quantified-returns-in_ok-part-in-Ok-clause-alike : goal.quantified-returns-in_ok-part-in-Ok-clause-alike
 quantified-returns-in_ok-part-in-Ok-clause-alike t c =
     let g = plain_flat c.args.goal.now in
     let vs = c.args.vars.now in
+    let s = c.args.state.now in
     let u = c.try_goal.new.state in
-    fresh-around g (F.Exists vs g) (Exists vs) u u c.in-Ok.part c.in_ok-part-in-Ok.part (λ next b. below-second next vs (variables_of g) b) (λ T next n a. a) (keeps-same u u refl) c.in_ok-part-in-Ok.ensures.goal c.in-Ok.ensures.alike
+    let p = c.in-Ok.part in
+    let leads = c.in-Ok.ensures.does.stepped.later.leads in
+    fresh-around g (F.Exists vs g) (Exists vs) u u (length u.insts.items) (point_of s.insts.items) (end_of p.reachable u) p c.in_ok-part-in-Ok.part (alone_at none_chosen u p (point_of s.insts.items))
+    (λ next b. below-second next vs (variables_of g) b) (λ T next n a. a) (keeps-same u u refl)
+    (around-as (Exists vs) s u u (end_of p.reachable u) none_chosen p c.in_ok-part-in-Ok.part c.in_ok-goal-in-Ok.goal
+    (c.in_ok-goal-in-Ok.ensures s leads (log-marked s c.mark-mark.result c.mark-mark.ensures) none_chosen)
+    (c.in_ok-part-in-Ok.ensures.goal s leads (log-marked s c.mark-mark.result c.mark-mark.ensures)))
+    (λ T next a. alone-alike T next none_chosen (length u.insts.items) (point_of s.insts.items) (end_of p.reachable u) (nodes (map plain_node p.goals.items)) a) c.in-Ok.ensures.alike
 
 pub quantified-returns-in-Err-clause-does : goal.quantified-returns-in-Err-clause-does
 quantified-returns-in-Err-clause-does t c =
     let q = c.args.procs.now in
     let s = c.args.state.now in
     let g = plain_flat c.args.goal.now in
-    failed-wrapped (tells_outside (variables_of g) s) (trying c.args.sigs.now g q s) (λ gs. Exists c.args.vars.now (alone gs)) q c.try_goal.new.procs s c.try_goal.new.state c.in-Err.failed c.in-Err.ensures.does
+    failed-wrapped (tells_outside (variables_of g) s) (trying c.args.sigs.now g q s) (point_of s.insts.items) (λ C n e gs. Exists c.args.vars.now (alone (of_nodes C) n (point_of s.insts.items) e gs)) q c.try_goal.new.procs s c.try_goal.new.state c.in-Err.failed c.in-Err.ensures.does
 
-pub branch-ended-requires : goal.branch-ended-requires
-branch-ended-requires t c =
+pub branch-ended-requires-clause-log : goal.branch-ended-requires-clause-log
+branch-ended-requires-clause-log t c = c.in-Ok.ensures.does.stepped.moved.stands.log
+
+pub branch-ended-requires-clause-seen : goal.branch-ended-requires-clause-seen
+branch-ended-requires-clause-seen t c =
     let q = c.args.procs.now in
     let s = c.args.state.now in
     below-more (length s.insts.items) (length c.beside.new.state.insts.items) c.args.seen.now c.in-Ok.ensures.does.stepped.later.more c.requires.seen
@@ -275,13 +304,15 @@ branch-returns-in_ok-goal-in-Ok-clause-does t c =
     let b : Back s v w = backed s v w c.mark-mark.result c.mark-mark.ensures d.stepped.later.leads k.back k.count k.outside k.types k.nodes in
     let o = c.in_ok-goal-in-Ok.ensures in
     branch-runs (tells_outside (variables_of g) s) (trying_beside c.args.vars.now c.args.sigs.now g q s) c.args.seen.now q r s v w c.args.ends.now.items c.ended.new.ends.items c.in-Ok.part c.in_ok-goal-in-Ok.goal c.requires.stands
-    (below-more (length s.insts.items) (length v.insts.items) c.args.seen.now d.stepped.later.more c.requires.seen) d b o.goal o.ends
+    (below-more (length s.insts.items) (length v.insts.items) c.args.seen.now d.stepped.later.more c.requires.seen) d b (o.goal s d.stepped.later.leads (log-marked s c.mark-mark.result c.mark-mark.ensures)) o.ends
 
 pub branch-returns-in_ok-goal-in-Ok-clause-alike : goal.branch-returns-in_ok-goal-in-Ok-clause-alike
 branch-returns-in_ok-goal-in-Ok-clause-alike t c =
+    let s = c.args.state.now in
     let v = c.beside.new.state in
     let w = c.back.new.self in
-    node-alone (plain_flat c.args.goal.now) v w c.in-Ok.part c.in_ok-goal-in-Ok.goal (keeps-same v w c.back.ensures.types) c.in_ok-goal-in-Ok.ensures.goal c.in-Ok.ensures.alike
+    node-alone (plain_flat c.args.goal.now) s v w c.mark-mark.result.log c.in-Ok.part c.in_ok-goal-in-Ok.goal (keeps-same v w c.back.ensures.types) c.in-Ok.ensures.does.stepped.later.leads
+    (log-marked s c.mark-mark.result c.mark-mark.ensures) c.in_ok-goal-in-Ok.ensures.goal c.in-Ok.ensures.alike
 
 pub branch-returns-in-Err-clause-does : goal.branch-returns-in-Err-clause-does
 branch-returns-in-Err-clause-does t c =
@@ -339,15 +370,39 @@ negation-returns-in-Ok-clause-does t c =
     let k = c.back.ensures in
     let b : Back s v w = backed s v w c.mark-mark.result c.mark-mark.ensures d.stepped.later.leads k.back k.count k.outside k.types k.nodes in
     let o = c.in_ok-part-in-None.ensures in
+    let marked = log-marked s c.mark-mark.result c.mark-mark.ensures in
     negation-runs c.args.sigs.now g q r s v c.in-Ok.part d w c.in_ok-part-in-None.part c.requires.stands
-    (bound-by s (free_in g) c.deref.result.now c.in_ok-free.free (end_of c.in-Ok.part.reachable v) None is c.in_ok-free.ensures c.in-None.ensures) b o.goal o.reachable
+    (bound-by s (free_in g) c.deref.result.now c.in_ok-free.free (end_of c.in-Ok.part.reachable v) None is c.in_ok-free.ensures c.in-None.ensures) b
+    (λ C. around-as Not s v w (end_of true w) C c.in-Ok.part c.in_ok-part-in-None.part c.in_ok-goal-in-None.goal (c.in_ok-goal-in-None.ensures s d.stepped.later.leads marked C)
+    (o.goal s (back-step q r s v w c.requires.stands d.stepped b).later.leads marked)) o.reachable
 
 pub negation-returns-in-Ok-clause-alike : goal.negation-returns-in-Ok-clause-alike
 negation-returns-in-Ok-clause-alike t c =
+    let q = c.args.procs.now in
     let g = plain_flat c.args.goal.now in
+    let s = c.args.state.now in
     let v = c.beside.new.state in
     let w = c.back.new.self in
-    fresh-around g (F.Not g) Not v w c.in-Ok.part c.in_ok-part-in-None.part (λ next b. b) (λ T next n a. a) (keeps-same v w c.back.ensures.types) c.in_ok-part-in-None.ensures.goal c.in-Ok.ensures.alike
+    let p = c.in-Ok.part in
+    let d = c.in-Ok.ensures.does in
+    let k = c.back.ensures in
+    let b : Back s v w = backed s v w c.mark-mark.result c.mark-mark.ensures d.stepped.later.leads k.back k.count k.outside k.types k.nodes in
+    let marked = log-marked s c.mark-mark.result c.mark-mark.ensures in
+    fresh-around g (F.Not g) Not v w (length w.insts.items) (point_of s.insts.items) (end_of true w) p c.in_ok-part-in-None.part (alone_at none_chosen v p (point_of s.insts.items))
+    (λ next b. b) (λ T next n a. a) (keeps-same v w c.back.ensures.types)
+    (around-as Not s v w (end_of true w) none_chosen p c.in_ok-part-in-None.part c.in_ok-goal-in-None.goal (c.in_ok-goal-in-None.ensures s d.stepped.later.leads marked none_chosen)
+    (c.in_ok-part-in-None.ensures.goal s (back-step q c.beside.new.procs s v w c.requires.stands d.stepped b).later.leads marked))
+    (λ T next a. alone-alike T next none_chosen (length v.insts.items) (point_of s.insts.items) (end_of p.reachable v) (nodes (map plain_node p.goals.items)) a) c.in-Ok.ensures.alike
+
+pub negation-negated-requires : goal.negation-negated-requires
+negation-negated-requires t c =
+    let s = c.args.state.now in
+    let v = c.beside.new.state in
+    let w = c.back.new.self in
+    let d = c.in-Ok.ensures.does in
+    let k = c.back.ensures in
+    let b : Back s v w = backed s v w c.mark-mark.result c.mark-mark.ensures d.stepped.later.leads k.back k.count k.outside k.types k.nodes in
+    (back-step c.args.procs.now c.beside.new.procs s v w c.requires.stands d.stepped b).moved.stands.log
 
 pub negation-returns-clause-does : goal.negation-returns-clause-does
 negation-returns-clause-does t c =
@@ -826,14 +881,17 @@ test-returns-in-Ok-clause-does t c =
     let is : c.deref-3.result.now ≡ xs ++ variables_of h = c.deref-3.ensures.value ∙ (c.in_ok-others.ensures ∙ ap (λ ys. ys ++ variables_of h) (c.deref-2.ensures.value ∙ outer)) in
     let o = c.in_ok-condition-in-Ok.ensures in
     condition-runs told (trying_beside (xs ++ variables_of h) sigs g q s) xs q r s t p c.in_ok-condition-in-Ok.condition
-    (beside-same told c.deref-3.result.now (xs ++ variables_of h) sigs g q r s t p is c.in-Ok.ensures.does) o.goal o.reachable
+    (beside-same told c.deref-3.result.now (xs ++ variables_of h) sigs g q r s t p is c.in-Ok.ensures.does)
+    (o.goal s c.in-Ok.ensures.does.stepped.later.leads (log-marked s c.mark-mark.result c.mark-mark.ensures)) o.reachable
     (bound-by s xs c.deref.result.now c.in_ok-free.free (end_of p.reachable t) c.in_ok-condition-in-Ok.condition.bound (c.deref.ensures.value ∙ outer) c.in_ok-free.ensures
     (λ b ys e C P declared T. c.first_bound-bound.ensures b ys e C P declared T ∙ sym o.bound))
 
 pub test-returns-in-Ok-clause-alike : goal.test-returns-in-Ok-clause-alike
 test-returns-in-Ok-clause-alike t c =
+    let s = c.args.state.now in
     let t = c.beside.new.state in
-    node-alone (plain_flat c.args.condition.now) t t c.in-Ok.part c.in_ok-condition-in-Ok.condition.goal (λ T h. h) c.in_ok-condition-in-Ok.ensures.goal c.in-Ok.ensures.alike
+    node-alone (plain_flat c.args.condition.now) s t t c.mark-mark.result.log c.in-Ok.part c.in_ok-condition-in-Ok.condition.goal (λ T h. h) c.in-Ok.ensures.does.stepped.later.leads
+    (log-marked s c.mark-mark.result c.mark-mark.ensures) c.in_ok-condition-in-Ok.ensures.goal c.in-Ok.ensures.alike
 
 pub test-returns-clause-does : goal.test-returns-clause-does
 test-returns-clause-does t c =
@@ -1051,7 +1109,14 @@ attempt-returns-in_ok-part-in-True-clause-does t c =
     let p = c.in_ok-part-in-True.part in
     let e : plain_flat c.args.goal.now ≡ F.And no_flat = ap plain_flat c.in-True.is ∙ flat-true in
     goes-as c.args.sigs.now (F.And no_flat) (plain_flat c.args.goal.now) q q s s (Ok p) e
-    (true-runs c.args.sigs.now q s p c.requires.stands (record { goals = o.goals ∙ ap (λ x. node_then (unmarked x) no_nodes) (plain_sched-Conj c.new.result ∙ ap (λ (gs : List GoalNode). Conj (nodes (map plain_node gs))) c.new.ensures); freshened = o.freshened }) o.reachable)
+    (true-runs c.args.sigs.now q s p c.requires.stands
+    (record {
+      goals =
+          o.goals s (stepped-refl q s c.requires.stands).later.leads (log-marked s c.mark-mark.result c.mark-mark.ensures)
+          ∙ ap (λ x. node_then (changing other_node (length s.insts.items) (point_of s.insts.items) (end_of true s) x) no_nodes)
+          (plain_sched-Conj c.new.result ∙ ap (λ (gs : List GoalNode). Conj (nodes (map plain_node gs))) c.new.ensures);
+      freshened = o.freshened;
+    }) o.reachable)
 
 pub attempt-returns-in-Some-clause-does : goal.attempt-returns-in-Some-clause-does
 attempt-returns-in-Some-clause-does t c =
