@@ -1,0 +1,3 @@
+pub mod OrdersNamed
+pub mod SameTypes
+pub mod ChosenNodes

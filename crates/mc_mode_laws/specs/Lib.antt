@@ -1,0 +1,2 @@
+pub mod OrdersNamed
+pub mod ChosenNodes

@@ -1,0 +1,4 @@
+//! Laws of what mode analysis answers.
+#![tactic(auto)]
+
+pub mod laws;
