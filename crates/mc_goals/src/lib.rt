@@ -16,6 +16,7 @@ mod terms;
 
 pub use clauses::{ClauseGoal, goal_of_clause};
 pub use normal::normal_goal;
+pub use occurrences::{push_all_occurring, push_all_variables, push_occurring, push_variables};
 pub use query::query_clause;
 pub use scopes::scoped_clause;
 pub use shape::{Shape, flat_goal};

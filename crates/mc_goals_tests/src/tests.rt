@@ -1,9 +1,11 @@
-use mc_base::{Row, Text};
+use mc_base::{Memory, Row, Text};
 use mc_goals::{flat_goal, normal_goal, query_clause, scoped_clause};
-use mc_model::flat::Flat;
+use mc_model::flat::{Flat, Normal};
 use mc_program::expr::Expr;
-use mc_program::program::{Clause, Goal, Name, Place, Pred, Resolved};
+use mc_program::program::{Clause, Goal, Name, Place, Pred, Program, Resolved};
 use mc_program::ty::Ty;
+use mc_type_table::Room;
+use mc_whole::{by_number, normal_goals, whole_clause, whole_query, with_clauses};
 use std::alloc::Global;
 
 const HERE: Place = Place { file: 0, line: 1 };
@@ -387,4 +389,104 @@ fn queries_ask_for_named_variables(rt: HostRuntime) {
         out.as_slice(),
         b"some[2]and( p1[02]not some[3] p0[03] p0[10])".as_slice()
     );
+}
+
+/// Definitions of types, of which that of the number 1 is `string`.
+fn definitions(alloc: Global) -> Vec<Option<Ty>> {
+    let mut list = Vec::new(alloc);
+    put(&mut list, None);
+    put(&mut list, Some(Ty::Str));
+    list
+}
+
+/// A goal over X, whose type is one that stands for `string`, as a clause without arguments.
+fn goal_over_x(alloc: Global, head: Row<Expr>) -> Resolved {
+    Resolved {
+        clause: clause(1, head, call(alloc, 0, &[0])),
+        var_types: one(alloc, Ty::Union(1, Row::new(alloc))),
+        var_names: one(alloc, name(alloc, b"X")),
+    }
+}
+
+/// The types and names of a clause's variables, where it was made.
+fn show_resolved(out: &mut Vec<u8>, made: Result<Resolved, Memory>) {
+    if let Ok(resolved) = made {
+        show_variables(
+            out,
+            resolved.var_types.as_slice(),
+            resolved.var_names.as_slice(),
+        );
+        show_number(out, resolved.clause.head.len());
+    }
+}
+
+/// A clause of a program and its query have their types without equivalences; the query has its variable as argument.
+#[test]
+fn equivalences_are_replaced(rt: HostRuntime) {
+    let alloc = rt.alloc();
+    let definitions = definitions(alloc);
+    let mut room = Room { parts: 9 };
+    let mut out = Vec::new(alloc);
+    let fact = goal_over_x(alloc, terms(alloc, &[0]));
+    show_resolved(
+        &mut out,
+        whole_clause(alloc, definitions.as_slice(), fact, &mut room),
+    );
+    let query = goal_over_x(alloc, Row::new(alloc));
+    show_resolved(
+        &mut out,
+        whole_query(alloc, definitions.as_slice(), query, &mut room),
+    );
+    assert_eq!(rt; out.as_slice(), b"str:X,1str:X,1".as_slice());
+}
+
+/// Clauses of the predicates 1, 0, 1 and of one that isn't there.
+fn numbered(alloc: Global) -> Vec<(u32, Resolved)> {
+    let mut list = Vec::new(alloc);
+    for (pred, called) in [(1, 3), (0, 4), (1, 5), (7, 6)] {
+        let body = call(alloc, called, &[]);
+        put(
+            &mut list,
+            (pred, resolved(alloc, clause(0, Row::new(alloc), body))),
+        );
+    }
+    list
+}
+
+/// A program of two predicates without arguments.
+fn program(alloc: Global) -> Program {
+    Program {
+        types: Row::new(alloc),
+        symbols: Row::new(alloc),
+        preds: two(alloc, pred(alloc, 0), pred(alloc, 0)),
+    }
+}
+
+fn show_goals(out: &mut Vec<u8>, goals: &[Normal]) {
+    for goal in goals {
+        show_number(out, goal.pred);
+        show(out, &goal.body);
+    }
+}
+
+/// Clauses go to their predicates in their order.
+#[test]
+fn clauses_go_to_their_predicates(rt: HostRuntime) {
+    let alloc = rt.alloc();
+    let mut out = Vec::new(alloc);
+    if let Ok(rows) = by_number(alloc, 2, numbered(alloc)) {
+        let rows = row(alloc, rows);
+        let program = program(alloc);
+        if rows.len() <= program.preds.len() {
+            if let Ok(goals) = normal_goals(alloc, &program.preds, &rows) {
+                show_goals(&mut out, goals.as_slice());
+            }
+        }
+        if let Ok(program) = with_clauses(alloc, program, rows.into_vec()) {
+            for pred in program.preds.as_slice() {
+                show_number(&mut out, pred.clauses.len());
+            }
+        }
+    }
+    assert_eq!(rt; out.as_slice(), b"0 p4[]1or( p3[] p5[])12".as_slice());
 }
