@@ -1,0 +1,9 @@
+pub mod Agreeing
+pub mod Assembling
+pub mod Instances
+pub mod Listing
+pub mod SameTypes
+pub mod Scoping
+pub mod Tidying
+pub mod TypeViews
+pub mod TypedAtoms

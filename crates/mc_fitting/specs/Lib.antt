@@ -1,0 +1,2 @@
+pub mod ProcedureGoal
+pub mod code

@@ -1,0 +1,7 @@
+pub mod Bindings
+pub mod Names
+pub mod Parts
+pub mod Symbols
+pub mod Tidying
+pub mod VariableTypes
+pub mod WrittenScopes

@@ -1,0 +1,17 @@
+//! Whether a program's types and its procedures fit, tested as the program runs.
+#![tactic(auto)]
+
+mod instance;
+mod listed;
+mod matching;
+mod named;
+mod procedure;
+mod proper;
+mod scopes;
+mod tidy;
+mod typed;
+mod types;
+mod variables;
+
+pub use procedure::procedure_fits;
+pub use types::types_fit;
