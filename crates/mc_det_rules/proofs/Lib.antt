@@ -6,4 +6,3 @@ pub mod Finding
 pub mod Entering
 pub mod Faulting
 pub mod Bridging
-pub mod Sorting

@@ -6,7 +6,6 @@ mod calls;
 mod entry;
 mod io;
 mod listed;
-mod places;
 mod rules;
 mod texts;
 

@@ -12,9 +12,9 @@ ghost use Rattle.mc_det.specs.MarkedProcedures.{MarksHold, determinisms_of};
 ghost use Rattle.mc_det_rules.specs.code.Listed.{place_of, rule_of};
 
 use crate::entry::main_fault;
-use crate::places::sort_by_place;
 use crate::rules::{call_fault, declaration_fault, io_fault, undeclared_fault};
 use mc_base::{Memory, Text};
+use mc_places::sort_by_place;
 use mc_procs::Procs;
 use mc_source::place::Place;
 use mc_source::rule::{Broken, Rule};

@@ -5,7 +5,7 @@ use mc_base::Memory;
 use mc_source::rule::Broken;
 
 /// Puts broken rules into the order of their places; those of one place stay in their order.
-pub(crate) fn sort_by_place(faults: &mut Vec<Broken>) -> Result<(), Memory>
+pub fn sort_by_place(faults: &mut Vec<Broken>) -> Result<(), Memory>
     ensures { OnOk result (faults.new.items ≡ by_place faults.old.items) }
 {
     faults.sort_by_key(|fault| (fault.at.file, fault.at.line))?;

@@ -1,7 +1,7 @@
 use Rattle.std.proofs.Common.{rules}
 use Rattle.std.proofs.lemmas.List.Sorted.{answers_always}
-use Rattle.mc_det_rules.proofs.Sorting.{place_of, sorted_by_place}
-use Rattle.mc_det_rules.proofs.places.sort_by_place.Goals as goal
+use Rattle.mc_places.proofs.Sorting.{place_of, sorted_by_place}
+use Rattle.mc_places.proofs.places.sort_by_place.Goals as goal
 
 pub returns : goal.returns
 returns c =

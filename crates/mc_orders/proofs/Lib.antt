@@ -1,0 +1,5 @@
+pub mod Ids
+pub mod Grows
+pub mod OneMode
+pub mod SoFarMore
+pub mod OneStep

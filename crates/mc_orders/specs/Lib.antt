@@ -1,0 +1,5 @@
+pub mod Numbering
+pub mod NormalGoals
+pub mod ModeFaults
+pub mod Outcomes
+pub mod code

@@ -1,0 +1,12 @@
+//! The goals of all declared modes of a program in their order, with the procedures that they make, or the rules of modes
+//! that are broken.
+#![tactic(auto)]
+
+mod faults;
+mod modes;
+mod ordering;
+mod texts;
+mod trying;
+
+pub use modes::ModeId;
+pub use ordering::{Orders, order_goals};

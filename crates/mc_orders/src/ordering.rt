@@ -1,0 +1,69 @@
+ghost use Rattle.std.specs.Prelude.{◌≡◌, [], length, IfOk};
+ghost use Rattle.mc_insts.specs.Graphs.{count_of};
+ghost use Rattle.mc_modes.specs.Signatures.{SigsFit};
+ghost use Rattle.mc_orders.specs.Numbering.{IsNumbered};
+ghost use Rattle.mc_orders.specs.NormalGoals.{AreNormal};
+ghost use Rattle.mc_orders.specs.Outcomes.{GrownFrom, Became};
+
+use crate::modes::mode_ids;
+use crate::trying::try_mode;
+use mc_base::Memory;
+use mc_model::flat::Normal;
+use mc_model::inst::Sig;
+use mc_places::sort_by_place;
+use mc_procs::Procs;
+use mc_source::rule::Broken;
+use std::alloc::Global;
+
+/// What became of the goals of all declared modes.
+#[derive(Drop)]
+pub enum Orders {
+    /// Each procedure came, in the order of their numbers.
+    All,
+    /// The rules that are broken, in the order of places; at least one.
+    Broken(Vec<Broken>),
+    /// A goal is in its order, but its procedure isn't known to fit: the number of the first such procedure.
+    Unfit(u32),
+}
+
+/// Puts the goals of all declared modes in their order. Their procedures come in the order of their numbers, each exported
+/// where its predicate is; or the rules are listed that leave goals without an order. Behind the first of these no procedure
+/// comes, but the other goals are tried. Signatures, goals and what is exported go by the numbers of predicates.
+pub fn order_goals(
+    alloc: Global,
+    procs: &mut Procs,
+    sigs: &[Sig],
+    goals: &[Normal],
+    exported: &[bool],
+) -> Result<Orders, Memory>
+    requires none { procs.old.added ≡ [] }
+    requires sigs { SigsFit (count_of procs.old.insts) sigs.now }
+    requires numbered { IsNumbered procs.old sigs.now }
+    requires goals { AreNormal procs.old sigs.now goals.now }
+    requires exported { length exported.now ≡ length procs.old.program.preds }
+    ensures became { IfOk result
+        (Became sigs.now goals.now exported.now procs.old procs.new) }
+    ensures others { IfOk result (λ _. GrownFrom procs.old procs.new) }
+{
+    let ids = mode_ids(alloc, procs.program(), sigs)?;
+    let mut faults = Vec::new(alloc);
+    for id in &ids {
+        let pred = id.pred as usize;
+        if !try_mode(
+            alloc,
+            procs,
+            sigs,
+            &goals[pred],
+            id.mode,
+            exported[pred],
+            &mut faults,
+        )? {
+            return Ok(Orders::Unfit(procs.count()));
+        }
+    }
+    if faults.is_empty() {
+        return Ok(Orders::All);
+    }
+    sort_by_place(&mut faults)?;
+    Ok(Orders::Broken(faults))
+}

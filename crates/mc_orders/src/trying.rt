@@ -1,0 +1,67 @@
+ghost use Rattle.std.specs.Prelude.{◌≡◌, [], IfOk};
+ghost use Rattle.mc_orders.specs.code.Steps.{IsNext, CanTry, IsBody, Steps, AddsOrNot};
+
+use crate::faults::rule_of;
+use mc_base::Memory;
+use mc_fitting::procedure_fits;
+use mc_model::flat::Normal;
+use mc_model::inst::Sig;
+use mc_model::sched::Proc;
+use mc_modes::{modes_at, schedule};
+use mc_procs::Procs;
+use mc_source::rule::Broken;
+use std::alloc::Global;
+
+/// Tries a predicate's goal in one of its modes: the rule that it breaks is listed, or, where none was listed before, its
+/// procedure comes where it is known to fit. Whether all is well so far: it isn't where that procedure didn't come.
+pub(crate) fn try_mode(
+    alloc: Global,
+    procs: &mut Procs,
+    sigs: &[Sig],
+    goal: &Normal,
+    mode: u32,
+    exported: bool,
+    faults: &mut Vec<Broken>,
+) -> Result<bool, Memory>
+    requires stands { CanTry sigs.now mode procs.old goal.now }
+    requires next { faults.old.items ≡ [] → IsNext procs.old goal.now }
+    ensures { IfOk result (Steps sigs.now goal.now mode exported procs.old procs.new
+        faults.old.items faults.new.items) }
+{
+    match schedule(alloc, procs, sigs, goal, mode) {
+        Ok(proc) => {
+            if !faults.is_empty() {
+                return Ok(true);
+            }
+            add(alloc, procs, goal, exported, proc)
+        }
+        Err(refusal) => {
+            let (rule, what) = rule_of(alloc, goal, refusal)?;
+            let at = modes_at(sigs, goal.pred)[mode as usize].at;
+            faults.push(Broken { rule, at, what })?;
+            Ok(true)
+        }
+    }
+}
+
+/// The next procedure comes, exported or not, where it is known to fit; whether it does.
+fn add(
+    alloc: Global,
+    procs: &mut Procs,
+    goal: &Normal,
+    exported: bool,
+    proc: Proc,
+) -> Result<bool, Memory>
+    requires pred { proc.pred ≡ goal.now.pred }
+    requires next { IsNext procs.old goal.now }
+    requires body { IsBody procs.old goal.now }
+    ensures { IfOk result (AddsOrNot exported proc procs.old procs.new) }
+{
+    let mut proc = proc;
+    proc.exported = exported;
+    if !procedure_fits(alloc, procs, &proc, &goal.body)? {
+        return Ok(false);
+    }
+    let _ = procs.add(proc)?;
+    Ok(true)
+}
