@@ -75,12 +75,12 @@ are_determinisms q bodies declared ds count told each least outcome =
     least_by_skeletons (declared_system outcome q) bodies declared (assigned ds) (are_bodies q bodies declared count told each outcome) least
 
 -- Where a walk begins.
-entered_below : (n : ℕ) (head first : List ℕ) (x : ℕ) → 0 < n → NumbersBelow n first → entered head first x < n
+pub entered_below : (n : ℕ) (head first : List ℕ) (x : ℕ) → 0 < n → NumbersBelow n first → entered head first x < n
 entered_below n [] is x lt h = lt
 entered_below n (y ∷ ys) [] x lt h = lt
 entered_below n (y ∷ ys) (i ∷ is) x lt h = either_below (nat_eq x y) i (entered ys is x) n h.0 (entered_below n ys is x lt h.1)
 
-some_inst : (q : PlainProcs) → AllFit q → 0 < count_of q.insts
+pub some_inst : (q : PlainProcs) → AllFit q → 0 < count_of q.insts
 some_inst q a = let m = a.program.insts_are.builtins.many in omega arith
 
 pub ready_first : (q : PlainProcs) (p : Proc) (point : List ℕ) → AllFit q → ProcedureFits q (plain_proc p) → length point ≡ length p.var_types → insts_in point ≡ entered p.head p.first → Ready q p.var_types point

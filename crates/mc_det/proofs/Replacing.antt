@@ -31,7 +31,7 @@ use Rattle.mc_det.proofs.MarkedNames.{marked_named}
 use Rattle.mc_det.proofs.PrunedNames.{pruned_named}
 
 -- other procedures beside it
-beside : (q : PlainProcs) (ps : List Proc) (p : Procedure) → ProcedureFits q p → ProcedureFits (with_procs q ps) p
+pub beside : (q : PlainProcs) (ps : List Proc) (p : Procedure) → ProcedureFits q p → ProcedureFits (with_procs q ps) p
 beside q ps p f =
     record {
       head = f.head;
@@ -52,7 +52,7 @@ beside q ps p f =
     }
 
 -- another body
-with_another : (q : PlainProcs) (p : Procedure) (n : Node) (d : Det) → ProcedureFits q p → Named (bounds_of q p) n → ProcedureFits q (record p { body = n; det = d })
+pub with_another : (q : PlainProcs) (p : Procedure) (n : Node) (d : Det) → ProcedureFits q p → Named (bounds_of q p) n → ProcedureFits q (record p { body = n; det = d })
 with_another q p n d f named =
     record {
       head = f.head;
@@ -73,7 +73,7 @@ with_another q p n d f named =
     }
 
 -- whatever builtins do, as that all fail
-abbrev all_fail : Builtin → List Val → Outcome
+abbrev pub all_fail : Builtin → List Val → Outcome
 all_fail op vs = fails
 
 pub marked_fits : (q : PlainProcs) (ds : List Det) (p r : Proc) → IsMarked q ds p r → ProcedureFits q (plain_proc p) → ProcedureFits q (plain_proc r)
@@ -117,13 +117,13 @@ some_of [] k lt = absurd (omega arith)
 some_of (p ∷ ps) k lt = p
 
 -- a procedure that may stand where another one stood
-abbrev MayStand : PlainProcs → Proc → Proc → Type 0
+abbrev pub MayStand : PlainProcs → Proc → Proc → Type 0
 MayStand q p r =
     ((plain_proc r).pred ≡ (plain_proc p).pred)
     × (ProcedureFits q (plain_proc p) → ProcedureFits q (plain_proc r))
 
 -- procedures with other bodies may stand where those before them stood
-all_may_stand : (q : PlainProcs) (ps : List Proc) → AllFit q → length ps ≡ length q.added → ((k : ℕ) (e : Proc) → k < length q.added → MayStand q (get_or q.added k e) (get_or ps k e)) → AllStand q ps
+pub all_may_stand : (q : PlainProcs) (ps : List Proc) → AllFit q → length ps ≡ length q.added → ((k : ℕ) (e : Proc) → k < length q.added → MayStand q (get_or q.added k e) (get_or ps k e)) → AllStand q ps
 all_may_stand q ps a count m =
     record {
       preds = λ k lt.
@@ -226,7 +226,7 @@ made_pruned q p x b e is =
       body = λ outcome ds follow. ap (λ (y : Proc). plain_node y.body) e ∙ is outcome ds follow;
     }
 
-get_any : (ps : List Proc) (k : ℕ) (d e : Proc) → k < length ps → get_or ps k d ≡ get_or ps k e
+pub get_any : (ps : List Proc) (k : ℕ) (d e : Proc) → k < length ps → get_or ps k d ≡ get_or ps k e
 get_any [] k d e lt = absurd (omega arith)
 get_any (p ∷ ps) zero d e lt = refl
 get_any (p ∷ ps) (suc k) d e lt = get_any ps k d e (omega arith)

@@ -132,7 +132,7 @@ fn arms_told(arms: &[Arm]) -> Det
 }
 
 /// A copy of changes.
-pub(crate) fn copy_changes(
+pub fn copy_changes(
     alloc: Global,
     changes: &Row<(u32, InstId)>,
 ) -> Result<Row<(u32, InstId)>, Memory>
@@ -146,7 +146,7 @@ pub(crate) fn copy_changes(
 }
 
 /// A copy of what an arm is for.
-pub(crate) fn copy_on(alloc: Global, on: &On) -> Result<On, Memory>
+pub fn copy_on(alloc: Global, on: &On) -> Result<On, Memory>
     ensures { IfOk result (λ copy. copy ≡ on.now) }
 {
     match on {

@@ -69,6 +69,13 @@ impl Point {
         }
     }
 
+    /// The insts of all variables, in their order.
+    pub fn as_slice(&self) -> &[InstId]
+        ensures { result.now ≡ self.now }
+    {
+        self.insts.as_slice()
+    }
+
     /// A variable gets an inst; a number past the end changes nothing.
     fn put(&mut self, x: u32, i: InstId)
         ensures { self.new ≡ slice_set self.old x i }

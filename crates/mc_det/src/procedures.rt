@@ -71,7 +71,7 @@ fn marked_body(alloc: Global, procs: &Procs, p: &Proc, dets: &[Det]) -> Result<G
 }
 
 /// A copy of a procedure with another body and another determinism.
-pub(crate) fn with_body(alloc: Global, p: &Proc, body: GoalNode, det: Det) -> Result<Proc, Memory>
+pub fn with_body(alloc: Global, p: &Proc, body: GoalNode, det: Det) -> Result<Proc, Memory>
     ensures { IfOk result (λ copy. copy ≡ record p.now { body = body; det = det }) }
 {
     let head = p.head.copied(alloc)?;
@@ -105,7 +105,7 @@ fn copy_types(alloc: Global, types: &Row<Ty>) -> Result<Row<Ty>, Memory>
 }
 
 /// Puts procedures in the places of all, the last one first.
-pub(crate) fn replace_all(procs: &mut Procs, marked: Vec<Proc>)
+pub fn replace_all(procs: &mut Procs, marked: Vec<Proc>)
     requires count { length marked.items ≡ length procs.old.added }
     requires stand { AllStand procs.old marked.items }
     ensures { procs.new ≡ with_procs procs.old marked.items }

@@ -21,7 +21,10 @@ use Rattle.mc_procs.specs.Procedures.{PlainProcs, as_system}
 use Rattle.mc_switch.specs.declared.disjunct.Opened.{Opened}
 use Rattle.mc_switch.specs.declared.opening.Opening.{Opening}
 use Rattle.mc_switch.specs.Openings.{plain_openings}
-use Rattle.mc_switch.specs.Grouping.{type_in, inst_in}
+use Rattle.mc_switch.specs.Types.{type_in, inst_in}
+use Rattle.mc_insts.specs.Graphs.{count_of}
+use Rattle.mc_switch.specs.Kept.{Suits}
+use Rattle.mc_switch.proofs.Growing.{allowed_suits}
 use Rattle.mc_switch.specs.code.Labels.{plain_opened, is_opened_by}
 use Rattle.mc_switch.specs.code.Choices.{first_variables, may_be, those_that, Opens, Covers, MissesNone, MayBe, AreSame}
 
@@ -157,3 +160,18 @@ none_out n x =
       | inl lt ↦ sym (get_or-replicate n x false false lt)
       | inr past ↦ sym (get_or_past (replicate n false) x false (omega (arith, length-replicate n false)))
     ]
+
+-- a system that suits chooses as that of the procedures
+pub chosen_suits : (q : PlainProcs) (S : System) → Suits q S → (types : List Ty) (insts : List ℕ) (out : List ℕ) (ds : List Disjunct) → ((x : ℕ) → inst_in insts x < count_of q.insts) → chosen S (type_in types) out (inst_in insts) ds ≡ chosen (as_system S.world.outcome q) (type_in types) out (inst_in insts) ds
+chosen_suits q S suits types insts out ds there =
+    let T = type_in types in
+    let b = inst_in insts in
+    let Z = as_system S.world.outcome q in
+    ap (λ (o : Option ℕ). option_or o (least (is_opened S T out b ds) (opened_variables ds)))
+    (least_same (λ x. is_opened S T out b ds x && misses_none S T b ds x) (λ x. is_opened S T out b ds x && misses_none Z T b ds x)
+    (λ x. ap (λ (o : Option (List ℕ)). is_opened S T out b ds x && covers S T o (labels_of x ds)) (allowed_suits q S suits T (T x) (b x) (there x)))
+    (opened_variables ds))
+
+-- the least of those of which something holds is one of them
+pub least_holds : (g : ℕ → Bool) (xs : List ℕ) (x : ℕ) → Some x ≡ least g xs → g x ≡ true
+least_holds g xs x e = least_passes (λ _. true) g xs x (e ∙ least_of_those g xs)

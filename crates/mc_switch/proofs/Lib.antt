@@ -7,3 +7,13 @@ pub mod SameLabels
 pub mod Grouped
 pub mod Putting
 pub mod Arms
+pub mod Growing
+pub mod MergedInsts
+pub mod ChangedInsts
+pub mod NeverEnds
+pub mod Walking
+pub mod FormedParts
+pub mod FormNamed
+pub mod Suiting
+pub mod SwitchedProcs
+pub mod ClosedForms

@@ -1,3 +1,5 @@
 pub mod Openings
-pub mod Grouping
+pub mod Types
+pub mod Kept
+pub mod SwitchedBodies
 pub mod code

@@ -3,7 +3,7 @@ ghost use Rattle.std.specs.List.{list_all};
 ghost use Rattle.mc_model.specs.Stream.{is_bound};
 ghost use Rattle.mc_accepted.specs.Least.{lesser, least};
 ghost use Rattle.mc_varset.specs.Members.{has};
-ghost use Rattle.mc_switch.specs.Grouping.{InstsFit, inst_in};
+ghost use Rattle.mc_switch.specs.Types.{InstsFit, inst_in};
 ghost use Rattle.mc_switch.specs.code.Labels.{KeepsFirst, is_opened_by};
 ghost use Rattle.mc_switch.specs.code.Choices.{first_variables, may_be, those_that, MissesNone, IsLeastOf, IsChosenOf, MayBe};
 

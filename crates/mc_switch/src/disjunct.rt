@@ -11,19 +11,27 @@ use mc_model::sched::GoalNode;
 use std::alloc::Global;
 use std::collections::HashMap;
 
-/// A disjunct with what it deconstructs, and each variable's first label of these. A look-up takes the time of one hash.
+/// A disjunct with what it deconstructs, whether the point after it is unreachable, and each variable's first label. A
+/// look-up takes the time of one hash.
 #[derive(Drop)]
 pub struct Opened<'a> {
     pub opens: Row<Opening<'a>>,
     pub goal: GoalNode,
+    pub never_ends: bool,
     labels: HashMap<u32, OpeningLabel<'a>>,
 }
 
 impl<'a> Opened<'a> {
     /// A disjunct, and what its source deconstructs.
-    pub fn of(alloc: Global, source: &'a GoalNode, goal: GoalNode) -> Result<Opened<'a>, Memory>
+    pub fn of(
+        alloc: Global,
+        source: &'a GoalNode,
+        goal: GoalNode,
+        never_ends: bool,
+    ) -> Result<Opened<'a>, Memory>
         ensures opens { IfOk result (λ o. plain_openings o.opens ≡ openings (plain_node source.now)) }
         ensures goal { IfOk result (λ o. o.goal ≡ goal) }
+        ensures never { IfOk result (λ o. o.never_ends ≡ never_ends) }
         ensures first { IfOk result (λ o. KeepsFirst o) }
     {
         let opens = openings(alloc, source)?;
@@ -31,6 +39,7 @@ impl<'a> Opened<'a> {
         Ok(Opened {
             opens,
             goal,
+            never_ends,
             labels,
         })
     }
@@ -57,6 +66,7 @@ impl<'a> Opened<'a> {
         let Opened {
             opens: _,
             goal,
+            never_ends: _,
             labels: _,
         } = self;
         goal

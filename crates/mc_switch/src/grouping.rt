@@ -3,22 +3,26 @@ ghost use Rattle.mc_source.specs.Determinism.{inferred, det};
 ghost use Rattle.mc_model.specs.PlainGoals.{plain_node, plain_sched, plain_arm, plain_label};
 ghost use Rattle.mc_model.specs.Scheduled.{Disj, node};
 ghost use Rattle.mc_accepted.specs.Switched.{goals_of, openings_of};
-ghost use Rattle.mc_switch.specs.Grouping.{InstsFit, IsGrouped, disjuncts_of};
+ghost use Rattle.mc_switch.specs.code.Grouping.{AroundFits, FormedEnds, IsGrouped, disjuncts_of, nodes_of};
+ghost use Rattle.mc_switch.specs.Kept.{AreMerged, Merges, OnlyGrew};
+ghost use Rattle.mc_switch.specs.code.Ends.{KeepsEnd};
 ghost use Rattle.mc_switch.specs.Openings.{plain_opening_label};
 ghost use Rattle.mc_switch.specs.code.Choices.{MayBe};
 ghost use Rattle.mc_switch.specs.code.Groups.{plain_group, plain_groups};
 ghost use Rattle.mc_switch.specs.code.Labels.{KeepsFirst, plain_opened};
-ghost use Rattle.mc_switch.specs.code.Parts.{KeepsGroup, IsGroupedOf, IsPartOf, IsArmOf, AreArmsOf};
+ghost use Rattle.mc_switch.specs.code.Parts.{KeepsGroup, KeepsEnds, AreKept, IsGroupedOf, IsPartOf, IsArmOf, AreArmsOf, IsChosenIn};
 
+use crate::around::Around;
 use crate::choice::chosen;
 use crate::disjunct::Opened;
+use crate::formed::Formed;
 use crate::groups::{Group, split};
+use crate::merging::Merger;
 use crate::opening::OpeningLabel;
 use mc_base::{Memory, Row, Text};
 use mc_model::inst::InstId;
 use mc_model::sched::{Arm, GoalNode, On, Sched};
 use mc_procs::Procs;
-use mc_program::ty::Ty;
 use mc_program::value::Value;
 use mc_source::det::{Det, Most};
 use mc_varset::VarSet;
@@ -28,46 +32,44 @@ use std::alloc::Global;
 /// source, which tells what it deconstructs. The one refusal is want of memory. (Manual: Determinism, switches.)
 pub fn switched(
     alloc: Global,
-    procs: &Procs,
-    types: &Row<Ty>,
-    insts: &[InstId],
+    procs: &mut Procs,
+    merger: &mut Merger,
+    around: &Around,
     sources: &[GoalNode],
-    goals: Vec<GoalNode>,
+    goals: Vec<Formed>,
 ) -> Result<Sched, Memory>
-    requires insts { InstsFit procs.now types.now insts.now }
+    requires merged { AreMerged procs.old around.now.types.now merger.old.found }
+    requires around { AroundFits procs.old around.now }
     requires many { length goals.items ≡ length sources.now }
-    ensures { IfOk result (λ s. IsGrouped procs.now types.now insts.now
-        (map plain_node sources.now) (map plain_node goals.items) (plain_sched s)) }
+    requires ends { All (FormedEnds procs.old around.now.types.now around.now.before.now) goals.items }
+    ensures grouped { IfOk result (λ s. IsGrouped procs.new merger.new.found around.now
+        (map plain_node sources.now) (nodes_of goals.items) (plain_sched s)) }
+    ensures merges { OnOk result (Merges procs.new around.now.types.now merger.old.found merger.new.found) }
+    ensures grew { OnlyGrew procs.old procs.new }
 {
     let disjuncts = all_opened(alloc, sources, goals)?;
     let times = openings_of(disjuncts.as_slice())?;
-    let mut out = VarSet::new(alloc, types.len())?;
-    grouped(
-        alloc,
-        procs,
-        types.as_slice(),
-        insts,
-        &mut out,
-        times,
-        disjuncts,
-    )
+    let mut out = VarSet::new(alloc, around.types.len())?;
+    grouped(alloc, procs, merger, around, &mut out, times, disjuncts)
 }
 
 /// Goals with what their sources deconstruct.
 fn all_opened<'a>(
     alloc: Global,
     sources: &'a [GoalNode],
-    goals: Vec<GoalNode>,
+    goals: Vec<Formed>,
 ) -> Result<Vec<Opened<'a>>, Memory>
     requires { length goals.items ≡ length sources.now }
     ensures disjuncts { IfOk result (λ os. map plain_opened os.items
-        ≡ disjuncts_of (map plain_node sources.now) (map plain_node goals.items)) }
+        ≡ disjuncts_of (map plain_node sources.now) (nodes_of goals.items)) }
     ensures first { IfOk result (λ os. All KeepsFirst os.items) }
+    ensures ends { IfOk result (λ os. AreKept goals.items os.items) }
 {
     let mut disjuncts = Vec::new(alloc);
     for goal in goals {
         let k = disjuncts.len();
-        disjuncts.push(Opened::of(alloc, &sources[k], goal)?)?;
+        let Formed { node, never_ends } = goal;
+        disjuncts.push(Opened::of(alloc, &sources[k], node, never_ends)?)?;
     }
     Ok(disjuncts)
 }
@@ -99,28 +101,32 @@ fn plus(more: u32, count: usize) -> Result<usize, Memory>
 #[cycle(grouped)]
 fn grouped(
     alloc: Global,
-    procs: &Procs,
-    types: &[Ty],
-    insts: &[InstId],
+    procs: &mut Procs,
+    merger: &mut Merger,
+    around: &Around,
     out: &mut VarSet,
     times: usize,
     disjuncts: Vec<Opened>,
 ) -> Result<Sched, Memory>
-    requires insts { InstsFit procs.now types.now insts.now }
-    requires out { length out.old ≡ length insts.now }
+    requires merged { AreMerged procs.old around.now.types.now merger.old.found }
+    requires around { AroundFits procs.old around.now }
+    requires out { length out.old ≡ length around.now.before.now }
     requires first { All KeepsFirst disjuncts.items }
-    ensures grouped { IfOk result (λ s. IsGroupedOf procs.now types.now insts.now out.old times
+    requires ends { All (KeepsEnd procs.old around.now) disjuncts.items }
+    ensures grouped { IfOk result (λ s. IsGroupedOf procs.new merger.new.found around.now out.old times
         disjuncts.entry.items (plain_sched s)) }
     ensures out { OnOk result (out.new ≡ out.old) }
+    ensures merges { OnOk result (Merges procs.new around.now.types.now merger.old.found merger.new.found) }
+    ensures grew { OnlyGrew procs.old procs.new }
 {
     if times == 0 {
         return disjunction(alloc, disjuncts);
     }
-    match chosen(alloc, procs, types, insts, out, disjuncts.as_slice())? {
+    match chosen_around(alloc, procs, around, out, disjuncts.as_slice())? {
         Some(x) => {
             let groups = split(alloc, x, disjuncts)?;
             out.insert(x);
-            let arms = arms(alloc, procs, types, insts, out, times - 1, groups)?;
+            let arms = arms(alloc, procs, merger, around, out, times - 1, groups)?;
             out.remove(x);
             Ok(Sched::Switch(x, arms))
         }
@@ -128,27 +134,55 @@ fn grouped(
     }
 }
 
+/// The variable on which disjuncts are switched there where these are left out.
+fn chosen_around(
+    alloc: Global,
+    procs: &Procs,
+    around: &Around,
+    out: &VarSet,
+    disjuncts: &[Opened],
+) -> Result<Option<u32>, Memory>
+    requires around { AroundFits procs.now around.now }
+    requires out { length out.now ≡ length around.now.before.now }
+    requires first { All KeepsFirst disjuncts.now }
+    ensures chosen { IfOk result (λ x. IsChosenIn procs.now around.now out.now disjuncts.now x) }
+    ensures may_be { IfOk result (λ x. MayBe around.now.before.now out.now disjuncts.now x) }
+{
+    chosen(
+        alloc,
+        procs,
+        around.types.as_slice(),
+        around.before,
+        out,
+        disjuncts,
+    )
+}
+
 /// The arms of groups.
 #[cycle(grouped)]
 fn arms(
     alloc: Global,
-    procs: &Procs,
-    types: &[Ty],
-    insts: &[InstId],
+    procs: &mut Procs,
+    merger: &mut Merger,
+    around: &Around,
     out: &mut VarSet,
     times: usize,
     groups: Vec<Group>,
 ) -> Result<Row<Arm>, Memory>
-    requires insts { InstsFit procs.now types.now insts.now }
-    requires out { length out.old ≡ length insts.now }
+    requires merged { AreMerged procs.old around.now.types.now merger.old.found }
+    requires around { AroundFits procs.old around.now }
+    requires out { length out.old ≡ length around.now.before.now }
     requires first { All KeepsGroup groups.items }
-    ensures arms { IfOk result (λ row. AreArmsOf procs.now types.now insts.now out.old times
+    requires ends { All (KeepsEnds procs.old around.now) groups.items }
+    ensures arms { IfOk result (λ row. AreArmsOf procs.new merger.new.found around.now out.old times
         (plain_groups groups.entry.items) (map plain_arm row)) }
     ensures out { OnOk result (out.new ≡ out.old) }
+    ensures merges { OnOk result (Merges procs.new around.now.types.now merger.old.found merger.new.found) }
+    ensures grew { OnlyGrew procs.old procs.new }
 {
     let mut arms = Vec::with_capacity(alloc, groups.len())?;
     for group in groups {
-        let arm = arm(alloc, procs, types, insts, out, times, group)?;
+        let arm = arm(alloc, procs, merger, around, out, times, group)?;
         arms.push(arm)?;
     }
     Row::of(arms)
@@ -158,23 +192,27 @@ fn arms(
 #[cycle(grouped)]
 fn arm(
     alloc: Global,
-    procs: &Procs,
-    types: &[Ty],
-    insts: &[InstId],
+    procs: &mut Procs,
+    merger: &mut Merger,
+    around: &Around,
     out: &mut VarSet,
     times: usize,
     group: Group,
 ) -> Result<Arm, Memory>
-    requires insts { InstsFit procs.now types.now insts.now }
-    requires out { length out.old ≡ length insts.now }
+    requires merged { AreMerged procs.old around.now.types.now merger.old.found }
+    requires around { AroundFits procs.old around.now }
+    requires out { length out.old ≡ length around.now.before.now }
     requires first { KeepsGroup group }
-    ensures arm { IfOk result (λ arm. IsArmOf procs.now types.now insts.now out.old times
+    requires ends { KeepsEnds procs.old around.now group }
+    ensures arm { IfOk result (λ arm. IsArmOf procs.new merger.new.found around.now out.old times
         (plain_group group.entry) (plain_arm arm)) }
     ensures out { OnOk result (out.new ≡ out.old) }
+    ensures merges { OnOk result (Merges procs.new around.now.types.now merger.old.found merger.new.found) }
+    ensures grew { OnlyGrew procs.old procs.new }
 {
     let Group { label, disjuncts } = group;
     let on = on(alloc, label)?;
-    let body = part(alloc, procs, types, insts, out, times, disjuncts)?;
+    let body = part(alloc, procs, merger, around, out, times, disjuncts)?;
     Ok(Arm { on, body })
 }
 
@@ -182,35 +220,40 @@ fn arm(
 #[cycle(grouped)]
 fn part(
     alloc: Global,
-    procs: &Procs,
-    types: &[Ty],
-    insts: &[InstId],
+    procs: &mut Procs,
+    merger: &mut Merger,
+    around: &Around,
     out: &mut VarSet,
     times: usize,
     mut disjuncts: Vec<Opened>,
 ) -> Result<GoalNode, Memory>
-    requires insts { InstsFit procs.now types.now insts.now }
-    requires out { length out.old ≡ length insts.now }
+    requires merged { AreMerged procs.old around.now.types.now merger.old.found }
+    requires around { AroundFits procs.old around.now }
+    requires out { length out.old ≡ length around.now.before.now }
     requires first { All KeepsFirst disjuncts.items }
-    ensures part { IfOk result (λ goal. IsPartOf procs.now types.now insts.now out.old times
+    requires ends { All (KeepsEnd procs.old around.now) disjuncts.items }
+    ensures part { IfOk result (λ goal. IsPartOf procs.new merger.new.found around.now out.old times
         disjuncts.entry.items (plain_node goal)) }
     ensures out { OnOk result (out.new ≡ out.old) }
+    ensures merges { OnOk result (Merges procs.new around.now.types.now merger.old.found merger.new.found) }
+    ensures grew { OnlyGrew procs.old procs.new }
 {
     if disjuncts.len() == 1 {
         let only = disjuncts.remove(0);
         return Ok(only.into_goal());
     }
-    let goal = grouped(alloc, procs, types, insts, out, times, disjuncts)?;
-    Ok(of_several(alloc, goal))
+    let changes = merger.changes(alloc, procs, around, disjuncts.as_slice())?;
+    let goal = grouped(alloc, procs, merger, around, out, times, disjuncts)?;
+    Ok(of_several(goal, changes))
 }
 
 /// The goal of an arm of several disjuncts. Its determinism is told later.
-fn of_several(alloc: Global, goal: Sched) -> GoalNode
-    ensures { plain_node result ≡ node (plain_sched goal) [] (inferred det) false }
+fn of_several(goal: Sched, changes: Row<(u32, InstId)>) -> GoalNode
+    ensures { plain_node result ≡ node (plain_sched goal) changes (inferred det) false }
 {
     GoalNode {
         goal,
-        changes: Row::new(alloc),
+        changes,
         det: Det {
             can_fail: false,
             most: Most::One,

@@ -93,7 +93,7 @@ fn none_missed(
 }
 
 /// Whether an inst allows a symbol.
-fn allows(alloc: Global, procs: &Procs, i: InstId, symbol: u32) -> Result<bool, Memory>
+pub(crate) fn allows(alloc: Global, procs: &Procs, i: InstId, symbol: u32) -> Result<bool, Memory>
     requires { i < count_of procs.now.insts }
     ensures { IfOk result (λ b. b ≡ allows_one procs.now i symbol) }
 {

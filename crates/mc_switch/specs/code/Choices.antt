@@ -16,7 +16,7 @@ use Rattle.mc_varset.specs.Members.{has}
 use Rattle.mc_switch.specs.declared.disjunct.Opened.{Opened}
 use Rattle.mc_switch.specs.declared.opening.Opening.{Opening}
 use Rattle.mc_switch.specs.Openings.{plain_openings}
-use Rattle.mc_switch.specs.Grouping.{type_in, inst_in}
+use Rattle.mc_switch.specs.Types.{type_in, inst_in}
 use Rattle.mc_switch.specs.code.Labels.{is_opened_by}
 
 -- an inst allows a symbol

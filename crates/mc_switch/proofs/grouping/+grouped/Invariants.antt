@@ -2,7 +2,8 @@ use Rattle.std.proofs.Common.{◌≡◌, ◌++◌, ◌+◌, ◌*◌, length, map
 use Rattle.std.specs.Vec.Iter.{into_iter_items, into_iter_len}
 use Rattle.mc_model.specs.PlainGoals.{plain_arm}
 use Rattle.mc_switch.specs.code.Groups.{plain_groups}
-use Rattle.mc_switch.specs.code.Parts.{KeepsGroup, AreArmsOf}
+use Rattle.mc_switch.specs.code.Parts.{KeepsGroup, KeepsEnds, AreArmsOf}
+use Rattle.mc_switch.specs.Kept.{Merges, OnlyGrew}
 use Rattle.mc_switch.proofs.grouping.+grouped.Given as goal
 
 abbrev pub decreases-grouped : goal.decreases-grouped
@@ -22,6 +23,9 @@ invariant-arms-loop-group l = record {
   all : l.yielded ++ into_iter_items l.group-iterator ≡ into_iter_items l.initial.group-iterator;
   left : into_iter_len l.group-iterator ≡ length (into_iter_items l.group-iterator);
   first : All KeepsGroup (into_iter_items l.group-iterator);
+  ends : All (KeepsEnds l.procs l.around) (into_iter_items l.group-iterator);
+  merges : Merges l.procs l.around.types.now l.fn.merger.found l.merger.found;
+  grew : OnlyGrew l.fn.procs l.procs;
   out : l.out ≡ l.fn.out;
-  arms : AreArmsOf l.procs l.types l.insts l.fn.out l.times (plain_groups l.yielded) (map plain_arm l.arms.items);
+  arms : AreArmsOf l.procs l.merger.found l.around l.fn.out l.times (plain_groups l.yielded) (map plain_arm l.arms.items);
 }

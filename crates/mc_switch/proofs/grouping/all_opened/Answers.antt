@@ -4,21 +4,22 @@ use Rattle.std.proofs.lemmas.List.Elements.{All-push}
 use Rattle.std.specs.Vec.Iter.{into_iter_items}
 use Rattle.mc_model.specs.PlainGoals.{plain_node}
 use Rattle.mc_model.specs.declared.sched.GoalNode.{GoalNode}
-use Rattle.mc_switch.specs.Grouping.{disjuncts_of}
+use Rattle.mc_switch.specs.code.Grouping.{disjuncts_of, nodes_of}
+use Rattle.mc_switch.specs.declared.formed.Formed.{Formed}
 use Rattle.mc_switch.specs.code.Labels.{KeepsFirst, plain_opened}
 use Rattle.mc_switch.specs.declared.disjunct.Opened.{Opened}
-use Rattle.mc_switch.proofs.Arms.{one_more_disjunct}
+use Rattle.mc_switch.proofs.Arms.{one_more_disjunct, one_more_kept}
 use Rattle.mc_switch.proofs.grouping.all_opened.Goals as goal
 
 pub loop-goal-preserved : goal.loop-goal-preserved
 loop-goal-preserved c =
     let now = c.loop-goal in
-    let m : GoalNode = c.in-Some.goal in
+    let m : Formed = c.in-Some.goal in
     let o : Opened = c.in_ok-of.field-0 in
     let sources : List GoalNode = c.args.sources.now in
     let before : List Opened = now.disjuncts.items in
     let after : List Opened = c.push.new.self.items in
-    let ms : List GoalNode = now.yielded in
+    let ms : List Formed = now.yielded in
     let steps : into_iter_items now.goal-iterator ≡ m ∷ into_iter_items c.next.new.self = c.in-Some.ensures.steps.0 in
     let one = ap length steps in
     let whole : length ms + length (into_iter_items now.goal-iterator) ≡ length sources =
@@ -37,7 +38,8 @@ loop-goal-preserved c =
       first = subst (All KeepsFirst) (sym c.in_ok-push.ensures.items) (All-push KeepsFirst before o now.invariant.first c.in_ok-of.ensures.first);
       disjuncts =
           one_more_disjunct sources ms c.len-k.result c.index-sources-k.result m o before after many lt c.index-sources-k.is c.in_ok-of.ensures.opens c.in_ok-of.ensures.goal c.in_ok-push.ensures.items
-          (subst (λ j. map plain_opened before ≡ disjuncts_of (map plain_node (take j sources)) (map plain_node ms)) (sym many) now.invariant.disjuncts)
+          (subst (λ j. map plain_opened before ≡ disjuncts_of (map plain_node (take j sources)) (nodes_of ms)) (sym many) now.invariant.disjuncts)
           ∙ (let j : c.len-k.result + 1 ≡ length (ms ++ m ∷ []) = omega (arith, many, more) in
-          ap (λ i. disjuncts_of (map plain_node (take i sources)) (map plain_node (ms ++ m ∷ []))) j);
+          ap (λ i. disjuncts_of (map plain_node (take i sources)) (nodes_of (ms ++ m ∷ []))) j);
+      kept = one_more_kept ms before after m o now.invariant.kept c.in_ok-of.ensures.goal c.in_ok-of.ensures.never c.in_ok-push.ensures.items;
     }

@@ -1,0 +1,36 @@
+use Rattle.std.proofs.Common.{◌≡◌, ℕ, List, [], Bool, map, sym, ap, ap₂, ◌∙◌, subst}
+use Rattle.std.proofs.lemmas.Result.{IfOk-weaker}
+use Rattle.mc_model.specs.PlainGoals.{plain_node, plain_sched}
+use Rattle.mc_model.specs.declared.sched.Sched.{Sched}
+use Rattle.mc_accepted.specs.Switched.{Disjunct, openings_of, grouped}
+use Rattle.mc_switch.specs.code.Grouping.{IsGrouped, nodes_of}
+use Rattle.mc_switch.specs.Types.{type_in, inst_in}
+use Rattle.mc_switch.specs.declared.disjunct.Opened.{Opened}
+use Rattle.mc_switch.specs.code.Choices.{AreSame}
+use Rattle.mc_switch.specs.code.Labels.{plain_opened}
+use Rattle.mc_switch.specs.code.Parts.{kept_in, IsGroupedOf}
+use Rattle.mc_switch.proofs.Arms.{ends_kept}
+use Rattle.mc_switch.proofs.Choosing.{none_out}
+use Rattle.mc_switch.proofs.grouping.switched.Goals as goal
+
+pub grouped-requires-clause-ends : goal.grouped-requires-clause-ends
+grouped-requires-clause-ends c =
+    ends_kept c.args.procs.now c.args.around.now c.args.goals.items c.in_ok-disjuncts.disjuncts.items c.in_ok-disjuncts.ensures.ends c.requires.ends
+
+pub returns-clause-grouped : goal.returns-clause-grouped
+returns-clause-grouped c =
+    let at = c.args.around.now in
+    let os : List Opened = c.in_ok-disjuncts.disjuncts.items in
+    let out : List Bool = c.in_ok-out.out in
+    let q = c.grouped.new.procs in
+    let N = c.grouped.new.merger.found in
+    let same = c.in_ok-disjuncts.ensures.disjuncts in
+    let times : c.in_ok-times.times ≡ openings_of (map plain_opened os) =
+    c.in_ok-times.ensures ∙ ap (λ (ps : List Opened). openings_of (map plain_opened ps)) c.as_slice.ensures.value in
+    IfOk-weaker c.grouped.result (λ (s : Sched). IsGroupedOf q N at out c.in_ok-times.times os (plain_sched s))
+    (λ (s : Sched). IsGrouped q N at (map plain_node c.args.sources.now) (nodes_of c.args.goals.items) (plain_sched s))
+    (λ s h S M suits later.
+    let group : ℕ → List Disjunct → _ = λ n ds. grouped S (type_in at.types.now) (kept_in S M at) n (inst_in at.before.now) [] ds in
+    h S M [] suits later (subst (AreSame []) (sym c.in_ok-out.ensures) (none_out c.len.result))
+    ∙ ap₂ group (times ∙ ap openings_of same) same)
+    c.grouped.ensures.grouped
