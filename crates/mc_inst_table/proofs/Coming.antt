@@ -8,7 +8,7 @@ use Rattle.mc_inst_table.specs.code.Ends.{how_many, needs, all_need, IsFull, Are
 
 -- INSTS PUT IN FOR PARAMETERS
 
-at_within :
+pub at_within :
     (is js : InstTerms) (k : ℕ)
     → k < how_many js → over is (inst_at js k) ≡ inst_at (each_over is js) k
 at_within is no_insts k below = absurd (let h : k < 0 = below in omega arith)
@@ -30,7 +30,7 @@ mutual
   over_over is js (defined d us) h = ap (defined d) (each_over_over is js us h)
   over_over is js (bound_over us) h = ap bound_over (each_over_over is js us h)
 
-  each_over_over :
+  pub each_over_over :
       (is js us : InstTerms)
       → all_need us ≤ how_many js → each_over is (each_over js us) ≡ each_over (each_over is js) us
   each_over_over is js no_insts h = refl
@@ -39,7 +39,7 @@ mutual
       let others : all_need us ≤ how_many js = omega (arith, h) in
       ap₂ inst_then (over_over is js u first) (each_over_over is js us others)
 
-how_many_over : (is js : InstTerms) → how_many (each_over is js) ≡ how_many js
+pub how_many_over : (is js : InstTerms) → how_many (each_over is js) ≡ how_many js
 how_many_over is no_insts = refl
 how_many_over is (inst_then j js) = ap suc (how_many_over is js)
 

@@ -11,11 +11,14 @@ use Rattle.mc_modules.specs.Linked.{Linked, plain_named, plain_names}
 use Rattle.mc_inst_table.specs.declared.inst.Inst.{Inst}
 use Rattle.mc_inst_table.specs.declared.heads.Head.{Head}
 use Rattle.mc_inst_table.specs.declared.rings.InstDefinitions.{InstDefinitions}
-use Rattle.mc_inst_table.specs.Plain.{plain_inst}
-use Rattle.mc_inst_table.specs.Rules.{inst_body_of, inst_bodies, body_or_none}
-use Rattle.mc_inst_table.specs.code.Ends.{IsFull, head_at, AreNeeds, AreHeads, AreSettled, bodies_of}
+use Rattle.mc_inst_table.specs.Plain.{plain_inst, plain_insts}
+use Rattle.mc_inst_table.specs.Rules.{inst_body_of, inst_bodies, body_or_none, OnePutsFreeInside}
+use Rattle.mc_inst_table.specs.code.Ends.{IsFull, head_at, AreFull, AreNeeds, AreHeads, AreSettled, bodies_of}
+use Rattle.mc_inst_table.specs.code.Insides.{inside_at, all_put_ends, AreInside, AreClosed, has_free_end}
 use Rattle.mc_inst_table.specs.code.Passed.{passed}
 use Rattle.mc_inst_table.specs.code.Known.{AreDefinitions}
+use Rattle.mc_inst_table.proofs.Parameters.{free_among}
+use Rattle.mc_inst_table.proofs.PuttingInside.{free_told}
 use Rattle.mc_inst_table.proofs.Passing.{back_by_graph, past_comes_back}
 
 each_body :
@@ -26,7 +29,7 @@ each_body l [] d = refl
 each_body l (n ∷ ns) zero = refl
 each_body l (n ∷ ns) (suc d) = each_body l ns d
 
-bodies_by :
+pub bodies_by :
     (l : Linked) (is : List Inst) (ns : List Named)
     → map plain_inst is ≡ map (λ n. inst_body_of l (Some (plain_named n))) ns
     → (d : ℕ) → bodies_of is d ≡ inst_body_of l (slice_get (map plain_named ns) d)
@@ -40,15 +43,16 @@ rows_by heads (i ∷ is) zero = refl
 rows_by heads (i ∷ is) (suc d) = rows_by heads is d
 
 pub are_definitions :
-    (n : Names) (is : List Inst) (ns : List ℕ) (hs : List Head) (rows : List (List ℕ)) (s : InstDefinitions)
+    (n : Names) (is : List Inst) (ns : List ℕ) (hs : List Head) (ins rows : List (List ℕ)) (s : InstDefinitions)
     → map plain_inst is ≡ map (λ d. inst_body_of (plain_names n) (Some (plain_named d))) n.insts
     → ((d : ℕ) → IsFull (bodies_of is) (bodies_of is d))
     → AreNeeds (bodies_of is) ns → AreHeads (bodies_of is) hs → AreSettled (bodies_of is) hs
+    → AreInside (bodies_of is) ins → AreClosed (bodies_of is) (head_at hs) ins
     → rows ≡ map (λ i. passed (head_at hs) (plain_inst i)) is
-    → s.bodies ≡ is → s.needs.items ≡ ns → s.heads ≡ hs → s.graph ≡ rows
+    → s.bodies ≡ is → s.needs.items ≡ ns → s.heads ≡ hs → s.inside ≡ ins → s.graph ≡ rows
     → length s.components ≡ length rows → NumbersComponents rows s.components
     → AreDefinitions (plain_names n) s
-are_definitions n is ns hs rows s bodies full needs heads settled passes is_bodies is_needs is_heads is_graph count alike =
+are_definitions n is ns hs ins rows s bodies full needs heads settled inside closed passes is_bodies is_needs is_heads is_inside is_graph count alike =
     record {
       bodies = λ d. ap (λ bs. bodies_of bs d) is_bodies ∙ bodies_by (plain_names n) is n.insts bodies d;
       full = subst (λ bs. (d : ℕ) → IsFull (bodies_of bs) (bodies_of bs d)) (sym is_bodies) full;
@@ -58,6 +62,11 @@ are_definitions n is ns hs rows s bodies full needs heads settled passes is_bodi
           (subst (AreHeads (bodies_of is)) (sym is_heads) heads);
       settled = subst (λ bs. AreSettled (bodies_of bs) s.heads) (sym is_bodies)
           (subst (AreSettled (bodies_of is)) (sym is_heads) settled);
+      inside = subst (λ bs. AreInside (bodies_of bs) s.inside) (sym is_bodies)
+          (subst (AreInside (bodies_of is)) (sym is_inside) inside);
+      closed = subst (λ bs. AreClosed (bodies_of bs) (head_at s.heads) s.inside) (sym is_bodies)
+          (subst (λ us. AreClosed (bodies_of is) (head_at us) s.inside) (sym is_heads)
+          (subst (AreClosed (bodies_of is) (head_at hs)) (sym is_inside) closed));
       passes = λ d.
           ap (λ g. steps g d) (is_graph ∙ passes)
           ∙ rows_by (head_at hs) is d
@@ -89,3 +98,18 @@ back_past l s d past are =
           absurd
           (past_comes_back (bodies_of s.bodies) are.full s.heads are.heads are.settled s.graph are.passes d past back),
     )
+
+pub free_known :
+    (l : Linked) (s : InstDefinitions) (is : List Inst) (b : Bool)
+    → ((body : Bodies) → AreNeeds body s.needs.items → AreFull body (plain_insts is))
+    → b ≡ has_free_end (all_put_ends (head_at s.heads) (inside_at s.inside) (plain_insts is))
+    → AreDefinitions l s → (b ≡ true) ↔ OnePutsFreeInside (inst_bodies l) (plain_insts is)
+free_known l s is b full found are =
+    let same : bodies_of s.bodies ≡ inst_bodies l = fun_ext are.bodies in
+    let told =
+    free_told (bodies_of s.bodies) are.full s.heads are.heads s.inside are.inside are.settled are.closed
+    (plain_insts is) (full (bodies_of s.bodies) are.needs)
+    in
+    let among = free_among (all_put_ends (head_at s.heads) (inside_at s.inside) (plain_insts is)) in
+    subst (λ (body : Bodies). (b ≡ true) ↔ OnePutsFreeInside body (plain_insts is)) same
+    (λ h. told.0 (among.0 (sym found ∙ h)), λ m. found ∙ among.1 (told.1 m))

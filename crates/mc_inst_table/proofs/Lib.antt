@@ -7,4 +7,12 @@ pub mod Finding
 pub mod Passing
 pub mod Needing
 pub mod Knowing
-pub mod Telling
+pub mod PuttingInside
+pub mod Parameters
+pub mod Rounds
+pub mod Flowing
+pub mod Linking
+pub mod Placing
+pub mod Judging
+pub mod Sizing
+pub mod Faulting

@@ -6,7 +6,7 @@ use Rattle.mc_term_data.specs.Plain.{PlainTerm, PlainTerms, at, no_term, more_te
 use Rattle.mc_term_data.specs.Shapes.{operands}
 use Rattle.mc_source.specs.declared.place.Place.{Place}
 use Rattle.mc_source.specs.declared.rule.Broken.{Broken}
-use Rattle.mc_source.specs.Rules.{Fault}
+use Rattle.mc_source.specs.Rules.{Fault, broken_at}
 use Rattle.mc_decl_syntax.specs.Plain.{PlainDecl, SameInst, BoundInst, ModeDef, Pred, Func, Mode}
 use Rattle.mc_defs_uses.specs.Plain.{PlainNameArity, id, PlainDefinition}
 use Rattle.mc_defs_uses.specs.Definitions.{definitions}
@@ -159,3 +159,10 @@ pub data InstSays (l : Linked) (i : InstItem) : Option Fault → Type 0 where
       (HasFreeInside l i → ⊥) → IsUnfounded l i.own i.item
       → InstSays l i (Some (not_well_founded (shown (item_name i.item))))
   is_sound : (HasFreeInside l i → ⊥) → (IsUnfounded l i.own i.item → ⊥) → InstSays l i None
+
+-- The list of what is told: of each faulty item once, in the order of the files and their items.
+pub data AreInstFaults (l : Linked) : List InstItem → List Broken → Type 0 where
+  no_item : AreInstFaults l [] []
+  item_then :
+      {i : InstItem} {is : List InstItem} {f : Option Fault} {bs : List Broken}
+      → InstSays l i f → AreInstFaults l is bs → AreInstFaults l (i ∷ is) (broken_at i.at f ++ bs)

@@ -2,3 +2,8 @@ pub mod Leading
 pub mod Ends
 pub mod Passed
 pub mod Known
+pub mod Insides
+pub mod Links
+pub mod Places
+pub mod Others
+pub mod Faults

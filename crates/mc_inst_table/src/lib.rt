@@ -2,19 +2,23 @@
 #![tactic(auto)]
 
 mod bodies;
-mod founded;
+mod faults;
 mod heads;
+mod inside;
 mod inst;
 mod items;
+mod links;
 mod meaning;
 mod mode_rings;
 mod modes;
 mod needs;
+mod others;
+mod places;
 mod rings;
 mod written;
 
 pub use bodies::inst_bodies;
-pub use founded::{insts_that_come_back, unfounded_modes};
+pub use faults::inst_faults;
 pub use inst::{Inst, Mode};
 pub use items::insts_written;
 pub use modes::mode_of_term;

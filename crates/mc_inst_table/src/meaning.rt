@@ -4,6 +4,7 @@ ghost use Rattle.mc_modules.specs.Linked.{plain_named, plain_names};
 ghost use Rattle.mc_modules.specs.Numbers.{numbers_where};
 ghost use Rattle.mc_modules.specs.Candidates.{is_module, named_so, looked_in, type_fits};
 ghost use Rattle.mc_inst_table.specs.Written.{numbers_among, first_or, meaning};
+ghost use Rattle.mc_inst_table.specs.Rules.{own_number};
 
 use mc_base::{Copied, Memory, Row, Text};
 use mc_defs_uses::{Kind, NameArity, Occurrence};
@@ -39,6 +40,16 @@ pub fn meaning(
         definitions.as_slice(),
         modules.as_slice(),
     ))
+}
+
+/// The number of the definition of a name that stands in the module itself, among some. Where there is none, it is a number
+/// that none has.
+pub fn own_number(names: &Names, own: u32, id: NameArity, definitions: &Row<Named>) -> u32
+    ensures { result
+        ≡ own_number (plain_names names.now) own (map plain_named definitions.now)
+        (plain_name_arity id.entry) }
+{
+    first_of(names, own, id, definitions.as_slice(), &[own])
 }
 
 // The modules in which a name with these qualifiers is looked up.

@@ -2,28 +2,31 @@ ghost use Rattle.std.specs.Prelude.{◌≡◌, ◌++◌, ◌↔◌, ◌<◌, [],
 ghost use Rattle.mc_accepted.specs.InstRules.{ComesBack};
 ghost use Rattle.mc_modules.specs.Linked.{Linked, plain_names};
 ghost use Rattle.mc_inst_table.specs.Plain.{plain_inst, plain_insts};
-ghost use Rattle.mc_inst_table.specs.Rules.{inst_bodies};
+ghost use Rattle.mc_inst_table.specs.Rules.{inst_bodies, OnePutsFreeInside};
+ghost use Rattle.mc_inst_table.specs.code.Insides.{is_free_end, has_free_end};
 ghost use Rattle.mc_inst_table.specs.code.Ends.{head_at};
 ghost use Rattle.mc_inst_table.specs.code.Passed.{passed, each_passed};
 ghost use Rattle.mc_inst_table.specs.code.Known.{AreDefinitions};
 
 use crate::bodies::inst_bodies;
 use crate::heads::{Head, head_at, heads_of};
+use crate::inside::{insides_of, put_all_ends};
 use crate::inst::Inst;
-use crate::needs::needs_if_full;
+use crate::needs::{are_full, needs_if_full};
 use mc_base::{Memory, Row};
 use mc_components::{components, reaches_itself};
 use mc_modules::Names;
 use std::alloc::Global;
 
 /// The inst definitions of a program, by their numbers: what each stands for, over how many parameters at least, and
-/// where that leads before any constructor; which definitions it passes itself on the way, and the components of that
-/// graph.
+/// where that leads before any constructor; which parameters it puts into constructors; which definitions it passes
+/// itself on the way, and the components of that graph.
 #[derive(Drop)]
 pub struct InstDefinitions {
     pub bodies: Row<Inst>,
     pub needs: Vec<u64>,
     pub heads: Row<Head>,
+    pub inside: Row<Row<u32>>,
     pub graph: Row<Row<u32>>,
     pub components: Row<u32>,
 }
@@ -41,12 +44,14 @@ impl InstDefinitions {
         let bodies = inst_bodies(alloc, names)?;
         let needs = needs_if_full(alloc, &bodies)?;
         let heads = heads_of(alloc, &bodies)?;
+        let inside = insides_of(alloc, &heads, &bodies)?;
         let graph = graph(alloc, &heads, &bodies)?;
         let components = components(alloc, &graph)?;
         Ok(InstDefinitions {
             bodies,
             needs,
             heads,
+            inside,
             graph,
             components,
         })
@@ -59,6 +64,48 @@ impl InstDefinitions {
             → (result ≡ true) ↔ ComesBack (inst_bodies l) number }
     {
         number < self.graph.len() && reaches_itself(&self.graph, &self.components, number)
+    }
+
+    /// Whether one of some insts puts `free` into a constructor.
+    ///
+    /// # Errors
+    ///
+    /// `Memory` where there is no room, or where a definition in them stands over fewer insts than its body needs.
+    pub fn one_puts_free(&self, alloc: Global, insts: &[Inst]) -> Result<bool, Memory>
+        ensures { IfOk result
+            (λ b.
+            (l : Linked) → AreDefinitions l self.now
+            → (b ≡ true) ↔ OnePutsFreeInside (inst_bodies l) (plain_insts insts.now)) }
+    {
+        if !are_full(self.needs.as_slice(), insts) {
+            return Err(Memory);
+        }
+        let mut ends = Vec::new(alloc);
+        put_all_ends(&self.heads, &self.inside, insts, &mut ends)?;
+        Ok(is_free_among(ends.as_slice()))
+    }
+}
+
+// Whether `free` is among ends.
+fn is_free_among(ends: &[Head]) -> bool
+    ensures { result ≡ has_free_end ends.now }
+{
+    for end in ends {
+        if is_free(*end) {
+            return true;
+        }
+    }
+    false
+}
+
+fn is_free(end: Head) -> bool
+    ensures { result ≡ is_free_end end }
+{
+    match end {
+        Head::Node(node) => node == 0,
+        Head::Parameter(_) => false,
+        Head::Bound => false,
+        Head::Unknown => false,
     }
 }
 

@@ -1,0 +1,2 @@
+pub mod WrittenModes
+pub mod code

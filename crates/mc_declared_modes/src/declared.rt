@@ -1,0 +1,191 @@
+ghost use Rattle.std.specs.Prelude.{◌≡◌, ◌++◌, ◌∷◌, [], map, replicate, IfOk, OnOk, slice_index_or};
+ghost use Rattle.std.specs.Option.{option_map, option_to_list};
+ghost use Rattle.mc_items.specs.Files.{plain_entry};
+ghost use Rattle.mc_linking.specs.Files.{plain_files};
+ghost use Rattle.mc_accepted.specs.InstRules.{inst_node};
+ghost use Rattle.mc_modules.specs.Linked.{plain_named, plain_names};
+ghost use Rattle.mc_inst_table.specs.Plain.{plain_mode};
+ghost use Rattle.mc_inst_table.specs.Written.{from_to};
+ghost use Rattle.mc_declared_modes.specs.WrittenModes.{plain_written, is_function, modes_by, modes_among, default_mode, or_default, modes_of, declared_modes};
+ghost use Rattle.mc_declared_modes.specs.code.Callables.{plain_callable};
+
+use crate::callable::{Callable, callable_of, is_of};
+use crate::written::{WrittenMode, mode_by};
+use mc_base::{Memory, Row};
+use mc_inst_table::{Inst, Mode};
+use mc_items::Entry;
+use mc_modules::{Named, Names};
+use mc_source::det::{Det, Most};
+use mc_source::place::Place;
+use mc_type_table::home;
+use std::alloc::Global;
+
+/// The declared modes of the predicates and functions of a program, by their numbers, each as its item writes it, in the
+/// order of the items. A function without a mode has the default one. The files are those that were linked.
+///
+/// # Errors
+///
+/// `Memory` where there is no room.
+pub fn declared_modes(
+    alloc: Global,
+    names: &Names,
+    files: &[Row<Entry>],
+) -> Result<Row<Row<WrittenMode>>, Memory>
+    ensures { IfOk result
+        (λ rows.
+        map (map plain_written) rows ≡ declared_modes (plain_names names.now) (plain_files files.now)) }
+{
+    let mut rows = Vec::new(alloc);
+    for named in names.preds.as_slice() {
+        rows.push(modes_of(alloc, names, files, named)?)?;
+    }
+    let rows = Row::of(rows)?;
+    Ok(rows)
+}
+
+// The modes of a predicate or a function.
+fn modes_of(
+    alloc: Global,
+    names: &Names,
+    files: &[Row<Entry>],
+    named: &Named,
+) -> Result<Row<WrittenMode>, Memory>
+    ensures { IfOk result
+        (λ modes.
+        map plain_written modes
+        ≡ modes_of (plain_names names.now) (plain_files files.now) (plain_named named.now)) }
+{
+    let own = home(names, named);
+    let wanted = callable_of(named);
+    let modes = modes_among(alloc, names, own, wanted, file_at(files, own))?;
+    let all = or_default(alloc, named, wanted.is_function, modes)?;
+    Row::of(all)
+}
+
+// The items of a module.
+fn file_at(files: &[Row<Entry>], number: u32) -> &[Entry]
+    ensures { map plain_entry result.now ≡ slice_index_or (plain_files files.now) number [] }
+{
+    match files.get(number as usize) {
+        Some(file) => file.as_slice(),
+        None => &[],
+    }
+}
+
+// The modes of one that items declare.
+#[tactic(auto, using(crate::proofs::Behind::among_more))]
+fn modes_among(
+    alloc: Global,
+    names: &Names,
+    own: u32,
+    wanted: Callable<'_>,
+    entries: &[Entry],
+) -> Result<Vec<WrittenMode>, Memory>
+    ensures { IfOk result
+        (λ modes.
+        map plain_written modes.items
+        ≡ modes_among (plain_names names.now) own (plain_callable wanted.entry) (map plain_entry entries.now)) }
+{
+    let mut modes = Vec::new(alloc);
+    for entry in entries {
+        put_mode(alloc, names, own, wanted, entry, &mut modes)?;
+    }
+    Ok(modes)
+}
+
+// The mode of one that an item declares.
+fn put_mode(
+    alloc: Global,
+    names: &Names,
+    own: u32,
+    wanted: Callable<'_>,
+    entry: &Entry,
+    modes: &mut Vec<WrittenMode>,
+) -> Result<(), Memory>
+    ensures { OnOk result
+        (map plain_written modes.new.items
+        ≡ map plain_written modes.old.items
+        ++ modes_by (plain_names names.now) own (plain_callable wanted.entry) (plain_entry entry.now)) }
+{
+    if !is_of(wanted, &entry.decl) {
+        return Ok(());
+    }
+    let mode = mode_by(alloc, names, own, entry)?;
+    put_some(mode, modes)
+}
+
+#[tactic(auto, using(crate::proofs::Behind::written_behind))]
+fn put_some(mode: Option<WrittenMode>, modes: &mut Vec<WrittenMode>) -> Result<(), Memory>
+    ensures { OnOk result
+        (map plain_written modes.new.items
+        ≡ map plain_written modes.old.items ++ option_to_list (option_map plain_written mode)) }
+{
+    match mode {
+        Some(mode) => {
+            modes.push(mode)?;
+            Ok(())
+        }
+        None => Ok(()),
+    }
+}
+
+// These modes, or a function's default one where there are none.
+fn or_default(
+    alloc: Global,
+    named: &Named,
+    has_default: bool,
+    mut modes: Vec<WrittenMode>,
+) -> Result<Vec<WrittenMode>, Memory>
+    requires { has_default ≡ is_function (plain_named named.now).item }
+    ensures { IfOk result
+        (λ all. map plain_written all.items ≡ or_default (plain_named named.now) (map plain_written modes.items)) }
+{
+    if !modes.is_empty() {
+        return Ok(modes);
+    }
+    if has_default {
+        modes.push(default_mode(alloc, named.name.arity, named.at)?)?;
+    }
+    Ok(modes)
+}
+
+// The mode of a function without one.
+fn default_mode(alloc: Global, arity: u32, at: Place) -> Result<WrittenMode, Memory>
+    ensures { IfOk result (λ m. plain_written m ≡ default_mode arity at) }
+{
+    let modes = default_modes(alloc, arity)?;
+    let modes = Row::of(modes)?;
+    let det = Some(Det {
+        can_fail: false,
+        most: Most::One,
+        committed: false,
+    });
+    Ok(WrittenMode { modes, det, at })
+}
+
+fn default_modes(alloc: Global, arity: u32) -> Result<Vec<Mode>, Memory>
+    ensures { IfOk result
+        (λ modes.
+        map plain_mode modes.items
+        ≡ replicate arity (from_to (inst_node 1) (inst_node 1))
+        ++ (from_to (inst_node 0) (inst_node 1) ∷ [])) }
+{
+    let mut modes = Vec::new(alloc);
+    for argument in 0..arity {
+        modes.push(input())?;
+    }
+    modes.push(output())?;
+    Ok(modes)
+}
+
+fn input() -> Mode
+    ensures { plain_mode result ≡ from_to (inst_node 1) (inst_node 1) }
+{
+    Mode::FromTo(Inst::Node(1), Inst::Node(1))
+}
+
+fn output() -> Mode
+    ensures { plain_mode result ≡ from_to (inst_node 0) (inst_node 1) }
+{
+    Mode::FromTo(Inst::Node(0), Inst::Node(1))
+}

@@ -1,0 +1,9 @@
+use Rattle.std.proofs.Common.{◌≡◌, ◌+◌, ◌-◌, ◌≤◌, ◌++◌, length, drop}
+use Rattle.mc_inst_table.specs.code.Places.{place, links_at, is_inner, given_for, given_by, rows_of, all_rows, firsts_from, spoiled_for, spoiled_by, all_spoiled}
+use Rattle.mc_inst_table.proofs.places.row.Given as goal
+
+abbrev pub invariant-loop-link : goal.invariant-loop-link
+invariant-loop-link l =
+    l.row.items
+    ++ given_by l.places.firsts l.places.inner l.number l.parameter (drop l.link-index (links_at l.places.links l.number))
+    ≡ given_by l.places.firsts l.places.inner l.number l.parameter (links_at l.places.links l.number)
