@@ -5,3 +5,6 @@ mod Entries
 mod FilesOf
 mod Querying
 mod Differing
+mod Sights
+mod Passing
+mod Moved

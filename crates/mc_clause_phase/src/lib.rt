@@ -1,6 +1,7 @@
 //! What typing says of a program's clauses and its query: what each is resolved to, or the rules T1, T2 and L5.
 #![tactic(auto)]
 
+mod alike;
 mod checker;
 mod difference;
 mod judged;

@@ -5,11 +5,13 @@ ghost use Rattle.mc_linking.specs.Files.{plain_files};
 ghost use Rattle.mc_modules.specs.Linked.{plain_names};
 ghost use Rattle.mc_type_table.specs.Sight.{definitions_seen};
 ghost use Rattle.mc_check_clause.specs.Fitting.{IsSomeTable};
-ghost use Rattle.mc_clauses.specs.Typing.{clauses_from};
+ghost use Rattle.mc_items.specs.Files.{plain_entry};
+ghost use Rattle.mc_clauses.specs.Typing.{module_clauses, clauses_from};
 ghost use Rattle.mc_clause_phase.specs.Items.{items, clause_item, query_item};
 ghost use Rattle.mc_clause_phase.specs.Judging.{IsJudged};
-ghost use Rattle.mc_clause_phase.specs.code.Adding.{Checks, Adds};
+ghost use Rattle.mc_clause_phase.specs.code.Adding.{Checks, Adds, IsAtHand};
 
+use crate::alike::{has_clauses, see_alike};
 use crate::checker::Checker;
 use crate::judged::Judged;
 use mc_base::{Memory, Row};
@@ -43,25 +45,33 @@ pub fn judge(
         (option_map (λ t. plain_term t.now) goal.entry)) judged) }
 {
     let mut judged = Judged::new(alloc);
-    let number = judge_files(alloc, names, files, &mut judged)?;
+    let behind = judge_files(alloc, names, files, &mut judged)?;
     match goal {
         Some(goal) => {
-            let checker = checker_of(alloc, names, 0)?;
-            judged.judge_query(&checker, number, goal)?;
+            let checker = checker_for(alloc, names, behind.at_hand, 0)?;
+            judged.judge_query(&checker, behind.number, goal)?;
             Ok(judged)
         }
         None => Ok(judged),
     }
 }
 
-// Judges the clauses of files, and tells how many files there are.
-fn judge_files(
+// What stands behind files that were judged: how many they are, and the checker that is at hand, where one was made.
+#[derive(Drop)]
+struct Behind<'n> {
+    number: u32,
+    at_hand: Option<Checker<'n>>,
+}
+
+// Judges the clauses of files.
+fn judge_files<'n>(
     alloc: Global,
-    names: &Names,
+    names: &'n Names,
     files: &[Row<Entry>],
     judged: &mut Judged,
-) -> Result<u32, Memory>
-    ensures number { IfOk result (λ number. number ≡ length files.now) }
+) -> Result<Behind<'n>, Memory>
+    ensures number { IfOk result (λ behind. behind.number ≡ length files.now) }
+    ensures at_hand { IfOk result (λ behind. IsAtHand (plain_names names.now) behind.at_hand) }
     ensures added { OnOk result
         (Adds (plain_names names.now) (definitions_seen (plain_names names.now))
         (map (clause_item (plain_names names.now))
@@ -69,15 +79,74 @@ fn judge_files(
         judged.old judged.new) }
 {
     let mut own: u32 = 0;
+    let mut at_hand = None;
     for file in files {
-        let checker = checker_of(alloc, names, own)?;
-        judged.judge_file(&checker, file.as_slice())?;
+        let next = judge_module(alloc, names, at_hand, own, file.as_slice(), judged)?;
+        at_hand = next;
         if own == u32::MAX {
             return Err(Memory);
         }
         own += 1;
     }
-    Ok(own)
+    Ok(Behind {
+        number: own,
+        at_hand,
+    })
+}
+
+// Judges the clauses of a module's file, and tells the checker that is then at hand. Where there is no clause none is made.
+fn judge_module<'n>(
+    alloc: Global,
+    names: &'n Names,
+    at_hand: Option<Checker<'n>>,
+    own: u32,
+    file: &[Entry],
+    judged: &mut Judged,
+) -> Result<Option<Checker<'n>>, Memory>
+    requires { IsAtHand (plain_names names.now) at_hand }
+    ensures at_hand { IfOk result (IsAtHand (plain_names names.now)) }
+    ensures added { OnOk result
+        (Adds (plain_names names.now) (definitions_seen (plain_names names.now))
+        (map (clause_item (plain_names names.now))
+        (module_clauses (plain_names names.now) own (map plain_entry file.now)))
+        judged.old judged.new) }
+{
+    if !has_clauses(file) {
+        return Ok(at_hand);
+    }
+    let checker = checker_for(alloc, names, at_hand, own)?;
+    judged.judge_file(&checker, file)?;
+    Ok(Some(checker))
+}
+
+// The checker of a module's clauses: the one at hand, where its module sees the same definitions of types.
+#[tactic(auto, using(crate::proofs::Moved::some_at_hand))]
+fn checker_for<'n>(
+    alloc: Global,
+    names: &'n Names,
+    at_hand: Option<Checker<'n>>,
+    own: u32,
+) -> Result<Checker<'n>, Memory>
+    requires { IsAtHand (plain_names names.now) at_hand }
+    ensures some { IfOk result (λ checker. IsSomeTable checker.signatures) }
+    ensures own { IfOk result (λ checker. checker.at.own ≡ own) }
+    ensures checks { IfOk result
+        (λ checker.
+        Checks (plain_names names.now) (definitions_seen (plain_names names.now) checker.at.own)
+        checker) }
+{
+    match at_hand {
+        Some(mut checker) => {
+            if see_alike(names, checker.at.own, own) {
+                checker.at.own = own;
+                return Ok(checker);
+            }
+            drop(checker);
+            let made = checker_of(alloc, names, own)?;
+            Ok(made)
+        }
+        None => checker_of(alloc, names, own),
+    }
 }
 
 // The checker of a module's clauses, by what the module sees that types are defined as.

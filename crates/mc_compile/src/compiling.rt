@@ -90,7 +90,12 @@ fn checked(
         (plain_typed typed) result }
 {
     match Checked::of(alloc, typed) {
-        Ok(checked) => form(alloc, &checked.typed, query, want_main),
+        Ok(checked) => {
+            let Checked { typed, clauses } = checked;
+            // The form doesn't use what clauses are resolved to, so that memory is given up before it.
+            drop(clauses);
+            form(alloc, &typed, query, want_main)
+        }
         Err(fault) => Err(fault),
     }
 }

@@ -1,4 +1,5 @@
 use mc_base::{Memory, Row, Text};
+use mc_clause_phase::judge;
 use mc_compile::{CompileFault, Given, LIBRARY, Named, Query, Read, Typed};
 use mc_defs_uses::{Definition, DefinitionSet, Kind, clause_of, definitions};
 use mc_items::{ItemsFault, read_items};
@@ -345,5 +346,30 @@ fn the_library_breaks_no_rule_of_linking(rt: HostRuntime) -> Result<(), Fail> {
         answer.as_slice(),
         b"0:1 N2, 1:1 N2, 2:1 N2, 3:1 N2, 4:1 N2, 5:1 N2, 6:1 N2, 7:1 N2, 7:4 N6, 8:1 N2".as_slice()
     );
+    Ok(())
+}
+
+// How many clauses of these files have types, and how many rules theirs break.
+fn judged(alloc: Global, named: &Named) -> Result<(usize, usize), Memory> {
+    let judged = judge(alloc, &named.names, named.files.as_slice(), None)?;
+    Ok((judged.clauses.len(), judged.broken.len()))
+}
+
+// The same as text.
+fn judged_shown(alloc: Global, files: &Row<Given>) -> Result<Vec<u8>, Fail> {
+    match named(alloc, files, None) {
+        Ok(named) => {
+            let (typed, broken) = judged(alloc, &named)?;
+            Ok(format!(in alloc; "{typed} typed, {broken} broken")?.into_bytes())
+        }
+        Err(fault) => fault_shown(alloc, fault),
+    }
+}
+
+#[test]
+fn the_library_s_own_clauses_have_types(rt: HostRuntime) -> Result<(), Fail> {
+    let alloc = rt.alloc();
+    let answer = judged_shown(alloc, &given(alloc, &[])?)?;
+    assert_eq!(rt; answer.as_slice(), b"17 typed, 0 broken".as_slice());
     Ok(())
 }

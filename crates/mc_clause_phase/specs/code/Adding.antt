@@ -1,5 +1,5 @@
 -- What is judged behind what was judged before.
-use Rattle.std.specs.Prelude.{◌≡◌, ℕ, List, [], ◌∷◌, ◌++◌, Option, Some, None}
+use Rattle.std.specs.Prelude.{◌≡◌, ℕ, List, [], ◌∷◌, ◌++◌, Option, Some, None, ⊤}
 use Rattle.mc_source.specs.declared.rule.Broken.{Broken}
 use Rattle.mc_program.specs.Programs.{TypeTerm, Source}
 use Rattle.mc_program.specs.declared.program.Resolved.{Resolved}
@@ -17,6 +17,8 @@ use Rattle.mc_defs_uses.specs.declared.definition.Kind.TheVariants as K
 use Rattle.mc_clauses.specs.Typing.{TypingSays, ModuleClause, clause_predicate, clause_item}
 use Rattle.mc_declarations.specs.Made.{DeclaredAs}
 use Rattle.mc_check_clause.specs.Tables.{IsTable}
+use Rattle.mc_type_table.specs.Sight.{definitions_seen}
+use Rattle.mc_check_clause.specs.Fitting.{IsSomeTable}
 use Rattle.mc_check_clause.specs.Checked.{IsResolved}
 use Rattle.mc_clause_phase.specs.Items.{Item}
 use Rattle.mc_clause_phase.specs.Judging.{AreFaults, AreTyped}
@@ -67,3 +69,8 @@ pub record Adds
   pub typed : (none : after.broken.items ≡ []) → AreTyped l seen items (made none)
   pub added :
       (none : after.broken.items ≡ []) → after.clauses.items ≡ before.clauses.items ++ made none
+
+-- A checker that is at hand has what its module sees that the program declares.
+abbrev pub IsAtHand : Linked → Option Checker → Type 0
+IsAtHand l None = ⊤
+IsAtHand l (Some c) = IsSomeTable c.signatures × Checks l (definitions_seen l c.at.own) c

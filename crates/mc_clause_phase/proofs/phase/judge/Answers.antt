@@ -20,12 +20,12 @@ returns-in_ok-judge_query-in-Some c =
     let files = c.args.files.now in
     let g = plain_term c.in-Some.goal.now in
     let clauses = items_from l 0 files in
-    let query = query_item l c.in_ok-number.number (Some g) in
+    let query = query_item l c.in_ok-behind.behind.number (Some g) in
     let asked : Some g ≡ option_map (λ t. plain_term t.now) c.args.goal =
     ap (option_map (λ t. plain_term t.now)) (sym c.in-Some.is)
     in
-    let count : c.in_ok-number.number ≡ length (plain_files files) =
-    c.in_ok-number.ensures.number ∙ sym (length-map files (map plain_entry))
+    let count : c.in_ok-behind.behind.number ≡ length (plain_files files) =
+    c.in_ok-behind.ensures.number ∙ sym (length-map files (map plain_entry))
     in
     let same : clauses ++ query ≡ items l (plain_files files) (option_map (λ t. plain_term t.now) c.args.goal) =
     ap (λ (n : ℕ). clauses ++ query_item l n (Some g)) count
@@ -37,7 +37,7 @@ returns-in_ok-judge_query-in-Some c =
     c.new-judged.ensures.broken c.new-judged.ensures.clauses
     (adds_both l sees clauses query c.new-judged.result c.judge_files.new.judged
     c.judge_query.new.self
-    c.in_ok-number.ensures.added
+    c.in_ok-behind.ensures.added
     (c.in_ok-judge_query-in-Some.ensures l sees c.in_ok-checker-in-Some.ensures.checks)))
 
 pub returns-in-None : goal.returns-in-None
@@ -56,4 +56,4 @@ returns-in-None c =
     subst Q same
     (judged_all l sees clauses c.new-judged.result c.judge_files.new.judged
     c.new-judged.ensures.broken c.new-judged.ensures.clauses
-    c.in_ok-number.ensures.added)
+    c.in_ok-behind.ensures.added)

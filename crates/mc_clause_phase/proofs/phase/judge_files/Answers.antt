@@ -1,4 +1,4 @@
-use Rattle.std.proofs.Common.{◌≡◌, ◌∙◌, ℕ, [], ◌++◌, ◌+◌, List, map, refl, ap, subst, arith}
+use Rattle.std.proofs.Common.{[], ◌++◌, ◌+◌, List, map, refl, subst, arith}
 use Rattle.mc_items.specs.declared.entry.Entry.{Entry}
 use Rattle.mc_items.specs.Files.{plain_entry}
 use Rattle.mc_modules.specs.Linked.{plain_names}
@@ -11,37 +11,35 @@ use Rattle.mc_clause_phase.proofs.FilesOf.{items_from, files_more, files_all}
 use Rattle.mc_clause_phase.proofs.phase.judge_files.Goals as goal
 
 pub loop-file-init : goal.loop-file-init
-loop-file-init c =
-    (refl, ([], adds_none (plain_names c.args.names.now) (definitions_seen (plain_names c.args.names.now)) c.args.judged.now, refl))
+loop-file-init c = (
+  refl,
+  tt,
+  (
+    [],
+    adds_none (plain_names c.args.names.now) (definitions_seen (plain_names c.args.names.now)) c.args.judged.now,
+    refl,
+  ),
+)
 
 pub loop-file-preserved : goal.loop-file-preserved
 loop-file-preserved c =
     let l = plain_names c.args.names.now in
     let own = c.loop-file.own in
     let file = c.file-item.result in
-    let checker = c.in_ok-checker.checker in
     let files = c.args.files.now in
     let sees = definitions_seen l in (
       omega (arith, c.loop-file.invariant.0),
-      let i = c.loop-file.invariant.1 in
+      c.in_ok-next.ensures.at_hand,
+      let i = c.loop-file.invariant.2 in
           let more = map (clause_item l) (module_clauses l own (map plain_entry file)) in
-          let same :
-          map (clause_item l) (module_clauses l checker.at.own (map plain_entry c.as_slice.result.now))
-          ≡ more =
-          ap
-          (λ (n : ℕ).
-          map (clause_item l) (module_clauses l n (map plain_entry c.as_slice.result.now)))
-          c.in_ok-checker.ensures.own
-          ∙ ap
-          (λ (es : List Entry). map (clause_item l) (module_clauses l own (map plain_entry es)))
-          c.as_slice.ensures.items
-          in
-          let Q : List Item → Type 0 =
-          λ xs. Adds l sees xs c.loop-file.judged c.judge_file.new.self
+          let Q : List Entry → Type 0 =
+          λ es.
+          Adds l sees (map (clause_item l) (module_clauses l own (map plain_entry es)))
+          c.loop-file.judged c.judge_module.new.judged
           in (
             i.0 ++ more,
-            adds_both l sees i.0 more c.args.judged.now c.loop-file.judged c.judge_file.new.self i.1
-                (subst Q same (c.in_ok-judge_file.ensures l sees c.in_ok-checker.ensures.checks)),
+            adds_both l sees i.0 more c.args.judged.now c.loop-file.judged c.judge_module.new.judged i.1
+                (subst Q c.as_slice.ensures.items c.in_ok-next.ensures.added),
             files_more l own (own + 1) files c.loop-file.file-index file i.0 (items_from l 0 files)
                 c.loop-file-test.true c.file-item.is refl i.2,
           ),
@@ -52,7 +50,7 @@ returns-clause-added c =
     let l = plain_names c.args.names.now in
     let sees = definitions_seen l in
     let files = c.args.files.now in
-    let i = c.loop-file.invariant.1 in
+    let i = c.loop-file.invariant.2 in
     let Q : List Item → Type 0 =
     λ xs. Adds l sees xs c.args.judged.now c.loop-file.judged
     in

@@ -4,12 +4,13 @@ use Rattle.mc_modules.specs.Linked.{plain_names}
 use Rattle.mc_type_table.specs.Sight.{definitions_seen}
 use Rattle.mc_clauses.specs.Typing.{clauses_from}
 use Rattle.mc_clause_phase.specs.Items.{Item, clause_item}
-use Rattle.mc_clause_phase.specs.code.Adding.{Adds}
+use Rattle.mc_clause_phase.specs.code.Adding.{Adds, IsAtHand}
 use Rattle.mc_clause_phase.proofs.phase.judge_files.Given as goal
 
 abbrev pub invariant-loop-file : goal.invariant-loop-file
 invariant-loop-file l =
     (l.own ≡ l.file-index)
+    × IsAtHand (plain_names l.names) l.at_hand
     × ((done : List Item)
     × Adds (plain_names l.names) (definitions_seen (plain_names l.names)) done l.initial.judged l.judged
     × (done
