@@ -1,0 +1,4 @@
+//! Laws of goals that wait.
+#![tactic(auto)]
+
+pub mod laws;
