@@ -45,7 +45,7 @@ fn given(alloc: Global, facts: u32) -> Result<Row<Given>, Memory> {
 // How many clauses are typed, or how many rules they break.
 fn judged(alloc: Global, named: &Named) -> Result<usize, Memory> {
     let files = named.files.as_slice().get(..1).unwrap_or(&[]);
-    let judged = judge(alloc, &named.names, files, None)?;
+    let judged = judge(alloc, &named.names, files, 1, None)?;
     Ok(if judged.broken.is_empty() {
         judged.clauses.len()
     } else {

@@ -5,7 +5,6 @@ use Rattle.std.proofs.lemmas.List.{append-nil, append_assoc}
 use Rattle.mc_source.specs.declared.rule.Broken.{Broken}
 use Rattle.mc_source.specs.Rules.{broken_at}
 use Rattle.mc_program.specs.Programs.{TypeTerm}
-use Rattle.mc_program.specs.declared.program.Resolved.{Resolved}
 use Rattle.mc_accepted.specs.Resolving.{Unresolved_clause}
 use Rattle.mc_unresolved.specs.Unresolved.{plain_unresolved_clause}
 use Rattle.mc_unresolved.specs.declared.clause.UnresolvedClause.{UnresolvedClause}
@@ -17,6 +16,7 @@ use Rattle.mc_clause_phase.specs.Judging.{source_of, AreFaults, AreTyped, IsJudg
 use Rattle.mc_clause_phase.specs.code.Adding.{IsVerdict, WasPut, Adds}
 use Rattle.mc_clause_phase.specs.declared.checker.Verdict.{Verdict}
 use Rattle.mc_clause_phase.specs.declared.checker.Verdict.TheVariants as V
+use Rattle.mc_clause_phase.specs.declared.judged.TypedClause.{TypedClause}
 use Rattle.mc_clause_phase.specs.declared.judged.Judged.{Judged}
 
 none_left : {A : Type 0} (xs ys : List A) → xs ++ ys ≡ [] → xs ≡ []
@@ -43,11 +43,11 @@ module _ (l : Linked) (seen : (own : ℕ) → ℕ → Option TypeTerm) where
   )
 
   typed_both :
-      (is js : List Item) (made more : List Resolved)
+      (is js : List Item) (made more : List TypedClause)
       → AreTyped l seen is made → AreTyped l seen js more
       → AreTyped l seen (is ++ js) (made ++ more)
   typed_both [] js made more f g =
-      let Q : List Resolved → Type 0 = λ xs. AreTyped l seen js (xs ++ more) in
+      let Q : List TypedClause → Type 0 = λ xs. AreTyped l seen js (xs ++ more) in
       subst Q (sym f) g
   typed_both (i ∷ is) js made more f g = (
     f.0,
@@ -99,7 +99,7 @@ module _ (l : Linked) (seen : (own : ℕ) → ℕ → Option TypeTerm) where
       → plain_unresolved_clause clause ≡ i.numbered.clause
       → clause.names ≡ i.numbered.names → clause.place ≡ i.at
       → IsVerdict l (source_of l seen i) (parameter_counts l) clause v
-      → WasPut i.at v a b → Adds l seen (i ∷ []) a b
+      → WasPut i.numbered.clause.pred i.at v a b → Adds l seen (i ∷ []) a b
   adds_one i clause (V.Typed made) a b is names place verdict put =
       let Q : Unresolved_clause → Type 0 =
       λ c. TypingSays l (source_of l seen i) (parameter_counts l) c None
@@ -108,12 +108,19 @@ module _ (l : Linked) (seen : (own : ℕ) → ℕ → Option TypeTerm) where
         broken = [];
         faults = (None, [], subst Q is verdict.0, refl, refl);
         is = put.0 ∙ sym (append-nil a.broken.items);
-        made = λ none. made ∷ [];
+        made = λ none. record { pred = i.numbered.clause.pred; resolved = made } ∷ [];
         typed =
             λ none. (
-              made,
+              record { pred = i.numbered.clause.pred; resolved = made },
               [],
-              record { clause = clause; is = is; names = names; place = place; resolved = verdict.1 },
+              record {
+                pred = refl;
+                clause = clause;
+                is = is;
+                names = names;
+                place = place;
+                resolved = verdict.1;
+              },
               refl,
               refl,
             );
@@ -139,7 +146,7 @@ module _ (l : Linked) (seen : (own : ℕ) → ℕ → Option TypeTerm) where
       → a.broken.items ≡ [] → a.clauses.items ≡ [] → Adds l seen is a b → IsJudged l seen is b
   judged_all is a b no_fault no_clause adds =
       let Faults : List Broken → Type 0 = λ bs. AreFaults l seen is bs in
-      let Typed : List Resolved → Type 0 = λ rs. AreTyped l seen is rs in
+      let Typed : List TypedClause → Type 0 = λ rs. AreTyped l seen is rs in
       record {
         faults =
             subst Faults (sym (adds.is ∙ ap (λ (bs : List Broken). bs ++ adds.broken) no_fault))
@@ -147,6 +154,6 @@ module _ (l : Linked) (seen : (own : ℕ) → ℕ → Option TypeTerm) where
         typed =
             λ none.
             subst Typed
-            (sym (adds.added none ∙ ap (λ (rs : List Resolved). rs ++ adds.made none) no_clause))
+            (sym (adds.added none ∙ ap (λ (rs : List TypedClause). rs ++ adds.made none) no_clause))
             (adds.typed none);
       }

@@ -26,18 +26,22 @@ place_so number t p q e f =
     let at : ℕ → Place = λ n. record { file = number; line = n } in
     e ∙ ap at (line_so t) ∙ sym f
 
+-- as many predicates are named
+pub count_so :
+    (names : Names) (l : Linked) → plain_names names ≡ l
+    → (pred : ℕ) → pred ≡ length names.preds → pred ≡ length l.preds
+count_so names l e pred behind =
+    behind
+    ∙ sym (length-map names.preds plain_named)
+    ∙ ap (λ (m : Linked). length m.preds) e
+
 pub query_so :
     (names : Names) (l : Linked) (own pred : ℕ) (t u : PlainTerm)
     → plain_names names ≡ l → own ≡ 0 → pred ≡ length names.preds → u ≡ numbered_goal t
     → unresolved_query (plain_names names) own pred u
     ≡ unresolved_query l 0 (length l.preds) (numbered_goal t)
 query_so names l own pred t u e first behind is =
-    let count : pred ≡ length l.preds =
-    behind
-    ∙ sym (length-map names.preds plain_named)
-    ∙ ap (λ (m : Linked). length m.preds) e
-    in
     ap (λ (m : Linked). unresolved_query m own pred u) e
     ∙ ap (λ n. unresolved_query l n pred u) first
-    ∙ ap (λ n. unresolved_query l 0 n u) count
+    ∙ ap (λ n. unresolved_query l 0 n u) (count_so names l e pred behind)
     ∙ ap (unresolved_query l 0 (length l.preds)) is

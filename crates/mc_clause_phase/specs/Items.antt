@@ -18,8 +18,8 @@ pub record Item : Type 0 where
 abbrev pub clause_item : Linked → ModuleClause → Item
 clause_item l c = record { own = c.own; numbered = unresolved_of l c; at = c.at }
 
--- The goal of a query, which sees what the first file sees. It stands in a file of a number behind
--- the others, and is a clause of the predicate behind the others.
+-- The goal of a query, which sees what the first file sees. It stands in a file of a number of its
+-- own, and is a clause of the predicate behind the others.
 abbrev pub query_item : Linked → (number : ℕ) → Option PlainTerm → List Item
 query_item l number None = []
 query_item l number (Some goal) =
@@ -30,7 +30,8 @@ query_item l number (Some goal) =
     }
     ∷ []
 
--- THE ITEMS that are typed: the clauses of the given files in their order, and the query behind them.
-abbrev pub items : Linked → List File → Option PlainTerm → List Item
-items l files goal =
-    map (clause_item l) (clauses_from l 0 files) ++ query_item l (length files) goal
+-- THE ITEMS that are typed: the clauses of files in their order, and behind them the query, which
+-- stands in a file of this number.
+abbrev pub items : Linked → List File → (number : ℕ) → Option PlainTerm → List Item
+items l files number goal =
+    map (clause_item l) (clauses_from l 0 files) ++ query_item l number goal

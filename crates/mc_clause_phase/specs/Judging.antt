@@ -4,7 +4,6 @@ use Rattle.std.specs.Prelude.{◌≡◌, ℕ, List, [], ◌∷◌, Option}
 use Rattle.mc_source.specs.declared.rule.Broken.{Broken}
 use Rattle.mc_source.specs.Rules.{Fault}
 use Rattle.mc_program.specs.Programs.{TypeTerm, Source}
-use Rattle.mc_program.specs.declared.program.Resolved.{Resolved}
 use Rattle.mc_unresolved.specs.Unresolved.{plain_unresolved_clause}
 use Rattle.mc_unresolved.specs.declared.clause.UnresolvedClause.{UnresolvedClause}
 use Rattle.mc_modules.specs.Linked.{Linked}
@@ -12,6 +11,7 @@ use Rattle.mc_clauses.specs.Declarations.{declarations, parameter_counts}
 use Rattle.mc_clauses.specs.Typing.{TypingSays, AreTypingFaults}
 use Rattle.mc_check_clause.specs.Checked.{IsResolved}
 use Rattle.mc_clause_phase.specs.Items.{Item}
+use Rattle.mc_clause_phase.specs.declared.judged.TypedClause.{TypedClause}
 use Rattle.mc_clause_phase.specs.declared.judged.Judged.{Judged}
 
 -- a program, and what each of its modules sees that types are defined as
@@ -27,19 +27,21 @@ module _ (l : Linked) (seen : (own : ℕ) → ℕ → Option TypeTerm) where
   abbrev pub AreFaults : List Item → List Broken → Type 0
   AreFaults = AreTypingFaults (λ (i : Item). i.at) Says
 
-  -- this is what an item is resolved to, with the types of its variables and their names
-  pub record IsTyped (i : Item) (made : Resolved) : Type 0 where
+  -- this is the predicate of an item, and what it is resolved to, with the types of its variables and
+  -- their names
+  pub record IsTyped (i : Item) (typed : TypedClause) : Type 0 where
+    pub pred : typed.pred ≡ i.numbered.clause.pred
     pub clause : UnresolvedClause
     pub is : plain_unresolved_clause clause ≡ i.numbered.clause
     pub names : clause.names ≡ i.numbered.names
     pub place : clause.place ≡ i.at
-    pub resolved : IsResolved (source_of i) (parameter_counts l) clause made
+    pub resolved : IsResolved (source_of i) (parameter_counts l) clause typed.resolved
 
-  abbrev pub AreTyped : List Item → List Resolved → Type 0
-  AreTyped [] made = made ≡ []
-  AreTyped (i ∷ is) made =
-      (one : Resolved) × (rest : List Resolved)
-      × IsTyped i one × AreTyped is rest × (made ≡ one ∷ rest)
+  abbrev pub AreTyped : List Item → List TypedClause → Type 0
+  AreTyped [] typed = typed ≡ []
+  AreTyped (i ∷ is) typed =
+      (one : TypedClause) × (rest : List TypedClause)
+      × IsTyped i one × AreTyped is rest × (typed ≡ one ∷ rest)
 
 -- these are the rules that items break; and where they break none, this is what they are resolved to
 pub record IsJudged

@@ -25,11 +25,19 @@ use mc_term_data::Term;
 use mc_unresolved::UnresolvedClause;
 use std::alloc::Global;
 
-/// What was judged of a program: what its clauses and its query are resolved to, in their order, where none of them
+/// A clause with the number of its predicate or function, and what it is resolved to, with its variables' types; a query
+/// has the number behind all predicates.
+#[derive(Drop)]
+pub struct TypedClause {
+    pub pred: u32,
+    pub resolved: Resolved,
+}
+
+/// What was judged of a program: its clauses and its query as they are resolved, in their order, where none of them
 /// breaks a rule; and the rules that they break, one for each faulty one.
 #[derive(Drop)]
 pub struct Judged {
-    pub clauses: Vec<Resolved>,
+    pub clauses: Vec<TypedClause>,
     pub broken: Vec<Broken>,
 }
 
@@ -45,13 +53,13 @@ impl Judged {
         }
     }
 
-    // Puts what is said of an item behind the others.
-    fn put(&mut self, at: Place, verdict: Verdict) -> Result<(), Memory>
-        ensures { OnOk result (WasPut at verdict self.old self.new) }
+    // Puts what is said of a clause of a predicate behind the others.
+    fn put(&mut self, pred: u32, at: Place, verdict: Verdict) -> Result<(), Memory>
+        ensures { OnOk result (WasPut pred at verdict self.old self.new) }
     {
         match verdict {
-            Verdict::Typed(made) => {
-                self.put_typed(made)?;
+            Verdict::Typed(resolved) => {
+                self.put_typed(TypedClause { pred, resolved })?;
                 Ok(())
             }
             Verdict::Faulty(rule, what) => {
@@ -61,8 +69,8 @@ impl Judged {
         }
     }
 
-    // Puts what a clause is resolved to behind the others, where none breaks a rule.
-    fn put_typed(&mut self, made: Resolved) -> Result<(), Memory>
+    // Puts a clause as it is resolved behind the others, where none breaks a rule.
+    fn put_typed(&mut self, made: TypedClause) -> Result<(), Memory>
         ensures broken { OnOk result (self.new.broken.items ≡ self.old.broken.items) }
         ensures clauses { OnOk result (self.old.broken.items ≡ []
             → self.new.clauses.items ≡ self.old.clauses.items ++ made ∷ []) }
@@ -133,7 +141,7 @@ impl Judged {
         let numbered = numbered_clause(checker.at.alloc, term)?;
         let clause = unresolved_clause(&checker.at, pred, at, &numbered)?;
         let verdict = checker.verdict(&clause)?;
-        self.put(at, verdict)?;
+        self.put(pred, at, verdict)?;
         Ok(())
     }
 
@@ -158,7 +166,7 @@ impl Judged {
         let pred = checker.at.names.preds.len();
         let clause = unresolved_query(&checker.at, pred, at, &numbered)?;
         let verdict = checker.verdict(&clause)?;
-        self.put(at, verdict)?;
+        self.put(pred, at, verdict)?;
         Ok(())
     }
 }

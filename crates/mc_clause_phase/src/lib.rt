@@ -8,6 +8,6 @@ mod judged;
 mod law;
 mod phase;
 
-pub use judged::Judged;
+pub use judged::{Judged, TypedClause};
 pub use law::at_most_one_list;
 pub use phase::judge;

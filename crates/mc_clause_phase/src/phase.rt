@@ -1,4 +1,4 @@
-ghost use Rattle.std.specs.Prelude.{◌≡◌, IfOk, OnOk, map, length};
+ghost use Rattle.std.specs.Prelude.{◌≡◌, IfOk, OnOk, map};
 ghost use Rattle.std.specs.Option.{option_map};
 ghost use Rattle.mc_term_data.specs.Plain.{plain_term};
 ghost use Rattle.mc_linking.specs.Files.{plain_files};
@@ -27,7 +27,8 @@ use std::alloc::Global;
 /// How many parts the types may have that are written out while a module's declarations are made.
 const MOST_PARTS: u32 = 4_194_304;
 
-/// Judges the clauses of files whose names are linked, in their order, and the goal of a query behind them.
+/// Judges the clauses of files whose names are linked, in their order, and behind them the goal of a query, which stands
+/// in a file of a number of its own.
 ///
 /// # Errors
 ///
@@ -36,42 +37,35 @@ pub fn judge(
     alloc: Global,
     names: &Names,
     files: &[Row<Entry>],
+    number: u32,
     goal: Option<&Term>,
 ) -> Result<Judged, Memory>
     ensures { IfOk result
         (λ judged.
         IsJudged (plain_names names.now) (definitions_seen (plain_names names.now))
-        (items (plain_names names.now) (plain_files files.now)
+        (items (plain_names names.now) (plain_files files.now) number
         (option_map (λ t. plain_term t.now) goal.entry)) judged) }
 {
     let mut judged = Judged::new(alloc);
-    let behind = judge_files(alloc, names, files, &mut judged)?;
+    let at_hand = judge_files(alloc, names, files, &mut judged)?;
     match goal {
         Some(goal) => {
-            let checker = checker_for(alloc, names, behind.at_hand, 0)?;
-            judged.judge_query(&checker, behind.number, goal)?;
+            let checker = checker_for(alloc, names, at_hand, 0)?;
+            judged.judge_query(&checker, number, goal)?;
             Ok(judged)
         }
         None => Ok(judged),
     }
 }
 
-// What stands behind files that were judged: how many they are, and the checker that is at hand, where one was made.
-#[derive(Drop)]
-struct Behind<'n> {
-    number: u32,
-    at_hand: Option<Checker<'n>>,
-}
-
-// Judges the clauses of files.
+// Judges the clauses of files, and tells the checker that is then at hand, where one was made.
 fn judge_files<'n>(
     alloc: Global,
     names: &'n Names,
     files: &[Row<Entry>],
     judged: &mut Judged,
-) -> Result<Behind<'n>, Memory>
-    ensures number { IfOk result (λ behind. behind.number ≡ length files.now) }
-    ensures at_hand { IfOk result (λ behind. IsAtHand (plain_names names.now) behind.at_hand) }
+) -> Result<Option<Checker<'n>>, Memory>
+    ensures at_hand { IfOk result (IsAtHand (plain_names names.now)) }
     ensures added { OnOk result
         (Adds (plain_names names.now) (definitions_seen (plain_names names.now))
         (map (clause_item (plain_names names.now))
@@ -88,10 +82,7 @@ fn judge_files<'n>(
         }
         own += 1;
     }
-    Ok(Behind {
-        number: own,
-        at_hand,
-    })
+    Ok(at_hand)
 }
 
 // Judges the clauses of a module's file, and tells the checker that is then at hand. Where there is no clause none is made.

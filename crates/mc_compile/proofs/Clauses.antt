@@ -1,6 +1,10 @@
 -- What the phase of clauses makes and refuses.
-use Rattle.std.proofs.Common.{◌≡◌, List, [], Ok, Err, refl, sym, ap, ◌∙◌, subst}
+use Rattle.std.proofs.Common.{◌≡◌, ℕ, List, [], map, take, length, min, Ok, Err, refl, sym, ap, ◌∙◌, subst}
+use Rattle.std.proofs.lemmas.List.{length-map, length-take}
 use Rattle.mc_source.specs.declared.rule.Broken.{Broken}
+use Rattle.mc_items.specs.declared.entry.Entry.{Entry}
+use Rattle.mc_items.specs.Files.{plain_entry}
+use Rattle.mc_linking.specs.Files.{plain_files}
 use Rattle.mc_modules.specs.Linked.{plain_names}
 use Rattle.mc_type_table.specs.Sight.{definitions_seen}
 use Rattle.mc_clause_phase.specs.Judging.{IsJudged}
@@ -13,6 +17,10 @@ use Rattle.mc_compile.specs.Linking.{plain_named, AreLinked}
 use Rattle.mc_compile.specs.Typing.{PlainTyped, plain_typed}
 use Rattle.mc_compile.specs.Checking.{items_of, AreBroken, Clauses, Shows}
 use Rattle.mc_compile.proofs.Chains.{broken_up, none_broken, unbroken_made}
+
+-- how many files are given
+pub given_count : (files : List (List Entry)) (n : ℕ) → length (plain_files (take n files)) ≡ min n (length files)
+given_count files n = length-map (take n files) (map plain_entry) ∙ length-take n files
 
 -- what has a table of types goes on as it is
 pub checked_is : (typed after : PlainTyped) → Clauses typed (Ok after) → after ≡ typed

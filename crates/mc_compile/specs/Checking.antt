@@ -1,6 +1,6 @@
--- The phase of clauses: the rules of types that the clauses of the given files break, and then the
--- query's (this project's rules; the Mercury manual: Types, overloading).
-use Rattle.std.specs.Prelude.{◌≡◌, List, Result}
+-- The phase of clauses: the rules of types that the clauses of the given files and of the library
+-- break, and then the query's (this project's rules; the Mercury manual: Types, overloading).
+use Rattle.std.specs.Prelude.{◌≡◌, List, length, Result}
 use Rattle.mc_source.specs.declared.rule.Broken.{Broken}
 use Rattle.mc_type_table.specs.Sight.{definitions_seen}
 use Rattle.mc_clause_phase.specs.Items.{Item, items}
@@ -10,9 +10,11 @@ use Rattle.mc_compile.specs.Phases.{Refusal, unless_broken}
 use Rattle.mc_compile.specs.Linking.{PlainNamed}
 use Rattle.mc_compile.specs.Typing.{PlainTyped, plain_typed}
 
--- What is typed: the clauses of the given files and the goal of the query, not the library's own.
+-- What is typed: the clauses of the given files and those of the library behind them, and the goal of
+-- the query, whose number follows the given files'.
 abbrev pub items_of : PlainNamed → List Item
-items_of named = items named.files.names named.files.given named.goal
+items_of named =
+    items named.files.names named.files.all (length named.files.given) named.goal
 
 -- these are the rules that they break, where each module sees the definitions that are in its sight
 abbrev pub AreBroken : PlainNamed → List Broken → Type 0
@@ -26,8 +28,8 @@ pub record Clauses (typed : PlainTyped) (result : Result PlainTyped Refusal) : T
   pub are : AreBroken typed.named rules
   pub is : result ≡ unless_broken rules typed
 
--- A value shows plain data that has a table of types, with what each clause and the query is resolved
--- to.
+-- A value shows plain data that has a table of types, with the predicate of each clause and of the
+-- query, and what it is resolved to.
 pub record Shows (checked : Checked) (plain : PlainTyped) : Type 0 where
   pub typed : plain_typed checked.typed ≡ plain
   pub clauses :

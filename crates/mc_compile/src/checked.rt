@@ -1,4 +1,4 @@
-ghost use Rattle.std.specs.Prelude.{IfOk};
+ghost use Rattle.std.specs.Prelude.{◌≡◌, length, IfOk};
 ghost use Rattle.mc_modules.specs.Linked.{plain_names};
 ghost use Rattle.mc_type_table.specs.Sight.{definitions_seen};
 ghost use Rattle.mc_clause_phase.specs.Judging.{IsJudged};
@@ -6,21 +6,29 @@ ghost use Rattle.mc_compile.specs.Linking.{plain_named};
 ghost use Rattle.mc_compile.specs.Checking.{items_of};
 
 use crate::given::CompileFault;
+use crate::named::Named;
 use crate::typed::Typed;
 use mc_base::{Memory, Row};
-use mc_clause_phase::{Judged, judge};
-use mc_program::program::Resolved;
+use mc_clause_phase::{Judged, TypedClause, judge};
 use std::alloc::Global;
 
-/// Sources whose clauses are typed: what has a table of types, and what each clause of the given files, in their order,
-/// and the query behind them are resolved to.
+/// Sources whose clauses are typed: what has a table of types, and the clauses of the given files and of the library's
+/// modules, in their order, and the query behind them, each with its predicate and what it is resolved to.
 #[derive(Drop)]
 pub struct Checked {
     pub typed: Typed,
-    pub clauses: Vec<Resolved>,
+    pub clauses: Vec<TypedClause>,
 }
 
-// What typing says of the clauses of the given files and of the query.
+// The number of the query, which follows those of the given files.
+#[tactic(auto, using(crate::proofs::Clauses::given_count))]
+fn query_number(named: &Named) -> u32
+    ensures { result ≡ length (plain_named named.now).files.given }
+{
+    named.given.min(named.files.len())
+}
+
+// What typing says of the clauses of all files and of the query.
 fn judged(alloc: Global, typed: &Typed) -> Result<Judged, Memory>
     ensures { IfOk result
         (λ judged.
@@ -29,9 +37,9 @@ fn judged(alloc: Global, typed: &Typed) -> Result<Judged, Memory>
         (items_of (plain_named typed.now.named)) judged) }
 {
     let named = &typed.named;
-    let all = named.files.as_slice();
-    let given = &all[..all.len().min(named.given as usize)];
-    let judged = judge(alloc, &named.names, given, named.goal.as_ref())?;
+    let number = query_number(named);
+    let files = named.files.as_slice();
+    let judged = judge(alloc, &named.names, files, number, named.goal.as_ref())?;
     Ok(judged)
 }
 
@@ -40,7 +48,7 @@ impl Checked {
     ghost use Rattle.mc_compile.specs.Typing.{plain_typed};
     ghost use Rattle.mc_compile.specs.Checking.{Clauses, Shows};
 
-    /// Types the clauses of the given files, and the goal of the query.
+    /// Types the clauses of the given files and of the library's modules, and the goal of the query.
     ///
     /// # Errors
     ///

@@ -1,6 +1,5 @@
 use mc_base::{Memory, Row, Text};
-use mc_clause_phase::judge;
-use mc_compile::{CompileFault, Given, LIBRARY, Named, Query, Read, Typed};
+use mc_compile::{Checked, CompileFault, Given, LIBRARY, Named, Query, Read, Typed};
 use mc_defs_uses::{Definition, DefinitionSet, Kind, clause_of, definitions};
 use mc_items::{ItemsFault, read_items};
 use mc_source::rule::Broken;
@@ -349,27 +348,68 @@ fn the_library_breaks_no_rule_of_linking(rt: HostRuntime) -> Result<(), Fail> {
     Ok(())
 }
 
-// How many clauses of these files have types, and how many rules theirs break.
-fn judged(alloc: Global, named: &Named) -> Result<(usize, usize), Memory> {
-    let judged = judge(alloc, &named.names, named.files.as_slice(), None)?;
-    Ok((judged.clauses.len(), judged.broken.len()))
+fn checked(
+    alloc: Global,
+    files: &Row<Given>,
+    query: Option<&Query>,
+) -> Result<Checked, CompileFault> {
+    Checked::of(alloc, Typed::of(alloc, named(alloc, files, query)?)?)
 }
 
-// The same as text.
-fn judged_shown(alloc: Global, files: &Row<Given>) -> Result<Vec<u8>, Fail> {
-    match named(alloc, files, None) {
-        Ok(named) => {
-            let (typed, broken) = judged(alloc, &named)?;
-            Ok(format!(in alloc; "{typed} typed, {broken} broken")?.into_bytes())
+// What the phase of clauses answers: the name of each clause's predicate, of a query `?`, or the rules that are broken.
+fn checked_shown(
+    alloc: Global,
+    files: &Row<Given>,
+    query: Option<&Query>,
+) -> Result<Vec<u8>, Fail> {
+    match checked(alloc, files, query) {
+        Ok(checked) => {
+            let mut out = Vec::new(alloc);
+            for clause in &checked.clauses {
+                match checked
+                    .typed
+                    .named
+                    .names
+                    .preds
+                    .as_slice()
+                    .get(clause.pred as usize)
+                {
+                    Some(named) => out.extend_from_slice(named.name.name.bytes())?,
+                    None => out.push(b'?')?,
+                }
+                out.push(b' ')?;
+            }
+            Ok(out)
         }
         Err(fault) => fault_shown(alloc, fault),
     }
 }
 
+// The names of what the library's clauses are of, in the order of its modules.
+const LIBRARY_CLAUSES: &[u8] =
+    b"append append member member delete delete length length reverse rev rev ++ \
+    fst snd max min nondet_int_in_range ";
+
 #[test]
 fn the_library_s_own_clauses_have_types(rt: HostRuntime) -> Result<(), Fail> {
     let alloc = rt.alloc();
-    let answer = judged_shown(alloc, &given(alloc, &[])?)?;
-    assert_eq!(rt; answer.as_slice(), b"17 typed, 0 broken".as_slice());
+    let answer = checked_shown(alloc, &given(alloc, &[])?, None)?;
+    assert_eq!(rt; answer.as_slice(), LIBRARY_CLAUSES);
+    Ok(())
+}
+
+#[test]
+fn the_library_s_clauses_stand_between_the_files_and_the_query(
+    rt: HostRuntime,
+) -> Result<(), Fail> {
+    let alloc = rt.alloc();
+    let text =
+        b":- module m. :- interface. :- type t ---> a1. :- pred p(t::out) is nondet. :- implementation. p(a1).";
+    let query = query_of(alloc, b"p(X).")?;
+    let answer = checked_shown(alloc, &given(alloc, &[text])?, Some(&query))?;
+    let mut wanted = b"p ".to_vec(alloc)?;
+    wanted.extend_from_slice(LIBRARY_CLAUSES)?;
+    wanted.extend_from_slice(b"? ")?;
+    assert_eq!(rt; answer.as_slice(), wanted.as_slice());
     Ok(())
 }

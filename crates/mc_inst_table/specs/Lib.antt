@@ -1,4 +1,5 @@
 pub mod Written
 pub mod Plain
 pub mod Rules
+pub mod InstEnds
 pub mod code

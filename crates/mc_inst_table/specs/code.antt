@@ -7,3 +7,4 @@ pub mod Links
 pub mod Places
 pub mod Others
 pub mod Faults
+pub mod KeptEnds

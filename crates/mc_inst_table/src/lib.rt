@@ -2,6 +2,7 @@
 #![tactic(auto)]
 
 mod bodies;
+mod ends;
 mod faults;
 mod heads;
 mod inside;
@@ -18,6 +19,7 @@ mod rings;
 mod written;
 
 pub use bodies::inst_bodies;
+pub use ends::{End, InstEnds};
 pub use faults::inst_faults;
 pub use inst::{Inst, Mode};
 pub use items::insts_written;

@@ -64,9 +64,9 @@ fn all_need(insts: &[Inst]) -> u64
     most
 }
 
-// Whether each definition in an inst stands over as many insts as its body needs.
+/// Whether each definition in an inst stands over as many insts as its body needs. It takes stack for each level of it.
 #[cycle(full)]
-fn is_full(needs: &[u64], inst: &Inst) -> bool
+pub fn is_full(needs: &[u64], inst: &Inst) -> bool
     ensures { (body : Bodies) → AreNeeds body needs.now → result ≡ true
         → IsFull body (plain_inst inst.now) }
 {

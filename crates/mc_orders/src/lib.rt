@@ -8,5 +8,5 @@ mod ordering;
 mod texts;
 mod trying;
 
-pub use modes::ModeId;
+pub use modes::{ModeId, mode_ids};
 pub use ordering::{Orders, order_goals};

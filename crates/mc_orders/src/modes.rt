@@ -16,7 +16,7 @@ pub struct ModeId {
 }
 
 /// The declared modes of a program, in the order in which their procedures are numbered.
-pub(crate) fn mode_ids(
+pub fn mode_ids(
     alloc: Global,
     program: &Program,
     sigs: &[Sig],

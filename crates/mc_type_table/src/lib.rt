@@ -20,7 +20,7 @@ pub use equivalences::{equivalent, home, parameters_of};
 pub use examples::types_of_programs;
 pub use fields::constructor_fields;
 pub use replaced::{Room, with_definitions};
-pub use sight::{seen_definitions, sees_definition};
+pub use sight::{all_definitions, seen_definitions, sees_definition};
 pub use table::type_table;
 pub use types::types_of;
 pub use variables::stray_variable;

@@ -2,6 +2,7 @@ ghost use Rattle.std.specs.Prelude.{◌≡◌, ℕ, false, not, nat_eq, length, 
 ghost use Rattle.mc_modules.specs.Linked.{plain_named, plain_names};
 ghost use Rattle.mc_type_table.specs.Written.{module_from, home};
 ghost use Rattle.mc_type_table.specs.Expanded.{after_rounds};
+ghost use Rattle.mc_type_table.specs.Rules.{definitions};
 ghost use Rattle.mc_type_table.specs.Sight.{sees, sees_definition, definitions_seen};
 ghost use Rattle.mc_type_table.specs.Held.{held};
 ghost use Rattle.mc_type_table.specs.code.Kept.{AreEquivalences};
@@ -42,6 +43,25 @@ pub fn seen_definitions(
 {
     let equivalences = Equivalences::of(alloc, names)?;
     seen_of(alloc, names, &equivalences, own, room)
+}
+
+/// What the types of a program are defined as, whoever sees it, in which no equivalence is left.
+///
+/// # Errors
+///
+/// `Memory` where there is no room, or where types that are written out are too large (room).
+pub fn all_definitions(
+    alloc: Global,
+    names: &Names,
+    room: &mut Room,
+) -> Result<Vec<Option<Ty>>, Memory>
+    ensures { IfOk result
+        (λ row.
+        (u : ℕ) → held row.items u
+        ≡ after_rounds (length (plain_names names.now).types) (definitions (plain_names names.now)) u) }
+{
+    let equivalences = Equivalences::of(alloc, names)?;
+    expanded_definitions(alloc, &equivalences, &[], room)
 }
 
 // What a module sees of a program's equivalences.

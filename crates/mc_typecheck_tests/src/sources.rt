@@ -67,6 +67,7 @@ fn judged(alloc: Global, named: &Named) -> Result<Judged, Memory> {
         alloc,
         &named.names,
         given.unwrap_or(&[]),
+        named.given,
         named.goal.as_ref(),
     )
 }
@@ -106,7 +107,7 @@ fn put_judged(alloc: Global, out: &mut Vec<u8>, named: &Named) -> Result<(), Mem
         return put_rules(alloc, out, judged.broken.as_slice());
     }
     for clause in &judged.clauses {
-        put_clause(alloc, out, &named.names, clause)?;
+        put_clause(alloc, out, &named.names, &clause.resolved)?;
     }
     Ok(())
 }

@@ -2,7 +2,6 @@
 use Rattle.std.specs.Prelude.{◌≡◌, ℕ, List, [], ◌∷◌, ◌++◌, Option, Some, None, ⊤}
 use Rattle.mc_source.specs.declared.rule.Broken.{Broken}
 use Rattle.mc_program.specs.Programs.{TypeTerm, Source}
-use Rattle.mc_program.specs.declared.program.Resolved.{Resolved}
 use Rattle.mc_accepted.specs.ProperTypes.{Parameters}
 use Rattle.mc_unresolved.specs.Unresolved.{plain_unresolved_clause}
 use Rattle.mc_unresolved.specs.declared.clause.UnresolvedClause.{UnresolvedClause}
@@ -25,6 +24,7 @@ use Rattle.mc_clause_phase.specs.Judging.{AreFaults, AreTyped}
 use Rattle.mc_clause_phase.specs.declared.checker.Checker.{Checker}
 use Rattle.mc_clause_phase.specs.declared.checker.Verdict.{Verdict}
 use Rattle.mc_clause_phase.specs.declared.checker.Verdict.TheVariants as V
+use Rattle.mc_clause_phase.specs.declared.judged.TypedClause.{TypedClause}
 use Rattle.mc_clause_phase.specs.declared.judged.Judged.{Judged}
 
 -- what a checker says of a clause is what typing says of it
@@ -34,12 +34,13 @@ IsVerdict l P D clause (V.Typed made) =
 IsVerdict l P D clause (V.Faulty rule what) =
     TypingSays l P D (plain_unresolved_clause clause) (Some (rule, what))
 
--- this was put behind what was judged before
-abbrev pub WasPut : Place → Verdict → (before after : Judged) → Type 0
-WasPut at (V.Typed made) before after =
+-- this, of a clause of a predicate, was put behind what was judged before
+abbrev pub WasPut : (pred : ℕ) → Place → Verdict → (before after : Judged) → Type 0
+WasPut pred at (V.Typed made) before after =
     (after.broken.items ≡ before.broken.items)
-    × (before.broken.items ≡ [] → after.clauses.items ≡ before.clauses.items ++ made ∷ [])
-WasPut at (V.Faulty rule what) before after =
+    × (before.broken.items ≡ []
+    → after.clauses.items ≡ before.clauses.items ++ record { pred = pred; resolved = made } ∷ [])
+WasPut pred at (V.Faulty rule what) before after =
     after.broken.items ≡ before.broken.items ++ record { rule = rule; at = at; what = what } ∷ []
 
 -- the clause that an item of a file is, where it is one
@@ -65,7 +66,7 @@ pub record Adds
   pub broken : List Broken
   pub faults : AreFaults l seen items broken
   pub is : after.broken.items ≡ before.broken.items ++ broken
-  pub made : after.broken.items ≡ [] → List Resolved
+  pub made : after.broken.items ≡ [] → List TypedClause
   pub typed : (none : after.broken.items ≡ []) → AreTyped l seen items (made none)
   pub added :
       (none : after.broken.items ≡ []) → after.clauses.items ≡ before.clauses.items ++ made none

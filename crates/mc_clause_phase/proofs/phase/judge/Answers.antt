@@ -1,9 +1,8 @@
-use Rattle.std.proofs.Common.{◌≡◌, ◌∙◌, ℕ, ◌++◌, List, Some, None, map, length, sym, ap, subst}
+use Rattle.std.proofs.Common.{◌≡◌, ◌∙◌, ◌++◌, List, Some, None, sym, ap, subst}
 use Rattle.std.specs.Prelude.{Option}
 use Rattle.std.specs.Option.{option_map}
-use Rattle.std.proofs.lemmas.List.{length-map, append-nil}
+use Rattle.std.proofs.lemmas.List.{append-nil}
 use Rattle.mc_term_data.specs.Plain.{PlainTerm, plain_term}
-use Rattle.mc_items.specs.Files.{plain_entry}
 use Rattle.mc_linking.specs.Files.{plain_files}
 use Rattle.mc_modules.specs.Linked.{plain_names}
 use Rattle.mc_type_table.specs.Sight.{definitions_seen}
@@ -20,16 +19,13 @@ returns-in_ok-judge_query-in-Some c =
     let files = c.args.files.now in
     let g = plain_term c.in-Some.goal.now in
     let clauses = items_from l 0 files in
-    let query = query_item l c.in_ok-behind.behind.number (Some g) in
+    let number = c.args.number in
+    let query = query_item l number (Some g) in
     let asked : Some g ≡ option_map (λ t. plain_term t.now) c.args.goal =
     ap (option_map (λ t. plain_term t.now)) (sym c.in-Some.is)
     in
-    let count : c.in_ok-behind.behind.number ≡ length (plain_files files) =
-    c.in_ok-behind.ensures.number ∙ sym (length-map files (map plain_entry))
-    in
-    let same : clauses ++ query ≡ items l (plain_files files) (option_map (λ t. plain_term t.now) c.args.goal) =
-    ap (λ (n : ℕ). clauses ++ query_item l n (Some g)) count
-    ∙ ap (λ (o : Option PlainTerm). items l (plain_files files) o) asked
+    let same : clauses ++ query ≡ items l (plain_files files) number (option_map (λ t. plain_term t.now) c.args.goal) =
+    ap (λ (o : Option PlainTerm). items l (plain_files files) number o) asked
     in
     let Q : List Item → Type 0 = λ is. IsJudged l sees is c.judge_query.new.self in
     subst Q same
@@ -37,7 +33,7 @@ returns-in_ok-judge_query-in-Some c =
     c.new-judged.ensures.broken c.new-judged.ensures.clauses
     (adds_both l sees clauses query c.new-judged.result c.judge_files.new.judged
     c.judge_query.new.self
-    c.in_ok-behind.ensures.added
+    c.in_ok-at_hand.ensures.added
     (c.in_ok-judge_query-in-Some.ensures l sees c.in_ok-checker-in-Some.ensures.checks)))
 
 pub returns-in-None : goal.returns-in-None
@@ -49,11 +45,11 @@ returns-in-None c =
     let asked : None ≡ option_map (λ t. plain_term t.now) c.args.goal =
     ap (option_map (λ t. plain_term t.now)) (sym c.in-None.is)
     in
-    let same : clauses ≡ items l (plain_files files) (option_map (λ t. plain_term t.now) c.args.goal) =
-    sym (append-nil clauses) ∙ ap (λ (o : Option PlainTerm). items l (plain_files files) o) asked
+    let same : clauses ≡ items l (plain_files files) c.args.number (option_map (λ t. plain_term t.now) c.args.goal) =
+    sym (append-nil clauses) ∙ ap (λ (o : Option PlainTerm). items l (plain_files files) c.args.number o) asked
     in
     let Q : List Item → Type 0 = λ is. IsJudged l sees is c.judge_files.new.judged in
     subst Q same
     (judged_all l sees clauses c.new-judged.result c.judge_files.new.judged
     c.new-judged.ensures.broken c.new-judged.ensures.clauses
-    c.in_ok-behind.ensures.added)
+    c.in_ok-at_hand.ensures.added)

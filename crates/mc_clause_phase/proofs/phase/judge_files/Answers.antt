@@ -1,4 +1,4 @@
-use Rattle.std.proofs.Common.{[], ◌++◌, ◌+◌, List, map, refl, subst, arith}
+use Rattle.std.proofs.Common.{[], ◌++◌, ◌+◌, List, map, refl, subst}
 use Rattle.mc_items.specs.declared.entry.Entry.{Entry}
 use Rattle.mc_items.specs.Files.{plain_entry}
 use Rattle.mc_modules.specs.Linked.{plain_names}
@@ -12,7 +12,6 @@ use Rattle.mc_clause_phase.proofs.phase.judge_files.Goals as goal
 
 pub loop-file-init : goal.loop-file-init
 loop-file-init c = (
-  refl,
   tt,
   (
     [],
@@ -28,9 +27,8 @@ loop-file-preserved c =
     let file = c.file-item.result in
     let files = c.args.files.now in
     let sees = definitions_seen l in (
-      omega (arith, c.loop-file.invariant.0),
       c.in_ok-next.ensures.at_hand,
-      let i = c.loop-file.invariant.2 in
+      let i = c.loop-file.invariant.1 in
           let more = map (clause_item l) (module_clauses l own (map plain_entry file)) in
           let Q : List Entry → Type 0 =
           λ es.
@@ -50,7 +48,7 @@ returns-clause-added c =
     let l = plain_names c.args.names.now in
     let sees = definitions_seen l in
     let files = c.args.files.now in
-    let i = c.loop-file.invariant.2 in
+    let i = c.loop-file.invariant.1 in
     let Q : List Item → Type 0 =
     λ xs. Adds l sees xs c.args.judged.now c.loop-file.judged
     in

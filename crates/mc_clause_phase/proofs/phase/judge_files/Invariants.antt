@@ -9,8 +9,7 @@ use Rattle.mc_clause_phase.proofs.phase.judge_files.Given as goal
 
 abbrev pub invariant-loop-file : goal.invariant-loop-file
 invariant-loop-file l =
-    (l.own ≡ l.file-index)
-    × IsAtHand (plain_names l.names) l.at_hand
+    IsAtHand (plain_names l.names) l.at_hand
     × ((done : List Item)
     × Adds (plain_names l.names) (definitions_seen (plain_names l.names)) done l.initial.judged l.judged
     × (done

@@ -6,7 +6,7 @@ use Rattle.mc_clauses.specs.Unresolved.{Numbered_clause, unresolved_query}
 use Rattle.mc_clause_phase.specs.Items.{Item}
 use Rattle.mc_clause_phase.specs.code.Adding.{WasPut, Checks}
 use Rattle.mc_clause_phase.proofs.Adding.{adds_one}
-use Rattle.mc_clause_phase.proofs.Querying.{query_so, place_so}
+use Rattle.mc_clause_phase.proofs.Querying.{query_so, count_so, place_so}
 use Rattle.mc_clause_phase.proofs.Seeing.{verdict_so}
 use Rattle.mc_clause_phase.proofs.judged.Judged.judge_query.Goals as goal
 
@@ -28,9 +28,15 @@ returns c l seen k =
     query_so names l checker.at.own c.len-pred.result t (plain_term c.in_ok-numbered.numbered)
     k.names c.requires.first c.len-pred.ensures c.in_ok-numbered.ensures
     in
-    let At : ℕ → Type 0 = λ n. Checks l (seen n) checker in
-    let Q : Place → Type 0 =
-    λ p. WasPut p c.in_ok-verdict.verdict c.args.self.now c.put.new.self
+    let Sees : ℕ → Type 0 = λ n. Checks l (seen n) checker in
+    let behind : c.len-pred.result ≡ length l.preds =
+    count_so names l k.names c.len-pred.result c.len-pred.ensures
+    in
+    let At : Place → Type 0 =
+    λ p. WasPut c.len-pred.result p c.in_ok-verdict.verdict c.args.self.now c.put.new.self
+    in
+    let Of : ℕ → Type 0 =
+    λ n. WasPut n item.at c.in_ok-verdict.verdict c.args.self.now c.put.new.self
     in
     adds_one l seen item c.in_ok-clause.clause c.in_ok-verdict.verdict c.args.self.now
     c.put.new.self
@@ -38,5 +44,5 @@ returns c l seen k =
     (c.in_ok-clause.ensures.names ∙ ap (λ (n : Numbered_clause). n.names) same)
     (c.in_ok-clause.ensures.place ∙ there)
     (verdict_so l (seen 0) checker c.in_ok-clause.clause c.in_ok-verdict.verdict
-    (subst At c.requires.first k) c.in_ok-verdict.ensures)
-    (subst Q there c.in_ok-put.ensures)
+    (subst Sees c.requires.first k) c.in_ok-verdict.ensures)
+    (subst Of behind (subst At there c.in_ok-put.ensures))

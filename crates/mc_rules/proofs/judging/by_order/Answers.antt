@@ -1,0 +1,47 @@
+use Rattle.std.proofs.Common.{subst}
+use Rattle.mc_orders.specs.Outcomes.{Became}
+use Rattle.mc_orders.specs.declared.ordering.Orders.{Orders}
+use Rattle.mc_rules.proofs.Coming.{are_normal, are_numbered, all_ordered, modes_broken, procedure_unfit}
+use Rattle.mc_rules.proofs.judging.by_order.Goals as goal
+
+pub order_goals-requires-clause-none : goal.order_goals-requires-clause-none
+order_goals-requires-clause-none c = c.requires.begins.none
+
+pub order_goals-requires-clause-sigs : goal.order_goals-requires-clause-sigs
+order_goals-requires-clause-sigs c = c.requires.asked.insts_there
+
+pub order_goals-requires-clause-numbered : goal.order_goals-requires-clause-numbered
+order_goals-requires-clause-numbered c =
+    are_numbered c.args.procs.now c.args.sigs.now c.requires.begins c.requires.asked.numbers_told
+
+pub order_goals-requires-clause-goals : goal.order_goals-requires-clause-goals
+order_goals-requires-clause-goals c =
+    are_normal c.args.procs.now c.args.sigs.now c.args.goals.now c.requires.goals c.requires.asked.goals_fit
+
+pub order_goals-requires-clause-exported : goal.order_goals-requires-clause-exported
+order_goals-requires-clause-exported c = c.requires.asked.as_many_exported
+
+pub returns-in_ok-judgement-in-All : goal.returns-in_ok-judgement-in-All
+returns-in_ok-judgement-in-All c =
+    let q = c.args.procs.now in
+    let r = c.order_goals.new.procs in
+    all_ordered q.program c.args.sigs.now c.args.goals.now c.args.exported.now c.args.runs q c.requires.begins r c.by_determinism.new.procs c.in_ok-judgement-in-All.judgement
+    (subst (λ (o : Orders). Became c.args.sigs.now c.args.goals.now c.args.exported.now q r o) c.in-All.is c.in_ok-order_goals.ensures.became)
+    c.in_ok-order_goals.ensures.others
+    (c.in_ok-judgement-in-All.ensures {u = tt})
+
+pub returns-in-Broken : goal.returns-in-Broken
+returns-in-Broken c =
+    let q = c.args.procs.now in
+    let r = c.order_goals.new.procs in
+    modes_broken q.program c.args.sigs.now c.args.goals.now c.args.exported.now c.args.runs q c.requires.begins r c.in-Broken.list
+    (subst (λ (o : Orders). Became c.args.sigs.now c.args.goals.now c.args.exported.now q r o) c.in-Broken.is c.in_ok-order_goals.ensures.became)
+    c.in_ok-order_goals.ensures.others
+
+pub returns-in-Unfit : goal.returns-in-Unfit
+returns-in-Unfit c =
+    let q = c.args.procs.now in
+    let r = c.order_goals.new.procs in
+    procedure_unfit q.program c.args.sigs.now c.args.goals.now c.args.exported.now c.args.runs q c.requires.begins r c.in-Unfit.k
+    (subst (λ (o : Orders). Became c.args.sigs.now c.args.goals.now c.args.exported.now q r o) c.in-Unfit.is c.in_ok-order_goals.ensures.became)
+    c.in_ok-order_goals.ensures.others

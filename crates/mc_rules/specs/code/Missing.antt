@@ -1,0 +1,39 @@
+-- What doesn't hold of a program, and of its declared modes and goals.
+use Rattle.std.specs.Prelude.{◌≡◌, Bool, List, length}
+use Rattle.mc_program.specs.PlainPrograms.{plain_program}
+use Rattle.mc_program.specs.declared.program.Program.{Program}
+use Rattle.mc_model.specs.declared.flat.Normal.{Normal}
+use Rattle.mc_model.specs.declared.inst.Sig.{Sig}
+use Rattle.mc_accepted.specs.Fits.{FitsTypes}
+use Rattle.mc_insts.specs.Graphs.{count_of}
+use Rattle.mc_insts.specs.Programs.{FitsConstructors}
+use Rattle.mc_procs.specs.Procedures.{PlainProcs, parameters_in}
+use Rattle.mc_modes.specs.Signatures.{SigsFit}
+use Rattle.mc_rules.specs.Premises.{TellNumbers, GoalsFitModes}
+use Rattle.mc_rules.specs.declared.rules.Unseen.{Unseen}
+use Rattle.mc_rules.specs.declared.rules.Unseen.TheVariants as U
+
+abbrev pub IsMissing :
+    PlainProcs → List Sig → List Normal → (exported : List Bool) → Unseen → Type 0
+IsMissing q sigs goals exported U.Exported = length exported ≡ length q.program.preds → ⊥
+IsMissing q sigs goals exported U.Insts = SigsFit (count_of q.insts) sigs → ⊥
+IsMissing q sigs goals exported U.Numbers = TellNumbers q sigs → ⊥
+IsMissing q sigs goals exported U.Goals = GoalsFitModes q sigs goals → ⊥
+IsMissing q sigs goals exported U.Types = ⊥
+IsMissing q sigs goals exported U.Constructors = ⊥
+IsMissing q sigs goals exported (U.Procedure k) = ⊥
+
+-- a program's types and its constructors fit
+abbrev pub ProgramIsFit : Program → Type 0
+ProgramIsFit P =
+    FitsTypes (plain_program P) (parameters_in P) × FitsConstructors (plain_program P)
+
+-- That constructors aren't seen to fit doesn't say that they don't.
+abbrev pub IsUnfit : Program → Unseen → Type 0
+IsUnfit P U.Types = FitsTypes (plain_program P) (parameters_in P) → ⊥
+IsUnfit P U.Constructors = Unit {0}
+IsUnfit P U.Exported = ⊥
+IsUnfit P U.Insts = ⊥
+IsUnfit P U.Numbers = ⊥
+IsUnfit P U.Goals = ⊥
+IsUnfit P (U.Procedure k) = ⊥

@@ -1,0 +1,10 @@
+//! The procedures of a program in its declared modes, or the rules of modes and of determinism that they break.
+#![tactic(auto)]
+
+mod goals;
+mod judging;
+mod premises;
+mod rules;
+mod signatures;
+
+pub use rules::{Ruled, Unseen, procedures};

@@ -1,0 +1,75 @@
+ghost use Rattle.std.specs.Prelude.{◌≡◌, ◌↔◌, IsTrue, IfOk, MatchOption, length};
+ghost use Rattle.mc_rules.specs.Premises.{AskedOf, TellNumbers};
+ghost use Rattle.mc_rules.specs.code.Tests.{FollowOn, number_in};
+ghost use Rattle.mc_rules.specs.code.Missing.{IsMissing};
+
+use crate::goals::goals_fit;
+use crate::rules::Unseen;
+use crate::signatures::signatures_fit;
+use mc_base::Memory;
+use mc_model::flat::Normal;
+use mc_model::inst::Sig;
+use mc_modes::modes_at;
+use mc_orders::{ModeId, mode_ids};
+use mc_procs::Procs;
+use std::alloc::Global;
+
+/// What is asked of declared modes and goals and doesn't hold; None where all of it holds.
+pub(crate) fn missing(
+    alloc: Global,
+    procs: &Procs,
+    sigs: &[Sig],
+    goals: &[Normal],
+    exported: &[bool],
+) -> Result<Option<Unseen>, Memory>
+    requires { length goals.now ≡ length procs.now.program.preds }
+    ensures { IfOk result
+        (λ found. MatchOption found (AskedOf procs.now sigs.now goals.now exported.now)
+        (IsMissing procs.now sigs.now goals.now exported.now)) }
+{
+    if exported.len() != procs.program().preds.len() as usize {
+        return Ok(Some(Unseen::Exported));
+    }
+    if !signatures_fit(procs.insts().count(), sigs) {
+        return Ok(Some(Unseen::Insts));
+    }
+    if !tell_numbers(alloc, procs, sigs)? {
+        return Ok(Some(Unseen::Numbers));
+    }
+    if !goals_fit(procs, sigs, goals) {
+        return Ok(Some(Unseen::Goals));
+    }
+    Ok(None)
+}
+
+/// Whether each mode tells the number of its procedure.
+fn tell_numbers(alloc: Global, procs: &Procs, sigs: &[Sig]) -> Result<bool, Memory>
+    ensures { IfOk result (λ b. IsTrue b ↔ TellNumbers procs.now sigs.now) }
+{
+    let ids = mode_ids(alloc, procs.program(), sigs)?;
+    if ids.len() != procs.preds().len() as usize {
+        return Ok(false);
+    }
+    Ok(follow_on(sigs, ids.as_slice()))
+}
+
+/// Whether modes tell numbers one behind another, from 0 on.
+fn follow_on(sigs: &[Sig], ids: &[ModeId]) -> bool
+    ensures { IsTrue result ↔ FollowOn sigs.now 0 ids.now }
+{
+    for (place, id) in ids.iter().enumerate() {
+        if number_in(sigs, *id) as usize != place {
+            return false;
+        }
+    }
+    true
+}
+
+/// The number that a mode tells; 0 where there is none.
+fn number_in(sigs: &[Sig], id: ModeId) -> u32
+    ensures { result ≡ number_in sigs.now id }
+{
+    let modes = modes_at(sigs, id.pred);
+    let k = id.mode as usize;
+    if k < modes.len() { modes[k].proc } else { 0 }
+}

@@ -1,0 +1,4 @@
+pub mod Numbered
+pub mod Goals
+pub mod Queries
+pub mod Wholes
