@@ -6,7 +6,7 @@ use Rattle.mc_outside.specs.Meaning.{Held, PutsFront}
 use Rattle.mc_outside.specs.declared.traits.PutFault.{PutFault}
 use Rattle.mc_outside.specs.declared.traits.PutFault.TheVariants as put
 use Rattle.mc_program.specs.Printed.{printed, names_of}
-use Rattle.mc_model.specs.EventList.{Ends}
+use Rattle.mc_model.specs.EventList.{Ends, Halt, budget, too_deep}
 use Rattle.mc_model.specs.Good.{GoodQuery}
 use Rattle.mc_command_line.specs.Words.{Meaning, Check, Run, Query, Bounds, meaning}
 use Rattle.mc_command_line.specs.declared.limits.Bounds.{Bounds as RunBounds}
@@ -17,22 +17,26 @@ use Rattle.mc_ground_form.specs.Program.{IsProgram}
 use Rattle.mc_compile.specs.Sources.{Sources}
 use Rattle.mc_compile.specs.Forming.{Formed}
 use Rattle.mc_compile.specs.Compiling.{Compiles}
+use Rattle.mc_compile.specs.Building.{of_facts, of_procedures, Builds}
 use Rattle.mc_compile.specs.Laws.{CompiledFits, CompiledAsks, QueryIsAsked}
 use Rattle.mc_cmd.specs.Messages.{usage_line, unreadable_line, broken_lines}
-use Rattle.mc_cmd.specs.Ends.{Outcome, said, end_status, written_run}
-use Rattle.mc_cmd.specs.Outcome.{files_of, bounds_of, sources_of, written_of, written, Answers, refused, ran, Texts, These, Missing, texts_in, AnswersOver, DefinedFor, Defined}
-use Rattle.mc_cmd.specs.Call.{Told, NoneRose, AnswersWhole, Wrote, LacksOne, CannotRead, OfFiles, OfSources, BreaksRules, IsUnbuilt, RunsToEnd, IsTrueProgram, SaidUnreadable, SaysUnreadable, PutsDefined, CanCome, HoldTexts}
-use Rattle.mc_cmd.specs.Laws.{AtMostOneAnswer}
+use Rattle.mc_cmd.specs.Ends.{Outcome, said, stop_of, shown, end_status, written_run}
+use Rattle.mc_cmd.specs.Outcome.{files_of, bounds_of, sources_of, run_of_query, written_of, written, Answers, refused, ran, Texts, These, Missing, texts_in, AnswersOver, DefinedFor, Defined}
+use Rattle.mc_cmd.specs.Call.{Told, NoneRose, AnswersWhole, Wrote, LacksOne, CannotRead, OfFiles, OfSources, BreaksRules, IsUnbuilt, RunsToEnd, StopsBy, IsThrown, IsTrueProgram, SaidUnreadable, SaysUnreadable, PutsDefined, HoldTexts}
+use Rattle.mc_cmd.specs.Laws.{AtMostOneAnswer, IsSettled}
 use Rattle.mc_cmd.specs.declared.status.Status.{Status}
 use Rattle.mc_cmd.specs.declared.status.Status.TheVariants as S
 use Rattle.mc_cmd.specs.declared.decision.Decision.{Decision}
 use Rattle.mc_cmd.specs.declared.decision.Decision.TheVariants as D
 use Rattle.mc_cmd.specs.code.Facts.{left_of, rows_asked}
-use Rattle.mc_cmd.specs.code.Decisions.{IsAsked, Understood, IsDecided, IsReady, CountsFaults, CountsAbsents, told_of, Writes, ended, CountPuts, Quiet, Sinks, Happened}
+use Rattle.mc_cmd.specs.code.Decisions.{IsAsked, Understood, IsDecided, CountsFaults, CountsAbsents, told_of, Writes, ended, CountPuts, Quiet, EndsRun, Sinks, Happened}
 use Rattle.mc_cmd.proofs.Puts.{nothing_front, front_nothing, writes_front}
-use Rattle.mc_cmd.proofs.FactsRun.{written_agrees, run_ends, facts_unstopped, facts_printable}
+use Rattle.mc_cmd.proofs.FactsRun.{written_agrees, run_ends, facts_unstopped}
 use Rattle.mc_cmd.proofs.Commands.{HasBounds, is_command}
 use Rattle.mc_cmd.proofs.InTurn.{first_unread}
+use Rattle.mc_cmd.proofs.Builds.{facts_compile}
+use Rattle.mc_cmd.proofs.Stops.{Stops, ran_status, done_written, unasked_written, unasked_ends, ran_written, ran_ends, ran_stops, stops_thrown, stops_spent, stops_deep}
+use Rattle.mc_compile.specs.Ruling.{plain_executable}
 
 -- the laws that the command stands on
 pub record Laws : Type 0 where
@@ -61,25 +65,16 @@ decided_of_texts words store m names texts d e n h u = at d u
     at D.NotBuilt u = record { command = m; means = e; texts = texts; holds = held; understood = u }
     at D.Checked u = record { command = m; means = e; texts = texts; holds = held; understood = u }
     at (D.Answers b c) u = record { command = m; means = e; texts = texts; holds = held; understood = u }
+    at (D.Ran b k query) u = record { command = m; means = e; texts = texts; holds = held; understood = u }
     at D.Memory u = tt
 
 -- the program of a query is that of its question
 program_asked : (m : Meaning) (texts : List (List ℕ)) (b : RunBounds) (c : Compiled) (a : IsAsked m texts b c) → IsProgram a.formed.database (Some a.question) c
 program_asked m texts b c a = subst (λ (q : Option Question). IsProgram a.formed.database q c) a.asked a.program.program
 
--- what is decided can be written
-pub ready : CompiledFits → CompiledAsks → (words : List (List ℕ)) (store : Option Held) (d : Decision) → IsDecided words store d → IsReady d
-ready fit ask words store D.Usage x = tt
-ready fit ask words store (D.Absent line) x = tt
-ready fit ask words store (D.Unreadable line) x = tt
-ready fit ask words store (D.Rejected files broken) x = tt
-ready fit ask words store D.NotBuilt x = tt
-ready fit ask words store D.Checked x = tt
-ready fit ask words store (D.Answers b c) x =
-    let a = x.understood in
-    let s = sources_of x.command x.texts in
-    facts_printable a.formed.database a.question c (program_asked x.command x.texts b c a) (fit s a.formed a.compiles) (ask s a.formed a.question a.compiles a.asked)
-ready fit ask words store D.Memory x = tt
+-- its facts are compiled by the chain of facts
+asked_compiles : (m : Meaning) (texts : List (List ℕ)) (b : RunBounds) (c : Compiled) (a : IsAsked m texts b c) → Compiles (sources_of m texts) (Ok a.formed)
+asked_compiles m texts b c a = facts_compile (sources_of m texts) a.formed a.compiles
 
 -- an outcome of texts is a defined one
 defined_over : (words : List (List ℕ)) (held : Held) (m : Meaning) (t : Texts) (o : Outcome) → meaning words ≡ Some m → texts_in held (files_of m) ≡ t → AnswersOver m t o → Defined words held o
@@ -97,22 +92,24 @@ bounded law (Query first b goal files) texts x q h k e = (h.budget, h.depth)
 module _ (laws : Laws) where
   module _ (words : List (List ℕ)) (m : Meaning) (texts : List (List ℕ)) (b : RunBounds) (c : Compiled) (a : IsAsked m texts b c) (e : meaning words ≡ Some m) where
     within : (1 ≤ (bounds_of m).budget) × (1 ≤ (bounds_of m).depth)
-    within = bounded laws.asked m texts a.formed a.question (is_command words m e).bounded a.compiles a.asked
+    within = bounded laws.asked m texts a.formed a.question (is_command words m e).bounded (asked_compiles m texts b c a) a.asked
 
     -- what is put is what is written of the run
-    told_written : written m a.formed ≡ told_of (D.Answers b c)
+    told_written : written m (of_facts a.formed) ≡ told_of (D.Answers b c)
     told_written =
         let s = sources_of m texts in
+        let k = asked_compiles m texts b c a in
         ap (written_of (bounds_of m) a.formed.database) a.asked
-        ∙ sym (written_agrees laws.answered a.formed.database a.question c (bounds_of m) (program_asked m texts b c a) (laws.fit s a.formed a.compiles) (laws.ask s a.formed a.question a.compiles a.asked) within.0 within.1)
+        ∙ sym (written_agrees laws.answered a.formed.database a.question c (bounds_of m) (program_asked m texts b c a) (laws.fit s a.formed k) (laws.ask s a.formed a.question k a.asked) within.0 within.1)
         ∙ ap (λ (k : Bounds). written_run k (printed (names_of c.program)) c.vars (left_of (rows_asked c))) (sym a.bounds)
 
     -- and the run ends
     ended_run : IfSome a.formed.question (λ q. Ends (query_run a.formed.database q (bounds_of m).budget (bounds_of m).depth))
     ended_run =
         let s = sources_of m texts in
+        let k = asked_compiles m texts b c a in
         subst (λ (o : Option Question). IfSome o (λ q. Ends (query_run a.formed.database q (bounds_of m).budget (bounds_of m).depth))) (sym a.asked)
-        (run_ends laws.answered a.formed.database a.question c (bounds_of m) (program_asked m texts b c a) (laws.fit s a.formed a.compiles) (laws.ask s a.formed a.question a.compiles a.asked) within.0 within.1)
+        (run_ends laws.answered a.formed.database a.question c (bounds_of m) (program_asked m texts b c a) (laws.fit s a.formed k) (laws.ask s a.formed a.question k a.asked) within.0 within.1)
 
   -- what is told of a decision is a defined answer
   is_defined : (words : List (List ℕ)) (held : Held) (f0 f1 : ℕ) (d : Decision) → IsDecided words (Some held) d → CountsFaults d f0 f1 → (Rose f0 f1 → ⊥) → (told_of d).status ≢ S.Memory → Defined words held (told_of d)
@@ -127,20 +124,31 @@ module _ (laws : Laws) where
   is_defined words held f0 f1 D.Checked x cf n s =
       let a = x.understood in
       defined_over words held x.command (These x.texts) (told_of D.Checked) x.means x.holds
-      (subst (λ (o : Outcome). Answers x.command x.texts o) (ap (written_of (bounds_of x.command) a.formed.database) a.asked) (ran a.compiles))
+      (subst (λ (o : Outcome). Answers x.command x.texts o) (unasked_written x.command a.built a.unasked) (ran a.compiles))
   is_defined words held f0 f1 (D.Answers b c) x cf n s =
       let a = x.understood in
       defined_over words held x.command (These x.texts) (told_of (D.Answers b c)) x.means x.holds
       (subst (λ (o : Outcome). Answers x.command x.texts o) (told_written words x.command x.texts b c a x.means) (ran a.compiles))
+  is_defined words held f0 f1 (D.Ran b e query) x cf n s =
+      let a = x.understood in
+      defined_over words held x.command (These x.texts) (told_of (D.Ran b e query)) x.means x.holds
+      (subst (λ (o : Outcome). Answers x.command x.texts o) (ran_written x.command x.texts b e query a) (ran a.compiles))
   is_defined words held f0 f1 D.Memory x cf n s = absurd (s refl)
 
   -- and the one that is
-  one_defined : (words : List (List ℕ)) (held : Held) (f0 f1 : ℕ) (d : Decision) → IsDecided words (Some held) d → CountsFaults d f0 f1 → (Rose f0 f1 → ⊥) → (told_of d).status ≢ S.Memory → (o : Outcome) → Defined words held o → told_of d ≡ o
-  one_defined words held f0 f1 d x cf n s o y = laws.one words held (told_of d) o (is_defined words held f0 f1 d x cf n s) y
+  one_defined : (words : List (List ℕ)) (held : Held) (f0 f1 : ℕ) (d : Decision) → IsDecided words (Some held) d → CountsFaults d f0 f1 → (Rose f0 f1 → ⊥) → (told_of d).status ≢ S.Memory → IsSettled words held → (o : Outcome) → Defined words held o → told_of d ≡ o
+  one_defined words held f0 f1 d x cf n s t o y = laws.one words held t (told_of d) o (is_defined words held f0 f1 d x cf n s) y
 
 -- the answers of facts come to their end
 answers_done : (b : RunBounds) (c : Compiled) → (told_of (D.Answers b c)).status ≡ S.Done
 answers_done b c = ap end_status (facts_unstopped (rows_asked c))
+
+-- the statuses of runs that stop
+abbrev IsStopStatus : Status → Type 0
+IsStopStatus S.Threw = Unit {0}
+IsStopStatus S.Budget = Unit {0}
+IsStopStatus S.TooDeep = Unit {0}
+IsStopStatus _ = ⊥
 
 -- memory was wanting for a decision, or an answer is told of it
 memory_or_told : (d : Decision) → (d ≡ D.Memory) ⊎ ((told_of d).status ≢ S.Memory)
@@ -151,6 +159,7 @@ memory_or_told (D.Rejected files broken) = inr (λ e. cc)
 memory_or_told D.NotBuilt = inr (λ e. cc)
 memory_or_told D.Checked = inr (λ e. cc)
 memory_or_told (D.Answers b c) = inr (λ e. let z : S.Done ≡ S.Memory = sym (answers_done b c) ∙ e in cc)
+memory_or_told (D.Ran b k query) = inr (λ e. ran_status b k query S.Memory e)
 memory_or_told D.Memory = inl refl
 
 wrote_told : (w0 w1 : Option (List ℕ)) (before bytes : List ℕ) → w0 ≡ Some before → Wrote w0 w1 bytes → w1 ≡ Some (before ++ bytes)
@@ -211,13 +220,13 @@ module _ (words : List (List ℕ)) (store : Option Held) (f0 f1 a0 a1 : ℕ) (ou
       at (Err put.Failed) w v (inr c) i e = absurd (none.output c.0)
       at (Err put.Memory) w v c i e = absurd (n e)
 
-  pub prefixes : Laws → (held : Held) (bo be : List ℕ) → Told store held out.before bo err.before be → (Rose f0 f1 → ⊥) → (o : Outcome) → Defined words held o → PutsFront out.before out.after o.out × PutsFront err.before err.after o.err
-  prefixes laws held bo be told n o y = at (memory_or_told h.decision)
+  pub prefixes : Laws → (held : Held) (bo be : List ℕ) → Told store held out.before bo err.before be → (Rose f0 f1 → ⊥) → IsSettled words held → (o : Outcome) → Defined words held o → PutsFront out.before out.after o.out × PutsFront err.before err.after o.err
+  prefixes laws held bo be told n t o y = at (memory_or_told h.decision)
     where
       at : (h.decision ≡ D.Memory) ⊎ ((told_of h.decision).status ≢ S.Memory) → PutsFront out.before out.after o.out × PutsFront err.before err.after o.err
       at (inl e) = let w = none_put e in (nothing_front out.before out.after o.out w.0, nothing_front err.before err.after o.err w.1)
       at (inr m) =
-          let e = one_defined laws words held f0 f1 h.decision (decided_told held told.files) h.faults n m o y in (
+          let e = one_defined laws words held f0 f1 h.decision (decided_told held told.files) h.faults n m t o y in (
             subst (λ (x : Outcome). PutsFront out.before out.after x.out) e (writes_front out.before out.after h.written (told_of h.decision).out h.output),
             subst (λ (x : Outcome). PutsFront err.before err.after x.err) e (writes_front err.before err.after h.written (told_of h.decision).err h.errors),
           )
@@ -253,6 +262,7 @@ module _ (words : List (List ℕ)) (store : Option Held) (f0 f1 a0 a1 : ℕ) (ou
       at D.NotBuilt x cf w v = absurd (omega (arith, cf, f))
       at D.Checked x cf w v = absurd (omega (arith, cf, f))
       at (D.Answers b c) x cf w v = absurd (omega (arith, cf, f))
+      at (D.Ran b k query) x cf w v = absurd (omega (arith, cf, f))
       at D.Memory x cf w v =
           let first = first_unread store (files_of m) (is_command words m e).some in (
             writes_none out.before out.after h.written w,
@@ -273,6 +283,7 @@ module _ (words : List (List ℕ)) (store : Option Held) (f0 f1 a0 a1 : ℕ) (ou
       at D.NotBuilt x t = cc
       at D.Checked x t = cc
       at (D.Answers b c) x t = let z : S.Done ≡ S.Usage = sym (answers_done b c) ∙ t in cc
+      at (D.Ran b k query) x t = absurd (ran_status b k query S.Usage t)
       at D.Memory x t = cc
 
   -- the status of a decision, or a fault
@@ -299,30 +310,29 @@ module _ (words : List (List ℕ)) (store : Option Held) (f0 f1 a0 a1 : ℕ) (ou
       at D.NotBuilt x e = absurd (no_command words x.command n x.means)
       at D.Checked x e = absurd (no_command words x.command n x.means)
       at (D.Answers b c) x e = absurd (no_command words x.command n x.means)
+      at (D.Ran b k query) x e = absurd (no_command words x.command n x.means)
       at D.Memory x e = wanting S.Usage e
 
   pub done_cause : Laws → s ≡ S.Done → OfSources words store RunsToEnd
-  done_cause laws e = at h.decision h.decided (told_status S.Done e (λ x. cc) (λ x. cc))
+  done_cause laws e = at h.written h.decision h.decided h.ends (done_written h.written (sym h.status ∙ e)) (told_status S.Done e (λ x. cc) (λ x. cc))
     where
-      at : (d : Decision) → IsDecided words store d → (told_of d).status ≡ S.Done → OfSources words store RunsToEnd
-      at D.Usage x t = cc
-      at (D.Absent line) x t = cc
-      at (D.Unreadable line) x t = cc
-      at (D.Rejected files broken) x t = cc
-      at D.NotBuilt x t = cc
-      at D.Checked x t =
+      at : (r : Result Status PutFault) (d : Decision) → IsDecided words store d → EndsRun d r → r ≡ Ok S.Done → (told_of d).status ≡ S.Done → OfSources words store RunsToEnd
+      at r D.Usage x n w t = cc
+      at r (D.Absent line) x n w t = cc
+      at r (D.Unreadable line) x n w t = cc
+      at r (D.Rejected files broken) x n w t = cc
+      at r D.NotBuilt x n w t = cc
+      at r D.Checked x n w t =
           let a = x.understood in
-          record {
-            command = x.command;
-            means = x.means;
-            texts = x.texts;
-            holds = x.holds;
-            so = (a.formed, a.compiles, subst (λ (o : Option Question). IfSome o (λ q. Ends (query_run a.formed.database q (bounds_of x.command).budget (bounds_of x.command).depth))) (sym a.asked) tt);
-          }
-      at (D.Answers b c) x t =
+          record { command = x.command; means = x.means; texts = x.texts; holds = x.holds; so = (a.built, a.compiles, unasked_ends (bounds_of x.command) a.built a.unasked) }
+      at r (D.Answers b c) x n w t =
           let a = x.understood in
-          record { command = x.command; means = x.means; texts = x.texts; holds = x.holds; so = (a.formed, a.compiles, ended_run laws words x.command x.texts b c a x.means) }
-      at D.Memory x t = cc
+          record { command = x.command; means = x.means; texts = x.texts; holds = x.holds; so = (of_facts a.formed, a.compiles, ended_run laws words x.command x.texts b c a x.means) }
+      at r (D.Ran b f query) x n w t =
+          let a = x.understood in
+          let there : EndsRun (D.Ran b f query) (Ok S.Done) = subst (λ (q : Result Status PutFault). EndsRun (D.Ran b f query) q) w n in
+          record { command = x.command; means = x.means; texts = x.texts; holds = x.holds; so = (of_procedures (plain_executable f), a.compiles, ran_ends x.command x.texts b f query a (there refl)) }
+      at r D.Memory x n w t = cc
 
   pub rejected_cause : s ≡ S.Rejected → OfSources words store BreaksRules
   rejected_cause e = at h.decision h.decided (told_status S.Rejected e (λ x. cc) (λ x. cc))
@@ -336,6 +346,7 @@ module _ (words : List (List ℕ)) (store : Option Held) (f0 f1 a0 a1 : ℕ) (ou
       at D.NotBuilt x t = cc
       at D.Checked x t = cc
       at (D.Answers b c) x t = let z : S.Done ≡ S.Rejected = sym (answers_done b c) ∙ t in cc
+      at (D.Ran b k query) x t = absurd (ran_status b k query S.Rejected t)
       at D.Memory x t = cc
 
   pub not_built_cause : s ≡ S.NotBuilt →
@@ -351,6 +362,7 @@ module _ (words : List (List ℕ)) (store : Option Held) (f0 f1 a0 a1 : ℕ) (ou
       at D.NotBuilt x t = record { command = x.command; means = x.means; texts = x.texts; holds = x.holds; so = x.understood }
       at D.Checked x t = cc
       at (D.Answers b c) x t = let z : S.Done ≡ S.NotBuilt = sym (answers_done b c) ∙ t in cc
+      at (D.Ran b k query) x t = absurd (ran_status b k query S.NotBuilt t)
       at D.Memory x t = cc
 
   pub absent_cause : s ≡ S.Absent → Rose a0 a1
@@ -364,6 +376,7 @@ module _ (words : List (List ℕ)) (store : Option Held) (f0 f1 a0 a1 : ℕ) (ou
       at D.NotBuilt x t = cc
       at D.Checked x t = cc
       at (D.Answers b c) x t = let z : S.Done ≡ S.Absent = sym (answers_done b c) ∙ t in cc
+      at (D.Ran b k query) x t = absurd (ran_status b k query S.Absent t)
       at D.Memory x t = cc
 
   pub absent_lacks : s ≡ S.Absent → OfFiles words (LacksOne store)
@@ -377,6 +390,7 @@ module _ (words : List (List ℕ)) (store : Option Held) (f0 f1 a0 a1 : ℕ) (ou
       at D.NotBuilt x t = cc
       at D.Checked x t = cc
       at (D.Answers b c) x t = let z : S.Done ≡ S.Absent = sym (answers_done b c) ∙ t in cc
+      at (D.Ran b k query) x t = absurd (ran_status b k query S.Absent t)
       at D.Memory x t = cc
 
   pub read_cause : s ≡ S.ReadFault → Rose f0 f1
@@ -390,6 +404,7 @@ module _ (words : List (List ℕ)) (store : Option Held) (f0 f1 a0 a1 : ℕ) (ou
       at D.NotBuilt x t = cc
       at D.Checked x t = cc
       at (D.Answers b c) x t = let z : S.Done ≡ S.ReadFault = sym (answers_done b c) ∙ t in cc
+      at (D.Ran b k query) x t = absurd (ran_status b k query S.ReadFault t)
       at D.Memory x t = cc
 
   pub read_told : s ≡ S.ReadFault →
@@ -409,6 +424,7 @@ module _ (words : List (List ℕ)) (store : Option Held) (f0 f1 a0 a1 : ℕ) (ou
       at (Ok u) D.NotBuilt x w v i t = let z : S.NotBuilt ≡ S.ReadFault = sym i ∙ t in cc
       at (Ok u) D.Checked x w v i t = let z : S.Done ≡ S.ReadFault = sym i ∙ t in cc
       at (Ok u) (D.Answers b c) x w v i t = let z : S.Done ≡ S.ReadFault = sym (answers_done b c) ∙ sym i ∙ t in cc
+      at (Ok u) (D.Ran b k query) x w v i t = absurd (ran_status b k query S.ReadFault (sym i ∙ t))
       at (Ok u) D.Memory x w v i t = let z : S.Memory ≡ S.ReadFault = sym i ∙ t in cc
 
   pub read_seen : f0 < f1 → (s ≡ S.ReadFault) ⊎ ((s ≡ S.WriteFault) ⊎ (s ≡ S.Memory))
@@ -422,6 +438,7 @@ module _ (words : List (List ℕ)) (store : Option Held) (f0 f1 a0 a1 : ℕ) (ou
       at D.NotBuilt x t = absurd (omega (arith, x, f))
       at D.Checked x t = absurd (omega (arith, x, f))
       at (D.Answers b c) x t = absurd (omega (arith, x, f))
+      at (D.Ran b k query) x t = absurd (omega (arith, x, f))
       at D.Memory x t = wanting S.ReadFault t
 
   pub absent_seen : a0 < a1 → (s ≡ S.Absent) ⊎ ((s ≡ S.WriteFault) ⊎ (s ≡ S.Memory))
@@ -435,6 +452,7 @@ module _ (words : List (List ℕ)) (store : Option Held) (f0 f1 a0 a1 : ℕ) (ou
       at D.NotBuilt x t = absurd (omega (arith, x, f))
       at D.Checked x t = absurd (omega (arith, x, f))
       at (D.Answers b c) x t = absurd (omega (arith, x, f))
+      at (D.Ran b k query) x t = absurd (omega (arith, x, f))
       at D.Memory x t = wanting S.Absent t
 
   told_no_fault : (d : Decision) → (told_of d).status ≢ S.WriteFault
@@ -445,6 +463,7 @@ module _ (words : List (List ℕ)) (store : Option Held) (f0 f1 a0 a1 : ℕ) (ou
   told_no_fault D.NotBuilt t = cc
   told_no_fault D.Checked t = cc
   told_no_fault (D.Answers b c) t = let z : S.Done ≡ S.WriteFault = sym (answers_done b c) ∙ t in cc
+  told_no_fault (D.Ran b k query) t = absurd (ran_status b k query S.WriteFault t)
   told_no_fault D.Memory t = cc
 
   pub write_cause : s ≡ S.WriteFault → Rose out.faults_before out.faults_after ⊎ Rose err.faults_before err.faults_after
@@ -467,29 +486,38 @@ module _ (words : List (List ℕ)) (store : Option Held) (f0 f1 a0 a1 : ℕ) (ou
       at (Err put.Memory) c (inl k) = absurd (omega (arith, c.0, k))
       at (Err put.Memory) c (inr k) = absurd (omega (arith, c.1, k))
 
-  pub can_come : CanCome s
-  can_come = subst CanCome (sym h.status) (at h.written h.told)
+  -- the run of a query over procedures stopped
+  stop_cause : (IsSo : Halt → Type 0) (x : Status) → IsStopStatus x → ((h : Option Halt) → end_status h ≡ x → Stops IsSo h) → s ≡ x → OfSources words store (StopsBy IsSo)
+  stop_cause IsSo x k why e = at h.decision h.decided (told_status x e (λ i. subst IsStopStatus i k) (λ i. subst IsStopStatus i k))
     where
-      told_comes : (d : Decision) → CanCome (told_of d).status
-      told_comes D.Usage = tt
-      told_comes (D.Absent line) = tt
-      told_comes (D.Unreadable line) = tt
-      told_comes (D.Rejected files broken) = tt
-      told_comes D.NotBuilt = tt
-      told_comes D.Checked = tt
-      told_comes (D.Answers b c) = subst CanCome (sym (answers_done b c)) tt
-      told_comes D.Memory = tt
+      at : (d : Decision) → IsDecided words store d → (told_of d).status ≡ x → OfSources words store (StopsBy IsSo)
+      at D.Usage y t = absurd (subst IsStopStatus (sym t) k)
+      at (D.Absent line) y t = absurd (subst IsStopStatus (sym t) k)
+      at (D.Unreadable line) y t = absurd (subst IsStopStatus (sym t) k)
+      at (D.Rejected files broken) y t = absurd (subst IsStopStatus (sym t) k)
+      at D.NotBuilt y t = absurd (subst IsStopStatus (sym t) k)
+      at D.Checked y t = absurd (subst IsStopStatus (sym t) k)
+      at (D.Answers b c) y t = absurd (subst IsStopStatus (sym (sym (answers_done b c) ∙ t)) k)
+      at (D.Ran b f query) y t = ran_stops IsSo words store b f query y (why (stop_of (shown (run_of_query f.procs query b.budget b.depth))) t)
+      at D.Memory y t = absurd (subst IsStopStatus (sym t) k)
 
-      at : (r : Result Status PutFault) → IfOk r (λ u. u ≡ (told_of h.decision).status) → CanCome (ended r)
-      at (Ok u) i = subst CanCome (sym i) (told_comes h.decision)
-      at (Err put.Failed) i = tt
-      at (Err put.Memory) i = tt
+  pub threw_cause : s ≡ S.Threw → OfSources words store (StopsBy IsThrown)
+  threw_cause e = stop_cause IsThrown S.Threw tt stops_thrown e
+
+  pub spent_cause : s ≡ S.Budget → OfSources words store (StopsBy (λ halt. halt ≡ budget))
+  spent_cause e = stop_cause (λ halt. halt ≡ budget) S.Budget tt stops_spent e
+
+  pub deep_cause : s ≡ S.TooDeep → OfSources words store (StopsBy (λ halt. halt ≡ too_deep))
+  deep_cause e = stop_cause (λ halt. halt ≡ too_deep) S.TooDeep tt stops_deep e
 
 -- every run of what sources compile to is good, and every run of the query
-pub true_program : CompiledFits → CompiledAsks → FactsAreGood → QueriesAreGood → (s : Sources) (x : Formed) → Compiles s (Ok x) → IsTrueProgram x
-true_program fit ask facts queries s x k =
-    record { system = system_of x.database x.question; bare = refl; procedures = facts x.database x.question (fit s x k); query = queried x.question refl }
+pub true_program : CompiledFits → CompiledAsks → FactsAreGood → QueriesAreGood → (s : Sources) (x : Formed) → Builds s (Ok (of_facts x)) → IsTrueProgram x
+true_program fit ask facts queries s x j =
+    record { system = system_of x.database x.question; bare = refl; procedures = facts x.database x.question (fit s x (facts_compile s x j)); query = queried x.question refl }
   where
+    k : Compiles s (Ok x)
+    k = facts_compile s x j
+
     queried : (o : Option Question) → x.question ≡ o → IfSome o (λ q. (n h : ℕ) → GoodQuery (system_of x.database x.question) n h (query_procedure x.database q))
     queried None e = tt
     queried (Some q) e =

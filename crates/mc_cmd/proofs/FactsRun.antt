@@ -1,5 +1,5 @@
 -- The facts that are read off a program are those that the query's run answers.
-use Rattle.std.proofs.Common.{◌≡◌, ℕ, zero, suc, ◌<◌, ◌≤◌, List, [], ◌∷◌, ◌++◌, map, length, take, get_or, Option, Some, None, refl, sym, ap, ◌∙◌, subst, arith}
+use Rattle.std.proofs.Common.{◌≡◌, ℕ, zero, suc, ◌≤◌, List, [], ◌∷◌, ◌++◌, map, length, take, get_or, Option, Some, None, refl, sym, ap, ◌∙◌, subst, arith}
 use Rattle.std.proofs.lemmas.List.{get_or_append_left, length-map, get_or-map, take_all}
 use Rattle.std.proofs.Math.Seq.{get_or-append_seam}
 use Rattle.mc_program.specs.declared.program.Symbol.{Symbol}
@@ -11,13 +11,12 @@ use Rattle.mc_program.specs.Printed.{printed}
 use Rattle.mc_program.specs.Printed.{names_of as program_names}
 use Rattle.mc_model.specs.EventList.{Called, Ends}
 use Rattle.mc_command_line.specs.Words.{Bounds}
-use Rattle.mc_ground_form.specs.Database.{Database, Question, Constant, Relation, no_relation, constant_of, constructor_of, fact, predicate_of, query_predicate, asked_types, relation_at, query_run}
-use Rattle.mc_ground_form.specs.Laws.{RowFits, RowsFit, Fits, Asks, answers_of, answer_of, rows_of, FactsAreAnswered}
+use Rattle.mc_ground_form.specs.Database.{Database, Question, Constant, no_relation, constant_of, constructor_of, fact, predicate_of, query_predicate, asked_types, relation_at, query_run}
+use Rattle.mc_ground_form.specs.Laws.{Fits, Asks, answers_of, answer_of, rows_of, FactsAreAnswered}
 use Rattle.mc_ground_form.specs.Lines.{names_of}
 use Rattle.mc_ground_form.specs.declared.compiled.Compiled.{Compiled}
 use Rattle.mc_ground_form.specs.Program.{IsProgram}
 use Rattle.mc_cmd.specs.Ends.{stop_of, written_run}
-use Rattle.mc_cmd.specs.code.Runs.{AreNamed, ArePrintable}
 use Rattle.mc_cmd.specs.code.Facts.{called_by, clauses_of, facts_asked, facts_of, symbol_in, row_of, rows_asked, left_of}
 
 symbol_names : (ss : List Symbol) → map (λ (k : Constructor). k.name.bytes) (map plain_symbol ss) ≡ map (λ (s : Symbol). s.name.name) ss
@@ -95,37 +94,6 @@ run_ends law d q c b p f a n h = subst Ends (sym (run_there law d q c b p f a n 
 pub facts_unstopped : (rows : List (List ℕ)) → stop_of (left_of rows) ≡ None
 facts_unstopped [] = refl
 facts_unstopped (row ∷ rows) = facts_unstopped rows
-
-row_wide : (d : Database) (us row : List ℕ) → RowFits d us row → length us ≡ length (answer_of row)
-row_wide d [] [] f = refl
-row_wide d [] (s ∷ row) f = absurd f
-row_wide d (u ∷ us) [] f = absurd f
-row_wide d (u ∷ us) (s ∷ row) f = ap suc (row_wide d us row f.1.1)
-
-row_named : (d : Database) (us row : List ℕ) → RowFits d us row → AreNamed (length d.constants) (answer_of row)
-row_named d [] [] f = tt
-row_named d [] (s ∷ row) f = absurd f
-row_named d (u ∷ us) [] f = absurd f
-row_named d (u ∷ us) (s ∷ row) f = ((f.0, tt), row_named d us row f.1.1)
-
-rows_printable : (d : Database) (us : List ℕ) (width : ℕ) (rows : List (List ℕ)) → width ≡ length us → RowsFit d us rows → ArePrintable (length d.constants) width (left_of rows)
-rows_printable d us width [] e f = tt
-rows_printable d us width (row ∷ rows) e f = ((e ∙ row_wide d us row f.0, row_named d us row f.0), rows_printable d us width rows e f.1)
-
-fits_at : (d : Database) (rs : List Relation) (k : ℕ) → Fits d rs → k < length rs → RowsFit d (get_or rs k no_relation).types (get_or rs k no_relation).rows
-fits_at d [] k f h = absurd (omega (arith, h))
-fits_at d (r ∷ rs) zero f h = f.0
-fits_at d (r ∷ rs) (suc k) f h = fits_at d rs k f.1 (omega (arith, h))
-
-symbols_many : (d : Database) (q : Option Question) (c : Compiled) → IsProgram d q c → length d.constants ≡ length c.program.symbols
-symbols_many d q c p = sym (length-map d.constants constructor_of) ∙ ap length (sym p.symbols) ∙ length-map c.program.symbols plain_symbol
-
--- each fact can be printed
-pub facts_printable : (d : Database) (q : Question) (c : Compiled) → IsProgram d (Some q) c → Fits d d.relations → Asks d q → ArePrintable (length c.program.symbols) (length c.vars) (left_of (rows_asked c))
-facts_printable d q c p f a =
-    subst (λ (n : ℕ). ArePrintable n (length c.vars) (left_of (rows_asked c))) (symbols_many d (Some q) c p)
-    (subst (λ (rows : List (List ℕ)). ArePrintable (length d.constants) (length c.vars) (left_of rows)) (sym (rows_there d q c p a))
-    (rows_printable d (asked_types d q) (length c.vars) (rows_of d q) (ap length p.vars ∙ a.arguments) (fits_at d d.relations q.relation f a.declared)))
 
 heads_back : (es : List Expr) → map (λ (e : Expr). Some (constant_of (symbol_in (plain_expression e)))) es ≡ answer_of (map symbol_in (map plain_expression es))
 heads_back [] = refl

@@ -1,19 +1,17 @@
 -- What is put of a run, step by step.
-use Rattle.std.proofs.Common.{◌≡◌, ℕ, zero, suc, ◌≤◌, Bool, true, false, List, [], ◌∷◌, ◌++◌, map, length, codes, Option, Some, None, Result, Ok, Err, refl, sym, ap, ◌∙◌, subst, arith, append_assoc}
-use Rattle.std.specs.Prelude.{All}
+use Rattle.std.proofs.Common.{◌≡◌, ℕ, ◌≤◌, Bool, true, false, List, [], ◌∷◌, ◌++◌, map, codes, Option, Some, None, Result, Ok, Err, refl, sym, ap, ◌∙◌, subst, arith, append_assoc}
 use Rattle.std.specs.Result.{IsErrAnd}
-use Rattle.std.proofs.lemmas.List.{length-map}
 use Rattle.mc_program.specs.Values.{Val, plain_value}
 use Rattle.mc_program.specs.declared.value.Value.{Value}
-use Rattle.mc_program.specs.Printed.{SymbolsBelow, answer_text}
-use Rattle.mc_model.specs.EventList.{End, Stuck, Stopped, Answer, Called, Wrote, Read, Each, Halt}
+use Rattle.mc_program.specs.Printed.{answer_text}
+use Rattle.mc_model.specs.EventList.{End, Stuck, Stopped, Answer, Called, Wrote, Read, Halt, Ends}
 use Rattle.mc_model.specs.Output.{bytes_of, no_answer, texts_of}
 use Rattle.mc_outside.specs.Meaning.{PutsFront}
 use Rattle.mc_outside.specs.declared.traits.PutFault.{PutFault}
 use Rattle.mc_cmd.specs.declared.run.Went.{Went}
 use Rattle.mc_cmd.specs.Call as call
 use Rattle.mc_cmd.specs.Ends.{stop_of}
-use Rattle.mc_cmd.specs.code.Runs.{QueryItems, from_next, bound, AreNamed, IsPrintable, size, last_line, rest_bytes, GoesOn, IsPut}
+use Rattle.mc_cmd.specs.code.Runs.{QueryItems, from_next, bound, size, last_line, rest_bytes, GoesOn, IsPut}
 use Rattle.mc_cmd.proofs.Puts.{front_longer, wrote_nothing}
 
 bytes_next : (text : Val → List ℕ) (vs : List (List ℕ)) (xs : QueryItems) → bytes_of text vs xs ≡ bytes_of text vs (from_next xs)
@@ -43,14 +41,14 @@ stop_next (Called c xs) = stop_next xs
 stop_next (Wrote t xs) = refl
 stop_next (Read k xs) = refl
 
-each_next : (P : List (Option Val) → Type 0) (xs : QueryItems) → Each P xs → Each P (from_next xs)
-each_next P End e = e
-each_next P Stuck e = e
-each_next P (Stopped h) e = e
-each_next P (Answer a xs) e = e
-each_next P (Called c xs) e = each_next P xs e
-each_next P (Wrote t xs) e = e
-each_next P (Read k xs) e = e
+ends_next : (xs : QueryItems) → Ends (from_next xs) → Ends xs
+ends_next End e = e
+ends_next Stuck e = e
+ends_next (Stopped h) e = e
+ends_next (Answer a xs) e = e
+ends_next (Called c xs) e = ends_next xs e
+ends_next (Wrote t xs) e = e
+ends_next (Read k xs) e = e
 
 size_next : (xs : QueryItems) → size (from_next xs) ≤ size xs
 size_next End = omega arith
@@ -88,18 +86,17 @@ pub texts_bound : (text : Val → List ℕ) (values : List Value) → texts_of t
 texts_bound text [] = refl
 texts_bound text (v ∷ vs) = ap (λ (ts : List (List ℕ)). text (plain_value v) ∷ ts) (texts_bound text vs)
 
-module _ (text : Val → List ℕ) (vs : List (List ℕ)) (P : List (Option Val) → Type 0) (a : Bool) (xs ys : QueryItems) (w0 w1 : Option (List ℕ)) where
+module _ (text : Val → List ℕ) (vs : List (List ℕ)) (a : Bool) (xs ys : QueryItems) (w0 w1 : Option (List ℕ)) where
   -- the line of an answer was put
-  pub answer_goes : (values : List Value) (texts : List (List ℕ)) → from_next xs ≡ Answer (bound values) ys → Each P xs → texts ≡ texts_of text (bound values) → call.Wrote w0 w1 (answer_text vs texts) → GoesOn text vs P a true xs ys w0 w1
-  answer_goes values texts e p t w =
-      let there : Each P (Answer (bound values) ys) = subst (λ (zs : QueryItems). Each P zs) e (each_next P xs p) in
+  pub answer_goes : (values : List Value) (texts : List (List ℕ)) → from_next xs ≡ Answer (bound values) ys → texts ≡ texts_of text (bound values) → call.Wrote w0 w1 (answer_text vs texts) → GoesOn text vs a true xs ys w0 w1
+  answer_goes values texts e t w =
       record {
         piece = answer_text vs texts;
         wrote = w;
         behind = rest_next text vs a xs (Answer (bound values) ys) e ∙ answer_rest text vs a (bound values) ys ∙ ap (λ (ts : List (List ℕ)). answer_text vs ts ++ rest_bytes text vs true ys) (sym t);
         fewer = omega (arith, size_next xs, ap size e);
         same_end = sym (stop_next xs ∙ ap stop_of e);
-        printable = there.1;
+        ends = λ f. ends_next xs (subst Ends (sym e) f);
       }
 
   -- or a front part of it
@@ -110,15 +107,15 @@ module _ (text : Val → List ℕ) (vs : List (List ℕ)) (P : List (Option Val)
       (front_longer w0 w1 (answer_text vs texts) (rest_bytes text vs true ys) f)
 
   -- a text was put
-  pub text_goes : (t : List ℕ) → from_next xs ≡ Wrote t ys → Each P xs → call.Wrote w0 w1 t → GoesOn text vs P a a xs ys w0 w1
-  text_goes t e p w =
+  pub text_goes : (t : List ℕ) → from_next xs ≡ Wrote t ys → call.Wrote w0 w1 t → GoesOn text vs a a xs ys w0 w1
+  text_goes t e w =
       record {
         piece = t;
         wrote = w;
         behind = rest_next text vs a xs (Wrote t ys) e ∙ text_rest text vs a t ys;
         fewer = omega (arith, size_next xs, ap size e);
         same_end = sym (stop_next xs ∙ ap stop_of e);
-        printable = subst (λ (zs : QueryItems). Each P zs) e (each_next P xs p);
+        ends = λ f. ends_next xs (subst Ends (sym e) f);
       }
 
   -- or a front part of it
@@ -127,27 +124,10 @@ module _ (text : Val → List ℕ) (vs : List (List ℕ)) (P : List (Option Val)
       subst (λ (bs : List ℕ). PutsFront w0 w1 bs) (sym (rest_next text vs a xs (Wrote t ys) e ∙ text_rest text vs a t ys))
       (front_longer w0 w1 t (rest_bytes text vs a ys) f)
 
--- the next answer can be printed
-pub next_printable : (P : List (Option Val) → Type 0) (xs ys : QueryItems) (os : List (Option Val)) → from_next xs ≡ Answer os ys → Each P xs → P os
-next_printable P xs ys os e p = let there : Each P (Answer os ys) = subst (λ (zs : QueryItems). Each P zs) e (each_next P xs p) in there.0
-
-pub all_then : {X : Type 0} (P : X → Type 0) (x : X) (xs : List X) → P x → All P xs → All P (x ∷ xs)
-all_then P x xs p a zero e h = p
-all_then P x xs p a (suc k) e h = a k e (omega (arith, h))
-
--- the values of an answer have names for their symbols
-pub values_named : (n : ℕ) (values : List Value) → AreNamed n (bound values) → All (λ (v : Value). SymbolsBelow n (plain_value v)) values
-values_named n [] a = λ k x h. absurd (omega (arith, h))
-values_named n (v ∷ vs) a = all_then (λ (v : Value). SymbolsBelow n (plain_value v)) v vs a.0 (values_named n vs a.1)
-
--- and there are as many as variables
-pub values_wide : (n width : ℕ) (values : List Value) → IsPrintable n width (bound values) → width ≡ length values
-values_wide n width values p = p.0 ∙ length-map values (λ (v : Value). Some (plain_value v))
-
 -- a fault of a put is passed on by a `?`
-pub passed_put : (Q : PutFault → Type 0) (text : Val → List ℕ) (vs : List (List ℕ)) (P : List (Option Val) → Type 0) (a : Bool) (xs ys : QueryItems) (w0 w1 : Option (List ℕ)) (r : Result Went PutFault) → IsErrAnd r Q → PutsFront w0 w1 (rest_bytes text vs a xs) → IsPut text vs P a xs ys w0 w1 r
-passed_put Q text vs P a xs ys w0 w1 (Ok y) e p = absurd e
-passed_put Q text vs P a xs ys w0 w1 (Err f) e p = p
+pub passed_put : (Q : PutFault → Type 0) (text : Val → List ℕ) (vs : List (List ℕ)) (a : Bool) (xs ys : QueryItems) (w0 w1 : Option (List ℕ)) (r : Result Went PutFault) → IsErrAnd r Q → PutsFront w0 w1 (rest_bytes text vs a xs) → IsPut text vs a xs ys w0 w1 r
+passed_put Q text vs a xs ys w0 w1 (Ok y) e p = absurd e
+passed_put Q text vs a xs ys w0 w1 (Err f) e p = p
 
 end_unanswered : (text : Val → List ℕ) (vs : List (List ℕ)) (a : Bool) → a ≡ false → codes "false.\n" ≡ rest_bytes text vs a End
 end_unanswered text vs true e = cc
@@ -163,16 +143,16 @@ stop_nothing text vs false h = refl
 
 module _ (text : Val → List ℕ) (vs : List (List ℕ)) (a : Bool) (xs : QueryItems) (w0 w1 : Option (List ℕ)) where
   -- at the end `false.` was put, where no answer came
-  pub end_said : from_next xs ≡ End → a ≡ false → call.Wrote w0 w1 (codes "false.\n") → call.Wrote w0 w1 (rest_bytes text vs a xs) × (stop_of xs ≡ None)
-  end_said e n w = (subst (λ (bs : List ℕ). call.Wrote w0 w1 bs) (end_unanswered text vs a n ∙ sym (rest_next text vs a xs End e)) w, stop_next xs ∙ ap stop_of e)
+  pub end_said : from_next xs ≡ End → a ≡ false → call.Wrote w0 w1 (codes "false.\n") → call.Wrote w0 w1 (rest_bytes text vs a xs) × ((stop_of xs ≡ None) × Ends xs)
+  end_said e n w = (subst (λ (bs : List ℕ). call.Wrote w0 w1 bs) (end_unanswered text vs a n ∙ sym (rest_next text vs a xs End e)) w, (stop_next xs ∙ ap stop_of e, ends_next xs (subst Ends (sym e) tt)))
 
   -- or a front part of it
   pub end_breaks : from_next xs ≡ End → a ≡ false → PutsFront w0 w1 (codes "false.\n") → PutsFront w0 w1 (rest_bytes text vs a xs)
   end_breaks e n f = subst (λ (bs : List ℕ). PutsFront w0 w1 bs) (end_unanswered text vs a n ∙ sym (rest_next text vs a xs End e)) f
 
   -- or nothing, where one came
-  pub end_quiet : from_next xs ≡ End → a ≡ true → w1 ≡ w0 → call.Wrote w0 w1 (rest_bytes text vs a xs) × (stop_of xs ≡ None)
-  end_quiet e n w = (subst (λ (bs : List ℕ). call.Wrote w0 w1 bs) (end_answered text vs a n ∙ sym (rest_next text vs a xs End e)) (wrote_nothing w0 w1 w), stop_next xs ∙ ap stop_of e)
+  pub end_quiet : from_next xs ≡ End → a ≡ true → w1 ≡ w0 → call.Wrote w0 w1 (rest_bytes text vs a xs) × ((stop_of xs ≡ None) × Ends xs)
+  end_quiet e n w = (subst (λ (bs : List ℕ). call.Wrote w0 w1 bs) (end_answered text vs a n ∙ sym (rest_next text vs a xs End e)) (wrote_nothing w0 w1 w), (stop_next xs ∙ ap stop_of e, ends_next xs (subst Ends (sym e) tt)))
 
   -- at a stop nothing is put
   pub stop_quiet : (h : Halt) → from_next xs ≡ Stopped h → w1 ≡ w0 → call.Wrote w0 w1 (rest_bytes text vs a xs) × (stop_of xs ≡ Some h)

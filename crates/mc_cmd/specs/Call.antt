@@ -3,19 +3,19 @@ use Rattle.std.specs.Prelude.{◌≡◌, ℕ, List, [], ◌∷◌, ◌++◌, Con
 use Rattle.mc_outside.specs.Counts.{Rose}
 use Rattle.mc_outside.specs.Meaning.{Held, PutsFront}
 use Rattle.mc_source.specs.declared.rule.Broken.{Broken}
-use Rattle.mc_model.specs.EventList.{Ends}
+use Rattle.mc_model.specs.EventList.{Ends, Halt, Exc, thrown}
 use Rattle.mc_model.specs.Good.{System, GoodProcedures, GoodQuery}
-use Rattle.mc_command_line.specs.Words.{Meaning, meaning}
+use Rattle.mc_command_line.specs.Words.{Meaning, Bounds, meaning}
 use Rattle.mc_ground_form.specs.Database.{query_procedure, query_run, system_of}
 use Rattle.mc_compile.specs.Phases.{Breaks, Unbuilt}
 use Rattle.mc_compile.specs.Sources.{Sources}
 use Rattle.mc_compile.specs.Forming.{Formed}
-use Rattle.mc_compile.specs.Compiling.{Compiles}
+use Rattle.mc_compile.specs.Ruling.{PlainExecutable}
+use Rattle.mc_compile.specs.Building.{Built, of_facts, of_procedures, Builds}
 use Rattle.mc_cmd.specs.declared.status.Status.{Status}
-use Rattle.mc_cmd.specs.declared.status.Status.TheVariants as S
 use Rattle.mc_cmd.specs.Messages.{unreadable_line}
-use Rattle.mc_cmd.specs.Ends.{Outcome}
-use Rattle.mc_cmd.specs.Outcome.{Defined, texts_in, These, Missing, files_of, sources_of, bounds_of}
+use Rattle.mc_cmd.specs.Ends.{Outcome, stop_of}
+use Rattle.mc_cmd.specs.Outcome.{Defined, texts_in, These, Missing, files_of, sources_of, bounds_of, run_of_query}
 
 -- the store tells what it holds, and the sinks what was written
 pub record Told (store : Option Held) (held : Held) (out : Option (List ℕ)) (before_out : List ℕ) (err : Option (List ℕ)) (before_err : List ℕ) : Type 0 where
@@ -51,13 +51,6 @@ abbrev pub PutsDefined :
     (words : List (List ℕ)) → Held → (out0 out1 err0 err1 : Option (List ℕ)) → Type 0
 PutsDefined words held out0 out1 err0 err1 =
     (o : Outcome) × Defined words held o × PutsFront out0 out1 o.out × PutsFront err0 err1 o.err
-
--- the status is one of those that can come at this stage
-abbrev pub CanCome : Status → Type 0
-CanCome S.Threw = ⊥
-CanCome S.Budget = ⊥
-CanCome S.TooDeep = ⊥
-CanCome _ = Unit {0}
 
 -- the words mean a command, and P holds of the files that it names
 abbrev pub OfFiles : (words : List (List ℕ)) → (List (List ℕ) → Type 0) → Type 0
@@ -113,21 +106,40 @@ pub record OfSources (words : List (List ℕ)) (store : Option Held) (P : Meanin
 
 -- the sources break rules
 abbrev pub BreaksRules : Meaning → Sources → Type 0
-BreaksRules m s = (broken : List Broken) × Compiles s (Err (Breaks broken))
+BreaksRules m s = (broken : List Broken) × Builds s (Err (Breaks broken))
 
 -- they break none, and something is asked for that isn't built yet
 abbrev pub IsUnbuilt : Meaning → Sources → Type 0
-IsUnbuilt m s = Compiles s (Err Unbuilt)
+IsUnbuilt m s = Builds s (Err Unbuilt)
+
+-- the run of the query of what was built, where there is one, comes to its end within bounds
+abbrev pub EndsWithin : Bounds → Built → Type 0
+EndsWithin b (of_facts x) =
+    IfSome x.question (λ q. Ends (query_run x.database q b.budget b.depth))
+EndsWithin b (of_procedures e) =
+    IfSome e.query (λ query. Ends (run_of_query e.procs query b.budget b.depth))
 
 -- they compile, and the run of the query, where there is one, comes to its end within its bounds
 abbrev pub RunsToEnd : Meaning → Sources → Type 0
-RunsToEnd m s =
-    (x : Formed)
-    × Compiles s (Ok x)
-    × IfSome x.question
-    (λ q. Ends (query_run x.database q (bounds_of m).budget (bounds_of m).depth))
+RunsToEnd m s = (x : Built) × Builds s (Ok x) × EndsWithin (bounds_of m) x
 
--- There is a system whose bare form is what sources are compiled to, so that its runs are those
+-- They compile to procedures, and the run of the query stops before its end for a reason of this
+-- kind. (The run of a query over facts doesn't stop.)
+pub record StopsBy (IsSo : Halt → Type 0) (m : Meaning) (s : Sources) : Type 0 where
+  pub executable : PlainExecutable
+  pub compiles : Builds s (Ok (of_procedures executable))
+  pub query : ℕ
+  pub asked : executable.query ≡ Some query
+  pub halt : Halt
+  pub stops :
+      stop_of (run_of_query executable.procs query (bounds_of m).budget (bounds_of m).depth)
+      ≡ Some halt
+  pub so : IsSo halt
+
+abbrev pub IsThrown : Halt → Type 0
+IsThrown halt = (e : Exc) × (halt ≡ thrown e)
+
+-- There is a system whose bare form is the facts that sources are compiled to, so that its runs are those
 -- which are written. Every run of its procedures is good, and so is every run of the query, where
 -- there is one.
 pub record IsTrueProgram (x : Formed) : Type 0 where

@@ -1,7 +1,8 @@
 -- What is written of a run by how it ends. (This project's profile.)
-use Rattle.std.specs.Prelude.{ℕ, List, [], Option, Some, None}
+use Rattle.std.specs.Prelude.{ℕ, List, [], map, Option, Some, None}
 use Rattle.mc_program.specs.Values.{Val}
 use Rattle.mc_model.specs.EventList.{Items, End, Stuck, Stopped, Answer, Called, Wrote, Read, Halt, budget, too_deep, thrown}
+use Rattle.mc_model.specs.Events.{bound_values}
 use Rattle.mc_model.specs.Output.{query_bytes, stop_line}
 use Rattle.mc_command_line.specs.Words.{Bounds}
 use Rattle.mc_cmd.specs.declared.status.Status.{Status}
@@ -16,6 +17,16 @@ pub record Outcome : Type 0 where
 -- a line on the error output, and nothing on the output
 abbrev pub said : List ℕ → Status → Outcome
 said line s = record { out = []; err = line; status = s }
+
+-- What a run shows: its events without its calls, and of each answer the values that are bound.
+abbrev pub shown : Items (List (Option Val)) → Items (List (Option Val))
+shown End = End
+shown Stuck = Stuck
+shown (Stopped h) = Stopped h
+shown (Answer os xs) = Answer (map Some (bound_values os)) (shown xs)
+shown (Called c xs) = shown xs
+shown (Wrote t xs) = Wrote t (shown xs)
+shown (Read k xs) = Read k (shown xs)
 
 -- Why a run stops before its end, where it does. (A good run is never stuck.)
 abbrev pub stop_of : {A : Type 0} → Items A → Option Halt

@@ -4,16 +4,23 @@ use Rattle.std.specs.Prelude.{◌≡◌, ℕ, Bool, true, false, List, [], ◌�
 use Rattle.std.specs.FinMap as finmap
 use Rattle.mc_outside.specs.Meaning.{Held, first_part}
 use Rattle.mc_command_line.specs.Words.{Meaning, Check, Run, Query, Bounds, meaning, query_text}
+use Rattle.mc_program.specs.Values.{Val}
 use Rattle.mc_program.specs.Printed.{printed}
+use Rattle.mc_program.specs.Printed.{names_of as program_names}
+use Rattle.mc_model.specs.Builtins.{outcome}
+use Rattle.mc_model.specs.EventList.{Items}
+use Rattle.mc_model.specs.Stream.{run_query}
+use Rattle.mc_model.specs.Worlds.{library_of}
+use Rattle.mc_procs.specs.Procedures.{PlainProcs, procedure_at}
 use Rattle.mc_ground_form.specs.Database.{Database, Question, query_run}
 use Rattle.mc_ground_form.specs.Lines.{names_of}
 use Rattle.mc_compile.specs.Phases.{Refusal, Breaks, Unbuilt}
 use Rattle.mc_compile.specs.Sources.{Sources}
-use Rattle.mc_compile.specs.Forming.{Formed}
-use Rattle.mc_compile.specs.Compiling.{Compiles}
+use Rattle.mc_compile.specs.Ruling.{PlainExecutable}
+use Rattle.mc_compile.specs.Building.{Built, of_facts, of_procedures, Builds}
 use Rattle.mc_cmd.specs.declared.status.Status.TheVariants as S
 use Rattle.mc_cmd.specs.Messages.{usage_line, not_built_line, absent_line, broken_lines}
-use Rattle.mc_cmd.specs.Ends.{Outcome, said, written_run}
+use Rattle.mc_cmd.specs.Ends.{Outcome, said, shown, written_run}
 
 -- the files that a command names, in order
 abbrev pub files_of : Meaning → List (List ℕ)
@@ -54,20 +61,39 @@ abbrev pub refusal : Meaning → Refusal → Outcome
 refusal m (Breaks broken) = said (broken_lines (files_of m) broken) S.Rejected
 refusal m Unbuilt = said not_built_line S.NotBuilt
 
--- what is written of a program and its query within bounds; without a query nothing is run
+-- what is written of facts and their query within bounds; without a query nothing is run
 abbrev pub written_of : Bounds → Database → Option Question → Outcome
 written_of b d None = said [] S.Done
 written_of b d (Some q) =
     written_run b (printed (names_of d)) q.variables (query_run d q b.budget b.depth)
 
--- what is written where the sources compile
-abbrev pub written : Meaning → Formed → Outcome
-written m x = written_of (bounds_of m) x.database x.question
+-- the run of a query over procedures, over an empty input
+abbrev pub run_of_query : PlainProcs → (query budget depth : ℕ) → Items (List (Option Val))
+run_of_query q query n h =
+    run_query (outcome (library_of q.program) []) (procedure_at q.added) n h
+    (procedure_at q.added query)
+
+-- what is written of it within bounds, by the names of the query's variables
+abbrev pub written_rules :
+    Bounds → PlainProcs → (query : ℕ) → (variables : List (List ℕ)) → Outcome
+written_rules b q query variables =
+    written_run b (printed (program_names q.program)) variables
+    (shown (run_of_query q query b.budget b.depth))
+
+-- what is written of procedures and their query within bounds; without a query nothing is run
+abbrev pub written_procedures : Bounds → PlainExecutable → Option ℕ → Outcome
+written_procedures b e None = said [] S.Done
+written_procedures b e (Some query) = written_rules b e.procs query e.variables
+
+-- what is written where the sources compile: to facts, or to procedures
+abbrev pub written : Meaning → Built → Outcome
+written m (of_facts x) = written_of (bounds_of m) x.database x.question
+written m (of_procedures e) = written_procedures (bounds_of m) e e.query
 
 -- What is answered of a command whose files hold these texts.
 pub data Answers (m : Meaning) (texts : List (List ℕ)) : Outcome → Type 0 where
-  refused : {r : Refusal} → Compiles (sources_of m texts) (Err r) → Answers m texts (refusal m r)
-  ran : {x : Formed} → Compiles (sources_of m texts) (Ok x) → Answers m texts (written m x)
+  refused : {r : Refusal} → Builds (sources_of m texts) (Err r) → Answers m texts (refusal m r)
+  ran : {x : Built} → Builds (sources_of m texts) (Ok x) → Answers m texts (written m x)
 
 -- the texts that files hold, as much of each as is read, or the first file that isn't there
 pub data Texts : Type 0 where

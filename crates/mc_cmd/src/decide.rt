@@ -1,17 +1,18 @@
 ghost use Rattle.std.specs.Prelude.{◌≡◌, ◌≤◌, length, map, string_bytes, IfOk, IfErr};
-ghost use Rattle.mc_command_line.specs.Plain.{plain_command, plain_texts};
+ghost use Rattle.mc_command_line.specs.Plain.{plain_bounds, plain_command, plain_texts};
 ghost use Rattle.mc_compile.specs.Sources.{texts_of, text_of};
 ghost use Rattle.mc_compile.specs.Sources.{is_first as is_first_wanted};
 ghost use Rattle.mc_cmd.specs.Messages.{absent_line, unreadable_line};
-ghost use Rattle.mc_cmd.specs.Outcome.{files_of, query_of, is_first, is_run};
+ghost use Rattle.mc_cmd.specs.Outcome.{bounds_of, files_of, query_of, is_first, is_run};
 ghost use Rattle.mc_cmd.specs.Call.{HoldTexts};
-ghost use Rattle.mc_cmd.specs.code.Decisions.{CountsAbsents, CountsFaults, IsAnswered, IsDecided, IsHeld, IsStopped, Stops, StopsAt, Understood, given_names};
+ghost use Rattle.mc_cmd.specs.code.Decisions.{CountsAbsents, CountsFaults, IsAnswered, IsAnsweredByFacts, IsAnsweredByRun, IsDecided, IsHeld, IsStopped, Stops, StopsAt, Understood, given_names};
 
 use crate::decision::Decision;
 use crate::messages;
 use mc_base::{Memory, Row, Text};
-use mc_command_line::{Command, query_text, read_words};
-use mc_compile::{CompileFault, Compiled, Given, Query, compile, query_is_asked};
+use mc_command_line::{Bounds, Command, query_text, read_words};
+use mc_compile::{CompileFault, Compiled, Executable, Given, Query, compile, query_is_asked};
+use mc_ground_form::Compiled as Facts;
 use mc_outside::{FileAnswer, Files};
 use std::alloc::{AllocError, Global};
 
@@ -137,13 +138,47 @@ fn is_run(command: &Command<'_>) -> bool
     matches!(command, Command::Run(..))
 }
 
+/// The bounds of a command's run; without one they are nothing.
+fn bounds_of(command: &Command<'_>) -> Bounds
+    ensures { plain_bounds result ≡ bounds_of (plain_command command.now) }
+{
+    match command {
+        Command::Check(_) => Bounds {
+            budget: 0,
+            depth: 0,
+        },
+        Command::Run(bounds, _) => *bounds,
+        Command::Query { bounds, .. } => *bounds,
+    }
+}
+
+/// What is decided of a command whose sources compile to facts.
+fn asked_of_facts(command: &Command<'_>, facts: Facts) -> Decision
+    ensures { IsAnsweredByFacts (plain_command command.now) facts result }
+{
+    match command {
+        Command::Query { bounds, .. } => Decision::Answers(*bounds, facts),
+        Command::Check(_) | Command::Run(..) => Decision::Checked,
+    }
+}
+
+/// What is decided of a command whose sources compile to procedures.
+fn asked_of_procedures(command: &Command<'_>, executable: Executable) -> Decision
+    ensures { IsAnsweredByRun (plain_command command.now) executable result }
+{
+    match executable.query {
+        Some(query) => Decision::Ran(bounds_of(command), executable, query),
+        None => Decision::Checked,
+    }
+}
+
 /// What is decided of a command whose sources compile.
 fn asked(command: &Command<'_>, compiled: Compiled) -> Decision
     ensures { IsAnswered (plain_command command.now) compiled result }
 {
-    match command {
-        Command::Query { bounds, .. } => Decision::Answers(*bounds, compiled),
-        Command::Check(_) | Command::Run(..) => Decision::Checked,
+    match compiled {
+        Compiled::Facts(facts) => asked_of_facts(command, facts),
+        Compiled::Procedures(executable) => asked_of_procedures(command, executable),
     }
 }
 

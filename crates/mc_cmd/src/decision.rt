@@ -1,6 +1,7 @@
 use mc_base::{Memory, Row};
 use mc_command_line::Bounds;
-use mc_compile::{Compiled, Given};
+use mc_compile::{Executable, Given};
+use mc_ground_form::Compiled as Facts;
 use mc_source::rule::Broken;
 
 /// What is to be answered, before anything is written.
@@ -18,8 +19,10 @@ pub enum Decision {
     NotBuilt,
     /// The sources compile, and nothing is asked of them.
     Checked,
-    /// The answers of the query, within these bounds.
-    Answers(Bounds, Compiled),
+    /// The answers of the query over facts, within these bounds.
+    Answers(Bounds, Facts),
+    /// The run of the query over procedures, within these bounds, by the query's number.
+    Ran(Bounds, Executable, u32),
     /// There is no room.
     Memory,
 }

@@ -9,7 +9,7 @@ ghost use Rattle.mc_cmd.specs.code.Facts.{called_by, called_in, clauses_at, fact
 
 use crate::run::Run;
 use mc_base::{Memory, Row};
-use mc_compile::Compiled;
+use mc_ground_form::Compiled;
 use mc_model::run::Step;
 use mc_program::expr::Expr;
 use mc_program::program::{Clause, Goal, Pred};
@@ -114,6 +114,8 @@ impl<'a> FactsRun<'a> {
 }
 
 impl<'a> Run for FactsRun<'a> {
+    ghost is_run = { λ _. Unit {0} };
+
     ghost left = { left_of };
 
     fn next(&mut self, alloc: Global) -> Result<Step, Memory> {

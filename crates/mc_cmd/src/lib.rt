@@ -6,6 +6,8 @@ mod decision;
 mod facts;
 mod law;
 mod messages;
+mod named;
+mod procs_run;
 mod run;
 mod status;
 mod stop;

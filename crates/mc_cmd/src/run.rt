@@ -1,15 +1,17 @@
 //! Runs that are asked for one step after another, and the writing of them.
-ghost use Rattle.std.specs.Prelude.{◌≡◌, ◌<◌, false, length, map, All, IfOk, Result, Ok, Err};
+ghost use Rattle.std.specs.Prelude.{◌≡◌, map, All, IfOk};
 ghost use Rattle.mc_outside.specs.Counts.{PutFaults};
 ghost use Rattle.mc_program.specs.Values.{plain_value};
 ghost use Rattle.mc_program.specs.Printed.{Names, names_of, printed, answer_text};
+ghost use Rattle.mc_model.specs.EventList.{Ends};
 ghost use Rattle.mc_model.specs.Output.{query_bytes};
 ghost use Rattle.mc_command_line.specs.Plain.{plain_bounds};
 ghost use Rattle.mc_cmd.specs.Ends.{stop_of, written_run};
 ghost use Rattle.mc_cmd.specs.code.Decisions.{CountPuts, Writes};
-ghost use Rattle.mc_cmd.specs.code.Runs.{QueryItems, ArePrintable, IsPrintable, IsPut, IsStep, plain_end};
+ghost use Rattle.mc_cmd.specs.code.Runs.{QueryItems, EndsUnless, IsPut, IsStep, plain_end};
 
 use crate::messages;
+use crate::named::are_named;
 use crate::status::Status;
 use crate::stop::put_stop;
 use mc_base::{Memory, Row, Text};
@@ -23,12 +25,17 @@ use std::alloc::Global;
 
 /// The run of a query, step by step.
 pub trait Run {
+    /// What holds of every run, from its beginning on.
+    ghost is_run: { Self → Type 0 };
+
     /// The items that are left.
     ghost left: { Self → QueryItems };
 
     /// The next item that is an answer or a text, or the run's end.
     fn next(&mut self, alloc: Global) -> Result<Step, Memory>
-        ensures { IfOk result (IsStep (left self.old) (left self.new)) };
+        requires { is_run self.old }
+        ensures is_run { is_run self.new }
+        ensures step { IfOk result (IsStep (left self.old) (left self.new)) };
 }
 
 /// How a run went on after a step.
@@ -40,7 +47,7 @@ pub enum Went {
     Stopped(Stop),
 }
 
-/// The texts of values.
+/// The texts of values whose symbols the program has.
 fn texts(alloc: Global, program: &Program, values: &Row<Value>) -> Result<Row<Text>, Memory>
     requires { All (λ v. Names program.now (plain_value v)) values.now }
     ensures { IfOk result
@@ -53,6 +60,27 @@ fn texts(alloc: Global, program: &Program, values: &Row<Value>) -> Result<Row<Te
     Ok(texts)
 }
 
+/// The line of an answer. One that can't be printed finds no room: one with another number of values than there are
+/// variables, or with a symbol that the program doesn't have.
+fn line_of(
+    alloc: Global,
+    program: &Program,
+    variables: &Row<Text>,
+    values: &Row<Value>,
+) -> Result<Text, Memory>
+    ensures { IfOk result (λ line. line ≡ answer_text variables.now
+        (map (λ v. printed (names_of program.now) (plain_value v)) values.now)) }
+{
+    if variables.len() != values.len() {
+        return Err(Memory);
+    }
+    if !are_named(alloc, values.as_slice(), program.symbols.len())? {
+        return Err(Memory);
+    }
+    let texts = texts(alloc, program, values)?;
+    answer_line(alloc, variables, &texts)
+}
+
 /// Puts the line of an answer.
 fn put_answer<O: Sink>(
     alloc: Global,
@@ -61,17 +89,12 @@ fn put_answer<O: Sink>(
     values: &Row<Value>,
     out: &mut O,
 ) -> Result<(), PutFault>
-    requires width { length variables.now ≡ length values.now }
-    requires named { All (λ v. Names program.now (plain_value v)) values.now }
     ensures written { Writes (O.written out.old) (O.written out.new) result
         (answer_text variables.now
         (map (λ v. printed (names_of program.now) (plain_value v)) values.now)) }
     ensures faults { PutFaults result (O.faults out.old) (O.faults out.new) }
 {
-    let Ok(texts) = texts(alloc, program, values) else {
-        return Err(PutFault::Memory);
-    };
-    let Ok(line) = answer_line(alloc, variables, &texts) else {
+    let Ok(line) = line_of(alloc, program, variables, values) else {
         return Err(PutFault::Memory);
     };
     out.put(line.bytes())
@@ -86,9 +109,9 @@ fn put_next<R: Run, O: Sink>(
     run: &mut R,
     out: &mut O,
 ) -> Result<Went, PutFault>
-    requires { ArePrintable (length program.now.symbols) (length variables.now) (R.left run.old) }
-    ensures put { IsPut (printed (names_of program.now)) variables.now
-        (IsPrintable (length program.now.symbols) (length variables.now)) is_answered
+    requires { R.is_run run.old }
+    ensures is_run { R.is_run run.new }
+    ensures put { IsPut (printed (names_of program.now)) variables.now is_answered
         (R.left run.old) (R.left run.new) (O.written out.old) (O.written out.new) result }
     ensures faults { PutFaults result (O.faults out.old) (O.faults out.new) }
 {
@@ -121,10 +144,11 @@ fn put_run<R: Run, O: Sink>(
     run: &mut R,
     out: &mut O,
 ) -> Result<Option<Stop>, PutFault>
-    requires { ArePrintable (length program.now.symbols) (length variables.now) (R.left run.old) }
+    requires { R.is_run run.old }
     ensures written { Writes (O.written out.old) (O.written out.new) result
         (query_bytes (printed (names_of program.now)) variables.now (R.left run.old)) }
     ensures end { IfOk result (λ stop. plain_end stop ≡ stop_of (R.left run.old)) }
+    ensures ends { IfOk result (λ stop. EndsUnless stop (R.left run.old)) }
     ensures faults { PutFaults result (O.faults out.old) (O.faults out.new) }
 {
     let mut is_answered = false;
@@ -148,7 +172,7 @@ pub fn write_run<R: Run, O: Sink, E: Sink>(
     out: &mut O,
     err: &mut E,
 ) -> Result<Status, PutFault>
-    requires { ArePrintable (length program.now.symbols) (length variables.now) (R.left run.old) }
+    requires { R.is_run run.old }
     ensures output { Writes (O.written out.old) (O.written out.new) result
         (written_run (plain_bounds bounds) (printed (names_of program.now)) variables.now
         (R.left run.old)).out }
@@ -160,6 +184,7 @@ pub fn write_run<R: Run, O: Sink, E: Sink>(
         status
         ≡ (written_run (plain_bounds bounds) (printed (names_of program.now)) variables.now
         (R.left run.old)).status) }
+    ensures ends { IfOk result (λ status. status ≡ Status.Done → Ends (R.left run.old)) }
     ensures puts { CountPuts result (O.faults out.old) (O.faults out.new) (E.faults err.old)
         (E.faults err.new) }
 {

@@ -127,23 +127,130 @@ fn facts_are_answered(rt: HostRuntime) -> Result<(), Fail> {
     Ok(())
 }
 
+const HELLO: &[u8] = b":- module hello.
+:- interface.
+:- import_module io.
+:- pred main(io::di, io::uo) is det.
+:- implementation.
+main(!IO).
+";
+
 #[test]
 fn what_is_not_built_is_told(rt: HostRuntime) -> Result<(), Fail> {
     let alloc = rt.alloc();
-    let files: [File<'_>; 1] = [("family.m", FAMILY)];
-    let lists: [&[&str]; 3] = [
-        &["query", "--first", "parent(X, Y)", "family.m"],
-        &["query", "parent(X, X)", "family.m"],
-        &["run", "family.m"],
-    ];
-    for list in lists {
-        check(
-            &rt,
-            &call(&rt, alloc, list, &files, &NONE)?,
-            Status::NotBuilt,
+    let files: [File<'_>; 1] = [("hello.m", HELLO)];
+    check(
+        &rt,
+        &call(&rt, alloc, &["run", "hello.m"], &files, &NONE)?,
+        Status::NotBuilt,
+        b"",
+        NOT_BUILT,
+    );
+    Ok(())
+}
+
+const RULES: &[u8] = b":- module rules.
+:- interface.
+:- import_module int, list.
+:- type person ---> ann ; bob ; cid.
+:- pred ancestor(person::in, person::out) is nondet.
+:- func total(list(int)) = int.
+:- implementation.
+:- pred parent(person::in, person::out) is semidet.
+parent(ann, bob).
+parent(bob, cid).
+ancestor(X, Y) :- parent(X, Y).
+ancestor(X, Z) :- parent(X, Y), ancestor(Y, Z).
+total([]) = 0.
+total([X | Xs]) = X + total(Xs).
+";
+
+#[test]
+fn rules_are_run(rt: HostRuntime) -> Result<(), Fail> {
+    let alloc = rt.alloc();
+    let files: [File<'_>; 2] = [("family.m", FAMILY), ("rules.m", RULES)];
+    let rows: [(&[&str], Status, &[u8], &[u8]); 6] = [
+        (
+            &["query", "ancestor(ann, Y)", "rules.m"],
+            Status::Done,
+            b"Y = bob.\nY = cid.\n",
             b"",
-            NOT_BUILT,
-        );
+        ),
+        (
+            &["query", "N = total([1, 2, 3])", "rules.m"],
+            Status::Done,
+            b"N = 6.\n",
+            b"",
+        ),
+        (
+            &["query", "--first", "parent(X, Y)", "family.m"],
+            Status::Done,
+            b"X = ann, Y = bob.\n",
+            b"",
+        ),
+        (
+            &["query", "parent(X, X)", "family.m"],
+            Status::Done,
+            b"false.\n",
+            b"",
+        ),
+        (
+            &["query", "--budget=2", "ancestor(ann, Y)", "rules.m"],
+            Status::Budget,
+            b"Y = bob.\n",
+            b"merc: budget of 2 calls is spent\n",
+        ),
+        (&["check", "rules.m"], Status::Done, b"", b""),
+    ];
+    for (list, status, out, err) in rows {
+        let answers = call(&rt, alloc, list, &files, &NONE)?;
+        check(&rt, &answers, status, out, err);
+    }
+    Ok(())
+}
+
+#[test]
+fn broken_rules_of_modes_and_determinism_are_told(rt: HostRuntime) -> Result<(), Fail> {
+    let alloc = rt.alloc();
+    let files: [File<'_>; 3] = [
+        ("family.m", FAMILY),
+        (
+            "order.m",
+            b":- module order.
+:- interface.
+:- implementation.
+:- pred gives(int::out) is det.
+gives(X) :- X = Y.
+",
+        ),
+        (
+            "head.m",
+            b":- module head.
+:- interface.
+:- import_module list.
+:- pred head(list(T)::in, T::out) is det.
+:- implementation.
+head([X | _], X).
+",
+        ),
+    ];
+    let rows: [(&[&str], &[u8]); 3] = [
+        (
+            &["check", "order.m"],
+            b"order.m:4: M1 no goal can run; 1 waiting\n",
+        ),
+        (
+            &["check", "head.m"],
+            b"head.m:4: E1 declared det, inferred semidet\n",
+        ),
+        (
+            &["run", "family.m"],
+            b"family.m:1: E4 main is not a det or cc_multi predicate on io\n",
+        ),
+    ];
+    for (list, lines) in rows {
+        let refused = call(&rt, alloc, list, &files, &NONE)?;
+        check(&rt, &refused, Status::Rejected, b"", lines);
     }
     Ok(())
 }

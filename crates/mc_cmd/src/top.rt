@@ -1,20 +1,23 @@
 ghost use Rattle.std.specs.Prelude.{◌≡◌, ◌≢◌, ◌⊎◌, ◌<◌, ℕ, List, [], map, string_bytes, Option, Some, None, Ok, IfOk};
 ghost use Rattle.mc_outside.specs.Counts.{Rose};
 ghost use Rattle.mc_outside.specs.Meaning.{Held, PutsFront};
+ghost use Rattle.mc_model.specs.EventList.{budget, too_deep};
 ghost use Rattle.mc_command_line.specs.Words.{Meaning, meaning};
 ghost use Rattle.mc_compile.specs.Sources.{Sources};
 ghost use Rattle.mc_compile.specs.Forming.{Formed};
-ghost use Rattle.mc_compile.specs.Compiling.{Compiles};
+ghost use Rattle.mc_compile.specs.Building.{of_facts, Builds};
 ghost use Rattle.mc_cmd.specs.Ends.{Outcome};
 ghost use Rattle.mc_cmd.specs.Outcome.{Defined, files_of};
-ghost use Rattle.mc_cmd.specs.Call.{AnswersWhole, BreaksRules, CanCome, IsTrueProgram, IsUnbuilt, LacksOne, NoneRose, OfFiles, OfSources, PutsDefined, RunsToEnd, SaidUnreadable, SaysUnreadable, Told, Wrote};
-ghost use Rattle.mc_cmd.specs.code.Decisions.{CountPuts, Happened, IsReady, Quiet, Writes, ended, told_of};
+ghost use Rattle.mc_cmd.specs.Laws.{IsSettled};
+ghost use Rattle.mc_cmd.specs.Call.{AnswersWhole, BreaksRules, IsThrown, IsTrueProgram, IsUnbuilt, LacksOne, NoneRose, OfFiles, OfSources, PutsDefined, RunsToEnd, SaidUnreadable, SaysUnreadable, StopsBy, Told, Wrote};
+ghost use Rattle.mc_cmd.specs.code.Decisions.{CountPuts, EndsRun, Happened, Quiet, Writes, ended, told_of};
 
 use crate::decide::decide;
 use crate::decision::Decision;
 use crate::facts::FactsRun;
 use crate::law::at_most_one_answer;
 use crate::messages;
+use crate::procs_run::write_procedures;
 use crate::run::write_run;
 use crate::status::Status;
 use crate::write::{put_line, put_rules};
@@ -27,7 +30,8 @@ use std::alloc::Global;
 /// answers of a query on `out`, one line each, or on `err` the line of each broken rule, or one line that says why
 /// nothing is answered, and answers how it ended.
 ///
-/// At this stage modules of facts are answered; what else breaks no rule is `NotBuilt`. The first put that fails ends the
+/// At this stage `main` isn't run, and insts that list constructors aren't built: what asks for such and breaks no rule is
+/// `NotBuilt`. The first put that fails ends the
 /// call with `WriteFault`, and nothing more is put. `Memory` ends the call at once.
 pub fn merc<F: Files, I: Source, O: Sink, E: Sink>(
     alloc: Global,
@@ -46,10 +50,12 @@ pub fn merc<F: Files, I: Source, O: Sink, E: Sink>(
         → result ≢ Status.Memory
         → AnswersWhole (map string_bytes words.now.items) held before_out before_err result
         (O.written out.new) (E.written err.new) }
-    // Where a sink failed or memory was wanting, each sink was given a front part of the defined bytes.
+    // Where a sink failed or memory was wanting, each sink was given a front part of the defined bytes, which are one
+    // answer at most where the sources are facts or are refused before the phases of rules.
     ensures prefix { (held : Held) (before_out before_err : List ℕ)
         → Told (F.held files.old) held (O.written out.old) before_out (E.written err.old) before_err
         → (Rose (F.faults files.old) (F.faults files.new) → ⊥)
+        → IsSettled (map string_bytes words.now.items) held
         → (o : Outcome) → Defined (map string_bytes words.now.items) held o
         → PutsFront (O.written out.old) (O.written out.new) o.out
         × PutsFront (E.written err.old) (E.written err.new) o.err }
@@ -68,9 +74,9 @@ pub fn merc<F: Files, I: Source, O: Sink, E: Sink>(
         → F.faults files.old < F.faults files.new
         → Wrote (O.written out.old) (O.written out.new) []
         × SaysUnreadable (F.held files.old) (E.written err.old) (E.written err.new) (files_of m) }
-    // What any sources compile to is a program of which every run is good, and so is every run of the query, where
-    // there is one: each printed answer is true in the completion, and each assignment that is not printed is false.
-    ensures truth { (s : Sources) (x : Formed) → Compiles s (Ok x) → IsTrueProgram x }
+    // Where any sources compile to facts, every run of these is good, and so is every run of the query, where there
+    // is one: each printed answer is true in the completion, and each assignment that is not printed is false.
+    ensures truth { (s : Sources) (x : Formed) → Builds s (Ok (of_facts x)) → IsTrueProgram x }
     // Done comes only where the sources compile, and the run of the query ends.
     ensures done { result ≡ Status.Done
         → OfSources (map string_bytes words.now.items) (F.held files.old) RunsToEnd }
@@ -106,8 +112,15 @@ pub fn merc<F: Files, I: Source, O: Sink, E: Sink>(
     // NotBuilt comes only where the sources break no rule, and ask for what isn't built.
     ensures not_built { result ≡ Status.NotBuilt
         → OfSources (map string_bytes words.now.items) (F.held files.old) IsUnbuilt }
-    // No other status comes at this stage.
-    ensures others { CanCome result }
+    // Threw, Budget and TooDeep come only where the run of the query over procedures stops so.
+    ensures threw { result ≡ Status.Threw
+        → OfSources (map string_bytes words.now.items) (F.held files.old) (StopsBy IsThrown) }
+    ensures spent { result ≡ Status.Budget
+        → OfSources (map string_bytes words.now.items) (F.held files.old)
+        (StopsBy (λ halt. halt ≡ budget)) }
+    ensures deep { result ≡ Status.TooDeep
+        → OfSources (map string_bytes words.now.items) (F.held files.old)
+        (StopsBy (λ halt. halt ≡ too_deep)) }
     // The files stay, and the input is not touched.
     ensures held { F.held files.new ≡ F.held files.old }
     ensures input { input.new ≡ input.old }
@@ -147,8 +160,6 @@ fn carry_out<F: Files, O: Sink, E: Sink>(
         result }
     ensures held { F.held files.new ≡ F.held files.old }
 {
-    facts_fit();
-    question_asks();
     let decision = decide(alloc, words, files);
     ended(tell(alloc, decision, out, err))
 }
@@ -160,13 +171,13 @@ fn tell<O: Sink, E: Sink>(
     out: &mut O,
     err: &mut E,
 ) -> Result<Status, PutFault>
-    requires { IsReady decision }
     ensures output { Writes (O.written out.old) (O.written out.new) result (told_of decision).out }
     ensures errors { Writes (E.written err.old) (E.written err.new) result (told_of decision).err }
     ensures told { IfOk result (λ status. status ≡ (told_of decision).status) }
     ensures puts { CountPuts result (O.faults out.old) (O.faults out.new) (E.faults err.old)
         (E.faults err.new) }
     ensures quiet { Quiet decision result }
+    ensures ends { EndsRun decision result }
 {
     match decision {
         Decision::Usage => put_line(messages::USAGE, Status::Usage, err),
@@ -184,6 +195,9 @@ fn tell<O: Sink, E: Sink>(
             out,
             err,
         ),
+        Decision::Ran(bounds, executable, query) => {
+            write_procedures(alloc, bounds, &executable, query, out, err)
+        }
         Decision::Memory => Err(PutFault::Memory),
     }
 }

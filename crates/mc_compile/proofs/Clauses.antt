@@ -7,7 +7,7 @@ use Rattle.mc_items.specs.Files.{plain_entry}
 use Rattle.mc_linking.specs.Files.{plain_files}
 use Rattle.mc_modules.specs.Linked.{plain_names}
 use Rattle.mc_type_table.specs.Sight.{definitions_seen}
-use Rattle.mc_clause_phase.specs.Judging.{IsJudged}
+use Rattle.mc_clause_phase.specs.Judging.{AreTyped, IsJudged}
 use Rattle.mc_clause_phase.specs.declared.judged.Judged.{Judged}
 use Rattle.mc_compile.specs.declared.given.CompileFault.TheVariants as F
 use Rattle.mc_compile.specs.declared.typed.Typed.{Typed}
@@ -32,6 +32,13 @@ still_linked typed checked t linked =
     ap (λ (p : PlainTyped). p.named) (t.1.typed ∙ checked_is typed t.0 t.2)
     in
     subst AreLinked (sym same) linked
+
+-- what they are resolved to, of the value that is answered
+pub still_typed : (typed : PlainTyped) (checked : Checked) → Tells Clauses Shows typed (Ok checked)
+    → AreTyped (plain_names checked.typed.named.names) (definitions_seen (plain_names checked.typed.named.names)) (items_of (plain_named checked.typed.named)) checked.clauses.items
+still_typed typed checked t =
+    subst (λ (p : PlainTyped). AreTyped p.named.files.names (definitions_seen p.named.files.names) (items_of p.named) checked.clauses.items)
+    (sym t.1.typed) t.1.clauses
 
 -- what typing says of what has a table of types
 abbrev Says : Typed → Judged → Type 0

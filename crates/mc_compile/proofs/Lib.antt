@@ -9,3 +9,7 @@ mod Types
 mod Clauses
 mod Forms
 pub mod Asked
+mod Both
+mod Modes
+mod Procedures
+mod Queries

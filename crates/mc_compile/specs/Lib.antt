@@ -7,5 +7,7 @@ pub mod Typing
 pub mod Checking
 pub mod Forming
 pub mod Compiling
+pub mod Ruling
+pub mod Building
 pub mod Laws
 pub mod code

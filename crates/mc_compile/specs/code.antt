@@ -1,1 +1,3 @@
 pub mod Reader
+pub mod Stages
+pub mod Parts

@@ -1,22 +1,30 @@
-ghost use Rattle.std.specs.Prelude.{List};
+ghost use Rattle.std.specs.Prelude.{List, Err};
 ghost use Rattle.std.specs.Option.{option_copied};
 ghost use Rattle.mc_compile.specs.declared.given.Given.{Given};
-ghost use Rattle.mc_compile.specs.Phases.{Tells};
+ghost use Rattle.mc_compile.specs.Phases.{Tells, Unbuilt};
 ghost use Rattle.mc_compile.specs.Sources.{sources_of};
 ghost use Rattle.mc_compile.specs.Reading.{plain_read};
 ghost use Rattle.mc_compile.specs.Linking.{plain_named, AreLinked};
-ghost use Rattle.mc_compile.specs.Forming.{IsProgramOf};
+ghost use Rattle.mc_compile.specs.Forming.{Forms};
+ghost use Rattle.mc_compile.specs.Ruling.{Rules};
+ghost use Rattle.mc_compile.specs.Building.{Builds, IsBuilt, CompilesRules, RulesFromLinking, RulesFromTypes, RulesFromClauses};
+ghost use Rattle.mc_compile.specs.code.Stages.{TellsBoth};
+ghost use Rattle.mc_modules.specs.Linked.{plain_names};
+ghost use Rattle.mc_type_table.specs.Sight.{definitions_seen};
+ghost use Rattle.mc_clause_phase.specs.Judging.{AreTyped};
+ghost use Rattle.mc_compile.specs.Checking.{items_of};
 ghost use Rattle.mc_compile.specs.Typing.{plain_typed};
 ghost use Rattle.mc_compile.specs.Compiling.{Compiles, FromLinking, FromTypes, FromClauses};
 
 use crate::checked::Checked;
+use crate::executable::Compiled;
 use crate::forming::form;
 use crate::given::{CompileFault, Given, Query};
 use crate::named::Named;
 use crate::reading::Read;
+use crate::rules::rules;
 use crate::typed::Typed;
 use mc_base::Row;
-use mc_ground_form::Compiled;
 use std::alloc::Global;
 
 /// Compiles files and a query, phase by phase: they are read, linked with the library's modules, their types are made
@@ -33,7 +41,20 @@ pub fn compile(
     query: Option<&Query>,
     want_main: bool,
 ) -> Result<Compiled, CompileFault>
-    ensures { Tells Compiles IsProgramOf
+    ensures { Tells Builds IsBuilt
+        (sources_of files.now (option_copied query.entry) want_main) result }
+{
+    compiled(alloc, files, query, want_main)
+}
+
+// The same by both chains of phases.
+fn compiled(
+    alloc: Global,
+    files: &Row<Given>,
+    query: Option<&Query>,
+    want_main: bool,
+) -> Result<Compiled, CompileFault>
+    ensures { TellsBoth Compiles CompilesRules
         (sources_of files.now (option_copied query.entry) want_main) result }
 {
     match Read::of(alloc, files, query) {
@@ -50,8 +71,9 @@ fn linked(
     want_main: bool,
 ) -> Result<Compiled, CompileFault>
     ensures { (files : List Given)
-        → Tells (FromLinking (sources_of files (option_copied query.entry) want_main)) IsProgramOf
-        (plain_read read) result }
+        → TellsBoth (FromLinking (sources_of files (option_copied query.entry) want_main))
+        (RulesFromLinking (sources_of files (option_copied query.entry) want_main)) (plain_read read)
+        result }
 {
     match Named::of(alloc, read) {
         Ok(named) => typed(alloc, named, query, want_main),
@@ -68,8 +90,9 @@ fn typed(
 ) -> Result<Compiled, CompileFault>
     requires { AreLinked (plain_named named) }
     ensures { (files : List Given)
-        → Tells (FromTypes (sources_of files (option_copied query.entry) want_main)) IsProgramOf
-        (plain_named named) result }
+        → TellsBoth (FromTypes (sources_of files (option_copied query.entry) want_main))
+        (RulesFromTypes (sources_of files (option_copied query.entry) want_main)) (plain_named named)
+        result }
 {
     match Typed::of(alloc, named) {
         Ok(typed) => checked(alloc, typed, query, want_main),
@@ -86,16 +109,59 @@ fn checked(
 ) -> Result<Compiled, CompileFault>
     requires { AreLinked (plain_named typed.named) }
     ensures { (files : List Given)
-        → Tells (FromClauses (sources_of files (option_copied query.entry) want_main)) IsProgramOf
-        (plain_typed typed) result }
+        → TellsBoth (FromClauses (sources_of files (option_copied query.entry) want_main))
+        (RulesFromClauses (sources_of files (option_copied query.entry) want_main)) (plain_typed typed)
+        result }
 {
     match Checked::of(alloc, typed) {
-        Ok(checked) => {
-            let Checked { typed, clauses } = checked;
-            // The form doesn't use what clauses are resolved to, so that memory is given up before it.
-            drop(clauses);
-            form(alloc, &typed, query, want_main)
-        }
+        Ok(checked) => formed(alloc, checked, query, want_main),
+        Err(fault) => Err(fault),
+    }
+}
+
+// The last phase: facts where they are of that form, and else the procedures of a program with rules.
+fn formed(
+    alloc: Global,
+    checked: Checked,
+    query: Option<&Query>,
+    want_main: bool,
+) -> Result<Compiled, CompileFault>
+    requires linked { AreLinked (plain_named checked.typed.named) }
+    requires typed { AreTyped (plain_names checked.typed.named.names)
+        (definitions_seen (plain_names checked.typed.named.names))
+        (items_of (plain_named checked.typed.named)) checked.clauses.items }
+    ensures { (files : List Given)
+        → TellsBoth (Forms (sources_of files (option_copied query.entry) want_main))
+        (Rules (sources_of files (option_copied query.entry) want_main)) (plain_typed checked.typed)
+        result }
+{
+    match form(alloc, &checked.typed, query, want_main) {
+        Ok(facts) => Ok(Compiled::Facts(facts)),
+        Err(CompileFault::NotBuilt) => ruled(alloc, checked, query, want_main),
+        Err(CompileFault::Rejected(broken)) => Err(CompileFault::Rejected(broken)),
+        Err(CompileFault::Memory) => Err(CompileFault::Memory),
+    }
+}
+
+// The procedures of a program with rules.
+fn ruled(
+    alloc: Global,
+    checked: Checked,
+    query: Option<&Query>,
+    want_main: bool,
+) -> Result<Compiled, CompileFault>
+    requires { AreTyped (plain_names checked.typed.named.names)
+        (definitions_seen (plain_names checked.typed.named.names))
+        (items_of (plain_named checked.typed.named)) checked.clauses.items }
+    ensures { (files : List Given)
+        → Forms (sources_of files (option_copied query.entry) want_main) (plain_typed checked.typed)
+        (Err Unbuilt)
+        → TellsBoth (Forms (sources_of files (option_copied query.entry) want_main))
+        (Rules (sources_of files (option_copied query.entry) want_main)) (plain_typed checked.typed)
+        result }
+{
+    match rules(alloc, checked, query, want_main) {
+        Ok(executable) => Ok(Compiled::Procedures(executable)),
         Err(fault) => Err(fault),
     }
 }

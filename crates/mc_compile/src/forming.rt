@@ -8,6 +8,7 @@ ghost use Rattle.mc_compile.specs.Typing.{plain_typed};
 ghost use Rattle.mc_compile.specs.Forming.{Forms, IsProgramOf};
 
 use crate::given::{CompileFault, Query};
+use crate::rules::is_first;
 use crate::typed::Typed;
 use mc_ground_form::{Compiled, program_of};
 use std::alloc::Global;
@@ -42,15 +43,5 @@ pub fn form(
     )? {
         Some(compiled) => Ok(compiled),
         None => Err(CompileFault::NotBuilt),
-    }
-}
-
-// Whether the first answer alone is wanted.
-fn is_first(query: Option<&Query>) -> bool
-    ensures { result ≡ is_first (option_copied query.entry) }
-{
-    match query {
-        Some(query) => query.first,
-        None => false,
     }
 }

@@ -1,5 +1,5 @@
 -- What is decided of words and files, and what is written of a decision.
-use Rattle.std.specs.Prelude.{◌≡◌, ◌⊎◌, ℕ, ◌≤◌, List, [], map, length, Option, Some, None, Result, Ok, Err, IfOk}
+use Rattle.std.specs.Prelude.{◌≡◌, ◌⊎◌, ℕ, ◌≤◌, List, [], map, Option, Some, None, Result, Ok, Err, IfOk}
 use Rattle.std.specs.FinMap as finmap
 use Rattle.mc_outside.specs.Counts.{Rose}
 use Rattle.mc_outside.specs.Meaning.{Held, first_part, PutsFront}
@@ -8,57 +8,85 @@ use Rattle.mc_outside.specs.declared.traits.PutFault.TheVariants as put
 use Rattle.mc_outside.specs.declared.traits.FileAnswer.{FileAnswer}
 use Rattle.mc_outside.specs.declared.traits.FileAnswer.TheVariants as A
 use Rattle.mc_program.specs.Printed.{printed, names_of}
+use Rattle.mc_model.specs.EventList.{Ends}
 use Rattle.mc_command_line.specs.Words.{Meaning, Query, meaning}
 use Rattle.mc_command_line.specs.Plain.{plain_bounds}
 use Rattle.mc_command_line.specs.declared.limits.Bounds.{Bounds}
 use Rattle.mc_ground_form.specs.Database.{Question}
 use Rattle.mc_compile.specs.Phases.{Breaks, Unbuilt}
 use Rattle.mc_compile.specs.Forming.{Formed, IsProgramOf}
-use Rattle.mc_compile.specs.Compiling.{Compiles}
+use Rattle.mc_compile.specs.Ruling.{plain_executable}
+use Rattle.mc_compile.specs.Building.{Built, of_facts, of_procedures, Builds}
+use Rattle.mc_compile.specs.declared.executable.Compiled.{Compiled}
+use Rattle.mc_compile.specs.declared.executable.Compiled.TheVariants as C
+use Rattle.mc_compile.specs.declared.executable.Executable.{Executable}
 use Rattle.mc_compile.specs.declared.given.Given.{Given}
-use Rattle.mc_ground_form.specs.declared.compiled.Compiled.{Compiled}
+use Rattle.mc_ground_form.specs.declared.compiled.Compiled.{Compiled as Facts}
 use Rattle.mc_cmd.specs.declared.status.Status.{Status}
 use Rattle.mc_cmd.specs.declared.status.Status.TheVariants as S
 use Rattle.mc_cmd.specs.declared.decision.Decision.{Decision}
 use Rattle.mc_cmd.specs.declared.decision.Decision.TheVariants as D
 use Rattle.mc_cmd.specs.Messages.{usage_line, not_built_line, absent_line, unreadable_line, broken_lines}
 use Rattle.mc_cmd.specs.Ends.{Outcome, said, written_run}
-use Rattle.mc_cmd.specs.Outcome.{files_of, bounds_of, sources_of}
+use Rattle.mc_cmd.specs.Outcome.{files_of, bounds_of, sources_of, run_of_query, written_rules}
 use Rattle.mc_cmd.specs.Call.{CannotRead, HoldTexts, Lacks, Wrote}
-use Rattle.mc_cmd.specs.code.Runs.{ArePrintable}
 use Rattle.mc_cmd.specs.code.Facts.{left_of, rows_asked}
 
 abbrev pub given_names : List Given → List (List ℕ)
 given_names gs = map (λ (g : Given). g.name) gs
 
+-- nothing is asked of what was built
+abbrev pub IsUnasked : Built → Type 0
+IsUnasked (of_facts x) = x.question ≡ None
+IsUnasked (of_procedures e) = e.query ≡ None
+
 -- Sources that compile, with no query.
 pub record IsChecked (m : Meaning) (texts : List (List ℕ)) : Type 0 where
-  pub formed : Formed
-  pub compiles : Compiles (sources_of m texts) (Ok formed)
-  pub asked : formed.question ≡ None
+  pub built : Built
+  pub compiles : Builds (sources_of m texts) (Ok built)
+  pub unasked : IsUnasked built
 
--- Sources that compile, with a query, and the program that they are compiled to.
-pub record IsAsked (m : Meaning) (texts : List (List ℕ)) (b : Bounds) (c : Compiled) : Type 0 where
+-- Sources that compile to facts, with a query, and the program that they are compiled to.
+pub record IsAsked (m : Meaning) (texts : List (List ℕ)) (b : Bounds) (c : Facts) : Type 0 where
   pub formed : Formed
-  pub compiles : Compiles (sources_of m texts) (Ok formed)
+  pub compiles : Builds (sources_of m texts) (Ok (of_facts formed))
   pub question : Question
   pub asked : formed.question ≡ Some question
   pub bounds : plain_bounds b ≡ bounds_of m
   pub program : IsProgramOf c formed
 
--- what is decided of a command whose sources compile
+-- Sources that compile to procedures, with a query, by its number.
+pub record IsRan (m : Meaning) (texts : List (List ℕ)) (b : Bounds) (e : Executable) (query : ℕ) : Type 0 where
+  pub compiles : Builds (sources_of m texts) (Ok (of_procedures (plain_executable e)))
+  pub asked : e.query ≡ Some query
+  pub bounds : plain_bounds b ≡ bounds_of m
+
+-- what is decided of a command whose sources compile to facts
+abbrev pub IsAnsweredByFacts : Meaning → Facts → Decision → Type 0
+IsAnsweredByFacts (Query first bounds goal files) c (D.Answers b e) =
+    (plain_bounds b ≡ bounds) × (e ≡ c)
+IsAnsweredByFacts (Query first bounds goal files) c _ = ⊥
+IsAnsweredByFacts m c d = d ≡ D.Checked
+
+-- and to procedures
+abbrev pub IsAnsweredByRun : Meaning → Executable → Decision → Type 0
+IsAnsweredByRun m e D.Checked = e.query ≡ None
+IsAnsweredByRun m e (D.Ran b f query) =
+    (plain_bounds b ≡ bounds_of m) × ((f ≡ e) × (e.query ≡ Some query))
+IsAnsweredByRun m e _ = ⊥
+
 abbrev pub IsAnswered : Meaning → Compiled → Decision → Type 0
-IsAnswered (Query first bounds goal files) c (D.Answers b e) = (plain_bounds b ≡ bounds) × (e ≡ c)
-IsAnswered (Query first bounds goal files) c _ = ⊥
-IsAnswered m c d = d ≡ D.Checked
+IsAnswered m (C.Facts c) d = IsAnsweredByFacts m c d
+IsAnswered m (C.Procedures e) d = IsAnsweredByRun m e d
 
 -- what a decision says of a command and the texts of its files
 abbrev pub Understood : Meaning → (texts : List (List ℕ)) → Decision → Type 0
 Understood m texts (D.Rejected files broken) =
-    (given_names files ≡ files_of m) × Compiles (sources_of m texts) (Err (Breaks broken))
-Understood m texts D.NotBuilt = Compiles (sources_of m texts) (Err Unbuilt)
+    (given_names files ≡ files_of m) × Builds (sources_of m texts) (Err (Breaks broken))
+Understood m texts D.NotBuilt = Builds (sources_of m texts) (Err Unbuilt)
 Understood m texts D.Checked = IsChecked m texts
 Understood m texts (D.Answers b c) = IsAsked m texts b c
+Understood m texts (D.Ran b e query) = IsRan m texts b e query
 Understood m texts D.Memory = Unit {0}
 Understood m texts _ = ⊥
 
@@ -117,6 +145,7 @@ IsDecided words store (D.Rejected files broken) = IsOfTexts words store (D.Rejec
 IsDecided words store D.NotBuilt = IsOfTexts words store D.NotBuilt
 IsDecided words store D.Checked = IsOfTexts words store D.Checked
 IsDecided words store (D.Answers b c) = IsOfTexts words store (D.Answers b c)
+IsDecided words store (D.Ran b e query) = IsOfTexts words store (D.Ran b e query)
 IsDecided words store D.Memory = Unit {0}
 
 -- and of the counts of the files
@@ -140,6 +169,7 @@ told_of D.NotBuilt = said not_built_line S.NotBuilt
 told_of D.Checked = said [] S.Done
 told_of (D.Answers b c) =
     written_run (plain_bounds b) (printed (names_of c.program)) c.vars (left_of (rows_asked c))
+told_of (D.Ran b e query) = written_rules (plain_bounds b) e.procs query e.variables
 told_of D.Memory = said [] S.Memory
 
 -- what is written of several pieces: all of them, or some from the front
@@ -147,12 +177,6 @@ abbrev pub Writes :
     {T : Type 0} → Option (List ℕ) → Option (List ℕ) → Result T PutFault → List ℕ → Type 0
 Writes before after (Ok u) bytes = Wrote before after bytes
 Writes before after (Err e) bytes = PutsFront before after bytes
-
--- each answer that is to be written can be printed
-abbrev pub IsReady : Decision → Type 0
-IsReady (D.Answers b c) =
-    ArePrintable (length c.program.symbols) (length c.vars) (left_of (rows_asked c))
-IsReady _ = Unit {0}
 
 -- the status after a writing: the one that was to be answered, where all was written
 abbrev pub ended : Result Status PutFault → Status
@@ -172,6 +196,12 @@ abbrev pub Quiet : Decision → Result Status PutFault → Type 0
 Quiet D.Memory r = r ≡ Err put.Memory
 Quiet _ r = Unit {0}
 
+-- a run of procedures of which all was written, and whose status is that of an end, came to its end
+abbrev pub EndsRun : Decision → Result Status PutFault → Type 0
+EndsRun (D.Ran b e query) r =
+    IfOk r (λ s. s ≡ S.Done → Ends (run_of_query e.procs query b.budget b.depth))
+EndsRun _ r = Unit {0}
+
 -- A sink before and after a call: what was written, and the count of faults.
 pub record Sinks : Type 0 where
   pub before : Option (List ℕ)
@@ -189,6 +219,7 @@ pub record Happened (words : List (List ℕ)) (store : Option Held) (faults0 fau
   pub output : Writes out.before out.after written (told_of decision).out
   pub errors : Writes err.before err.after written (told_of decision).err
   pub quiet : Quiet decision written
+  pub ends : EndsRun decision written
   pub puts : CountPuts written out.faults_before out.faults_after err.faults_before err.faults_after
   pub told : IfOk written (λ t. t ≡ (told_of decision).status)
   pub status : s ≡ ended written

@@ -1,9 +1,8 @@
 -- A run that is asked for one step after another, and what is put of the steps.
-use Rattle.std.specs.Prelude.{◌≡◌, ℕ, suc, ◌<◌, Bool, true, false, List, [], ◌∷◌, ◌++◌, map, length, Option, Some, None, Result, Ok, Err}
+use Rattle.std.specs.Prelude.{◌≡◌, ℕ, suc, ◌<◌, Bool, true, false, List, [], ◌++◌, map, Option, Some, None, Result, Ok, Err}
 use Rattle.mc_program.specs.Values.{Val, plain_value}
 use Rattle.mc_program.specs.declared.value.Value.{Value}
-use Rattle.mc_program.specs.Printed.{SymbolsBelow}
-use Rattle.mc_model.specs.EventList.{Items, End, Stuck, Stopped, Answer, Called, Wrote, Read, Each, Exc, zero_divide, error, Halt, budget, too_deep, thrown}
+use Rattle.mc_model.specs.EventList.{Items, End, Stuck, Stopped, Answer, Called, Wrote, Read, Ends, Exc, zero_divide, error, Halt, budget, too_deep, thrown}
 use Rattle.mc_model.specs.Output.{bytes_of, no_answer}
 use Rattle.mc_model.specs.declared.run.Exception.{Exception}
 use Rattle.mc_model.specs.declared.run.Exception.TheVariants as E
@@ -58,20 +57,10 @@ IsStep xs ys N.End = from_next xs ≡ End
 IsStep xs ys (N.Stopped s) = from_next xs ≡ Stopped (plain_stop s)
 IsStep xs ys (N.Wants k) = ⊥
 
--- the symbols of the values that are bound are below n
-abbrev pub AreNamed : (n : ℕ) → List (Option Val) → Type 0
-AreNamed n [] = Unit {0}
-AreNamed n (None ∷ os) = AreNamed n os
-AreNamed n (Some v ∷ os) = SymbolsBelow n v × AreNamed n os
-
--- an answer can be printed: it has as many values as there are variables, and names for their
--- symbols
-abbrev pub IsPrintable : (n width : ℕ) → List (Option Val) → Type 0
-IsPrintable n width os = (width ≡ length os) × AreNamed n os
-
--- each answer can be printed
-abbrev pub ArePrintable : (n width : ℕ) → QueryItems → Type 0
-ArePrintable n width xs = Each (IsPrintable n width) xs
+-- a run that isn't stopped comes to its end
+abbrev pub EndsUnless : Option Stop → QueryItems → Type 0
+EndsUnless None xs = Ends xs
+EndsUnless (Some s) xs = Unit {0}
 
 -- how many items there are
 abbrev pub size : QueryItems → ℕ
@@ -96,25 +85,25 @@ rest_bytes text variables is_answered xs =
 
 -- A step was put, and the run goes on: there was a piece of the bytes, behind which those of the
 -- items stand that are left.
-pub record GoesOn (text : Val → List ℕ) (variables : List (List ℕ)) (P : List (Option Val) → Type 0) (answered0 answered1 : Bool) (xs ys : QueryItems) (w0 w1 : Option (List ℕ)) : Type 0 where
+pub record GoesOn (text : Val → List ℕ) (variables : List (List ℕ)) (answered0 answered1 : Bool) (xs ys : QueryItems) (w0 w1 : Option (List ℕ)) : Type 0 where
   pub piece : List ℕ
   pub wrote : call.Wrote w0 w1 piece
   pub behind :
       rest_bytes text variables answered0 xs ≡ piece ++ rest_bytes text variables answered1 ys
   pub fewer : size ys < size xs
   pub same_end : stop_of ys ≡ stop_of xs
-  pub printable : Each P ys
+  pub ends : Ends ys → Ends xs
 
 -- what was put of a step
 abbrev pub IsPut :
-    (text : Val → List ℕ) → (variables : List (List ℕ)) → (P : List (Option Val) → Type 0)
-    → (answered : Bool) → (xs ys : QueryItems) → (w0 w1 : Option (List ℕ)) → Result Went PutFault
+    (text : Val → List ℕ) → (variables : List (List ℕ)) → (answered : Bool)
+    → (xs ys : QueryItems) → (w0 w1 : Option (List ℕ)) → Result Went PutFault
     → Type 0
-IsPut text variables P answered xs ys w0 w1 (Ok (W.On now)) =
-    GoesOn text variables P answered now xs ys w0 w1
-IsPut text variables P answered xs ys w0 w1 (Ok W.Ended) =
-    call.Wrote w0 w1 (rest_bytes text variables answered xs) × (stop_of xs ≡ None)
-IsPut text variables P answered xs ys w0 w1 (Ok (W.Stopped s)) =
+IsPut text variables answered xs ys w0 w1 (Ok (W.On now)) =
+    GoesOn text variables answered now xs ys w0 w1
+IsPut text variables answered xs ys w0 w1 (Ok W.Ended) =
+    call.Wrote w0 w1 (rest_bytes text variables answered xs) × ((stop_of xs ≡ None) × Ends xs)
+IsPut text variables answered xs ys w0 w1 (Ok (W.Stopped s)) =
     call.Wrote w0 w1 (rest_bytes text variables answered xs) × (stop_of xs ≡ Some (plain_stop s))
-IsPut text variables P answered xs ys w0 w1 (Err f) =
+IsPut text variables answered xs ys w0 w1 (Err f) =
     PutsFront w0 w1 (rest_bytes text variables answered xs)

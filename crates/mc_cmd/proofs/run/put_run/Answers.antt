@@ -1,10 +1,10 @@
-use Rattle.std.proofs.Common.{ℕ, List, ◌++◌, Ok, length, sym, ap, ◌∙◌, subst, append_assoc}
+use Rattle.std.proofs.Common.{ℕ, List, ◌++◌, Ok, sym, ap, ◌∙◌, subst, append_assoc}
 use Rattle.mc_program.specs.Values.{Val}
 use Rattle.mc_program.specs.Printed.{names_of, printed}
 use Rattle.mc_model.specs.Output.{query_bytes}
 use Rattle.mc_outside.specs.Meaning.{PutsFront}
 use Rattle.mc_cmd.specs.declared.run.Went.{Went}
-use Rattle.mc_cmd.specs.code.Runs.{IsPrintable, IsPut, rest_bytes}
+use Rattle.mc_cmd.specs.code.Runs.{IsPut, rest_bytes}
 use Rattle.mc_cmd.proofs.Puts.{front_behind, passed_front, wrote_more}
 use Rattle.mc_cmd.proofs.run.put_run.Goals as goal
 
@@ -24,7 +24,6 @@ pub steps-preserved : goal.steps-preserved
 steps-preserved g c =
     let text : Val → List ℕ = printed (names_of c.args.program.now) in
     let vs = c.args.variables.now in
-    let P = IsPrintable (length c.args.program.now.symbols) (length vs) in
     let xs = g.R.Run.left c.steps.run in
     let ys = g.R.Run.left c.put_next.new.run in
     let w0 = g.O.Sink.written c.args.out.now in
@@ -32,14 +31,15 @@ steps-preserved g c =
     let w2 = g.O.Sink.written c.put_next.new.out in
     let i = c.steps.invariant in
     let e = c.in_ok-now.ensures {u = tt} in
-    let went = subst (λ (z : Went). IsPut text vs P c.steps.is_answered xs ys w1 w2 (Ok z)) c.in-On.is e.put in
+    let went = subst (λ (z : Went). IsPut text vs c.steps.is_answered xs ys w1 w2 (Ok z)) c.in-On.is e.put in
     record {
       put = (
         i.put.0 ++ went.piece,
         wrote_more w0 w1 w2 i.put.0 went.piece i.put.1 went.wrote,
         i.put.2 ∙ ap (λ (bs : List ℕ). i.put.0 ++ bs) went.behind ∙ sym (append_assoc i.put.0 went.piece (rest_bytes text vs c.in-On.now ys)),
       );
+      runs = e.is_run;
+      ends = λ f. i.ends (went.ends f);
       end = went.same_end ∙ i.end;
-      printable = went.printable;
       faults = e.faults ∙ i.faults;
     }

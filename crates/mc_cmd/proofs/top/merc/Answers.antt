@@ -1,4 +1,4 @@
-use Rattle.mc_cmd.proofs.Calls.{Laws, whole, prefixes, puts_defined, unread, true_program, done_cause, usage_cause, usage_told, rejected_cause, not_built_cause, absent_cause, absent_lacks, absent_seen, read_cause, read_told, read_seen, write_cause, write_seen, can_come}
+use Rattle.mc_cmd.proofs.Calls.{Laws, whole, prefixes, puts_defined, unread, true_program, done_cause, usage_cause, usage_told, rejected_cause, not_built_cause, absent_cause, absent_lacks, absent_seen, read_cause, read_told, read_seen, write_cause, write_seen, threw_cause, spent_cause, deep_cause}
 use Rattle.mc_cmd.proofs.top.merc.Goals as goal
 
 pub returns-clause-whole_answer : goal.returns-clause-whole_answer
@@ -9,7 +9,7 @@ returns-clause-whole_answer g c =
 pub returns-clause-prefix : goal.returns-clause-prefix
 returns-clause-prefix g c =
     let laws : Laws = record { answered = c.facts_are_answered.ensures; fit = c.facts_fit.ensures; ask = c.question_asks.ensures; asked = c.query_is_asked.ensures; one = c.at_most_one_answer.ensures } in
-    λ held bo be told n o defined. prefixes _ _ _ _ _ _ _ _ _ c.carry_out.ensures.happened laws held bo be told n o defined
+    λ held bo be told n t o defined. prefixes _ _ _ _ _ _ _ _ _ c.carry_out.ensures.happened laws held bo be told n t o defined
 
 pub returns-clause-defined : goal.returns-clause-defined
 returns-clause-defined g c =
@@ -63,5 +63,11 @@ returns-clause-write_seen g c = λ e. write_seen _ _ _ _ _ _ _ _ _ c.carry_out.e
 pub returns-clause-not_built : goal.returns-clause-not_built
 returns-clause-not_built g c = λ e. not_built_cause _ _ _ _ _ _ _ _ _ c.carry_out.ensures.happened e
 
-pub returns-clause-others : goal.returns-clause-others
-returns-clause-others g c = can_come _ _ _ _ _ _ _ _ _ c.carry_out.ensures.happened
+pub returns-clause-threw : goal.returns-clause-threw
+returns-clause-threw g c = λ e. threw_cause _ _ _ _ _ _ _ _ _ c.carry_out.ensures.happened e
+
+pub returns-clause-spent : goal.returns-clause-spent
+returns-clause-spent g c = λ e. spent_cause _ _ _ _ _ _ _ _ _ c.carry_out.ensures.happened e
+
+pub returns-clause-deep : goal.returns-clause-deep
+returns-clause-deep g c = λ e. deep_cause _ _ _ _ _ _ _ _ _ c.carry_out.ensures.happened e

@@ -1,0 +1,145 @@
+-- How a run over procedures ends, and what is told of it.
+use Rattle.std.proofs.Common.{◌≡◌, ◌≢◌, ℕ, List, [], Option, Some, None, Result, Ok, Err, refl, sym, ap, ◌∙◌, subst}
+use Rattle.std.specs.Prelude.{IfOk, IfSome}
+use Rattle.mc_outside.specs.Meaning.{Held}
+use Rattle.mc_outside.specs.declared.traits.PutFault.{PutFault}
+use Rattle.mc_outside.specs.declared.traits.PutFault.TheVariants as put
+use Rattle.mc_model.specs.EventList.{End, Stuck, Stopped, Answer, Called, Wrote, Read, Ends, Halt, budget, too_deep, thrown}
+use Rattle.mc_command_line.specs.Words.{Meaning, Bounds}
+use Rattle.mc_command_line.specs.declared.limits.Bounds.{Bounds as RunBounds}
+use Rattle.mc_ground_form.specs.Database.{Question, query_run}
+use Rattle.mc_compile.specs.Ruling.{plain_executable}
+use Rattle.mc_compile.specs.Building.{Built, of_facts, of_procedures}
+use Rattle.mc_compile.specs.declared.executable.Executable.{Executable}
+use Rattle.mc_model.specs.declared.run.Stop.{Stop}
+use Rattle.mc_cmd.specs.declared.status.Status.{Status}
+use Rattle.mc_cmd.specs.declared.status.Status.TheVariants as S
+use Rattle.mc_cmd.specs.declared.decision.Decision.TheVariants as D
+use Rattle.mc_cmd.specs.Ends.{said, stop_of, shown, end_status}
+use Rattle.mc_cmd.specs.Outcome.{bounds_of, run_of_query, written_procedures, written_rules, written, written_of}
+use Rattle.mc_cmd.specs.Call.{EndsWithin, IsThrown, OfSources, StopsBy}
+use Rattle.mc_cmd.specs.code.Runs.{QueryItems, plain_stop}
+use Rattle.mc_cmd.specs.code.Decisions.{IsUnasked, IsRan, IsOfTexts, told_of, ended}
+
+-- what a run shows ends as the run does
+pub stop_shown : (xs : QueryItems) → stop_of (shown xs) ≡ stop_of xs
+stop_shown End = refl
+stop_shown Stuck = refl
+stop_shown (Stopped h) = refl
+stop_shown (Answer a xs) = stop_shown xs
+stop_shown (Called c xs) = stop_shown xs
+stop_shown (Wrote t xs) = stop_shown xs
+stop_shown (Read k xs) = stop_shown xs
+
+pub ends_shown : (xs : QueryItems) → Ends (shown xs) → Ends xs
+ends_shown End e = e
+ends_shown Stuck e = e
+ends_shown (Stopped h) e = e
+ends_shown (Answer a xs) e = ends_shown xs e
+ends_shown (Called c xs) e = ends_shown xs e
+ends_shown (Wrote t xs) e = ends_shown xs e
+ends_shown (Read k xs) e = ends_shown xs e
+
+-- the statuses of runs
+abbrev pub IsRunStatus : Status → Type 0
+IsRunStatus S.Done = Unit {0}
+IsRunStatus S.Threw = Unit {0}
+IsRunStatus S.Budget = Unit {0}
+IsRunStatus S.TooDeep = Unit {0}
+IsRunStatus _ = ⊥
+
+run_status : (h : Option Halt) → IsRunStatus (end_status h)
+run_status None = tt
+run_status (Some budget) = tt
+run_status (Some too_deep) = tt
+run_status (Some (thrown e)) = tt
+
+pub ran_status : (b : RunBounds) (e : Executable) (query : ℕ) (x : Status) → (told_of (D.Ran b e query)).status ≡ x → IsRunStatus x
+ran_status b e query x t = subst IsRunStatus t (run_status (stop_of (shown (run_of_query e.procs query b.budget b.depth))))
+
+-- of a stop the status isn't that of an end
+stop_status : (s : Stop) → end_status (Some (plain_stop s)) ≢ S.Done
+stop_status s e = at (plain_stop s) e
+  where
+    at : (h : Halt) → end_status (Some h) ≢ S.Done
+    at budget e = cc
+    at too_deep e = cc
+    at (thrown x) e = cc
+
+-- so where all was written of a run that stopped, the status isn't that of an end
+pub never_ends : (X : Type 0) (s : Stop) (r : Result Status PutFault) → IfOk r (λ t. t ≡ end_status (Some (plain_stop s))) → IfOk r (λ t. t ≡ S.Done → X)
+never_ends X s (Ok t) i = λ e. absurd (stop_status s (sym i ∙ e))
+never_ends X s (Err f) i = tt
+
+-- a run ends where what it shows does
+pub ends_there : (r : Result Status PutFault) (left xs : QueryItems) → left ≡ shown xs → IfOk r (λ t. t ≡ S.Done → Ends left) → IfOk r (λ t. t ≡ S.Done → Ends xs)
+ends_there (Ok t) left xs e f = λ d. ends_shown xs (subst Ends e (f d))
+ends_there (Err p) left xs e f = tt
+
+-- what was written whole with the status of an end
+pub done_written : (r : Result Status PutFault) → ended r ≡ S.Done → r ≡ Ok S.Done
+done_written (Ok u) e = ap Ok e
+done_written (Err put.Failed) e = cc
+done_written (Err put.Memory) e = cc
+
+-- nothing is asked
+pub unasked_written : (m : Meaning) (x : Built) → IsUnasked x → written m x ≡ said [] S.Done
+unasked_written m (of_facts x) u = ap (written_of (bounds_of m) x.database) u
+unasked_written m (of_procedures e) u = ap (written_procedures (bounds_of m) e) u
+
+pub unasked_ends : (b : Bounds) (x : Built) → IsUnasked x → EndsWithin b x
+unasked_ends b (of_facts x) u = subst (λ (o : Option Question). IfSome o (λ q. Ends (query_run x.database q b.budget b.depth))) (sym u) tt
+unasked_ends b (of_procedures e) u = subst (λ (o : Option ℕ). IfSome o (λ query. Ends (run_of_query e.procs query b.budget b.depth))) (sym u) tt
+
+-- a query over procedures is asked
+pub ran_written : (m : Meaning) (texts : List (List ℕ)) (b : RunBounds) (e : Executable) (query : ℕ) → IsRan m texts b e query → written m (of_procedures (plain_executable e)) ≡ told_of (D.Ran b e query)
+ran_written m texts b e query a =
+    ap (written_procedures (bounds_of m) (plain_executable e)) a.asked ∙ ap (λ (k : Bounds). written_rules k e.procs query e.variables) (sym a.bounds)
+
+pub ran_ends : (m : Meaning) (texts : List (List ℕ)) (b : RunBounds) (e : Executable) (query : ℕ) → IsRan m texts b e query → Ends (run_of_query e.procs query b.budget b.depth) → EndsWithin (bounds_of m) (of_procedures (plain_executable e))
+ran_ends m texts b e query a n =
+    subst (λ (o : Option ℕ). IfSome o (λ q. Ends (run_of_query e.procs q (bounds_of m).budget (bounds_of m).depth))) (sym a.asked)
+    (subst (λ (k : Bounds). Ends (run_of_query e.procs query k.budget k.depth)) a.bounds n)
+
+-- why a run stopped
+pub record Stops (IsSo : Halt → Type 0) (h : Option Halt) : Type 0 where
+  pub halt : Halt
+  pub is : h ≡ Some halt
+  pub so : IsSo halt
+
+pub stops_thrown : (h : Option Halt) → end_status h ≡ S.Threw → Stops IsThrown h
+stops_thrown None e = cc
+stops_thrown (Some budget) e = cc
+stops_thrown (Some too_deep) e = cc
+stops_thrown (Some (thrown x)) e = record { halt = thrown x; is = refl; so = (x, refl) }
+
+pub stops_spent : (h : Option Halt) → end_status h ≡ S.Budget → Stops (λ halt. halt ≡ budget) h
+stops_spent None e = cc
+stops_spent (Some budget) e = record { halt = budget; is = refl; so = refl }
+stops_spent (Some too_deep) e = cc
+stops_spent (Some (thrown x)) e = cc
+
+pub stops_deep : (h : Option Halt) → end_status h ≡ S.TooDeep → Stops (λ halt. halt ≡ too_deep) h
+stops_deep None e = cc
+stops_deep (Some budget) e = cc
+stops_deep (Some too_deep) e = record { halt = too_deep; is = refl; so = refl }
+stops_deep (Some (thrown x)) e = cc
+
+pub ran_stops : (IsSo : Halt → Type 0) (words : List (List ℕ)) (store : Option Held) (b : RunBounds) (e : Executable) (query : ℕ) → IsOfTexts words store (D.Ran b e query) → Stops IsSo (stop_of (shown (run_of_query e.procs query b.budget b.depth))) → OfSources words store (StopsBy IsSo)
+ran_stops IsSo words store b e query x s =
+    let a = x.understood in
+    record {
+      command = x.command;
+      means = x.means;
+      texts = x.texts;
+      holds = x.holds;
+      so = record {
+        executable = plain_executable e;
+        compiles = a.compiles;
+        query = query;
+        asked = a.asked;
+        halt = s.halt;
+        stops = subst (λ (k : Bounds). stop_of (run_of_query e.procs query k.budget k.depth) ≡ Some s.halt) a.bounds (sym (stop_shown (run_of_query e.procs query b.budget b.depth)) ∙ s.is);
+        so = s.so;
+      };
+    }

@@ -1,0 +1,108 @@
+-- What the phase of declared modes makes of typed clauses.
+use Rattle.std.proofs.Common.{◌≡◌, ℕ, Bool, true, false, true≢false, List, [], ◌∷◌, ◌++◌, map, Option, Some, None, Ok, Err, refl, sym, ap, ◌∙◌, subst}
+use Rattle.std.specs.Option.{is_some, option_map, option_to_list}
+use Rattle.std.proofs.lemmas.List.{append-nil}
+use Rattle.mc_term_data.specs.Plain.{PlainTerm}
+use Rattle.mc_source.specs.declared.rule.Broken.{Broken}
+use Rattle.mc_program.specs.declared.program.Resolved.{Resolved}
+use Rattle.mc_model.specs.declared.inst.Sig.{Sig}
+use Rattle.mc_linking.specs.Files.{plain_files}
+use Rattle.mc_modules.specs.Linked.{plain_names}
+use Rattle.mc_type_table.specs.Sight.{definitions_seen}
+use Rattle.mc_goals.specs.Resolved.{typed_clause}
+use Rattle.mc_clause_phase.specs.Judging.{AreTyped}
+use Rattle.mc_clause_phase.specs.declared.judged.TypedClause.{TypedClause}
+use Rattle.mc_declared_modes.specs.WrittenModes.{plain_written, declared_modes}
+use Rattle.mc_declared_modes.specs.declared.written.WrittenMode.{WrittenMode}
+use Rattle.mc_signatures.specs.Signatures.{Signed, builtin_of}
+use Rattle.mc_signatures.specs.TidyModes.{untidy_modes}
+use Rattle.mc_ground_form.specs.Program.{plain_goal}
+use Rattle.mc_whole_program.specs.Wholes.{numbered_clause, IsWhole}
+use Rattle.mc_whole_program.specs.declared.program.WholeProgram.{WholeProgram}
+use Rattle.mc_compile.specs.declared.given.CompileFault.TheVariants as F
+use Rattle.mc_compile.specs.declared.moded.Moded.{Moded}
+use Rattle.mc_compile.specs.Phases.{unless_broken, Tells, Viewed}
+use Rattle.mc_compile.specs.Sources.{Sources}
+use Rattle.mc_compile.specs.declared.named.Named.{Named}
+use Rattle.mc_compile.specs.Linking.{PlainNamed, plain_named}
+use Rattle.mc_compile.specs.Typing.{PlainTyped}
+use Rattle.mc_compile.specs.Checking.{items_of}
+use Rattle.mc_compile.specs.Ruling.{numbered, query_number, query_sigs, IsModed, Modes, with_modes}
+use Rattle.mc_compile.specs.code.Parts.{IsParted}
+use Rattle.mc_compile.proofs.Chains.{broken_up, none_broken}
+use Rattle.mc_compile.proofs.Queries.{some_goal}
+
+-- the query's clause among those that are typed
+record HasQuery (all clauses : List TypedClause) (has : Bool) (query : Option Resolved) : Type 0 where
+  one : Option TypedClause
+  all_are : all ≡ clauses ++ option_to_list one
+  is_there : is_some one ≡ has
+  is : option_map (λ (c : TypedClause). typed_clause c.resolved) one ≡ option_map typed_clause query
+
+has_query : (all : List TypedClause) (has : Bool) (clauses : List TypedClause) (query : Option Resolved) → IsParted all has clauses query → HasQuery all clauses has query
+has_query all false clauses None p = record { one = None; all_are = p ∙ sym (append-nil clauses); is_there = refl; is = refl }
+has_query all true clauses (Some query) p = record { one = Some p.0; all_are = p.2; is_there = refl; is = ap (λ (r : Resolved). Some (typed_clause r)) p.1 }
+has_query all false clauses (Some query) p = absurd p
+has_query all true clauses None p = absurd p
+
+-- the query's clause is the last one
+pub parted_of : (all clauses : List TypedClause) (has : Bool) (query : TypedClause) → has ≡ true → all ≡ clauses ++ query ∷ [] → IsParted all has clauses (Some query.resolved)
+parted_of all clauses true query e is = (query, refl, is)
+parted_of all clauses false query e is = absurd (true≢false (sym e))
+
+pub is_moded :
+    (first : Bool) (named : PlainNamed) (all clauses : List TypedClause) (query : Option Resolved) (declared : List Sig) (m : Moded)
+    → AreTyped named.files.names (definitions_seen named.files.names) (items_of named) all
+    → IsParted all (is_some named.goal) clauses query
+    → IsWhole named.files.names (map numbered clauses) (option_map typed_clause query) m.whole
+    → Signed named.files.names (builtin_of m.whole.program.preds) (declared_modes named.files.names named.files.all) (Some declared)
+    → m.sigs.items ≡ declared ++ query_sigs first named m.whole declared named.goal
+    → m.query ≡ query_number m.whole declared named.goal
+    → IsModed first named m
+is_moded first named all clauses query declared m typed parted whole signed sigs number =
+    let q = has_query all (is_some named.goal) clauses query parted in
+    let l = named.files.names in
+    record {
+      clauses = clauses;
+      query = q.one;
+      typed = subst (λ cs. AreTyped l (definitions_seen l) (items_of named) cs) q.all_are typed;
+      asked = q.is_there;
+      whole = subst (λ o. IsWhole l (map numbered clauses) o m.whole) (sym q.is) whole;
+      declared = declared;
+      signed = signed;
+      sigs = sigs;
+      number = number;
+    }
+
+-- where no mode breaks the rule of unique modes, and where some do
+pub modes_are : (s : Sources) (first : Bool) (typed : PlainTyped) (m : Moded) → s.first ≡ first → IsModed first typed.named m → untidy_modes m.whole.program.preds m.sigs.items ≡ []
+    → Tells (Modes s) (Viewed (λ x. x)) typed (Ok m)
+modes_are s first typed m e moded none =
+    (m, refl, with_modes (subst (λ b. IsModed b typed.named m) (sym e) moded) (none_broken (untidy_modes m.whole.program.preds m.sigs.items) m none))
+
+pub modes_are_broken : (s : Sources) (first : Bool) (typed : PlainTyped) (m : Moded) (rules : List Broken) → s.first ≡ first → IsModed first typed.named m → rules ≡ untidy_modes m.whole.program.preds m.sigs.items → (untidy_modes m.whole.program.preds m.sigs.items ≡ [] → ⊥)
+    → Tells (Modes s) (Viewed (λ (x : Moded). x)) typed (Err (F.Rejected rules))
+modes_are_broken s first typed m rules e moded is some =
+    with_modes {moded = m} (subst (λ b. IsModed b typed.named m) (sym e) moded)
+    (broken_up rules m (λ none. some (sym is ∙ none)) ∙ ap (λ bs. unless_broken bs m) is)
+
+-- the same of the values that the phase makes: pairs of the clauses, and the modes that are written
+pub modes_made :
+    (first : Bool) (named : Named) (all clauses : List TypedClause) (query : Option Resolved) (has : Bool) (pairs : List (ℕ × Resolved)) (rows : List (List WrittenMode)) (declared : List Sig) (m : Moded)
+    → AreTyped (plain_names named.names) (definitions_seen (plain_names named.names)) (items_of (plain_named named)) all
+    → has ≡ is_some named.goal
+    → IsParted all has clauses query
+    → map numbered_clause pairs ≡ map numbered clauses
+    → IsWhole (plain_names named.names) (map numbered_clause pairs) (option_map typed_clause query) m.whole
+    → map (map plain_written) rows ≡ declared_modes (plain_names named.names) (plain_files named.files)
+    → Signed (plain_names named.names) (builtin_of m.whole.program.preds) (map (map plain_written) rows) (Some declared)
+    → m.sigs.items ≡ declared ++ query_sigs first (plain_named named) m.whole declared (plain_goal named.goal)
+    → m.query ≡ query_number m.whole declared (plain_goal named.goal)
+    → IsModed first (plain_named named) m
+modes_made first named all clauses query has pairs rows declared m typed there parted same whole written signed sigs number =
+    let l = plain_names named.names in
+    is_moded first (plain_named named) all clauses query declared m typed
+    (subst (λ (b : Bool). IsParted all b clauses query) (there ∙ sym (some_goal named.goal)) parted)
+    (subst (λ cs. IsWhole l cs (option_map typed_clause query) m.whole) same whole)
+    (subst (λ ws. Signed l (builtin_of m.whole.program.preds) ws (Some declared)) written signed)
+    sigs number

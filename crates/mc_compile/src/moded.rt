@@ -1,0 +1,183 @@
+ghost use Rattle.std.specs.Prelude.{◌≡◌, ◌++◌, None, map, IfOk, IfSome};
+ghost use Rattle.mc_linking.specs.Files.{plain_files};
+ghost use Rattle.mc_modules.specs.Linked.{plain_names};
+ghost use Rattle.mc_type_table.specs.Sight.{definitions_seen};
+ghost use Rattle.mc_ground_form.specs.Program.{plain_goal};
+ghost use Rattle.mc_clause_phase.specs.Judging.{AreTyped};
+ghost use Rattle.mc_declared_modes.specs.WrittenModes.{declared_modes};
+ghost use Rattle.mc_signatures.specs.Signatures.{SomeHaveOther};
+ghost use Rattle.mc_compile.specs.Phases.{Tells, Viewed};
+ghost use Rattle.mc_compile.specs.Sources.{Sources};
+ghost use Rattle.mc_compile.specs.Linking.{plain_named};
+ghost use Rattle.mc_compile.specs.Typing.{plain_typed};
+ghost use Rattle.mc_compile.specs.Checking.{items_of};
+ghost use Rattle.mc_whole_program.specs.Wholes.{numbered_clause};
+ghost use Rattle.mc_compile.specs.Ruling.{numbered, query_determinism, query_number, query_sigs, IsModed, Modes};
+ghost use Rattle.mc_compile.specs.code.Parts.{IsParted};
+
+use crate::checked::Checked;
+use crate::given::CompileFault;
+use crate::named::Named;
+use mc_base::{Memory, Row};
+use mc_clause_phase::TypedClause;
+use mc_declared_modes::declared_modes;
+use mc_model::inst::Sig;
+use mc_orders::mode_ids;
+use mc_program::program::Resolved;
+use mc_signatures::{query_signature, signatures, untidy_modes};
+use mc_source::det::{Det, Most};
+use mc_source::place::Place;
+use mc_whole_program::{WholeProgram, whole_program};
+use std::alloc::Global;
+
+/// A program that is put in order: as it runs, with the declared modes of its predicates, the query's behind the others,
+/// and the number of the query's procedure where there is a query.
+#[derive(Drop)]
+pub struct Moded {
+    pub whole: WholeProgram,
+    pub sigs: Vec<Sig>,
+    pub query: Option<u32>,
+}
+
+impl Moded {
+    /// The program that typed clauses and the query are, with its declared modes. Whether the first answer alone is wanted
+    /// of the query decides its determinism.
+    ///
+    /// # Errors
+    ///
+    /// `Rejected` with the rule M8 for each mode that breaks it. `NotBuilt` where a declared mode has an inst that lists
+    /// constructors.
+    pub fn of(alloc: Global, checked: Checked, first: bool) -> Result<Moded, CompileFault>
+        requires { AreTyped (plain_names checked.typed.named.names)
+            (definitions_seen (plain_names checked.typed.named.names))
+            (items_of (plain_named checked.typed.named)) checked.clauses.items }
+        ensures { (s : Sources) → s.first ≡ first
+            → Tells (Modes s) (Viewed (λ m. m)) (plain_typed checked.typed) result }
+    {
+        let Checked { typed, clauses } = checked;
+        let Some(moded) = with_modes(alloc, &typed.named, clauses, first)? else {
+            return Err(CompileFault::NotBuilt);
+        };
+        let preds = moded.whole.program.preds.as_slice();
+        let broken = untidy_modes(alloc, preds, moded.sigs.as_slice())?;
+        if broken.is_empty() {
+            return Ok(moded);
+        }
+        Err(CompileFault::Rejected(Row::of(broken)?))
+    }
+}
+
+// The program with its declared modes; none where one has an inst that lists constructors.
+fn with_modes(
+    alloc: Global,
+    named: &Named,
+    clauses: Vec<TypedClause>,
+    first: bool,
+) -> Result<Option<Moded>, Memory>
+    requires { AreTyped (plain_names named.now.names) (definitions_seen (plain_names named.now.names))
+        (items_of (plain_named named.now)) clauses.items }
+    ensures some { IfOk result
+        (λ moded. IfSome moded (IsModed first (plain_named named.now))) }
+    ensures none { IfOk result
+        (λ moded. moded ≡ None
+        → SomeHaveOther (plain_names named.now.names)
+        (declared_modes (plain_names named.now.names) (plain_files named.now.files))) }
+{
+    let (clauses, query) = parted(clauses, named.goal.is_some())?;
+    let whole = whole_program(alloc, &named.names, numbered(alloc, clauses)?, query)?;
+    let rows = declared_modes(alloc, &named.names, named.files.as_slice())?;
+    match signatures(alloc, &named.names, whole.program.preds.as_slice(), &rows)? {
+        Some(declared) => {
+            let (sigs, query) = with_query(alloc, named, &whole, declared, first)?;
+            Ok(Some(Moded { whole, sigs, query }))
+        }
+        None => Ok(None),
+    }
+}
+
+// Typed clauses, and the query behind them where there is one.
+fn parted(
+    clauses: Vec<TypedClause>,
+    has_query: bool,
+) -> Result<(Vec<TypedClause>, Option<Resolved>), Memory>
+    ensures { IfOk result (λ parts. IsParted clauses.items has_query parts.0.items parts.1) }
+{
+    let mut clauses = clauses;
+    if !has_query {
+        return Ok((clauses, None));
+    }
+    // A query is typed, so there is one.
+    match clauses.pop() {
+        Some(query) => Ok((clauses, Some(query.resolved))),
+        None => Err(Memory),
+    }
+}
+
+// Typed clauses with the numbers of their predicates.
+fn numbered(alloc: Global, clauses: Vec<TypedClause>) -> Result<Vec<(u32, Resolved)>, Memory>
+    ensures { IfOk result
+        (λ pairs. map numbered_clause pairs.items ≡ map numbered clauses.items) }
+{
+    let mut pairs = Vec::with_capacity(alloc, clauses.len())?;
+    for clause in clauses {
+        let TypedClause { pred, resolved } = clause;
+        pairs.push((pred, resolved))?;
+    }
+    Ok(pairs)
+}
+
+// The signatures of predicates with that of the query behind them, and the number of its procedure.
+fn with_query(
+    alloc: Global,
+    named: &Named,
+    whole: &WholeProgram,
+    declared: Vec<Sig>,
+    first: bool,
+) -> Result<(Vec<Sig>, Option<u32>), Memory>
+    ensures sigs { IfOk result
+        (λ made. made.0.items
+        ≡ declared.items
+        ++ query_sigs first (plain_named named.now) whole.now declared.items
+        (plain_goal named.now.goal)) }
+    ensures number { IfOk result
+        (λ made. made.1 ≡ query_number whole.now declared.items (plain_goal named.now.goal)) }
+{
+    let mut declared = declared;
+    let Some(goal) = &named.goal else {
+        return Ok((declared, None));
+    };
+    let number = counted(mode_ids(alloc, &whole.program, declared.as_slice())?.len())?;
+    let at = Place {
+        // Those that are given are never more than all.
+        file: named.given.min(named.files.len()),
+        line: goal.line,
+    };
+    let pred = named.names.preds.len();
+    let arguments = whole.variables.len();
+    let det = query_determinism(first);
+    declared.push(query_signature(alloc, pred, number, arguments, det, at)?)?;
+    Ok((declared, Some(number)))
+}
+
+fn counted(count: usize) -> Result<u32, Memory>
+    ensures { IfOk result (λ number. number ≡ count) }
+{
+    if count > u32::MAX as usize {
+        return Err(Memory);
+    }
+    Ok(count as u32)
+}
+
+// The determinism of a query, where the first answer alone is wanted.
+fn query_determinism(first: bool) -> Option<Det>
+    ensures { result ≡ query_determinism first }
+{
+    if first {
+        return Some(Det {
+            can_fail: true,
+            most: Most::Many,
+            committed: true,
+        });
+    }
+    None
+}

@@ -1,0 +1,121 @@
+ghost use Rattle.std.specs.Prelude.{◌≡◌, List};
+ghost use Rattle.std.specs.Option.{option_copied};
+ghost use Rattle.mc_modules.specs.Linked.{plain_names};
+ghost use Rattle.mc_type_table.specs.Sight.{definitions_seen};
+ghost use Rattle.mc_clause_phase.specs.Judging.{AreTyped};
+ghost use Rattle.mc_whole.specs.Goals.{HasNormalGoals};
+ghost use Rattle.mc_compile.specs.declared.given.Given.{Given};
+ghost use Rattle.mc_compile.specs.Phases.{Tells, Then, Viewed};
+ghost use Rattle.mc_compile.specs.Sources.{Sources, is_first, sources_of};
+ghost use Rattle.mc_compile.specs.Linking.{plain_named};
+ghost use Rattle.mc_compile.specs.Typing.{plain_typed};
+ghost use Rattle.mc_compile.specs.Checking.{items_of};
+ghost use Rattle.mc_compile.specs.Ruling.{Insts, Modes, Procedures, Rules, plain_executable};
+
+use crate::checked::Checked;
+use crate::executable::Executable;
+use crate::given::{CompileFault, Query};
+use crate::moded::Moded;
+use crate::typed::Typed;
+use mc_base::Row;
+use mc_inst_table::inst_faults;
+use mc_rules::{Ruled, procedures};
+use mc_whole_program::WholeProgram;
+use std::alloc::Global;
+
+/// The procedures of a program with rules, whose clauses and query are typed.
+///
+/// # Errors
+///
+/// `Rejected` with the rules of insts (M6, M7) that items break; else with those of modes (M8, and then M1 to M4) that
+/// declared modes break; else with those of determinism (E1 to E4 and U1) that procedures break. `NotBuilt` where a
+/// declared mode has an inst that lists constructors, where a run of `main` is asked for, and where something isn't seen
+/// to fit.
+pub fn rules(
+    alloc: Global,
+    checked: Checked,
+    query: Option<&Query>,
+    want_main: bool,
+) -> Result<Executable, CompileFault>
+    requires { AreTyped (plain_names checked.typed.named.names)
+        (definitions_seen (plain_names checked.typed.named.names))
+        (items_of (plain_named checked.typed.named)) checked.clauses.items }
+    ensures { (files : List Given)
+        → Tells (Rules (sources_of files (option_copied query.entry) want_main))
+        (Viewed plain_executable) (plain_typed checked.typed) result }
+{
+    match sound_insts(alloc, &checked.typed) {
+        Ok(()) => with_modes(alloc, checked, query, want_main),
+        Err(fault) => Err(fault),
+    }
+}
+
+// Whether no item breaks a rule of insts.
+fn sound_insts(alloc: Global, typed: &Typed) -> Result<(), CompileFault>
+    ensures { Tells Insts (λ _ plain. plain_typed typed.now ≡ plain) (plain_typed typed.now) result }
+{
+    let named = &typed.named;
+    let broken = inst_faults(alloc, &named.names, named.files.as_slice())?;
+    if broken.is_empty() {
+        return Ok(());
+    }
+    Err(CompileFault::Rejected(Row::of(broken)?))
+}
+
+// The phases from declared modes on.
+fn with_modes(
+    alloc: Global,
+    checked: Checked,
+    query: Option<&Query>,
+    want_main: bool,
+) -> Result<Executable, CompileFault>
+    requires { AreTyped (plain_names checked.typed.named.names)
+        (definitions_seen (plain_names checked.typed.named.names))
+        (items_of (plain_named checked.typed.named)) checked.clauses.items }
+    ensures { (files : List Given)
+        → Tells
+        (Then (Modes (sources_of files (option_copied query.entry) want_main))
+        (Procedures (sources_of files (option_copied query.entry) want_main)))
+        (Viewed plain_executable) (plain_typed checked.typed) result }
+{
+    match Moded::of(alloc, checked, is_first(query)) {
+        Ok(moded) => executable(alloc, moded, want_main),
+        Err(fault) => Err(fault),
+    }
+}
+
+// The phase of procedures.
+fn executable(alloc: Global, moded: Moded, want_main: bool) -> Result<Executable, CompileFault>
+    requires { HasNormalGoals moded.whole.program moded.whole.goals.items }
+    ensures { (s : Sources) → s.wants_main ≡ want_main
+        → Tells (Procedures s) (Viewed plain_executable) moded result }
+{
+    let Moded { whole, sigs, query } = moded;
+    let WholeProgram {
+        program,
+        goals,
+        exported,
+        variables,
+    } = whole;
+    let (sigs, goals, exported) = (sigs.as_slice(), goals.as_slice(), exported.as_slice());
+    match procedures(alloc, program, sigs, goals, exported, want_main)? {
+        Ruled::Procs(_) if want_main => Err(CompileFault::NotBuilt),
+        Ruled::Procs(procs) => Ok(Executable {
+            procs,
+            query,
+            variables,
+        }),
+        Ruled::Broken(broken) => Err(CompileFault::Rejected(Row::of(broken)?)),
+        Ruled::Unseen(_) => Err(CompileFault::NotBuilt),
+    }
+}
+
+/// Whether the first answer alone of a query is wanted.
+pub fn is_first(query: Option<&Query>) -> bool
+    ensures { result ≡ is_first (option_copied query.entry) }
+{
+    match query {
+        Some(query) => query.first,
+        None => false,
+    }
+}
