@@ -1,5 +1,5 @@
 -- What stages tell of both chains, from the first phase on.
-use Rattle.std.proofs.Common.{◌≡◌, Result, Ok, Err, refl, sym, subst, inl, inr}
+use Rattle.std.proofs.Common.{Result, Ok, Err, refl, sym, subst, inl, inr}
 use Rattle.mc_compile.specs.declared.given.CompileFault.{CompileFault}
 use Rattle.mc_compile.specs.declared.given.CompileFault.TheVariants as F
 use Rattle.mc_compile.specs.declared.executable.Executable.{Executable}

@@ -2,7 +2,6 @@
 use Rattle.std.proofs.Common.{◌≡◌, ℕ, Bool, true, false, true≢false, List, [], ◌∷◌, ◌++◌, map, Option, Some, None, Ok, Err, refl, sym, ap, ◌∙◌, subst}
 use Rattle.std.specs.Option.{is_some, option_map, option_to_list}
 use Rattle.std.proofs.lemmas.List.{append-nil}
-use Rattle.mc_term_data.specs.Plain.{PlainTerm}
 use Rattle.mc_source.specs.declared.rule.Broken.{Broken}
 use Rattle.mc_program.specs.declared.program.Resolved.{Resolved}
 use Rattle.mc_model.specs.declared.inst.Sig.{Sig}
@@ -18,7 +17,6 @@ use Rattle.mc_signatures.specs.Signatures.{Signed, builtin_of}
 use Rattle.mc_signatures.specs.TidyModes.{untidy_modes}
 use Rattle.mc_ground_form.specs.Program.{plain_goal}
 use Rattle.mc_whole_program.specs.Wholes.{numbered_clause, IsWhole}
-use Rattle.mc_whole_program.specs.declared.program.WholeProgram.{WholeProgram}
 use Rattle.mc_compile.specs.declared.given.CompileFault.TheVariants as F
 use Rattle.mc_compile.specs.declared.moded.Moded.{Moded}
 use Rattle.mc_compile.specs.Phases.{unless_broken, Tells, Viewed}
