@@ -1,5 +1,6 @@
 pub mod Agreeing
 pub mod Assembling
+pub mod Distinct
 pub mod Instances
 pub mod Listing
 pub mod SameTypes

@@ -1,4 +1,5 @@
 pub mod Bindings
+pub mod Constructors
 pub mod Names
 pub mod Parts
 pub mod Symbols

@@ -1,6 +1,8 @@
 //! Whether a program's types and its procedures fit, tested as the program runs.
 #![tactic(auto)]
 
+mod constructors;
+mod functors;
 mod instance;
 mod listed;
 mod matching;
@@ -13,5 +15,6 @@ mod typed;
 mod types;
 mod variables;
 
+pub use constructors::constructors_fit;
 pub use procedure::procedure_fits;
 pub use types::types_fit;

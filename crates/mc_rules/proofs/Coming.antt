@@ -71,7 +71,7 @@ module _ (P : Program) (sigs : List Sig) (q : PlainProcs) (b : Begins P sigs q) 
 module _ (P : Program) (sigs : List Sig) (goals : List Normal) (exported : List Bool) (runs : Bool) where
   pub one_unfit : (u : Unseen) → IsUnfit P u → Comes P sigs goals exported runs (R.Unseen u)
   one_unfit U.Types isnt = no_types isnt
-  one_unfit U.Constructors isnt = no_constructors
+  one_unfit U.Constructors isnt = no_constructors isnt
   one_unfit U.Exported isnt = absurd isnt
   one_unfit U.Insts isnt = absurd isnt
   one_unfit U.Numbers isnt = absurd isnt

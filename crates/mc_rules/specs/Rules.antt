@@ -14,6 +14,7 @@ use Rattle.mc_model.specs.declared.inst.Sig.{Sig}
 use Rattle.mc_accepted.specs.DeterminismFaults.{determinism_faults}
 use Rattle.mc_accepted.specs.Fits.{FitsTypes}
 use Rattle.mc_insts.specs.Graphs.{count_of}
+use Rattle.mc_insts.specs.Programs.{FitsConstructors}
 use Rattle.mc_procs.specs.Procedures.{PlainProcs, parameters_in}
 use Rattle.mc_modes.specs.Signatures.{SigsFit}
 use Rattle.mc_orders.specs.Outcomes.{GrownFrom, Became}
@@ -60,9 +61,8 @@ pub record IsntAtFirst (P : Program) (sigs : List Sig) (Holds : PlainProcs → T
   pub begins : Begins P sigs first
   pub isnt : Holds first → ⊥
 
--- Procedures come where no rule is broken. What isn't seen is told first; then rules of modes, and
--- then those of determinism. That a program's constructors, or a procedure, aren't seen to fit
--- doesn't say that they don't.
+-- Procedures come where no rule is broken. Rules of determinism are told where goals are in order.
+-- That a procedure isn't seen to fit doesn't say that it doesn't.
 pub data Comes (P : Program) (sigs : List Sig) (goals : List Normal) (exported : List Bool)
     (runs : Bool) : Ruled → Type 0 where
   break_no_rule :
@@ -82,7 +82,9 @@ pub data Comes (P : Program) (sigs : List Sig) (goals : List Normal) (exported :
   no_types :
       (FitsTypes (plain_program P) (parameters_in P) → ⊥)
       → Comes P sigs goals exported runs (R.Unseen U.Types)
-  no_constructors : Comes P sigs goals exported runs (R.Unseen U.Constructors)
+  no_constructors :
+      (FitsConstructors (plain_program P) → ⊥)
+      → Comes P sigs goals exported runs (R.Unseen U.Constructors)
   no_exported :
       (length exported ≡ length P.preds → ⊥)
       → Comes P sigs goals exported runs (R.Unseen U.Exported)

@@ -13,7 +13,7 @@ ghost use Rattle.mc_rules.specs.code.Missing.{ProgramIsFit, IsUnfit};
 
 use crate::judging::{Judgement, judged};
 use mc_base::{Memory, Row};
-use mc_fitting::types_fit;
+use mc_fitting::{constructors_fit, types_fit};
 use mc_insts::Insts;
 use mc_model::flat::Normal;
 use mc_model::inst::Sig;
@@ -21,7 +21,6 @@ use mc_orders::mode_ids;
 use mc_procs::Procs;
 use mc_program::program::Program;
 use mc_source::rule::Broken;
-use mc_tested_insts::constructors_fit;
 use std::alloc::Global;
 
 /// What comes of a program and its declared modes.
@@ -40,7 +39,7 @@ pub enum Ruled {
 pub enum Unseen {
     /// The program's types fit.
     Types,
-    /// The constructors that a type lists are its own, and their names differ.
+    /// The constructors that a type lists are its own, each once by its name with its number of arguments.
     Constructors,
     /// It is told of each predicate whether it is exported.
     Exported,

@@ -5,7 +5,7 @@ mod fits;
 mod fixtures;
 mod tested;
 
-pub use fits::{constructors_fit, definitions_fit};
+pub use fits::definitions_fit;
 pub use fixtures::{
     add_constructor, add_type, bound, choice, empty_program, list_program, named, old,
 };

@@ -3,8 +3,9 @@
 ghost use Rattle.std.specs.Prelude.{ℕ, ◌<◌, length, get_or, IsTrue, IfOk};
 ghost use Rattle.mc_tested_insts.specs.Kept.{AreKept};
 
-use crate::fits::{constructors_fit, definitions_fit};
+use crate::fits::definitions_fit;
 use mc_base::{Memory, Row};
+use mc_fitting::constructors_fit;
 use mc_insts::{InstDef, InstFault, InstId, Insts};
 use mc_program::program::Program;
 use mc_program::ty::Ty;

@@ -28,10 +28,9 @@ abbrev pub ProgramIsFit : Program → Type 0
 ProgramIsFit P =
     FitsTypes (plain_program P) (parameters_in P) × FitsConstructors (plain_program P)
 
--- That constructors aren't seen to fit doesn't say that they don't.
 abbrev pub IsUnfit : Program → Unseen → Type 0
 IsUnfit P U.Types = FitsTypes (plain_program P) (parameters_in P) → ⊥
-IsUnfit P U.Constructors = Unit {0}
+IsUnfit P U.Constructors = FitsConstructors (plain_program P) → ⊥
 IsUnfit P U.Exported = ⊥
 IsUnfit P U.Insts = ⊥
 IsUnfit P U.Numbers = ⊥

@@ -1,7 +1,7 @@
 use Rattle.std.proofs.Common.{ℕ, ◌<◌}
 use Rattle.mc_program.specs.PlainPrograms.{plain_program}
-use Rattle.mc_tested_insts.specs.Fitting.{TypeFits}
-use Rattle.mc_tested_insts.proofs.fits.constructors_fit.Given as goal
+use Rattle.mc_fitting.specs.code.Constructors.{TypeFits}
+use Rattle.mc_fitting.proofs.constructors.constructors_fit.Given as goal
 
 abbrev pub invariant-loop-u : goal.invariant-loop-u
 invariant-loop-u l =
