@@ -13,6 +13,7 @@ use Rattle.mc_source.specs.declared.rule.Broken.{Broken}
 use Rattle.mc_program.specs.Programs.{TypeTerm, TypeTerms, no_types, type_then, Constructor}
 use Rattle.mc_program.specs.PlainPrograms.{no_symbol, no_pred}
 use Rattle.mc_accepted.specs.ProperTypes.{ProperType, ProperTypes, EachProper, Below, EachBelow}
+use Rattle.mc_accepted.specs.Fits.{FitsTypes}
 use Rattle.mc_decl_syntax.specs.Plain.{PlainDecl, UnionType, SameType}
 use Rattle.mc_decl_syntax.specs.Types.{is_field, are_fields, is_constructor, are_constructors}
 use Rattle.mc_defs_uses.specs.Definitions.{symbol_name}
@@ -22,8 +23,8 @@ use Rattle.mc_type_table.specs.Expanded.{equivalent_by, equivalent_of, equivalen
 use Rattle.mc_type_table.specs.Rules.{fields, constructor_fields, union_fields, named_parameters, stray, first_of, stray_in, variable_fault, goes_round, definitions, type_fault, type_faults, numbered}
 use Rattle.mc_type_table.specs.Sight.{sees_definition, definitions_seen}
 use Rattle.mc_clauses.specs.Variables.{nothing_met}
-use Rattle.mc_clauses.specs.Declarations.{parameter_counts, declared_types, listed_types, type_terms_of, constructor_of, constructors_in, constructors_by, constructors_from, predicate_of}
-use Rattle.mc_declarations.specs.Proper.{IsHeadOf, IsMeant, EachMeant, IsWellWritten, AreWellWritten, DeclarationsFit}
+use Rattle.mc_clauses.specs.Declarations.{parameter_counts, declared_types, listed_types, type_terms_of, constructor_of, constructors_in, constructors_by, constructors_from, predicate_of, declarations}
+use Rattle.mc_declarations.specs.Proper.{IsHeadOf, IsMeant, EachMeant, IsWellWritten, AreWellWritten, DeclarationsFit, AllDeclarationsFit}
 use Rattle.mc_declarations.proofs.Replaced.{AreProper, proper_replaced, below_replaced, proper_rounds}
 use Rattle.mc_declarations.proofs.Meaning.{proper_written, all_proper_declared, count_names, Places, head_places, below_written}
 
@@ -149,14 +150,25 @@ written_fits l u b None well none there is = absurd (let clash : None ≡ Some b
 written_fits l u b (Some d) well none there is =
     equivalent_fits l u d d.item b there (well.types u d there) (no_stray l u d none there) is
 
-seen_fit :
+pub definitions_fit :
+    (l : Linked)
+    → AreWellWritten l → type_faults l ≡ [] → AreProper (parameter_counts l) (definitions l)
+definitions_fit l well none u b is =
+    written_fits l u b (slice_get l.types u) well none refl
+    (in_any_sight (not (goes_round l u)) (equivalent l u) b is)
+
+-- what is seen is defined
+pub defined_seen :
+    (l : Linked) (own u : ℕ) (b : TypeTerm)
+    → definitions_seen l own u ≡ Some b → definitions l u ≡ Some b
+defined_seen l own u b is = in_any_sight (sees_definition l own u) (definitions l u) b is
+
+pub seen_fit :
     (l : Linked) (own : ℕ)
     → AreWellWritten l → type_faults l ≡ []
     → AreProper (parameter_counts l) (definitions_seen l own)
 seen_fit l own well none u b is =
-    written_fits l u b (slice_get l.types u) well none refl
-    (in_any_sight (not (goes_round l u)) (equivalent l u) b
-    (in_any_sight (sees_definition l own u) (definitions l u) b is))
+    definitions_fit l well none u b (defined_seen l own u b is)
 
 -- CONSTRUCTORS
 
@@ -357,25 +369,41 @@ module _ (l : Linked) (E : ℕ → Option TypeTerm) (are : AreProper (parameter_
   predicate_fits zero (d ∷ ds) each = listed_fit _ (each 0 d refl)
   predicate_fits (suc p) (d ∷ ds) each = predicate_fits p ds (λ q. each (suc q))
 
+-- what is declared where each type is defined as what is well formed
+module _
+    (l : Linked) (E : ℕ → Option TypeTerm) (are : AreProper (parameter_counts l) E)
+    (well : AreWellWritten l) (none : type_faults l ≡ []) where
+  pub constructors_fit : (s : ℕ) → IsFit l (get_or (constructors_from l E 0 l.types) s no_symbol)
+  constructors_fit s =
+      fit_at l (constructors_from l E 0 l.types) s
+      (all_fit l E are 0 l.types well none
+      (λ i. let same : 0 + i ≡ i = omega arith in ap (slice_get l.types) same))
+
+  pub predicates_fit :
+      (p : ℕ)
+      → EachProper (parameter_counts l) (get_or (map (predicate_of l E) l.preds) p no_pred).types
+  predicates_fit p =
+      predicate_fits l E are p l.preds
+      (λ q d there.
+      all_proper_declared l (home l d) (type_terms_of d.item) nothing_met (well.preds q d there))
+
+  declared_fit :
+      FitsTypes (declarations l E) (parameter_counts l)
+      × ((p : ℕ) → EachProper (parameter_counts l) ((declarations l E).preds p).types)
+  declared_fit = (
+    record {
+      arities = λ s. (constructors_fit s).arity;
+      parameters = λ s k is listed. (constructors_fit s).within k is;
+      arguments = λ s k is listed. (constructors_fit s).proper;
+    },
+    predicates_fit,
+  )
+
 -- THE LAW
 pub declarations_fit : DeclarationsFit
 declarations_fit l own well none =
-    let are = seen_fit l own well none in
-    let fits =
-    all_fit l (definitions_seen l own) are 0 l.types well none
-    (λ i. let same : 0 + i ≡ i = omega arith in ap (slice_get l.types) same)
-    in
-    let fit :
-    (s : ℕ) → IsFit l (get_or (constructors_from l (definitions_seen l own) 0 l.types) s no_symbol) =
-    λ s. fit_at l (constructors_from l (definitions_seen l own) 0 l.types) s fits
-    in (
-      record {
-        arities = λ s. (fit s).arity;
-        parameters = λ s k is listed. (fit s).within k is;
-        arguments = λ s k is listed. (fit s).proper;
-      },
-      λ p.
-          predicate_fits l (definitions_seen l own) are p l.preds
-          (λ q d there.
-          all_proper_declared l (home l d) (type_terms_of d.item) nothing_met (well.preds q d there)),
-    )
+    declared_fit l (definitions_seen l own) (seen_fit l own well none) well none
+
+pub all_declarations_fit : AllDeclarationsFit
+all_declarations_fit l well none =
+    declared_fit l (definitions l) (definitions_fit l well none) well none

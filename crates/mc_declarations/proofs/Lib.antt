@@ -5,6 +5,6 @@ mod With
 mod Whole
 mod Libraries
 mod Typed
-mod Replaced
+pub mod Replaced
 mod Meaning
-mod Fitting
+pub mod Fitting

@@ -23,7 +23,7 @@ below_at k (type_then t ts) (suc v) less b =
     let fewer : v < count_types ts = omega arith in
     below_at k ts v fewer b.1
 
-count_instances :
+pub count_instances :
     (f : ℕ → TypeTerm) (ts : TypeTerms) → count_types (instances_of f ts) ≡ count_types ts
 count_instances f no_types = refl
 count_instances f (type_then t ts) = ap suc (count_instances f ts)
@@ -73,7 +73,7 @@ AreProper D H =
     (u : ℕ) (b : TypeTerm)
     → H u ≡ Some b → (k : ℕ) × (D u ≡ Some k) × ProperType D b × Below k b
 
-count_replaced :
+pub count_replaced :
     (H : ℕ → Option TypeTerm) (ts : TypeTerms) → count_types (all_replaced H ts) ≡ count_types ts
 count_replaced H no_types = refl
 count_replaced H (type_then t ts) = ap suc (count_replaced H ts)

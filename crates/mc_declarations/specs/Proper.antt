@@ -11,7 +11,7 @@ use Rattle.mc_defs_uses.specs.Plain.{id, qualifiers, last_part}
 use Rattle.mc_modules.specs.Linked.{Defined, Linked}
 use Rattle.mc_modules.specs.Candidates.{type_candidates}
 use Rattle.mc_type_table.specs.Written.{builtin, home}
-use Rattle.mc_type_table.specs.Rules.{union_fields, type_faults}
+use Rattle.mc_type_table.specs.Rules.{union_fields, definitions, type_faults}
 use Rattle.mc_type_table.specs.Sight.{definitions_seen}
 use Rattle.mc_clauses.specs.Declarations.{declarations, parameter_counts, type_terms_of}
 
@@ -67,3 +67,11 @@ DeclarationsFit =
     → AreWellWritten l → type_faults l ≡ []
     → FitsTypes (declared_for l own) (parameter_counts l)
     × ((p : ℕ) → EachProper (parameter_counts l) ((declared_for l own).preds p).types)
+
+-- so it is of what is declared, whoever sees which definitions
+abbrev pub AllDeclarationsFit : Type 0
+AllDeclarationsFit =
+    (l : Linked)
+    → AreWellWritten l → type_faults l ≡ []
+    → FitsTypes (declarations l (definitions l)) (parameter_counts l)
+    × ((p : ℕ) → EachProper (parameter_counts l) ((declarations l (definitions l)).preds p).types)

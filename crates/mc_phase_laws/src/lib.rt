@@ -3,4 +3,4 @@
 
 mod laws;
 
-pub use laws::bodies_mention_declared;
+pub use laws::{bodies_mention_declared, resolved_scopes_fit};

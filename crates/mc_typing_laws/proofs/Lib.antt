@@ -8,3 +8,5 @@ pub mod Renumbered
 pub mod ManyClauses
 pub mod ScopedTypes
 pub mod Procedures
+pub mod ResolvedHeads
+pub mod Queries

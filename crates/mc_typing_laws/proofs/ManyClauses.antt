@@ -5,7 +5,7 @@ use Rattle.std.proofs.lemmas.Bool.{cases_lt, lt-ltb, le-ltb}
 use Rattle.mc_program.specs.Programs.{TypeTerm, variable_type, Source, Expression}
 use Rattle.mc_model.specs.Lists.{In, place_in}
 use Rattle.mc_model.specs.Flat as F
-use Rattle.mc_model.specs.Flat.{Flat_goal, Flat_goals, no_flat, flat_then, flats, variables_of, variables_of_all}
+use Rattle.mc_model.specs.Flat.{Flat_goal, Flat_goals, no_flat, flat_then, variables_of, variables_of_all}
 use Rattle.mc_accepted.specs.ProperTypes.{Parameters}
 use Rattle.mc_accepted.specs.Typing.{constructor_types, ConstantOf, TypedGoal, TypedGoals}
 use Rattle.mc_accepted.specs.Fits.{HeadsHave}
@@ -16,7 +16,7 @@ use Rattle.mc_laws.proofs.FlatGoals.{in_left, in_right}
 use Rattle.mc_laws.proofs.ClauseNumbers.{IsArgument, is_argument}
 use Rattle.mc_order_laws.proofs.NormalScopes.{normal_goals_below}
 use Rattle.mc_made_types.proofs.FlatTypings.{AllTyped, join, split, to_conjunction, from_conjunction, to_disjunction}
-use Rattle.mc_typing_laws.specs.GoalTypes.{forms_of, EachMostGeneral, GoalsAreTyped}
+use Rattle.mc_typing_laws.specs.GoalTypes.{forms_of, EachMostGeneral, GoalIsTyped, EachIsTyped, TypedGoalsJoin, GoalsAreTyped}
 use Rattle.mc_typing_laws.proofs.Renumbered.{Behind, behind_both, Alike, alike_behind, Goals_alike, goal_alike, heads_alike}
 
 -- A goal is typed by the types of its variables alone.
@@ -57,7 +57,7 @@ module _ (P : Source) (T T' : ℕ → TypeTerm) where
     all_agreed (flat_then g gs) h t =
         (agreed g (agree_left (variables_of g) (variables_of_all gs) h) t.0, all_agreed gs (agree_right (variables_of g) (variables_of_all gs) h) t.1)
 
-argument_below : (x i : ℕ) (ts : List Expression) → IsArgument x i ts → i < length ts
+pub argument_below : (x i : ℕ) (ts : List Expression) → IsArgument x i ts → i < length ts
 argument_below x i [] h = absurd h
 argument_below x zero (t ∷ ts) h = omega arith
 argument_below x (suc i) (t ∷ ts) h = omega (arith, argument_below x i ts h)
@@ -68,17 +68,17 @@ at_first [] ys k d lt = absurd (omega (arith, lt))
 at_first (x ∷ xs) ys zero d lt = refl
 at_first (x ∷ xs) ys (suc k) d lt = at_first xs ys k d (omega (arith, lt))
 
-at_second : (xs ys : List TypeTerm) (k : ℕ) (d : TypeTerm) → get_or (xs ++ ys) (length xs + k) d ≡ get_or ys k d
+pub at_second : (xs ys : List TypeTerm) (k : ℕ) (d : TypeTerm) → get_or (xs ++ ys) (length xs + k) d ≡ get_or ys k d
 at_second [] ys k d = let e : 0 + k ≡ k = omega arith in ap (λ i. get_or ys i d) e
 at_second (x ∷ xs) ys k d = let e : suc (length xs) + k ≡ suc (length xs + k) = omega arith in ap (λ i. get_or (x ∷ (xs ++ ys)) i d) e ∙ at_second xs ys k d
 
-at_default : (xs : List TypeTerm) (k : ℕ) (d e : TypeTerm) → k < length xs → get_or xs k d ≡ get_or xs k e
+pub at_default : (xs : List TypeTerm) (k : ℕ) (d e : TypeTerm) → k < length xs → get_or xs k d ≡ get_or xs k e
 at_default [] k d e lt = absurd (omega (arith, lt))
 at_default (x ∷ xs) zero d e lt = refl
 at_default (x ∷ xs) (suc k) d e lt = at_default xs k d e (omega (arith, lt))
 
 -- a clause that is numbered from n on, where its predicate has so many arguments, and that has its types behind others
-module _ (P : Source) (D : Parameters) (declared front back : List TypeTerm) (c : TypedClause) (general : MostGeneral P D declared c) (heads : length c.clause.head ≡ length declared) where
+module _ (P : Source) (declared front back : List TypeTerm) (c : TypedClause) (general : GoalIsTyped P declared (c ∷ [])) (heads : length c.clause.head ≡ length declared) where
   abbrev arity : ℕ
   arity = length declared
 
@@ -181,11 +181,11 @@ module _ (P : Source) (D : Parameters) (declared front back : List TypeTerm) (c 
       omega (arith, b.first, b.second, many, own_long)
 
 -- the clauses one behind another
-module _ (P : Source) (D : Parameters) (declared : List TypeTerm) where
+module _ (P : Source) (declared : List TypeTerm) where
   clauses_typed :
       (cs : List TypedClause) (front : List TypeTerm)
       → HeadsHave (length declared) (forms_of cs)
-      → EachMostGeneral P D declared cs
+      → EachIsTyped P declared cs
       → ((clause_goals (length (declared ++ front)) (forms_of cs)).next ≡ length (declared ++ (front ++ clauses_types cs)))
       × AllTyped P (type_at (declared ++ (front ++ clauses_types cs))) (clause_goals (length (declared ++ front)) (forms_of cs)).goals
   clauses_typed [] front heads general = (ap (λ ts. length (declared ++ ts)) (sym (append-nil front)), tt)
@@ -196,24 +196,35 @@ module _ (P : Source) (D : Parameters) (declared : List TypeTerm) where
       let rest = clauses_typed cs (front ++ clause_types c) heads.1 general.1 in
       let long : length (declared ++ (front ++ clause_types c)) ≡ r.next =
       ap length (sym (append_assoc declared front (clause_types c))) ∙ length-append (declared ++ front) (clause_types c)
-      ∙ sym (clause_next P D declared front (clauses_types cs) c general.0 heads.0) in
+      ∙ sym (clause_next P declared front (clauses_types cs) c general.0 heads.0) in
       let same : declared ++ ((front ++ clause_types c) ++ clauses_types cs) ≡ types = ap (λ ts. declared ++ ts) (append_assoc front (clause_types c) (clauses_types cs)) in
       let next = subst (λ k. (clause_goals k (forms_of cs)).next ≡ length (declared ++ ((front ++ clause_types c) ++ clauses_types cs))) long rest.0 in
       let typed = subst (λ k. AllTyped P (type_at (declared ++ ((front ++ clause_types c) ++ clauses_types cs))) (clause_goals k (forms_of cs)).goals) long rest.1 in
-      (next ∙ ap length same, (clause_typed P D declared front (clauses_types cs) c general.0 heads.0, subst (λ ts. AllTyped P (type_at ts) (clause_goals r.next (forms_of cs)).goals) same typed))
+      (next ∙ ap length same, (clause_typed P declared front (clauses_types cs) c general.0 heads.0, subst (λ ts. AllTyped P (type_at ts) (clause_goals r.next (forms_of cs)).goals) same typed))
 
   one_typed : (T : ℕ → TypeTerm) (gs : List Flat_goal) → AllTyped P T gs → TypedGoal P T (one_or_either gs)
   one_typed T [] h = tt
   one_typed T (g ∷ []) h = h.0
   one_typed T (g ∷ g' ∷ gs) h = to_disjunction P T (g ∷ g' ∷ gs) h
 
-pub goals_are_typed : GoalsAreTyped
-goals_are_typed P D declared cs heads general =
-    let all = clauses_typed P D declared cs [] heads general in
+pub typed_goals_join : TypedGoalsJoin
+typed_goals_join P declared cs heads each =
+    let all = clauses_typed P declared cs [] heads each in
     let start : length (declared ++ []) ≡ length declared = ap length (append-nil declared) in
     let next = subst (λ k. (clause_goals k (forms_of cs)).next ≡ length (declared ++ clauses_types cs)) start all.0 in
     let typed = subst (λ k. AllTyped P (type_at (declared ++ clauses_types cs)) (clause_goals k (forms_of cs)).goals) start all.1 in
     record {
       as_many = sym next;
-      typed = one_typed P D declared (type_at (declared ++ clauses_types cs)) (clause_goals (length declared) (forms_of cs)).goals typed;
+      typed = one_typed P declared (type_at (declared ++ clauses_types cs)) (clause_goals (length declared) (forms_of cs)).goals typed;
     }
+
+-- the goal of a clause with its most general types is typed
+pub general_is_typed : (P : Source) (D : Parameters) (declared : List TypeTerm) (c : TypedClause) → MostGeneral P D declared c → GoalIsTyped P declared (c ∷ [])
+general_is_typed P D declared c general = record { as_many = general.as_many; typed = general.typed }
+
+each_typed : (P : Source) (D : Parameters) (declared : List TypeTerm) (cs : List TypedClause) → EachMostGeneral P D declared cs → EachIsTyped P declared cs
+each_typed P D declared [] h = tt
+each_typed P D declared (c ∷ cs) h = (general_is_typed P D declared c h.0, each_typed P D declared cs h.1)
+
+pub goals_are_typed : GoalsAreTyped
+goals_are_typed P D declared cs heads general = typed_goals_join P declared cs heads (each_typed P D declared cs general)

@@ -14,8 +14,8 @@ use Rattle.mc_accepted.specs.NormalTypes.{TypedClause, clause_types, clauses_typ
 use Rattle.mc_accepted.specs.MostGeneral.{type_at}
 use Rattle.mc_accepted.specs.Fits.{HeadsHave, goal_of, type_of}
 use Rattle.mc_order_laws.proofs.NormalScopes.{normal_goals_below}
-use Rattle.mc_typing_laws.specs.GoalTypes.{forms_of, with_scopes, EachMostGeneral}
-use Rattle.mc_typing_laws.specs.ProcedureTypes.{DeclareTheSame, TypesAreProper, TypedClausesFit}
+use Rattle.mc_typing_laws.specs.GoalTypes.{forms_of, with_scopes, EachMostGeneral, GoalIsTyped}
+use Rattle.mc_typing_laws.specs.ProcedureTypes.{DeclareTheSame, TypesAreProper, TypedGoalsFit, TypedClausesFit}
 use Rattle.mc_typing_laws.proofs.ManyClauses.{agreed, at_first, goals_are_typed}
 use Rattle.mc_typing_laws.proofs.ScopedTypes.{scopes_keep_types}
 
@@ -102,13 +102,40 @@ module _ (D : Parameters) where
   proper_each ts [] h = tt
   proper_each ts (x ∷ xs) h = (proper_at ts x x h, proper_each ts xs h)
 
-  proper_clauses : (cs : List TypedClause) → TypesAreProper D cs → EachProper D (clauses_types (map with_scopes cs))
+  proper_clauses : (cs : List TypedClause) → TypesAreProper D cs → EachProper D (clauses_types cs)
   proper_clauses [] h = tt
   proper_clauses (c ∷ cs) h =
-      let others = map (λ v. get_or c.types v (variable_type v)) (other_variables (with_scopes c).clause) in
-      proper_both (clause_types (with_scopes c)) (clauses_types (map with_scopes cs))
-      (proper_both others (drop c.variables c.types) (proper_each c.types (other_variables (with_scopes c).clause) h.0) (proper_drop c.variables c.types h.0))
+      let others = map (λ v. get_or c.types v (variable_type v)) (other_variables c.clause) in
+      proper_both (clause_types c) (clauses_types cs)
+      (proper_both others (drop c.variables c.types) (proper_each c.types (other_variables c.clause) h.0) (proper_drop c.variables c.types h.0))
       (proper_clauses cs h.1)
+
+  scopes_proper : (cs : List TypedClause) → TypesAreProper D cs → TypesAreProper D (map with_scopes cs)
+  scopes_proper [] h = tt
+  scopes_proper (c ∷ cs) h = (h.0, scopes_proper cs h.1)
+
+pub typed_goals_fit : TypedGoalsFit
+typed_goals_fit S D cs more p h =
+    let Q = S.world.source in
+    let declared = (Q.preds p.pred).types in
+    let forms = forms_of cs in
+    let own = normal_types declared cs in
+    let below = (normal_goals_below (length declared) forms h.heads).1 in
+    let body = (normal_goal (length declared) forms).body in
+    let at : (x : ℕ) → x < length own → type_at own x ≡ type_of S p x =
+    λ x lt. sym (at_first own more x (variable_type x) lt) ∙ ap (λ ts. get_or ts x (variable_type x)) (sym h.types) in
+    let typed : TypedGoal Q (type_of S p) body = agreed Q (type_at own) (type_of S p) body (λ x i. at x (subst (λ k. x < k) (sym h.goal.as_many) (below x i))) h.goal.typed in
+    let same_goal : normal_goal (length declared) forms ≡ goal_of S p = ap (normal_goal (length declared)) (sym h.clauses) in
+    let all : declared ++ (clauses_types cs ++ more) ≡ p.var_types = sym (append_assoc declared (clauses_types cs) more) ∙ sym h.types in
+    let first : map (type_of S p) (from 0 (length declared)) ≡ declared = ap (λ ts. map (type_at ts) (from 0 (length declared))) (sym all) ∙ first_types [] declared (clauses_types cs ++ more) in
+    let proper : EachProper D p.var_types =
+    subst (EachProper D) all (proper_both D declared (clauses_types cs ++ more) h.declared (proper_both D (clauses_types cs) more (proper_clauses D cs h.proper) h.others)) in
+    record {
+      heads = subst (HeadsHave (length declared)) (sym h.clauses) h.heads;
+      types = λ x. proper_at D p.var_types x x proper;
+      head_types = ap (map (type_of S p)) h.head ∙ first;
+      typed = subst (λ (g : Normal_goal). TypedGoal Q (type_of S p) g.body) same_goal typed;
+    }
 
 pub typed_clauses_fit : TypedClausesFit
 typed_clauses_fit S P D cs more p h =
@@ -116,24 +143,20 @@ typed_clauses_fit S P D cs more p h =
     let declared = (P.preds p.pred).types in
     let scoped = map with_scopes cs in
     let forms = forms_of scoped in
-    let own = normal_types declared scoped in
-    let is_declared : (Q.preds p.pred).types ≡ declared = h.same.types p.pred in
+    let is_declared : declared ≡ (Q.preds p.pred).types = sym (h.same.types p.pred) in
     let heads = heads_stay (length declared) cs h.heads in
     let goal = goals_are_typed P D declared scoped heads (each_general P D declared cs h.general) in
-    let below = (normal_goals_below (length declared) forms heads).1 in
-    let body = (normal_goal (length declared) forms).body in
-    let at : (x : ℕ) → x < length own → type_at own x ≡ type_of S p x =
-    λ x lt. sym (at_first own more x (variable_type x) lt) ∙ ap (λ ts. get_or ts x (variable_type x)) (sym h.types) in
-    let typed : TypedGoal P (type_of S p) body = agreed P (type_at own) (type_of S p) body (λ x i. at x (subst (λ k. x < k) (sym goal.as_many) (below x i))) goal.typed in
-    let same_goal : normal_goal (length declared) forms ≡ goal_of S p = ap₂ (λ ts fs. normal_goal (length ts) fs) (sym is_declared) (sym h.clauses) in
-    let heads' : HeadsHave (length (Q.preds p.pred).types) forms = subst (λ ts. HeadsHave (length ts) forms) (sym is_declared) heads in
-    let all : declared ++ (clauses_types scoped ++ more) ≡ p.var_types = sym (append_assoc declared (clauses_types scoped) more) ∙ sym h.types in
-    let first : map (type_of S p) (from 0 (length declared)) ≡ declared = ap (λ ts. map (type_at ts) (from 0 (length declared))) (sym all) ∙ first_types [] declared (clauses_types scoped ++ more) in
-    let proper : EachProper D p.var_types =
-    subst (EachProper D) all (proper_both D declared (clauses_types scoped ++ more) h.declared (proper_both D (clauses_types scoped) more (proper_clauses D cs h.proper) h.others)) in
-    record {
-      heads = subst (HeadsHave (length (Q.preds p.pred).types)) (sym h.clauses) heads';
-      types = λ x. proper_at D p.var_types x x proper;
-      head_types = ap (map (type_of S p)) h.head ∙ first ∙ sym is_declared;
-      typed = subst (λ (g : Normal_goal). TypedGoal Q (type_of S p) g.body) same_goal (declared_typed P Q h.same (type_of S p) body typed);
-    }
+    let typed : TypedGoal Q (type_at (normal_types declared scoped)) (normal_goal (length declared) forms).body =
+    declared_typed P Q h.same (type_at (normal_types declared scoped)) (normal_goal (length declared) forms).body goal.typed in
+    let of_Q : GoalIsTyped Q declared scoped = record { as_many = goal.as_many; typed = typed } in
+    typed_goals_fit S D scoped more p
+    (record {
+      clauses = h.clauses;
+      heads = subst (λ ts. HeadsHave (length ts) forms) is_declared heads;
+      goal = subst (λ ts. GoalIsTyped Q ts scoped) is_declared of_Q;
+      declared = subst (EachProper D) is_declared h.declared;
+      proper = scopes_proper D cs h.proper;
+      others = h.others;
+      head = h.head ∙ ap (λ ts. from 0 (length ts)) is_declared;
+      types = h.types ∙ ap (λ ts. normal_types ts scoped ++ more) is_declared;
+    })

@@ -127,14 +127,14 @@ named_quantified [] g vs h = refl
 named_quantified (w ∷ ws) g vs h =
     without_both (w ∷ ws) (named_by_quantifiers g) vs ∙ ap (λ us. us ++ without (named_by_quantifiers g) vs) (nothing_stays (w ∷ ws) vs h)
 
-among_left : (xs ys vs : List ℕ) → Among (xs ++ ys) vs → Among xs vs
+pub among_left : (xs ys vs : List ℕ) → Among (xs ++ ys) vs → Among xs vs
 among_left xs ys vs h x i = h x (in_left x xs ys i)
 
 among_right : (xs ys vs : List ℕ) → Among (xs ++ ys) vs → Among ys vs
 among_right xs ys vs h x i = h x (in_right x xs ys i)
 
 mutual
-  named_same : (O : List ℕ) (g : Formula) (vs : List ℕ) → Among (occurring g) vs → without (named_by_quantifiers (scoped O g)) vs ≡ without (named_by_quantifiers g) vs
+  pub named_same : (O : List ℕ) (g : Formula) (vs : List ℕ) → Among (occurring g) vs → without (named_by_quantifiers (scoped O g)) vs ≡ without (named_by_quantifiers g) vs
   named_same O (Equal a b) vs h = refl
   named_same O (Call p ts) vs h = refl
   named_same O (And gs) vs h = parts_same_names O gs vs h
@@ -200,10 +200,10 @@ others_same c =
     ap (no_arguments c.head) (ap once first ∙ middle ∙ ap once (assoc (named_by_quantifiers c.body)))
 
 -- THE GOALS are typed alike
-record Same_goals (P : Source) (T : ℕ → TypeTerm) (r r' : Conjuncts) : Type 0 where
-  next : r.next ≡ r'.next
-  to : AllTyped P T r.goals → AllTyped P T r'.goals
-  from : AllTyped P T r'.goals → AllTyped P T r.goals
+pub record Same_goals (P : Source) (T : ℕ → TypeTerm) (r r' : Conjuncts) : Type 0 where
+  pub next : r.next ≡ r'.next
+  pub to : AllTyped P T r.goals → AllTyped P T r'.goals
+  pub from : AllTyped P T r'.goals → AllTyped P T r.goals
 
 module _ (P : Source) (T : ℕ → TypeTerm) (names : ℕ → ℕ) where
   itself : (r : Conjuncts) → Same_goals P T r r
@@ -218,14 +218,14 @@ module _ (P : Source) (T : ℕ → TypeTerm) (names : ℕ → ℕ) where
   whole_typed : (gs gs' : List Flat_goal) → (AllTyped P T gs → AllTyped P T gs') → TypedGoal P T (conjunction gs) → TypedGoal P T (conjunction gs')
   whole_typed gs gs' f h = to_conjunction P T gs' (f (from_conjunction P T gs h))
 
-  quantified_same : (vs : List ℕ) (g : Formula) (m : ℕ) → Same_goals P T (conjuncts_of names m (quantified vs g)) (conjuncts_of names m g)
+  pub quantified_same : (vs : List ℕ) (g : Formula) (m : ℕ) → Same_goals P T (conjuncts_of names m (quantified vs g)) (conjuncts_of names m g)
   quantified_same [] g m = itself (conjuncts_of names m g)
   quantified_same (v ∷ vs) g m =
       let r = conjuncts_of names m g in
       record { next = refl; to = λ h. from_conjunction P T r.goals h.0; from = λ h. (to_conjunction P T r.goals h, tt) }
 
   mutual
-    scoped_same : (O : List ℕ) (g : Formula) (m : ℕ) → Same_goals P T (conjuncts_of names m (scoped O g)) (conjuncts_of names m g)
+    pub scoped_same : (O : List ℕ) (g : Formula) (m : ℕ) → Same_goals P T (conjuncts_of names m (scoped O g)) (conjuncts_of names m g)
     scoped_same O (Equal a b) m = itself (conjuncts_of names m (Equal a b))
     scoped_same O (Call p ts) m = itself (conjuncts_of names m (Call p ts))
     scoped_same O (And gs) m = parts_same O gs m

@@ -1,6 +1,6 @@
 -- The typing of a predicate's one goal: the types of its clauses, each with its own variables, are
--- those of the goal of all of them; scopes that are written out keep most general types. (Mercury Language Reference Manual:
--- Types; Syntax, implicit quantification; this project's normal form.)
+-- those of the goal of all of them; scopes that are written out keep most general types. (Mercury
+-- Language Reference Manual: Types; Syntax, implicit quantification; this project's normal form.)
 use Rattle.std.specs.Prelude.{◌≡◌, List, [], ◌∷◌, map, length}
 use Rattle.mc_program.specs.Programs.{TypeTerm, ClauseForm, Source}
 use Rattle.mc_accepted.specs.ProperTypes.{Parameters}
@@ -27,6 +27,17 @@ pub record GoalIsTyped (P : Source) (declared : List TypeTerm) (cs : List TypedC
   pub typed :
       TypedGoal P (type_at (normal_types declared cs))
       (normal_goal (length declared) (forms_of cs)).body
+
+-- so is that of each of them by itself
+abbrev pub EachIsTyped : Source → List TypeTerm → List TypedClause → Type 0
+EachIsTyped P declared [] = Unit {0}
+EachIsTyped P declared (c ∷ cs) = GoalIsTyped P declared (c ∷ []) × EachIsTyped P declared cs
+
+abbrev pub TypedGoalsJoin : Type 0
+TypedGoalsJoin =
+    (P : Source) (declared : List TypeTerm) (cs : List TypedClause)
+    → HeadsHave (length declared) (forms_of cs)
+    → EachIsTyped P declared cs → GoalIsTyped P declared cs
 
 abbrev pub GoalsAreTyped : Type 0
 GoalsAreTyped =

@@ -6,7 +6,7 @@ use Rattle.mc_accepted.specs.ProperTypes.{Parameters, ProperType}
 use Rattle.mc_accepted.specs.Typing.{TypedGoal}
 use Rattle.mc_accepted.specs.Normal.{head_place, names_in, normal_goal, other_variables}
 use Rattle.mc_accepted.specs.MostGeneral.{type_at}
-use Rattle.mc_accepted.specs.Resolving.{Unresolved_clause, count, resolved, steps_of, Walks}
+use Rattle.mc_accepted.specs.Resolving.{Unresolved_clause, count, resolved, steps_of, Walks, Resolves}
 use Rattle.mc_source.specs.declared.name.Candidate.{Candidate}
 use Rattle.mc_made_types.specs.Known.{AllKnown, ClauseHasValues, Picked}
 
@@ -55,3 +55,10 @@ TypedAreWalked =
     → Walks P D
     (λ v. T (names_in (length (P.preds clause.pred).types) (resolved clause picks) v))
     (steps_of clause) [] picks
+
+-- a clause that picks type has as many arguments as its predicate has types
+abbrev pub ResolvedHeadsFit : Type 0
+ResolvedHeadsFit =
+    (P : Source) (D : Parameters) (clause : Unresolved_clause) (picks : List Candidate)
+    → Resolves P D clause picks
+    → length (resolved clause picks).head ≡ length (P.preds clause.pred).types

@@ -1,0 +1,3 @@
+pub mod Mentioned
+pub mod ClauseLaws
+pub mod FitLaws

@@ -1,0 +1,11 @@
+pub mod Rounds
+pub mod Instances
+pub mod Views
+pub mod SeenTypes
+pub mod Lifted
+pub mod Places
+pub mod WholeTypes
+pub mod ResolvedClauses
+pub mod KnownCandidates
+pub mod JudgedClauses
+pub mod JudgedPrograms
