@@ -1,0 +1,12 @@
+pub mod Lists
+pub mod Following
+pub mod Trials
+pub mod OneVerdicts
+pub mod NodesMeanOne
+pub mod Determining
+pub mod GoalsFollow
+pub mod Telling
+pub mod Switching
+pub mod Marking
+pub mod Faults
+pub mod Running
