@@ -9,6 +9,7 @@ use Rattle.mc_program.specs.Printed.{printed, names_of}
 use Rattle.mc_model.specs.EventList.{Ends, Halt, budget, too_deep}
 use Rattle.mc_model.specs.Good.{GoodQuery}
 use Rattle.mc_command_line.specs.Words.{Meaning, Check, Run, Query, Bounds, meaning}
+use Rattle.mc_command_line.specs.Plain.{plain_bounds}
 use Rattle.mc_command_line.specs.declared.limits.Bounds.{Bounds as RunBounds}
 use Rattle.mc_ground_form.specs.Database.{Question, query_procedure, query_run, system_of}
 use Rattle.mc_ground_form.specs.Laws.{FactsAreAnswered, FactsAreGood, QueriesAreGood}
@@ -20,8 +21,8 @@ use Rattle.mc_compile.specs.Compiling.{Compiles}
 use Rattle.mc_compile.specs.Building.{of_facts, of_procedures, Builds}
 use Rattle.mc_compile.specs.Laws.{CompiledFits, CompiledAsks, QueryIsAsked}
 use Rattle.mc_cmd.specs.Messages.{usage_line, unreadable_line, broken_lines}
-use Rattle.mc_cmd.specs.Ends.{Outcome, said, stop_of, shown, end_status, written_run}
-use Rattle.mc_cmd.specs.Outcome.{files_of, bounds_of, sources_of, run_of_query, written_of, written, Answers, refused, ran, Texts, These, Missing, texts_in, AnswersOver, DefinedFor, Defined}
+use Rattle.mc_cmd.specs.Ends.{Outcome, said, stop_of, end_status, written_run}
+use Rattle.mc_cmd.specs.Outcome.{files_of, bounds_of, sources_of, run_of_goal, written_of, written, Answers, refused, ran, Texts, These, Missing, texts_in, AnswersOver, DefinedFor, Defined}
 use Rattle.mc_cmd.specs.Call.{Told, NoneRose, AnswersWhole, Wrote, LacksOne, CannotRead, OfFiles, OfSources, BreaksRules, IsUnbuilt, RunsToEnd, StopsBy, IsThrown, IsTrueProgram, SaidUnreadable, SaysUnreadable, PutsDefined, HoldTexts}
 use Rattle.mc_cmd.specs.Laws.{AtMostOneAnswer, IsSettled}
 use Rattle.mc_cmd.specs.declared.status.Status.{Status}
@@ -35,8 +36,7 @@ use Rattle.mc_cmd.proofs.FactsRun.{written_agrees, run_ends, facts_unstopped}
 use Rattle.mc_cmd.proofs.Commands.{HasBounds, is_command}
 use Rattle.mc_cmd.proofs.InTurn.{first_unread}
 use Rattle.mc_cmd.proofs.Builds.{facts_compile}
-use Rattle.mc_cmd.proofs.Stops.{Stops, ran_status, done_written, unasked_written, unasked_ends, ran_written, ran_ends, ran_stops, stops_thrown, stops_spent, stops_deep}
-use Rattle.mc_compile.specs.Ruling.{plain_executable}
+use Rattle.mc_cmd.proofs.Stops.{Stops, goal_status, ran_status, done_written, unasked_written, unasked_ends, ran_written, ran_ends, ran_stops, stops_thrown, stops_spent, stops_deep}
 
 -- the laws that the command stands on
 pub record Laws : Type 0 where
@@ -65,7 +65,7 @@ decided_of_texts words store m names texts d e n h u = at d u
     at D.NotBuilt u = record { command = m; means = e; texts = texts; holds = held; understood = u }
     at D.Checked u = record { command = m; means = e; texts = texts; holds = held; understood = u }
     at (D.Answers b c) u = record { command = m; means = e; texts = texts; holds = held; understood = u }
-    at (D.Ran b k query) u = record { command = m; means = e; texts = texts; holds = held; understood = u }
+    at (D.Ran b q goal) u = record { command = m; means = e; texts = texts; holds = held; understood = u }
     at D.Memory u = tt
 
 -- the program of a query is that of its question
@@ -129,10 +129,10 @@ module _ (laws : Laws) where
       let a = x.understood in
       defined_over words held x.command (These x.texts) (told_of (D.Answers b c)) x.means x.holds
       (subst (λ (o : Outcome). Answers x.command x.texts o) (told_written words x.command x.texts b c a x.means) (ran a.compiles))
-  is_defined words held f0 f1 (D.Ran b e query) x cf n s =
+  is_defined words held f0 f1 (D.Ran b q goal) x cf n s =
       let a = x.understood in
-      defined_over words held x.command (These x.texts) (told_of (D.Ran b e query)) x.means x.holds
-      (subst (λ (o : Outcome). Answers x.command x.texts o) (ran_written x.command x.texts b e query a) (ran a.compiles))
+      defined_over words held x.command (These x.texts) (told_of (D.Ran b q goal)) x.means x.holds
+      (subst (λ (o : Outcome). Answers x.command x.texts o) (ran_written x.command x.texts b q goal a) (ran a.compiles))
   is_defined words held f0 f1 D.Memory x cf n s = absurd (s refl)
 
   -- and the one that is
@@ -159,7 +159,7 @@ memory_or_told (D.Rejected files broken) = inr (λ e. cc)
 memory_or_told D.NotBuilt = inr (λ e. cc)
 memory_or_told D.Checked = inr (λ e. cc)
 memory_or_told (D.Answers b c) = inr (λ e. let z : S.Done ≡ S.Memory = sym (answers_done b c) ∙ e in cc)
-memory_or_told (D.Ran b k query) = inr (λ e. ran_status b k query S.Memory e)
+memory_or_told (D.Ran b q goal) = inr (λ e. ran_status b q goal S.Memory e)
 memory_or_told D.Memory = inl refl
 
 wrote_told : (w0 w1 : Option (List ℕ)) (before bytes : List ℕ) → w0 ≡ Some before → Wrote w0 w1 bytes → w1 ≡ Some (before ++ bytes)
@@ -262,7 +262,7 @@ module _ (words : List (List ℕ)) (store : Option Held) (f0 f1 a0 a1 : ℕ) (ou
       at D.NotBuilt x cf w v = absurd (omega (arith, cf, f))
       at D.Checked x cf w v = absurd (omega (arith, cf, f))
       at (D.Answers b c) x cf w v = absurd (omega (arith, cf, f))
-      at (D.Ran b k query) x cf w v = absurd (omega (arith, cf, f))
+      at (D.Ran b q goal) x cf w v = absurd (omega (arith, cf, f))
       at D.Memory x cf w v =
           let first = first_unread store (files_of m) (is_command words m e).some in (
             writes_none out.before out.after h.written w,
@@ -283,7 +283,7 @@ module _ (words : List (List ℕ)) (store : Option Held) (f0 f1 a0 a1 : ℕ) (ou
       at D.NotBuilt x t = cc
       at D.Checked x t = cc
       at (D.Answers b c) x t = let z : S.Done ≡ S.Usage = sym (answers_done b c) ∙ t in cc
-      at (D.Ran b k query) x t = absurd (ran_status b k query S.Usage t)
+      at (D.Ran b q goal) x t = absurd (ran_status b q goal S.Usage t)
       at D.Memory x t = cc
 
   -- the status of a decision, or a fault
@@ -310,7 +310,7 @@ module _ (words : List (List ℕ)) (store : Option Held) (f0 f1 a0 a1 : ℕ) (ou
       at D.NotBuilt x e = absurd (no_command words x.command n x.means)
       at D.Checked x e = absurd (no_command words x.command n x.means)
       at (D.Answers b c) x e = absurd (no_command words x.command n x.means)
-      at (D.Ran b k query) x e = absurd (no_command words x.command n x.means)
+      at (D.Ran b q goal) x e = absurd (no_command words x.command n x.means)
       at D.Memory x e = wanting S.Usage e
 
   pub done_cause : Laws → s ≡ S.Done → OfSources words store RunsToEnd
@@ -328,10 +328,10 @@ module _ (words : List (List ℕ)) (store : Option Held) (f0 f1 a0 a1 : ℕ) (ou
       at r (D.Answers b c) x n w t =
           let a = x.understood in
           record { command = x.command; means = x.means; texts = x.texts; holds = x.holds; so = (of_facts a.formed, a.compiles, ended_run laws words x.command x.texts b c a x.means) }
-      at r (D.Ran b f query) x n w t =
+      at r (D.Ran b q goal) x n w t =
           let a = x.understood in
-          let there : EndsRun (D.Ran b f query) (Ok S.Done) = subst (λ (q : Result Status PutFault). EndsRun (D.Ran b f query) q) w n in
-          record { command = x.command; means = x.means; texts = x.texts; holds = x.holds; so = (of_procedures (plain_executable f), a.compiles, ran_ends x.command x.texts b f query a (there refl)) }
+          let there : EndsRun (D.Ran b q goal) (Ok S.Done) = subst (λ (k : Result Status PutFault). EndsRun (D.Ran b q goal) k) w n in
+          record { command = x.command; means = x.means; texts = x.texts; holds = x.holds; so = (of_procedures (record { procs = q; goal = Some goal }), a.compiles, ran_ends x.command x.texts b q goal a (there refl)) }
       at r D.Memory x n w t = cc
 
   pub rejected_cause : s ≡ S.Rejected → OfSources words store BreaksRules
@@ -346,7 +346,7 @@ module _ (words : List (List ℕ)) (store : Option Held) (f0 f1 a0 a1 : ℕ) (ou
       at D.NotBuilt x t = cc
       at D.Checked x t = cc
       at (D.Answers b c) x t = let z : S.Done ≡ S.Rejected = sym (answers_done b c) ∙ t in cc
-      at (D.Ran b k query) x t = absurd (ran_status b k query S.Rejected t)
+      at (D.Ran b q goal) x t = absurd (ran_status b q goal S.Rejected t)
       at D.Memory x t = cc
 
   pub not_built_cause : s ≡ S.NotBuilt →
@@ -362,7 +362,7 @@ module _ (words : List (List ℕ)) (store : Option Held) (f0 f1 a0 a1 : ℕ) (ou
       at D.NotBuilt x t = record { command = x.command; means = x.means; texts = x.texts; holds = x.holds; so = x.understood }
       at D.Checked x t = cc
       at (D.Answers b c) x t = let z : S.Done ≡ S.NotBuilt = sym (answers_done b c) ∙ t in cc
-      at (D.Ran b k query) x t = absurd (ran_status b k query S.NotBuilt t)
+      at (D.Ran b q goal) x t = absurd (ran_status b q goal S.NotBuilt t)
       at D.Memory x t = cc
 
   pub absent_cause : s ≡ S.Absent → Rose a0 a1
@@ -376,7 +376,7 @@ module _ (words : List (List ℕ)) (store : Option Held) (f0 f1 a0 a1 : ℕ) (ou
       at D.NotBuilt x t = cc
       at D.Checked x t = cc
       at (D.Answers b c) x t = let z : S.Done ≡ S.Absent = sym (answers_done b c) ∙ t in cc
-      at (D.Ran b k query) x t = absurd (ran_status b k query S.Absent t)
+      at (D.Ran b q goal) x t = absurd (ran_status b q goal S.Absent t)
       at D.Memory x t = cc
 
   pub absent_lacks : s ≡ S.Absent → OfFiles words (LacksOne store)
@@ -390,7 +390,7 @@ module _ (words : List (List ℕ)) (store : Option Held) (f0 f1 a0 a1 : ℕ) (ou
       at D.NotBuilt x t = cc
       at D.Checked x t = cc
       at (D.Answers b c) x t = let z : S.Done ≡ S.Absent = sym (answers_done b c) ∙ t in cc
-      at (D.Ran b k query) x t = absurd (ran_status b k query S.Absent t)
+      at (D.Ran b q goal) x t = absurd (ran_status b q goal S.Absent t)
       at D.Memory x t = cc
 
   pub read_cause : s ≡ S.ReadFault → Rose f0 f1
@@ -404,7 +404,7 @@ module _ (words : List (List ℕ)) (store : Option Held) (f0 f1 a0 a1 : ℕ) (ou
       at D.NotBuilt x t = cc
       at D.Checked x t = cc
       at (D.Answers b c) x t = let z : S.Done ≡ S.ReadFault = sym (answers_done b c) ∙ t in cc
-      at (D.Ran b k query) x t = absurd (ran_status b k query S.ReadFault t)
+      at (D.Ran b q goal) x t = absurd (ran_status b q goal S.ReadFault t)
       at D.Memory x t = cc
 
   pub read_told : s ≡ S.ReadFault →
@@ -424,7 +424,7 @@ module _ (words : List (List ℕ)) (store : Option Held) (f0 f1 a0 a1 : ℕ) (ou
       at (Ok u) D.NotBuilt x w v i t = let z : S.NotBuilt ≡ S.ReadFault = sym i ∙ t in cc
       at (Ok u) D.Checked x w v i t = let z : S.Done ≡ S.ReadFault = sym i ∙ t in cc
       at (Ok u) (D.Answers b c) x w v i t = let z : S.Done ≡ S.ReadFault = sym (answers_done b c) ∙ sym i ∙ t in cc
-      at (Ok u) (D.Ran b k query) x w v i t = absurd (ran_status b k query S.ReadFault (sym i ∙ t))
+      at (Ok u) (D.Ran b q goal) x w v i t = absurd (ran_status b q goal S.ReadFault (sym i ∙ t))
       at (Ok u) D.Memory x w v i t = let z : S.Memory ≡ S.ReadFault = sym i ∙ t in cc
 
   pub read_seen : f0 < f1 → (s ≡ S.ReadFault) ⊎ ((s ≡ S.WriteFault) ⊎ (s ≡ S.Memory))
@@ -438,7 +438,7 @@ module _ (words : List (List ℕ)) (store : Option Held) (f0 f1 a0 a1 : ℕ) (ou
       at D.NotBuilt x t = absurd (omega (arith, x, f))
       at D.Checked x t = absurd (omega (arith, x, f))
       at (D.Answers b c) x t = absurd (omega (arith, x, f))
-      at (D.Ran b k query) x t = absurd (omega (arith, x, f))
+      at (D.Ran b q goal) x t = absurd (omega (arith, x, f))
       at D.Memory x t = wanting S.ReadFault t
 
   pub absent_seen : a0 < a1 → (s ≡ S.Absent) ⊎ ((s ≡ S.WriteFault) ⊎ (s ≡ S.Memory))
@@ -452,7 +452,7 @@ module _ (words : List (List ℕ)) (store : Option Held) (f0 f1 a0 a1 : ℕ) (ou
       at D.NotBuilt x t = absurd (omega (arith, x, f))
       at D.Checked x t = absurd (omega (arith, x, f))
       at (D.Answers b c) x t = absurd (omega (arith, x, f))
-      at (D.Ran b k query) x t = absurd (omega (arith, x, f))
+      at (D.Ran b q goal) x t = absurd (omega (arith, x, f))
       at D.Memory x t = wanting S.Absent t
 
   told_no_fault : (d : Decision) → (told_of d).status ≢ S.WriteFault
@@ -463,7 +463,7 @@ module _ (words : List (List ℕ)) (store : Option Held) (f0 f1 a0 a1 : ℕ) (ou
   told_no_fault D.NotBuilt t = cc
   told_no_fault D.Checked t = cc
   told_no_fault (D.Answers b c) t = let z : S.Done ≡ S.WriteFault = sym (answers_done b c) ∙ t in cc
-  told_no_fault (D.Ran b k query) t = absurd (ran_status b k query S.WriteFault t)
+  told_no_fault (D.Ran b q goal) t = absurd (ran_status b q goal S.WriteFault t)
   told_no_fault D.Memory t = cc
 
   pub write_cause : s ≡ S.WriteFault → Rose out.faults_before out.faults_after ⊎ Rose err.faults_before err.faults_after
@@ -486,7 +486,7 @@ module _ (words : List (List ℕ)) (store : Option Held) (f0 f1 a0 a1 : ℕ) (ou
       at (Err put.Memory) c (inl k) = absurd (omega (arith, c.0, k))
       at (Err put.Memory) c (inr k) = absurd (omega (arith, c.1, k))
 
-  -- the run of a query over procedures stopped
+  -- the run of a goal over procedures stopped
   stop_cause : (IsSo : Halt → Type 0) (x : Status) → IsStopStatus x → ((h : Option Halt) → end_status h ≡ x → Stops IsSo h) → s ≡ x → OfSources words store (StopsBy IsSo)
   stop_cause IsSo x k why e = at h.decision h.decided (told_status x e (λ i. subst IsStopStatus i k) (λ i. subst IsStopStatus i k))
     where
@@ -498,7 +498,7 @@ module _ (words : List (List ℕ)) (store : Option Held) (f0 f1 a0 a1 : ℕ) (ou
       at D.NotBuilt y t = absurd (subst IsStopStatus (sym t) k)
       at D.Checked y t = absurd (subst IsStopStatus (sym t) k)
       at (D.Answers b c) y t = absurd (subst IsStopStatus (sym (sym (answers_done b c) ∙ t)) k)
-      at (D.Ran b f query) y t = ran_stops IsSo words store b f query y (why (stop_of (shown (run_of_query f.procs query b.budget b.depth))) t)
+      at (D.Ran b q goal) y t = ran_stops IsSo words store b q goal y (why (stop_of (run_of_goal q goal b.budget b.depth)) (sym (goal_status (plain_bounds b) q goal) ∙ t))
       at D.Memory y t = absurd (subst IsStopStatus (sym t) k)
 
   pub threw_cause : s ≡ S.Threw → OfSources words store (StopsBy IsThrown)

@@ -20,13 +20,13 @@ use Rattle.mc_procs.specs.Procedures.{PlainProcs, no_procedure, procedure_at}
 use Rattle.mc_flat_code.specs.Standing.{StandsFor, StandsForAll}
 use Rattle.mc_flat_code.specs.declared.code.FlatProgram.{FlatProgram}
 use Rattle.mc_flat_code.specs.declared.program.FlatQuery.{FlatQuery}
-use Rattle.mc_plain.specs.Runs.{StandsForQuery, query_rest}
+use Rattle.mc_plain.specs.Runs.{StandsForQuery, query_rest, main_rest}
 use Rattle.mc_plain.specs.Rest.{Rest, rest_of, Gives, FollowsIf, Begins, plain_halt}
 use Rattle.mc_program.specs.Printed.{names_of, printed}
 use Rattle.mc_program.specs.declared.program.Program.{Program}
 use Rattle.mc_command_line.specs.Words.{Bounds}
 use Rattle.mc_cmd.specs.Ends.{shown, written_run}
-use Rattle.mc_cmd.specs.Outcome.{run_of_query, written_rules}
+use Rattle.mc_cmd.specs.Outcome.{run_of_main, run_of_query, written_query}
 use Rattle.mc_cmd.specs.code.Runs.{QueryItems, from_next, bound, IsStep, plain_stop}
 use Rattle.mc_cmd.specs.code.Procs.{WantsNothing, items_of, left_in}
 
@@ -91,7 +91,11 @@ module _ (procs : List Proc) (query : ℕ) where
 pub left_first : (q : PlainProcs) (query : ℕ) (limits : Limits) (left : Option (List ℕ → Rest)) → Begins left (query_rest q.program limits (procedure_at q.added) (procedure_at q.added query)) → left_in left ≡ shown (run_of_query q query limits.budget limits.depth)
 left_first q query limits left b = begins_shown left (query_rest q.program limits (procedure_at q.added) (procedure_at q.added query)) (run_of_query q query limits.budget limits.depth) b refl
 
--- what is written of it
-pub written_same : (b : Bounds) (q : PlainProcs) (query : ℕ) (vs : List (List ℕ)) (program : Program) (left : QueryItems) → program ≡ q.program → left ≡ shown (run_of_query q query b.budget b.depth) → written_run b (printed (names_of program)) vs left ≡ written_rules b q query vs
+-- and of that of `main`
+pub main_first : (q : PlainProcs) (main : ℕ) (limits : Limits) (left : Option (List ℕ → Rest)) → Begins left (main_rest q.program limits (procedure_at q.added) main) → left_in left ≡ shown (run_of_main q main limits.budget limits.depth)
+main_first q main limits left b = begins_shown left (main_rest q.program limits (procedure_at q.added) main) (run_of_main q main limits.budget limits.depth) b refl
+
+-- what is written of a query's
+pub written_same : (b : Bounds) (q : PlainProcs) (query : ℕ) (vs : List (List ℕ)) (program : Program) (left : QueryItems) → program ≡ q.program → left ≡ shown (run_of_query q query b.budget b.depth) → written_run b (printed (names_of program)) vs left ≡ written_query b q query vs
 written_same b q query vs program left e l =
     ap (λ (p : Program). written_run b (printed (names_of p)) vs left) e ∙ ap (written_run b (printed (names_of q.program)) vs) l

@@ -1,10 +1,10 @@
 -- What is put of a run, step by step.
-use Rattle.std.proofs.Common.{◌≡◌, ℕ, ◌≤◌, Bool, true, false, List, [], ◌∷◌, ◌++◌, map, codes, Option, Some, None, Result, Ok, Err, refl, sym, ap, ◌∙◌, subst, arith, append_assoc}
+use Rattle.std.proofs.Common.{◌≡◌, ℕ, suc, ◌<◌, ◌≤◌, Bool, true, false, List, [], ◌∷◌, ◌++◌, map, codes, Option, Some, None, Result, Ok, Err, refl, sym, ap, ◌∙◌, subst, arith, append_assoc}
 use Rattle.std.specs.Result.{IsErrAnd}
 use Rattle.mc_program.specs.Values.{Val, plain_value}
 use Rattle.mc_program.specs.declared.value.Value.{Value}
 use Rattle.mc_program.specs.Printed.{answer_text}
-use Rattle.mc_model.specs.EventList.{End, Stuck, Stopped, Answer, Called, Wrote, Read, Halt, Ends}
+use Rattle.mc_model.specs.EventList.{End, Stuck, Stopped, Answer, Called, Wrote, Read, Halt, Ends, written}
 use Rattle.mc_model.specs.Output.{bytes_of, no_answer, texts_of}
 use Rattle.mc_outside.specs.Meaning.{PutsFront}
 use Rattle.mc_outside.specs.declared.traits.PutFault.{PutFault}
@@ -58,6 +58,28 @@ size_next (Answer a xs) = omega arith
 size_next (Called c xs) = omega (arith, size_next xs)
 size_next (Wrote t xs) = omega arith
 size_next (Read k xs) = omega arith
+
+-- the texts that are still to be written are those from the next item on
+texts_next : (xs : QueryItems) → written xs ≡ written (from_next xs)
+texts_next End = refl
+texts_next Stuck = refl
+texts_next (Stopped h) = refl
+texts_next (Answer a xs) = refl
+texts_next (Called c xs) = texts_next xs
+texts_next (Wrote t xs) = refl
+texts_next (Read k xs) = refl
+
+pub texts_by : (xs ys : QueryItems) → from_next xs ≡ ys → written xs ≡ written ys
+texts_by xs ys e = texts_next xs ∙ ap written e
+
+pub stop_by : (xs ys : QueryItems) → from_next xs ≡ ys → stop_of xs ≡ stop_of ys
+stop_by xs ys e = stop_next xs ∙ ap stop_of e
+
+pub ends_by : (xs ys : QueryItems) → from_next xs ≡ ys → Ends ys → Ends xs
+ends_by xs ys e f = ends_next xs (subst Ends (sym e) f)
+
+pub smaller_by : (xs ys zs : QueryItems) → from_next xs ≡ zs → size zs ≡ suc (size ys) → size ys < size xs
+smaller_by xs ys zs e n = omega (arith, size_next xs, ap size e, n)
 
 last_next : (a : Bool) (xs : QueryItems) → last_line a xs ≡ last_line a (from_next xs)
 last_next true xs = refl

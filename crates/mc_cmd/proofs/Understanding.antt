@@ -2,6 +2,7 @@
 use Rattle.std.proofs.Common.{◌≡◌, ℕ, Bool, true, false, List, Option, Some, None, Ok, refl, sym, ap, ◌∙◌, subst}
 use Rattle.std.specs.Prelude.{is_some}
 use Rattle.mc_command_line.specs.Words.{Meaning, Check, Run, Query}
+use Rattle.mc_procs.specs.Procedures.{PlainProcs}
 use Rattle.mc_ground_form.specs.Database.{Question}
 use Rattle.mc_ground_form.specs.declared.compiled.Compiled.{Compiled as Facts}
 use Rattle.mc_compile.specs.Ruling.{PlainExecutable, plain_executable}
@@ -9,6 +10,7 @@ use Rattle.mc_compile.specs.Building.{Built, of_facts, of_procedures, Builds, Is
 use Rattle.mc_compile.specs.declared.executable.Compiled.{Compiled}
 use Rattle.mc_compile.specs.declared.executable.Compiled.TheVariants as C
 use Rattle.mc_compile.specs.declared.executable.Executable.{Executable}
+use Rattle.mc_compile.specs.declared.executable.Goal.{Goal}
 use Rattle.mc_compile.specs.declared.given.Given.{Given}
 use Rattle.mc_compile.specs.declared.given.Query.{Query as GivenQuery}
 use Rattle.mc_compile.specs.Sources.{texts_of, text_of}
@@ -54,8 +56,11 @@ understood_facts law (Query first b goal files) texts x c d k p a = at d a
         let s = sources_of (Query first b goal files) texts in
         let there = one_asked x.question (law s x (facts_compile s x k)) in
         record { formed = x; compiles = k; question = there.0; asked = there.1; bounds = a.0; program = subst (λ (e : Facts). IsProgramOf e x) (sym a.1) p }
-    at (D.Ran bounds e query) a = absurd a
+    at (D.Ran bounds q goal) a = absurd a
     at D.Memory a = absurd a
+
+same_executable : (e : Executable) (q : PlainProcs) (goal : Goal) → e.procs ≡ q → e.goal ≡ Some goal → ◌≡◌ {A = PlainExecutable} (plain_executable e) (record { procs = q; goal = Some goal })
+same_executable e q goal p g = cc (p, g)
 
 understood_run : (m : Meaning) (texts : List (List ℕ)) (e : Executable) (d : Decision) → Builds (sources_of m texts) (Ok (of_procedures (plain_executable e))) → IsAnsweredByRun m e d → Understood m texts d
 understood_run m texts e D.Usage k a = absurd a
@@ -65,9 +70,8 @@ understood_run m texts e (D.Rejected fs broken) k a = absurd a
 understood_run m texts e D.NotBuilt k a = absurd a
 understood_run m texts e D.Checked k a = record { built = of_procedures (plain_executable e); compiles = k; unasked = a }
 understood_run m texts e (D.Answers bounds c) k a = absurd a
-understood_run m texts e (D.Ran bounds f query) k a = record {
-  compiles = subst (λ (g : Executable). Builds (sources_of m texts) (Ok (of_procedures (plain_executable g)))) (sym a.1.0) k;
-  asked = subst (λ (g : Executable). g.query ≡ Some query) (sym a.1.0) a.1.1;
+understood_run m texts e (D.Ran bounds q goal) k a = record {
+  compiles = subst (λ (x : PlainExecutable). Builds (sources_of m texts) (Ok (of_procedures x))) (same_executable e q goal a.1.0 a.1.1) k;
   bounds = a.0;
 }
 understood_run m texts e D.Memory k a = absurd a

@@ -12,10 +12,11 @@ use Rattle.mc_compile.specs.Sources.{Sources}
 use Rattle.mc_compile.specs.Forming.{Formed}
 use Rattle.mc_compile.specs.Ruling.{PlainExecutable}
 use Rattle.mc_compile.specs.Building.{Built, of_facts, of_procedures, Builds}
+use Rattle.mc_compile.specs.declared.executable.Goal.{Goal}
 use Rattle.mc_cmd.specs.declared.status.Status.{Status}
 use Rattle.mc_cmd.specs.Messages.{unreadable_line}
 use Rattle.mc_cmd.specs.Ends.{Outcome, stop_of}
-use Rattle.mc_cmd.specs.Outcome.{Defined, texts_in, These, Missing, files_of, sources_of, bounds_of, run_of_query}
+use Rattle.mc_cmd.specs.Outcome.{Defined, texts_in, These, Missing, files_of, sources_of, bounds_of, run_of_goal}
 
 -- the store tells what it holds, and the sinks what was written
 pub record Told (store : Option Held) (held : Held) (out : Option (List ℕ)) (before_out : List ℕ) (err : Option (List ℕ)) (before_err : List ℕ) : Type 0 where
@@ -112,28 +113,28 @@ BreaksRules m s = (broken : List Broken) × Builds s (Err (Breaks broken))
 abbrev pub IsUnbuilt : Meaning → Sources → Type 0
 IsUnbuilt m s = Builds s (Err Unbuilt)
 
--- the run of the query of what was built, where there is one, comes to its end within bounds
+-- the run of the query or of `main`, where one is run of what was built, comes to its end within
+-- bounds
 abbrev pub EndsWithin : Bounds → Built → Type 0
 EndsWithin b (of_facts x) =
     IfSome x.question (λ q. Ends (query_run x.database q b.budget b.depth))
 EndsWithin b (of_procedures e) =
-    IfSome e.query (λ query. Ends (run_of_query e.procs query b.budget b.depth))
+    IfSome e.goal (λ goal. Ends (run_of_goal e.procs goal b.budget b.depth))
 
--- they compile, and the run of the query, where there is one, comes to its end within its bounds
+-- they compile, and what is run of them comes to its end within its bounds
 abbrev pub RunsToEnd : Meaning → Sources → Type 0
 RunsToEnd m s = (x : Built) × Builds s (Ok x) × EndsWithin (bounds_of m) x
 
--- They compile to procedures, and the run of the query stops before its end for a reason of this
--- kind. (The run of a query over facts doesn't stop.)
+-- They compile to procedures, and the run of the query, or of `main`, stops before its end for a
+-- reason of this kind. (The run of a query over facts doesn't stop.)
 pub record StopsBy (IsSo : Halt → Type 0) (m : Meaning) (s : Sources) : Type 0 where
   pub executable : PlainExecutable
   pub compiles : Builds s (Ok (of_procedures executable))
-  pub query : ℕ
-  pub asked : executable.query ≡ Some query
+  pub goal : Goal
+  pub asked : executable.goal ≡ Some goal
   pub halt : Halt
   pub stops :
-      stop_of (run_of_query executable.procs query (bounds_of m).budget (bounds_of m).depth)
-      ≡ Some halt
+      stop_of (run_of_goal executable.procs goal (bounds_of m).budget (bounds_of m).depth) ≡ Some halt
   pub so : IsSo halt
 
 abbrev pub IsThrown : Halt → Type 0

@@ -1,7 +1,7 @@
 -- What is written of a run by how it ends. (This project's profile.)
 use Rattle.std.specs.Prelude.{ℕ, List, [], map, Option, Some, None}
 use Rattle.mc_program.specs.Values.{Val}
-use Rattle.mc_model.specs.EventList.{Items, End, Stuck, Stopped, Answer, Called, Wrote, Read, Halt, budget, too_deep, thrown}
+use Rattle.mc_model.specs.EventList.{Items, End, Stuck, Stopped, Answer, Called, Wrote, Read, Halt, budget, too_deep, thrown, written}
 use Rattle.mc_model.specs.Events.{bound_values}
 use Rattle.mc_model.specs.Output.{query_bytes, stop_line}
 use Rattle.mc_command_line.specs.Words.{Bounds}
@@ -61,3 +61,9 @@ written_run b text variables xs =
       err = end_line b (stop_of xs);
       status = end_status (stop_of xs);
     }
+
+-- What is written of the run of `main`: each text that it writes and nothing else, and on the error
+-- output the same line.
+abbrev pub written_main : {A : Type 0} → Bounds → Items A → Outcome
+written_main b xs =
+    record { out = written xs; err = end_line b (stop_of xs); status = end_status (stop_of xs) }

@@ -4,23 +4,24 @@ use Rattle.std.specs.Prelude.{◌≡◌, ℕ, Bool, true, false, List, [], ◌�
 use Rattle.std.specs.FinMap as finmap
 use Rattle.mc_outside.specs.Meaning.{Held, first_part}
 use Rattle.mc_command_line.specs.Words.{Meaning, Check, Run, Query, Bounds, meaning, query_text}
-use Rattle.mc_program.specs.Values.{Val}
+use Rattle.mc_program.specs.Values.{Val, state}
 use Rattle.mc_program.specs.Printed.{printed}
 use Rattle.mc_program.specs.Printed.{names_of as program_names}
 use Rattle.mc_model.specs.Builtins.{outcome}
 use Rattle.mc_model.specs.EventList.{Items}
-use Rattle.mc_model.specs.Stream.{run_query}
+use Rattle.mc_model.specs.Stream.{run_call, run_query}
 use Rattle.mc_model.specs.Worlds.{library_of}
 use Rattle.mc_procs.specs.Procedures.{PlainProcs, procedure_at}
 use Rattle.mc_ground_form.specs.Database.{Database, Question, query_run}
 use Rattle.mc_ground_form.specs.Lines.{names_of}
 use Rattle.mc_compile.specs.Phases.{Refusal, Breaks, Unbuilt}
 use Rattle.mc_compile.specs.Sources.{Sources}
-use Rattle.mc_compile.specs.Ruling.{PlainExecutable}
 use Rattle.mc_compile.specs.Building.{Built, of_facts, of_procedures, Builds}
+use Rattle.mc_compile.specs.declared.executable.Goal.{Goal}
+use Rattle.mc_compile.specs.declared.executable.Goal.TheVariants as G
 use Rattle.mc_cmd.specs.declared.status.Status.TheVariants as S
 use Rattle.mc_cmd.specs.Messages.{usage_line, not_built_line, absent_line, broken_lines}
-use Rattle.mc_cmd.specs.Ends.{Outcome, said, shown, written_run}
+use Rattle.mc_cmd.specs.Ends.{Outcome, said, shown, written_run, written_main}
 
 -- the files that a command names, in order
 abbrev pub files_of : Meaning → List (List ℕ)
@@ -74,21 +75,38 @@ run_of_query q query n h =
     (procedure_at q.added query)
 
 -- what is written of it within bounds, by the names of the query's variables
-abbrev pub written_rules :
+abbrev pub written_query :
     Bounds → PlainProcs → (query : ℕ) → (variables : List (List ℕ)) → Outcome
-written_rules b q query variables =
+written_query b q query variables =
     written_run b (printed (program_names q.program)) variables
     (shown (run_of_query q query b.budget b.depth))
 
--- what is written of procedures and their query within bounds; without a query nothing is run
-abbrev pub written_procedures : Bounds → PlainExecutable → Option ℕ → Outcome
-written_procedures b e None = said [] S.Done
-written_procedures b e (Some query) = written_rules b e.procs query e.variables
+-- the run of `main` over procedures: its call with io's first state, to which it gives the last one,
+-- over an empty input
+abbrev pub run_of_main : PlainProcs → (main budget depth : ℕ) → Items (List (Option Val))
+run_of_main q main n h =
+    run_call (outcome (library_of q.program) []) (procedure_at q.added) n h main
+    (Some (state [] 0) ∷ None ∷ [])
+
+-- the run of a goal over procedures
+abbrev pub run_of_goal : PlainProcs → Goal → (budget depth : ℕ) → Items (List (Option Val))
+run_of_goal q (G.Query number variables) n h = run_of_query q number n h
+run_of_goal q (G.Main number) n h = run_of_main q number n h
+
+-- what is written of it within bounds
+abbrev pub written_goal : Bounds → PlainProcs → Goal → Outcome
+written_goal b q (G.Query number variables) = written_query b q number variables
+written_goal b q (G.Main number) = written_main b (run_of_main q number b.budget b.depth)
+
+-- what is written of procedures within bounds; without a goal nothing is run
+abbrev pub written_procedures : Bounds → PlainProcs → Option Goal → Outcome
+written_procedures b q None = said [] S.Done
+written_procedures b q (Some goal) = written_goal b q goal
 
 -- what is written where the sources compile: to facts, or to procedures
 abbrev pub written : Meaning → Built → Outcome
 written m (of_facts x) = written_of (bounds_of m) x.database x.question
-written m (of_procedures e) = written_procedures (bounds_of m) e e.query
+written m (of_procedures e) = written_procedures (bounds_of m) e.procs e.goal
 
 -- What is answered of a command whose files hold these texts.
 pub data Answers (m : Meaning) (texts : List (List ℕ)) : Outcome → Type 0 where

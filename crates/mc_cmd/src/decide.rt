@@ -166,8 +166,9 @@ fn asked_of_facts(command: &Command<'_>, facts: Facts) -> Decision
 fn asked_of_procedures(command: &Command<'_>, executable: Executable) -> Decision
     ensures { IsAnsweredByRun (plain_command command.now) executable result }
 {
-    match executable.query {
-        Some(query) => Decision::Ran(bounds_of(command), executable, query),
+    let Executable { procs, goal } = executable;
+    match goal {
+        Some(goal) => Decision::Ran(bounds_of(command), procs, goal),
         None => Decision::Checked,
     }
 }

@@ -1,7 +1,8 @@
 use mc_base::{Memory, Row};
 use mc_command_line::Bounds;
-use mc_compile::{Executable, Given};
+use mc_compile::{Given, Goal};
 use mc_ground_form::Compiled as Facts;
+use mc_procs::Procs;
 use mc_source::rule::Broken;
 
 /// What is to be answered, before anything is written.
@@ -21,8 +22,8 @@ pub enum Decision {
     Checked,
     /// The answers of the query over facts, within these bounds.
     Answers(Bounds, Facts),
-    /// The run of the query over procedures, within these bounds, by the query's number.
-    Ran(Bounds, Executable, u32),
+    /// The run of the query, or of `main`, over procedures, within these bounds.
+    Ran(Bounds, Procs, Goal),
     /// There is no room.
     Memory,
 }

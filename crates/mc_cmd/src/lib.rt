@@ -5,6 +5,7 @@ mod decide;
 mod decision;
 mod facts;
 mod law;
+mod main_run;
 mod messages;
 mod named;
 mod procs_run;

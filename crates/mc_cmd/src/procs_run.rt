@@ -1,4 +1,4 @@
-//! The run of a query over procedures, by the plain executor.
+//! The runs of a query and of `main` over procedures, by the plain executor.
 ghost use Rattle.std.specs.Prelude.{◌≡◌, ◌<◌, length, Some, IfOk};
 ghost use Rattle.mc_model.specs.EventList.{Ends};
 ghost use Rattle.mc_command_line.specs.Plain.{plain_bounds};
@@ -6,16 +6,17 @@ ghost use Rattle.mc_procs.specs.Procedures.{procedure_at};
 ghost use Rattle.mc_flat_code.specs.Running.{IsCode};
 ghost use Rattle.mc_plain.specs.Running.{run_of, IsRun};
 ghost use Rattle.mc_plain.specs.Runs.{StandsForQuery};
-ghost use Rattle.mc_cmd.specs.Ends.{shown};
-ghost use Rattle.mc_cmd.specs.Outcome.{run_of_query, written_rules};
+ghost use Rattle.mc_cmd.specs.Ends.{shown, written_main};
+ghost use Rattle.mc_cmd.specs.Outcome.{run_of_goal, run_of_main, run_of_query, written_goal, written_query};
 ghost use Rattle.mc_cmd.specs.code.Decisions.{CountPuts, Writes};
 ghost use Rattle.mc_cmd.specs.code.Procs.{WantsNothing, left_in};
 
+use crate::main_run::write_main;
 use crate::run::{Run, write_run};
 use crate::status::Status;
-use mc_base::Memory;
+use mc_base::{Memory, Row, Text};
 use mc_command_line::Bounds;
-use mc_compile::Executable;
+use mc_compile::Goal;
 use mc_flat_code::FlatQuery;
 use mc_flat_code::code::FlatProgram;
 use mc_model::run::{Limits, Step};
@@ -48,7 +49,16 @@ fn wanting_nothing(step: Option<Step>) -> Result<Step, Memory>
     }
 }
 
-/// The run of a query over procedures. What is left of it, contracts see over an empty input.
+fn limits_of(bounds: Bounds) -> Limits
+    ensures { result ≡ record { budget = bounds.budget; depth = bounds.depth } }
+{
+    Limits {
+        budget: bounds.budget,
+        depth: bounds.depth,
+    }
+}
+
+/// The run of a query, or of `main`, over procedures. What is left of it, contracts see over an empty input.
 #[derive(Drop)]
 pub struct ProcsRun<'p> {
     plain: Plain<'p>,
@@ -75,41 +85,55 @@ impl<'p> ProcsRun<'p> {
         if !names_all(procs.program(), &flat.program.code) {
             return Err(Memory);
         }
-        let limits = Limits {
-            budget: bounds.budget,
-            depth: bounds.depth,
-        };
-        let plain = Plain::query(alloc, procs.program(), flat, limits)?;
+        let plain = Plain::query(alloc, procs.program(), flat, limits_of(bounds))?;
+        Ok(ProcsRun { plain })
+    }
+
+    /// The run of the call of the procedure of a number with io's first state, before its first step. `Memory` comes also
+    /// where a procedure mentions what the program doesn't have.
+    pub fn of_main(
+        alloc: Global,
+        procs: &'p Procs,
+        main: u32,
+        bounds: Bounds,
+    ) -> Result<ProcsRun<'p>, Memory>
+        ensures is_run { IfOk result (λ run. IsRun run.plain) }
+        ensures left { IfOk result
+            (λ run. left_in (run_of run.plain)
+            ≡ shown (run_of_main procs.now main bounds.budget bounds.depth)) }
+    {
+        let flat = FlatProgram::of(alloc, procs.procs())?;
+        if !names_all(procs.program(), &flat.code) {
+            return Err(Memory);
+        }
+        let plain = Plain::call(alloc, procs.program(), flat, main, limits_of(bounds))?;
         Ok(ProcsRun { plain })
     }
 }
 
 /// Writes the run of a query over procedures, by its number, as `write_run` does.
-pub fn write_procedures<O: Sink, E: Sink>(
+fn write_query<O: Sink, E: Sink>(
     alloc: Global,
     bounds: Bounds,
-    executable: &Executable,
+    procs: &Procs,
     query: u32,
+    variables: &Row<Text>,
     out: &mut O,
     err: &mut E,
 ) -> Result<Status, PutFault>
     ensures output { Writes (O.written out.old) (O.written out.new) result
-        (written_rules (plain_bounds bounds) executable.now.procs query executable.now.variables).out }
+        (written_query (plain_bounds bounds) procs.now query variables.now).out }
     ensures errors { Writes (E.written err.old) (E.written err.new) result
-        (written_rules (plain_bounds bounds) executable.now.procs query executable.now.variables).err }
+        (written_query (plain_bounds bounds) procs.now query variables.now).err }
     ensures status { IfOk result
         (λ status.
-        status
-        ≡ (written_rules (plain_bounds bounds) executable.now.procs query
-        executable.now.variables).status) }
+        status ≡ (written_query (plain_bounds bounds) procs.now query variables.now).status) }
     ensures ends { IfOk result
         (λ status.
-        status ≡ Status.Done
-        → Ends (run_of_query executable.now.procs query bounds.budget bounds.depth)) }
+        status ≡ Status.Done → Ends (run_of_query procs.now query bounds.budget bounds.depth)) }
     ensures puts { CountPuts result (O.faults out.old) (O.faults out.new) (E.faults err.old)
         (E.faults err.new) }
 {
-    let procs = &executable.procs;
     let Ok(mut run) = ProcsRun::of(alloc, procs, query, bounds) else {
         return Err(PutFault::Memory);
     };
@@ -117,11 +141,73 @@ pub fn write_procedures<O: Sink, E: Sink>(
         alloc,
         bounds,
         procs.program(),
-        &executable.variables,
+        variables,
         &mut run,
         out,
         err,
     )
+}
+
+/// Writes the run of `main` over procedures, by its number, as `write_main` does.
+fn write_call<O: Sink, E: Sink>(
+    alloc: Global,
+    bounds: Bounds,
+    procs: &Procs,
+    main: u32,
+    out: &mut O,
+    err: &mut E,
+) -> Result<Status, PutFault>
+    ensures output { Writes (O.written out.old) (O.written out.new) result
+        (written_main (plain_bounds bounds)
+        (run_of_main procs.now main bounds.budget bounds.depth)).out }
+    ensures errors { Writes (E.written err.old) (E.written err.new) result
+        (written_main (plain_bounds bounds)
+        (run_of_main procs.now main bounds.budget bounds.depth)).err }
+    ensures status { IfOk result
+        (λ status.
+        status
+        ≡ (written_main (plain_bounds bounds)
+        (run_of_main procs.now main bounds.budget bounds.depth)).status) }
+    ensures ends { IfOk result
+        (λ status.
+        status ≡ Status.Done → Ends (run_of_main procs.now main bounds.budget bounds.depth)) }
+    ensures puts { CountPuts result (O.faults out.old) (O.faults out.new) (E.faults err.old)
+        (E.faults err.new) }
+{
+    let Ok(mut run) = ProcsRun::of_main(alloc, procs, main, bounds) else {
+        return Err(PutFault::Memory);
+    };
+    write_main(alloc, bounds, &mut run, out, err)
+}
+
+/// Writes the run of a query, or of `main`, over procedures, and answers the status.
+pub fn write_goal<O: Sink, E: Sink>(
+    alloc: Global,
+    bounds: Bounds,
+    procs: &Procs,
+    goal: &Goal,
+    out: &mut O,
+    err: &mut E,
+) -> Result<Status, PutFault>
+    ensures output { Writes (O.written out.old) (O.written out.new) result
+        (written_goal (plain_bounds bounds) procs.now goal.now).out }
+    ensures errors { Writes (E.written err.old) (E.written err.new) result
+        (written_goal (plain_bounds bounds) procs.now goal.now).err }
+    ensures status { IfOk result
+        (λ status. status ≡ (written_goal (plain_bounds bounds) procs.now goal.now).status) }
+    ensures ends { IfOk result
+        (λ status.
+        status ≡ Status.Done
+        → Ends (run_of_goal procs.now goal.now bounds.budget bounds.depth)) }
+    ensures puts { CountPuts result (O.faults out.old) (O.faults out.new) (E.faults err.old)
+        (E.faults err.new) }
+{
+    match goal {
+        Goal::Query { number, variables } => {
+            write_query(alloc, bounds, procs, *number, variables, out, err)
+        }
+        Goal::Main(number) => write_call(alloc, bounds, procs, *number, out, err),
+    }
 }
 
 impl<'p> Run for ProcsRun<'p> {

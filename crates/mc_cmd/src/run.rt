@@ -6,7 +6,7 @@ ghost use Rattle.mc_program.specs.Printed.{Names, names_of, printed, answer_text
 ghost use Rattle.mc_model.specs.EventList.{Ends};
 ghost use Rattle.mc_model.specs.Output.{query_bytes};
 ghost use Rattle.mc_command_line.specs.Plain.{plain_bounds};
-ghost use Rattle.mc_cmd.specs.Ends.{stop_of, written_run};
+ghost use Rattle.mc_cmd.specs.Ends.{end_line, end_status, stop_of, written_run};
 ghost use Rattle.mc_cmd.specs.code.Decisions.{CountPuts, Writes};
 ghost use Rattle.mc_cmd.specs.code.Runs.{QueryItems, EndsUnless, IsPut, IsStep, plain_end};
 
@@ -23,7 +23,7 @@ use mc_program::program::Program;
 use mc_program::value::Value;
 use std::alloc::Global;
 
-/// The run of a query, step by step.
+/// A run, step by step.
 pub trait Run {
     /// What holds of every run, from its beginning on.
     ghost is_run: { Self → Type 0 };
@@ -161,8 +161,26 @@ fn put_run<R: Run, O: Sink>(
     }
 }
 
-/// Writes a whole run: what it does on the output, and where it stops before its end the line that says why on the error
-/// output. Answers the status.
+/// Puts the line that says why a run stopped, if it did, and answers the status.
+pub fn put_end<E: Sink>(
+    alloc: Global,
+    bounds: Bounds,
+    stop: Option<Stop>,
+    err: &mut E,
+) -> Result<Status, PutFault>
+    ensures written { Writes (E.written err.old) (E.written err.new) result
+        (end_line (plain_bounds bounds) (plain_end stop)) }
+    ensures faults { PutFaults result (E.faults err.old) (E.faults err.new) }
+    ensures status { IfOk result (λ status. status ≡ end_status (plain_end stop)) }
+{
+    match stop {
+        None => Ok(Status::Done),
+        Some(stop) => put_stop(alloc, bounds, &stop, err),
+    }
+}
+
+/// Writes the whole run of a query: what it does on the output, and where it stops before its end the line that says why
+/// on the error output. Answers the status.
 pub fn write_run<R: Run, O: Sink, E: Sink>(
     alloc: Global,
     bounds: Bounds,
@@ -188,8 +206,6 @@ pub fn write_run<R: Run, O: Sink, E: Sink>(
     ensures puts { CountPuts result (O.faults out.old) (O.faults out.new) (E.faults err.old)
         (E.faults err.new) }
 {
-    match put_run(alloc, program, variables, run, out)? {
-        None => Ok(Status::Done),
-        Some(stop) => put_stop(alloc, bounds, &stop, err),
-    }
+    let stop = put_run(alloc, program, variables, run, out)?;
+    put_end(alloc, bounds, stop, err)
 }

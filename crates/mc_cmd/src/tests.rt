@@ -127,7 +127,30 @@ fn facts_are_answered(rt: HostRuntime) -> Result<(), Fail> {
     Ok(())
 }
 
-const HELLO: &[u8] = b":- module hello.
+const NARROW: &[u8] = b":- module narrow.
+:- interface.
+:- import_module list.
+:- inst filled == bound([ground | ground]).
+:- pred head(list(T)::in(filled), T::out) is det.
+:- implementation.
+head([X | _], X).
+";
+
+#[test]
+fn what_is_not_built_is_told(rt: HostRuntime) -> Result<(), Fail> {
+    let alloc = rt.alloc();
+    let files: [File<'_>; 1] = [("narrow.m", NARROW)];
+    check(
+        &rt,
+        &call(&rt, alloc, &["check", "narrow.m"], &files, &NONE)?,
+        Status::NotBuilt,
+        b"",
+        NOT_BUILT,
+    );
+    Ok(())
+}
+
+const SILENT: &[u8] = b":- module silent.
 :- interface.
 :- import_module io.
 :- pred main(io::di, io::uo) is det.
@@ -135,17 +158,81 @@ const HELLO: &[u8] = b":- module hello.
 main(!IO).
 ";
 
+const COUNTING: &[u8] = b":- module counting.
+:- interface.
+:- import_module int, io.
+:- pred main(io::di, io::uo) is det.
+:- implementation.
+main(!IO) :- write_from(1, !IO).
+:- pred write_from(int::in, io::di, io::uo) is det.
+write_from(N, !IO) :-
+    io.write_int(N, !IO),
+    io.nl(!IO),
+    ( if N < 3 then write_from(N + 1, !IO), io.write_string(\"\", !IO) else true ).
+";
+
+const FAILING: &[u8] = b":- module failing.
+:- interface.
+:- import_module int, io, require.
+:- pred main(io::di, io::uo) is det.
+:- implementation.
+main(!IO) :-
+    io.write_string(\"begun\\n\", !IO),
+    ( if 1 < 2 then error(\"no more\") else true ),
+    io.write_string(\"never\\n\", !IO).
+";
+
 #[test]
-fn what_is_not_built_is_told(rt: HostRuntime) -> Result<(), Fail> {
+fn main_is_run(rt: HostRuntime) -> Result<(), Fail> {
     let alloc = rt.alloc();
-    let files: [File<'_>; 1] = [("hello.m", HELLO)];
-    check(
-        &rt,
-        &call(&rt, alloc, &["run", "hello.m"], &files, &NONE)?,
-        Status::NotBuilt,
-        b"",
-        NOT_BUILT,
-    );
+    let files: [File<'_>; 3] = [
+        ("silent.m", SILENT),
+        ("counting.m", COUNTING),
+        ("failing.m", FAILING),
+    ];
+    let rows: [(&[&str], Status, &[u8], &[u8]); 6] = [
+        (&["run", "silent.m"], Status::Done, b"", b""),
+        (&["check", "counting.m"], Status::Done, b"", b""),
+        (
+            &["run", "--budget=4", "counting.m"],
+            Status::Done,
+            b"1\n2\n3\n",
+            b"",
+        ),
+        (
+            &["run", "--budget=3", "counting.m"],
+            Status::Budget,
+            b"1\n2\n",
+            b"merc: budget of 3 calls is spent\n",
+        ),
+        (
+            &["run", "failing.m"],
+            Status::Threw,
+            b"begun\n",
+            b"merc: exception: no more\n",
+        ),
+        (
+            &["run", "--depth=2", "counting.m"],
+            Status::TooDeep,
+            b"1\n",
+            b"merc: depth of 2 is reached\n",
+        ),
+    ];
+    for (list, status, out, err) in rows {
+        let answers = call(&rt, alloc, list, &files, &NONE)?;
+        check(&rt, &answers, status, out, err);
+    }
+    // Each put of a text that isn't empty in turn.
+    for (number, written) in [(1, 0), (2, 1), (6, 5)] {
+        let numbers = [number];
+        let failing = Failing {
+            out: &numbers,
+            ..NONE
+        };
+        let cut = call(&rt, alloc, &["run", "counting.m"], &files, &failing)?;
+        let (front, _) = b"1\n2\n3\n".split_at(written);
+        check(&rt, &cut, Status::WriteFault, front, b"");
+    }
     Ok(())
 }
 

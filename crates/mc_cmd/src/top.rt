@@ -17,7 +17,7 @@ use crate::decision::Decision;
 use crate::facts::FactsRun;
 use crate::law::at_most_one_answer;
 use crate::messages;
-use crate::procs_run::write_procedures;
+use crate::procs_run::write_goal;
 use crate::run::write_run;
 use crate::status::Status;
 use crate::write::{put_line, put_rules};
@@ -27,12 +27,11 @@ use mc_outside::{Files, PutFault, Sink, Source};
 use std::alloc::Global;
 
 /// The command: reads the words and then the files that they name, one after another, and compiles them. Writes the
-/// answers of a query on `out`, one line each, or on `err` the line of each broken rule, or one line that says why
-/// nothing is answered, and answers how it ended.
+/// answers of a query on `out`, one line each, or what `main` writes, or on `err` the line of each broken rule, or one
+/// line that says why nothing is answered, and answers how it ended.
 ///
-/// At this stage `main` isn't run, and insts that list constructors aren't built: what asks for such and breaks no rule is
-/// `NotBuilt`. The first put that fails ends the
-/// call with `WriteFault`, and nothing more is put. `Memory` ends the call at once.
+/// At this stage insts that list constructors aren't built: what asks for such and breaks no rule is `NotBuilt`. The
+/// first put that fails ends the call with `WriteFault`, and nothing more is put. `Memory` ends the call at once.
 pub fn merc<F: Files, I: Source, O: Sink, E: Sink>(
     alloc: Global,
     words: &Vec<String>,
@@ -77,7 +76,7 @@ pub fn merc<F: Files, I: Source, O: Sink, E: Sink>(
     // Where any sources compile to facts, every run of these is good, and so is every run of the query, where there
     // is one: each printed answer is true in the completion, and each assignment that is not printed is false.
     ensures truth { (s : Sources) (x : Formed) → Builds s (Ok (of_facts x)) → IsTrueProgram x }
-    // Done comes only where the sources compile, and the run of the query ends.
+    // Done comes only where the sources compile, and the run of the query, or of `main`, ends.
     ensures done { result ≡ Status.Done
         → OfSources (map string_bytes words.now.items) (F.held files.old) RunsToEnd }
     // Usage comes only where the words mean no command, and it comes there, or a fault does.
@@ -109,10 +108,10 @@ pub fn merc<F: Files, I: Source, O: Sink, E: Sink>(
     ensures write_seen { (O.faults out.old < O.faults out.new)
         ⊎ (E.faults err.old < E.faults err.new)
         → result ≡ Status.WriteFault }
-    // NotBuilt comes only where the sources break no rule, and ask for what isn't built.
+    // NotBuilt comes only where the sources break no rule of the phases before, and ask for what isn't built.
     ensures not_built { result ≡ Status.NotBuilt
         → OfSources (map string_bytes words.now.items) (F.held files.old) IsUnbuilt }
-    // Threw, Budget and TooDeep come only where the run of the query over procedures stops so.
+    // Threw, Budget and TooDeep come only where the run of the query, or of `main`, over procedures stops so.
     ensures threw { result ≡ Status.Threw
         → OfSources (map string_bytes words.now.items) (F.held files.old) (StopsBy IsThrown) }
     ensures spent { result ≡ Status.Budget
@@ -195,9 +194,7 @@ fn tell<O: Sink, E: Sink>(
             out,
             err,
         ),
-        Decision::Ran(bounds, executable, query) => {
-            write_procedures(alloc, bounds, &executable, query, out, err)
-        }
+        Decision::Ran(bounds, procs, goal) => write_goal(alloc, bounds, &procs, &goal, out, err),
         Decision::Memory => Err(PutFault::Memory),
     }
 }

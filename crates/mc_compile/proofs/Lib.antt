@@ -13,3 +13,4 @@ mod Both
 mod Modes
 mod Procedures
 mod Queries
+mod Mains

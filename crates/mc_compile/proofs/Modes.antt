@@ -14,6 +14,7 @@ use Rattle.mc_clause_phase.specs.declared.judged.TypedClause.{TypedClause}
 use Rattle.mc_declared_modes.specs.WrittenModes.{plain_written, declared_modes}
 use Rattle.mc_declared_modes.specs.declared.written.WrittenMode.{WrittenMode}
 use Rattle.mc_signatures.specs.Signatures.{Signed, builtin_of}
+use Rattle.mc_accepted.specs.DeterminismFaults.{by_place}
 use Rattle.mc_signatures.specs.TidyModes.{untidy_modes}
 use Rattle.mc_ground_form.specs.Program.{plain_goal}
 use Rattle.mc_whole_program.specs.Wholes.{numbered_clause, IsWhole}
@@ -73,12 +74,15 @@ is_moded first named all clauses query declared m typed parted whole signed sigs
     }
 
 -- where no mode breaks the rule of unique modes, and where some do
-pub modes_are : (s : Sources) (first : Bool) (typed : PlainTyped) (m : Moded) → s.first ≡ first → IsModed first typed.named m → untidy_modes m.whole.program.preds m.sigs.items ≡ []
+abbrev pub faults_of : Moded → List Broken
+faults_of m = by_place (untidy_modes m.whole.program.preds m.sigs.items)
+
+pub modes_are : (s : Sources) (first : Bool) (typed : PlainTyped) (m : Moded) → s.first ≡ first → IsModed first typed.named m → faults_of m ≡ []
     → Tells (Modes s) (Viewed (λ x. x)) typed (Ok m)
 modes_are s first typed m e moded none =
-    (m, refl, with_modes (subst (λ b. IsModed b typed.named m) (sym e) moded) (none_broken (untidy_modes m.whole.program.preds m.sigs.items) m none))
+    (m, refl, with_modes (subst (λ b. IsModed b typed.named m) (sym e) moded) (none_broken (faults_of m) m none))
 
-pub modes_are_broken : (s : Sources) (first : Bool) (typed : PlainTyped) (m : Moded) (rules : List Broken) → s.first ≡ first → IsModed first typed.named m → rules ≡ untidy_modes m.whole.program.preds m.sigs.items → (untidy_modes m.whole.program.preds m.sigs.items ≡ [] → ⊥)
+pub modes_are_broken : (s : Sources) (first : Bool) (typed : PlainTyped) (m : Moded) (rules : List Broken) → s.first ≡ first → IsModed first typed.named m → rules ≡ faults_of m → (faults_of m ≡ [] → ⊥)
     → Tells (Modes s) (Viewed (λ (x : Moded). x)) typed (Err (F.Rejected rules))
 modes_are_broken s first typed m rules e moded is some =
     with_modes {moded = m} (subst (λ b. IsModed b typed.named m) (sym e) moded)

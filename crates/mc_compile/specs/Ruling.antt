@@ -18,13 +18,17 @@ use Rattle.mc_signatures.specs.Signatures.{Signed, builtin_of, SomeHaveOther, qu
 use Rattle.mc_signatures.specs.TidyModes.{untidy_modes}
 use Rattle.mc_procs.specs.Procedures.{PlainProcs}
 use Rattle.mc_orders.specs.Numbering.{mode_ids}
+use Rattle.mc_det_rules.specs.Main.{main_number}
 use Rattle.mc_rules.specs.Rules.{Comes}
 use Rattle.mc_rules.specs.declared.rules.Ruled.{Ruled}
 use Rattle.mc_rules.specs.declared.rules.Ruled.TheVariants as R
 use Rattle.mc_whole_program.specs.Wholes.{IsWhole}
+use Rattle.mc_accepted.specs.DeterminismFaults.{by_place}
 use Rattle.mc_accepted.specs.NormalTypes as N
 use Rattle.mc_whole_program.specs.declared.program.WholeProgram.{WholeProgram}
 use Rattle.mc_compile.specs.declared.executable.Executable.{Executable}
+use Rattle.mc_compile.specs.declared.executable.Goal.{Goal}
+use Rattle.mc_compile.specs.declared.executable.Goal.TheVariants as G
 use Rattle.mc_compile.specs.declared.moded.Moded.{Moded}
 use Rattle.mc_compile.specs.Phases.{Refusal, Breaks, Unbuilt, unless_broken, Then}
 use Rattle.mc_compile.specs.Sources.{Sources}
@@ -32,15 +36,13 @@ use Rattle.mc_compile.specs.Linking.{PlainNamed}
 use Rattle.mc_compile.specs.Typing.{PlainTyped}
 use Rattle.mc_compile.specs.Checking.{items_of}
 
--- procedures that can be run, with the number of the query's, where there is a query, and the names of
--- the variables that it asks for
+-- procedures that can be run, with what is run over them, where something is
 pub record PlainExecutable : Type 0 where
   pub procs : PlainProcs
-  pub query : Option ℕ
-  pub variables : List (List ℕ)
+  pub goal : Option Goal
 
 abbrev pub plain_executable : Executable → PlainExecutable
-plain_executable e = record { procs = e.procs; query = e.query; variables = e.variables }
+plain_executable e = record { procs = e.procs; goal = e.goal }
 
 -- The phase of insts: what has a table of types goes on as it is, unless an item breaks a rule of
 -- insts (M6 or M7).
@@ -93,7 +95,8 @@ pub record IsModed (first : Bool) (named : PlainNamed) (moded : Moded) : Type 0 
   pub number : moded.query ≡ query_number moded.whole declared named.goal
 
 -- The phase of declared modes: the program that runs with its modes, unless one has `unique` or `dead`
--- where the type isn't io's state (M8). Insts that list constructors aren't built yet.
+-- where the type isn't io's state (M8), told in the order of places. Insts that list constructors
+-- aren't built yet.
 pub data Modes (sources : Sources) (typed : PlainTyped) : Result Moded Refusal → Type 0 where
   other_insts :
       SomeHaveOther typed.named.files.names
@@ -102,18 +105,29 @@ pub data Modes (sources : Sources) (typed : PlainTyped) : Result Moded Refusal �
   with_modes :
       {moded : Moded} {result : Result Moded Refusal}
       → IsModed sources.first typed.named moded
-      → result ≡ unless_broken (untidy_modes moded.whole.program.preds moded.sigs.items) moded
+      → result
+      ≡ unless_broken (by_place (untidy_modes moded.whole.program.preds moded.sigs.items)) moded
       → Modes sources typed result
 
--- Procedures are answered, or the rules that they break. Running `main` isn't built yet, nor is what
--- isn't seen to fit.
+-- What is run: `main` where it is wanted, and else the query, where there is one. (Where `main` is
+-- wanted there is one, since a program without it breaks E4: `MainIsRun` of Laws.)
+abbrev pub goal_of :
+    (wants_main : Bool) → PlainProcs → (query : Option ℕ) → (variables : List (List ℕ))
+    → Option Goal
+goal_of true procs query variables = option_map G.Main (main_number procs)
+goal_of false procs query variables = option_map (λ k. G.Query k variables) query
+
+-- Procedures are answered with what is run over them, or the rules that they break. What isn't seen to
+-- fit isn't built yet.
 abbrev pub executable : (wants_main : Bool) → Moded → Ruled → Result PlainExecutable Refusal
-executable false moded (R.Procs procs) =
+executable wants_main moded (R.Procs procs) =
     Ok
-    (record { procs = procs; query = moded.query; variables = moded.whole.variables })
-executable true moded (R.Procs procs) = Err Unbuilt
-executable main moded (R.Broken list) = Err (Breaks list.items)
-executable main moded (R.Unseen u) = Err Unbuilt
+    (record {
+      procs = procs;
+      goal = goal_of wants_main procs moded.query moded.whole.variables;
+    })
+executable wants_main moded (R.Broken list) = Err (Breaks list.items)
+executable wants_main moded (R.Unseen u) = Err Unbuilt
 
 -- The phase of procedures: each mode's goal in its one order, with its determinism, unless they break
 -- a rule of modes (M1 to M4) or of determinism (E1 to E4, U1).

@@ -28,13 +28,14 @@ use mc_base::Row;
 use std::alloc::Global;
 
 /// Compiles files and a query, phase by phase: they are read, linked with the library's modules, their types are made
-/// a table, their clauses are typed, and they are formed.
+/// a table, their clauses are typed, and they are formed, or where they aren't of the form of facts they go through the
+/// phases of programs with rules.
 ///
 /// # Errors
 ///
 /// `Rejected` with the rules that are broken of the first phase that has a fault: one for each faulty item, in the
-/// order of the files, and the query's last. `NotBuilt` where none is broken, and a run of `main`, the first answer
-/// alone or a form that isn't compiled yet is asked for.
+/// order of the files, and the query's last. `NotBuilt` where none of the phases before is broken, and a form that isn't
+/// compiled yet is asked for.
 pub fn compile(
     alloc: Global,
     files: &Row<Given>,

@@ -6,8 +6,9 @@ ghost use Rattle.mc_compile.specs.Typing.{Types};
 ghost use Rattle.mc_compile.specs.Checking.{Clauses};
 ghost use Rattle.mc_compile.specs.Forming.{Forms};
 ghost use Rattle.mc_compile.specs.Compiling.{Compiles};
-ghost use Rattle.mc_compile.specs.Laws.{CompiledFits, CompiledAsks, CompiledNumbers, QueryIsAsked};
+ghost use Rattle.mc_compile.specs.Laws.{CompiledFits, CompiledAsks, CompiledNumbers, MainIsRun, QueryIsAsked};
 
+use mc_det_rules::main_is_there;
 use mc_items::{at_most_one_goal, at_most_one_list};
 
 /// Each phase answers one thing at most: a law, and nothing to run.
@@ -55,3 +56,10 @@ pub fn numbers_are_those_of_names()
 pub fn query_is_asked()
     ensures { QueryIsAsked }
 {}
+
+/// Where `main` is wanted of a program with rules, it is what is run: a law, and nothing to run.
+pub fn main_is_run()
+    ensures { MainIsRun }
+{
+    main_is_there();
+}

@@ -18,11 +18,11 @@ mod typed;
 
 pub use checked::Checked;
 pub use compiling::compile;
-pub use executable::{Compiled, Executable};
+pub use executable::{Compiled, Executable, Goal};
 pub use given::{CompileFault, Given, Query};
 pub use law::{
-    at_most_one_phase, at_most_one_program, facts_fit, numbers_are_those_of_names, query_is_asked,
-    question_asks,
+    at_most_one_phase, at_most_one_program, facts_fit, main_is_run, numbers_are_those_of_names,
+    query_is_asked, question_asks,
 };
 pub use library::LIBRARY;
 pub use moded::Moded;

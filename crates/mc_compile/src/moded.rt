@@ -5,7 +5,9 @@ ghost use Rattle.mc_type_table.specs.Sight.{definitions_seen};
 ghost use Rattle.mc_ground_form.specs.Program.{plain_goal};
 ghost use Rattle.mc_clause_phase.specs.Judging.{AreTyped};
 ghost use Rattle.mc_declared_modes.specs.WrittenModes.{declared_modes};
+ghost use Rattle.mc_accepted.specs.DeterminismFaults.{by_place};
 ghost use Rattle.mc_signatures.specs.Signatures.{SomeHaveOther};
+ghost use Rattle.mc_signatures.specs.TidyModes.{untidy_modes};
 ghost use Rattle.mc_compile.specs.Phases.{Tells, Viewed};
 ghost use Rattle.mc_compile.specs.Sources.{Sources};
 ghost use Rattle.mc_compile.specs.Linking.{plain_named};
@@ -23,10 +25,12 @@ use mc_clause_phase::TypedClause;
 use mc_declared_modes::declared_modes;
 use mc_model::inst::Sig;
 use mc_orders::mode_ids;
+use mc_places::sort_by_place;
 use mc_program::program::Resolved;
 use mc_signatures::{query_signature, signatures, untidy_modes};
 use mc_source::det::{Det, Most};
 use mc_source::place::Place;
+use mc_source::rule::Broken;
 use mc_whole_program::{WholeProgram, whole_program};
 use std::alloc::Global;
 
@@ -45,7 +49,7 @@ impl Moded {
     ///
     /// # Errors
     ///
-    /// `Rejected` with the rule M8 for each mode that breaks it. `NotBuilt` where a declared mode has an inst that lists
+    /// `Rejected` with the rule M8 for each mode that breaks it, in the order of places. `NotBuilt` where a declared mode has an inst that lists
     /// constructors.
     pub fn of(alloc: Global, checked: Checked, first: bool) -> Result<Moded, CompileFault>
         requires { AreTyped (plain_names checked.typed.named.names)
@@ -58,13 +62,25 @@ impl Moded {
         let Some(moded) = with_modes(alloc, &typed.named, clauses, first)? else {
             return Err(CompileFault::NotBuilt);
         };
-        let preds = moded.whole.program.preds.as_slice();
-        let broken = untidy_modes(alloc, preds, moded.sigs.as_slice())?;
+        let broken = untidy(alloc, &moded)?;
         if broken.is_empty() {
             return Ok(moded);
         }
         Err(CompileFault::Rejected(Row::of(broken)?))
     }
+}
+
+// The rule M8 for each mode that breaks it, in the order of places.
+fn untidy(alloc: Global, moded: &Moded) -> Result<Vec<Broken>, Memory>
+    ensures { IfOk result
+        (λ broken.
+        broken.items
+        ≡ by_place (untidy_modes moded.now.whole.program.preds moded.now.sigs.items)) }
+{
+    let preds = moded.whole.program.preds.as_slice();
+    let mut broken = untidy_modes(alloc, preds, moded.sigs.as_slice())?;
+    sort_by_place(&mut broken)?;
+    Ok(broken)
 }
 
 // The program with its declared modes; none where one has an inst that lists constructors.

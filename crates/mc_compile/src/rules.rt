@@ -10,15 +10,17 @@ ghost use Rattle.mc_compile.specs.Sources.{Sources, is_first, sources_of};
 ghost use Rattle.mc_compile.specs.Linking.{plain_named};
 ghost use Rattle.mc_compile.specs.Typing.{plain_typed};
 ghost use Rattle.mc_compile.specs.Checking.{items_of};
-ghost use Rattle.mc_compile.specs.Ruling.{Insts, Modes, Procedures, Rules, plain_executable};
+ghost use Rattle.mc_compile.specs.Ruling.{Insts, Modes, Procedures, Rules, goal_of, plain_executable};
 
 use crate::checked::Checked;
-use crate::executable::Executable;
+use crate::executable::{Executable, Goal};
 use crate::given::{CompileFault, Query};
 use crate::moded::Moded;
 use crate::typed::Typed;
-use mc_base::Row;
+use mc_base::{Row, Text};
+use mc_det_rules::main_procedure;
 use mc_inst_table::inst_faults;
+use mc_procs::Procs;
 use mc_rules::{Ruled, procedures};
 use mc_whole_program::WholeProgram;
 use std::alloc::Global;
@@ -29,8 +31,7 @@ use std::alloc::Global;
 ///
 /// `Rejected` with the rules of insts (M6, M7) that items break; else with those of modes (M8, and then M1 to M4) that
 /// declared modes break; else with those of determinism (E1 to E4 and U1) that procedures break. `NotBuilt` where a
-/// declared mode has an inst that lists constructors, where a run of `main` is asked for, and where something isn't seen
-/// to fit.
+/// declared mode has an inst that lists constructors, and where something isn't seen to fit.
 pub fn rules(
     alloc: Global,
     checked: Checked,
@@ -99,15 +100,23 @@ fn executable(alloc: Global, moded: Moded, want_main: bool) -> Result<Executable
     } = whole;
     let (sigs, goals, exported) = (sigs.as_slice(), goals.as_slice(), exported.as_slice());
     match procedures(alloc, program, sigs, goals, exported, want_main)? {
-        Ruled::Procs(_) if want_main => Err(CompileFault::NotBuilt),
-        Ruled::Procs(procs) => Ok(Executable {
-            procs,
-            query,
-            variables,
-        }),
+        Ruled::Procs(procs) => {
+            let goal = goal_of(want_main, &procs, query, variables);
+            Ok(Executable { procs, goal })
+        }
         Ruled::Broken(broken) => Err(CompileFault::Rejected(Row::of(broken)?)),
         Ruled::Unseen(_) => Err(CompileFault::NotBuilt),
     }
+}
+
+// What is run over procedures: `main` where it is wanted, and else the query, where there is one.
+fn goal_of(want_main: bool, procs: &Procs, query: Option<u32>, variables: Row<Text>) -> Option<Goal>
+    ensures { result ≡ goal_of want_main procs.now query variables }
+{
+    if want_main {
+        return main_procedure(procs).map(Goal::Main);
+    }
+    query.map(|number| Goal::Query { number, variables })
 }
 
 /// Whether the first answer alone of a query is wanted.

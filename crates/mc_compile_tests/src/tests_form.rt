@@ -1,6 +1,7 @@
 use crate::tests::fault_shown;
 use mc_base::{Memory, Row, Text};
 use mc_compile::{CompileFault, Compiled, Given, Query, compile};
+use mc_ground_form::Compiled as Facts;
 use mc_program::program::Goal;
 use mc_source::place::Place;
 use std::alloc::Global;
@@ -99,7 +100,7 @@ fn compiled(alloc: Global, case: &Case<'_>) -> Result<Compiled, CompileFault> {
 }
 
 // How many facts a program has.
-fn fact_count(compiled: &Compiled) -> u32 {
+fn fact_count(compiled: &Facts) -> u32 {
     let mut count = 0u32;
     for pred in compiled.program.preds.as_slice() {
         for clause in pred.clauses.as_slice() {
@@ -112,7 +113,7 @@ fn fact_count(compiled: &Compiled) -> u32 {
 }
 
 // The number of the predicate that a query asks, and where the query's clause stands.
-fn asked(compiled: &Compiled) -> Option<(u32, Place)> {
+fn asked(compiled: &Facts) -> Option<(u32, Place)> {
     let query = compiled
         .program
         .preds
@@ -126,7 +127,7 @@ fn asked(compiled: &Compiled) -> Option<(u32, Place)> {
 }
 
 // The facts of a program, where the query's clause stands, the predicate that is asked, and the query's variables.
-fn program_shown(alloc: Global, compiled: &Compiled) -> Result<Vec<u8>, Fail> {
+fn program_shown(alloc: Global, compiled: &Facts) -> Result<Vec<u8>, Fail> {
     let mut out = Vec::new(alloc);
     let count = fact_count(compiled);
     out.extend_from_slice(format!(in alloc; "facts {count}")?.as_bytes())?;
@@ -148,7 +149,8 @@ fn program_shown(alloc: Global, compiled: &Compiled) -> Result<Vec<u8>, Fail> {
 // What `compile` answers; the query's number is behind the last file's.
 fn answer(alloc: Global, case: &Case<'_>) -> Result<Vec<u8>, Fail> {
     match compiled(alloc, case) {
-        Ok(compiled) => program_shown(alloc, &compiled),
+        Ok(Compiled::Facts(facts)) => program_shown(alloc, &facts),
+        Ok(Compiled::Procedures(_)) => Ok(b"procedures".to_vec(alloc)?),
         Err(fault) => fault_shown(alloc, fault),
     }
 }
@@ -170,75 +172,75 @@ const TYPES: &str = "\
 least program ~ a $ ~ check ~ facts 1\n\
 no items ~ a ~ check ~ facts 0\n\
 second type ~ a $ #type u ---> cc ; dd. ~ check ~ facts 1\n\
-type with a parameter ~ a $ #type u(T) ---> cc ; dd. ~ check ~ not built\n\
-constant with an argument ~ a $ #type u ---> cc(t) ; dd. ~ check ~ not built\n\
-last constant with an argument ~ a $ #type u ---> cc ; dd(t). ~ check ~ not built\n\
-constant of one byte ~ a $ #type u ---> c. ~ check ~ not built\n\
-last constant of one byte ~ a $ #type u ---> cc ; d. ~ check ~ not built\n\
-constant of no byte ~ a $ #type u ---> ''. ~ check ~ not built\n\
+type with a parameter ~ a $ #type u(T) ---> cc ; dd. ~ check ~ procedures\n\
+constant with an argument ~ a $ #type u ---> cc(t) ; dd. ~ check ~ procedures\n\
+last constant with an argument ~ a $ #type u ---> cc ; dd(t). ~ check ~ procedures\n\
+constant of one byte ~ a $ #type u ---> c. ~ check ~ procedures\n\
+last constant of one byte ~ a $ #type u ---> cc ; d. ~ check ~ procedures\n\
+constant of no byte ~ a $ #type u ---> ''. ~ check ~ procedures\n\
 constant of one letter and two bytes ~ a $ #type u ---> 'é'. ~ check ~ facts 1\n\
 constant in quotes ~ a $ #type u ---> 'C, c'. ~ check ~ facts 1\n\
 empty list as a constant ~ a $ #type u ---> []. ~ check ~ facts 1\n\
 empty list in quotes as a constant ~ a $ #type u ---> '[]'. ~ check ~ facts 1\n\
 empty list beside a constant ~ a $ #type u ---> cons ; []. ~ check ~ facts 1\n\
 empty list twice in a type ~ a $ #type u ---> [] ; '[]'. ~ check ~ 0:3 N5\n\
-empty list in two types ~ a $ #type u ---> []. #type v ---> '[]'. ~ check ~ not built\n\
-empty list with an argument ~ a $ #type u ---> '[]'(t). ~ check ~ not built\n\
-list over a list as a constant ~ a $ #type u ---> [t | t]. ~ check ~ not built\n\
-one character of two bytes in types of two modules ~ a $ #type u ---> 'é'.`b #type u ---> 'é'. ~ check ~ not built\n\
+empty list in two types ~ a $ #type u ---> []. #type v ---> '[]'. ~ check ~ procedures\n\
+empty list with an argument ~ a $ #type u ---> '[]'(t). ~ check ~ procedures\n\
+list over a list as a constant ~ a $ #type u ---> [t | t]. ~ check ~ procedures\n\
+one character of two bytes in types of two modules ~ a $ #type u ---> 'é'.`b #type u ---> 'é'. ~ check ~ procedures\n\
 constant of symbols ~ a $ #type u ---> (++). ~ check ~ facts 1\n\
 one name twice in a type ~ a $ #type u ---> cc ; cc. ~ check ~ 0:3 N5\n\
-one name in two types of a module ~ a $ #type u ---> aa. ~ check ~ not built\n\
-one name in types of two modules ~ a $`b #type u ---> bb. ~ check ~ not built\n\
+one name in two types of a module ~ a $ #type u ---> aa. ~ check ~ procedures\n\
+one name in types of two modules ~ a $`b #type u ---> bb. ~ check ~ procedures\n\
 other names in types of two modules ~ a $`b #type u ---> cc. ~ check ~ facts 1\n\
 types of one name in two modules ~ a $`b #type t ---> cc. ~ check ~ facts 1\n\
-abstract type ~ a #type u. $ #type u ---> cc. ~ check ~ not built\n\
+abstract type ~ a #type u. $ #type u ---> cc. ~ check ~ procedures\n\
 abstract type without a definition ~ a #type u. $ ~ check ~ 0:3 N6\n\
-equivalence type ~ a $ #type u == t. ~ check ~ not built\n\
-inst of one name ~ a $ #inst i == ground. ~ check ~ not built\n\
-bound inst ~ a $ #inst i == bound(aa). ~ check ~ not built\n\
-mode ~ a $ #mode m == out. ~ check ~ not built\n\
-mode by insts ~ a $ #mode m == free >> ground. ~ check ~ not built\n";
+equivalence type ~ a $ #type u == t. ~ check ~ procedures\n\
+inst of one name ~ a $ #inst i == ground. ~ check ~ procedures\n\
+bound inst ~ a $ #inst i == bound(aa). ~ check ~ procedures\n\
+mode ~ a $ #mode m == out. ~ check ~ procedures\n\
+mode by insts ~ a $ #mode m == free >> ground. ~ check ~ procedures\n";
 
 const PREDICATES: &str = "\
 two arguments ~ a $ #pred q(t::out, t::out) is nondet. q(aa, bb). ~ check ~ facts 2\n\
 two predicates of one name ~ a $ #pred p(t::out, t::out) is nondet. p(aa, bb). ~ check ~ facts 2\n\
 declared behind its fact ~ a $ q(bb). #pred q(t::out) is nondet. ~ check ~ facts 2\n\
-without arguments ~ a $ #pred q is nondet. q. ~ check ~ not built\n\
+without arguments ~ a $ #pred q is nondet. q. ~ check ~ procedures\n\
 without facts ~ a $ #pred q(t::out) is nondet. ~ check ~ 0:3 N6\n\
 declared twice ~ a $ #pred p(t::out) is nondet. ~ check ~ 0:3 N5\n\
-input ~ a $ #pred q(t::in) is nondet. q(aa). ~ check ~ not built\n\
-input behind an output ~ a $ #pred q(t::out, t::in) is nondet. q(aa, bb). ~ check ~ not built\n\
-destructive input ~ a $ #pred q(t::di) is nondet. q(aa). ~ check ~ not built\n\
-unique output ~ a $ #pred q(t::uo) is nondet. q(aa). ~ check ~ not built\n\
-output of an inst ~ a $ #pred q(t::out(ground)) is nondet. q(aa). ~ check ~ not built\n\
-output by insts ~ a $ #pred q(t::(free >> ground)) is nondet. q(aa). ~ check ~ not built\n\
+input ~ a $ #pred q(t::in) is nondet. q(aa). ~ check ~ procedures\n\
+input behind an output ~ a $ #pred q(t::out, t::in) is nondet. q(aa, bb). ~ check ~ procedures\n\
+destructive input ~ a $ #pred q(t::di) is nondet. q(aa). ~ check ~ 0:3 M8\n\
+unique output ~ a $ #pred q(t::uo) is nondet. q(aa). ~ check ~ 0:3 M8\n\
+output of an inst ~ a $ #pred q(t::out(ground)) is nondet. q(aa). ~ check ~ procedures\n\
+output by insts ~ a $ #pred q(t::(free >> ground)) is nondet. q(aa). ~ check ~ procedures\n\
 no mode ~ a $ #pred q(t). q(aa). ~ check ~ 0:3 M5\n\
 determinism without a mode ~ a $ #pred q(t) is nondet. q(aa). ~ check ~ 0:3 S6\n\
-mode of its own ~ a $ #pred q(t). #mode q(out) is nondet. q(aa). ~ check ~ not built\n\
-further mode ~ a $ #mode p(in) is semidet. ~ check ~ not built\n\
-builtin type ~ a $ #pred q(int::out) is nondet. q(1). ~ check ~ not built\n\
+mode of its own ~ a $ #pred q(t). #mode q(out) is nondet. q(aa). ~ check ~ procedures\n\
+further mode ~ a $ #mode p(in) is semidet. ~ check ~ procedures\n\
+builtin type ~ a $ #pred q(int::out) is nondet. q(1). ~ check ~ procedures\n\
 type variable ~ a $ #pred q(T::out) is nondet. q(aa). ~ check ~ 0:3 T1\n\
 type that nothing visible has ~ a $ #pred q(u::out) is nondet. q(aa). ~ check ~ 0:3 N4\n\
 qualified type ~ a $ #pred q(a.t::out) is nondet. q(aa). ~ check ~ facts 2\n\
-no determinism ~ a $ #pred q(t::out). q(aa). ~ check ~ not built\n\
-det ~ a $ #pred q(t::out) is det. q(aa). ~ check ~ not built\n\
-semidet ~ a $ #pred q(t::out) is semidet. q(aa). ~ check ~ not built\n\
-multi ~ a $ #pred q(t::out) is multi. q(aa). ~ check ~ not built\n\
-cc_multi ~ a $ #pred q(t::out) is cc_multi. q(aa). ~ check ~ not built\n\
-cc_nondet ~ a $ #pred q(t::out) is cc_nondet. q(aa). ~ check ~ not built\n\
-failure ~ a $ #pred q(t::out) is failure. q(aa). ~ check ~ not built\n\
-erroneous ~ a $ #pred q(t::out) is erroneous. q(aa). ~ check ~ not built\n\
-function ~ a $ #func f(t) = t. f(X) = X. ~ check ~ not built\n\
-function without arguments ~ a $ #func f = t. f = aa. ~ check ~ not built\n";
+no determinism ~ a $ #pred q(t::out). q(aa). ~ check ~ procedures\n\
+det ~ a $ #pred q(t::out) is det. q(aa). ~ check ~ procedures\n\
+semidet ~ a $ #pred q(t::out) is semidet. q(aa). ~ check ~ procedures\n\
+multi ~ a $ #pred q(t::out) is multi. q(aa). ~ check ~ procedures\n\
+cc_multi ~ a $ #pred q(t::out) is cc_multi. q(aa). ~ check ~ procedures\n\
+cc_nondet ~ a $ #pred q(t::out) is cc_nondet. q(aa). ~ check ~ procedures\n\
+failure ~ a $ #pred q(t::out) is failure. q(aa). ~ check ~ 0:3 E1\n\
+erroneous ~ a $ #pred q(t::out) is erroneous. q(aa). ~ check ~ 0:3 E1\n\
+function ~ a $ #func f(t) = t. f(X) = X. ~ check ~ procedures\n\
+function without arguments ~ a $ #func f = t. f = aa. ~ check ~ procedures\n";
 
 const CLAUSES: &str = "\
 second fact ~ a $ p(bb). ~ check ~ facts 2\n\
 one fact twice ~ a $ p(aa). ~ check ~ facts 2\n\
-rule ~ a $ p(X) :- p(X). ~ check ~ not built\n\
-rule without a condition ~ a $ p(bb) :- true. ~ check ~ not built\n\
-variable ~ a $ p(X). ~ check ~ not built\n\
-variable without a name ~ a $ p(_). ~ check ~ not built\n\
+rule ~ a $ p(X) :- p(X). ~ check ~ procedures\n\
+rule without a condition ~ a $ p(bb) :- true. ~ check ~ procedures\n\
+variable ~ a $ p(X). ~ check ~ 0:3 M3\n\
+variable without a name ~ a $ p(_). ~ check ~ 0:3 M3\n\
 integer ~ a $ p(1). ~ check ~ 0:3 T1\n\
 string ~ a $ p(\"aa\"). ~ check ~ 0:3 T1\n\
 character ~ a $ p(x). ~ check ~ 0:3 T1\n\
@@ -278,13 +280,13 @@ const MODULES: &str = "\
 import of a given module ~ a #import_module b. $`b ~ check ~ facts 1\n\
 import of the module itself ~ a #import_module a. $ ~ check ~ facts 1\n\
 import in the implementation ~ a $ #import_module b.`b ~ check ~ facts 1\n\
-import of a module of the library ~ a #import_module list. $ ~ check ~ not built\n\
-import of the library's last module ~ a #import_module require. $ ~ check ~ not built\n\
-import of a given module and of the library's ~ a #import_module b, bool. $`b ~ check ~ not built\n\
-import in the second file of the library's ~ a $`b #import_module int. ~ check ~ not built\n\
+import of a module of the library ~ a #import_module list. $ ~ check ~ procedures\n\
+import of the library's last module ~ a #import_module require. $ ~ check ~ procedures\n\
+import of a given module and of the library's ~ a #import_module b, bool. $`b ~ check ~ procedures\n\
+import in the second file of the library's ~ a $`b #import_module int. ~ check ~ procedures\n\
 import of no module ~ a #import_module b. $ ~ check ~ 0:3 N3\n\
 use of a given module ~ a #use_module b. $`b ~ check ~ facts 1\n\
-use of a module of the library ~ a #use_module list. $ ~ check ~ not built\n\
+use of a module of the library ~ a #use_module list. $ ~ check ~ procedures\n\
 inline ~ a $ #pragma inline(p/1). ~ check ~ facts 1\n\
 no_inline ~ a $ #pragma no_inline(p/1). ~ check ~ facts 1\n\
 pragma that is left out ~ a $ #pragma memo(p/1). ~ check ~ 0:3 X1\n\
@@ -314,24 +316,24 @@ variable on another line ~ a $ ~ query p(^X^) ~ facts 1, 1:1 a.p X\n\
 no predicate on the second line ~ a $ ~ query ^q(X) ~ 1:2 N4\n\
 qualified call ~ a $ ~ query a.p(X) ~ facts 1, 1:1 a.p X\n\
 two variables ~ a $ #pred q(t::out, t::out) is nondet. q(aa, bb). ~ query q(Y, X) ~ facts 2, 1:1 a.q Y X\n\
-one variable twice ~ a $ #pred q(t::out, t::out) is nondet. q(aa, bb). ~ query q(X, X) ~ not built\n\
-variable without a name ~ a $ ~ query p(_) ~ not built\n\
-variable that begins with an underscore ~ a $ ~ query p(_X) ~ not built\n\
+one variable twice ~ a $ #pred q(t::out, t::out) is nondet. q(aa, bb). ~ query q(X, X) ~ procedures\n\
+variable without a name ~ a $ ~ query p(_) ~ procedures\n\
+variable that begins with an underscore ~ a $ ~ query p(_X) ~ procedures\n\
 underscore behind a letter ~ a $ ~ query p(X_) ~ facts 1, 1:1 a.p X_\n\
-constant ~ a $ ~ query p(aa) ~ not built\n\
-constant and a variable ~ a $ #pred q(t::out, t::out) is nondet. q(aa, bb). ~ query q(X, aa) ~ not built\n\
+constant ~ a $ ~ query p(aa) ~ procedures\n\
+constant and a variable ~ a $ #pred q(t::out, t::out) is nondet. q(aa, bb). ~ query q(X, aa) ~ procedures\n\
 predicate of that arity ~ a $ #pred p(t::out, t::out) is nondet. p(aa, bb). ~ query p(X, Y) ~ facts 2, 1:1 a.p X Y\n\
-conjunction ~ a $ ~ query p(X), p(Y) ~ not built\n\
-disjunction ~ a $ ~ query p(X) ; p(X) ~ not built\n\
-negation ~ a $ ~ query not p(X) ~ not built\n\
-quantified goal ~ a $ ~ query some [X] p(X) ~ not built\n\
-equation ~ a $ ~ query X = aa ~ not built\n\
-true ~ a $ ~ query true ~ not built\n\
-fail ~ a $ ~ query fail ~ not built\n\
+conjunction ~ a $ ~ query p(X), p(Y) ~ procedures\n\
+disjunction ~ a $ ~ query p(X) ; p(X) ~ procedures\n\
+negation ~ a $ ~ query not p(X) ~ procedures\n\
+quantified goal ~ a $ ~ query some [X] p(X) ~ procedures\n\
+equation ~ a $ ~ query X = aa ~ procedures\n\
+true ~ a $ ~ query true ~ procedures\n\
+fail ~ a $ ~ query fail ~ procedures\n\
 another arity ~ a $ ~ query p(X, Y) ~ 1:1 N4\n\
 no predicate ~ a $ ~ query q(X) ~ 1:1 N4\n\
 no goal ~ a $ ~ query p( ~ 1:1 S5\n\
-library's predicate ~ a #import_module list. $ ~ query member(X, Y) ~ not built\n\
+library's predicate ~ a #import_module list. $ ~ query member(X, Y) ~ 1:1 M1\n\
 library's predicate that isn't imported ~ a $ ~ query list.member(X, Y) ~ 1:1 N4\n\
 imported predicate ~ a #import_module b.`b $ ~ query p(X) ~ facts 1, 2:1 b.p X\n\
 qualified imported predicate ~ a #import_module b.`b $ ~ query b.p(X) ~ facts 1, 2:1 b.p X\n\
@@ -342,12 +344,12 @@ predicate of another's implementation ~ a #import_module b.`b #implementation. #
 predicate of the first file's implementation ~ a #implementation. #type t ---> aa. #pred p(t::out) is nondet. p(aa). ~ query p(X) ~ facts 1, 1:1 a.p X\n\
 predicate of two modules ~ a #import_module b. $`b #type u ---> cc. #pred p(u::out) is nondet. #implementation. p(cc). ~ query p(X) ~ 2:1 T2\n\
 qualified predicate of two modules ~ a #import_module b. $`b #type u ---> cc. #pred p(u::out) is nondet. #implementation. p(cc). ~ query b.p(X) ~ facts 2, 2:1 b.p X\n\
-query over a program that isn't of the form ~ a $ #type u == t. ~ query p(X) ~ not built\n";
+query over a program that isn't of the form ~ a $ #type u == t. ~ query p(X) ~ procedures\n";
 
 const WANTED: &str = "\
-first answer ~ a $ ~ first p(X) ~ not built\n\
+first answer ~ a $ ~ first p(X) ~ procedures\n\
 first answer of no predicate ~ a $ ~ first q(X) ~ 1:1 N4\n\
-run ~ a $ ~ run ~ not built\n\
+run ~ a $ ~ run ~ 0:1 E4\n\
 run of a faulty program ~ a $ p(cc). ~ run ~ 0:3 N4\n\
 fault beside what isn't of the form ~ a $ #type u == t. p(cc). ~ check ~ 0:3 N4\n\
 fault behind what isn't of the form ~ a $ #type u == t.`b p(cc). ~ check ~ 1:3 N1\n\

@@ -1,7 +1,11 @@
 -- Which procedure is the `main` that is run.
-use Rattle.std.proofs.Common.{◌≡◌, ⊎_elim, ℕ, zero, suc, ◌<◌, ◌≤◌, ◌⊎◌, nat_eq, List, [], ◌∷◌, length, get_or, map, Bool, true, false, not, ◌&&◌, ◌||◌, Some, None, refl, sym, ap, ap₂, ◌∙◌, arith, codes, true≢false}
-use Rattle.std.specs.List.{list_any}
-use Rattle.mc_source.specs.Rules.{Fault}
+use Rattle.std.proofs.Common.{◌≡◌, ⊎_elim, ℕ, zero, suc, ◌+◌, ◌-◌, ◌<◌, ◌≤◌, ◌⊎◌, nat_eq, List, [], ◌∷◌, ◌++◌, length, get_or, map, Bool, true, false, not, cond, ◌&&◌, ◌||◌, Option, Some, None, refl, sym, ap, ap₂, ◌∙◌, arith, codes, true≢false}
+use Rattle.std.specs.Prelude.{is_some}
+use Rattle.std.specs.List.{find, list_any}
+use Rattle.std.proofs.lemmas.List.{get_or-map}
+use Rattle.mc_source.specs.Rules.{Fault, broken_at}
+use Rattle.mc_source.specs.declared.place.Place.{Place}
+use Rattle.mc_source.specs.declared.rule.Broken.{Broken}
 use Rattle.mc_source.specs.declared.rule.Rule.TheVariants as R
 use Rattle.mc_program.specs.Programs.{Predicate, TypeTerm}
 use Rattle.mc_program.specs.PlainPrograms.{plain_pred, plain_type, no_pred}
@@ -10,21 +14,50 @@ use Rattle.mc_program.specs.declared.ty.Ty.{Ty}
 use Rattle.mc_model.specs.Lists.{from}
 use Rattle.mc_model.specs.declared.sched.Proc.{Proc}
 use Rattle.mc_accepted.specs.Ordered.{is_state, zipped}
-use Rattle.mc_accepted.specs.Inferred.{DeclaredProcedure}
 use Rattle.mc_accepted.specs.DeterminismFaults.{is_main_name, are_states, takes_states, is_det_or_cc_multi, main_fault}
-use Rattle.mc_det.specs.Determinisms.{as_declared, declared_procedure}
+use Rattle.mc_det.specs.Determinisms.{as_declared, declared_procedure, none_declared}
 use Rattle.mc_det_rules.specs.code.Entry.{main_by}
 
--- procedures by their numbers
-moved : (f : ℕ → Bool) (n k : ℕ) → list_any f (from (suc n) k) ≡ list_any (λ j. f (suc j)) (from n k)
-moved f n zero = refl
-moved f n (suc k) = ap (λ (b : Bool). f (suc n) || b) (moved f (suc n) k)
+-- what is found, where something is
+some_first : {X : Type 0} (b t : Bool) (x : X) (r : Option X) → is_some r ≡ t → is_some (cond b (Some x) r) ≡ (b || t)
+some_first true t x r e = refl
+some_first false t x r e = e
 
-pub by_number : (f : DeclaredProcedure → Bool) (ps : List Proc) → list_any (λ (p : Proc). f (as_declared p)) ps ≡ list_any (λ k. f (declared_procedure ps k)) (from 0 (length ps))
-by_number f [] = refl
-by_number f (p ∷ ps) =
-    ap (λ (b : Bool). f (as_declared p) || b)
-    (by_number f ps ∙ sym (moved (λ k. f (declared_procedure (p ∷ ps) k)) 0 (length ps)))
+pub some_found : {X : Type 0} (f : X → Bool) (xs : List X) → is_some (find f xs) ≡ list_any f xs
+some_found f [] = refl
+some_found f (x ∷ xs) = some_first (f x) (list_any f xs) x (find f xs) (some_found f xs)
+
+-- what is found among n numbers is found among those from k on
+abbrev pub IsAhead : (f : ℕ → Bool) (n k : ℕ) → Type 0
+IsAhead f n k = (m : ℕ) → k + m ≡ n → find f (from 0 n) ≡ find f (from k m)
+
+pub all_ahead : (f : ℕ → Bool) (n k : ℕ) → k ≡ 0 → IsAhead f n k
+all_ahead f n k z m e =
+    let same : n ≡ m = omega (arith, z, e) in
+    ap (λ (j : ℕ). find f (from 0 j)) same ∙ ap (λ (j : ℕ). find f (from j m)) (sym z)
+
+pub next_ahead : (f : ℕ → Bool) (n k : ℕ) → f k ≡ false → IsAhead f n k → IsAhead f n (k + 1)
+next_ahead f n k misses ahead m e =
+    let later : k + suc m ≡ n = omega (arith, e) in
+    let next : suc k ≡ k + 1 = omega arith in
+    ahead (suc m) later
+    ∙ ap (λ (b : Bool). cond b (Some k) (find f (from (suc k) m))) misses
+    ∙ ap (λ (j : ℕ). find f (from j m)) next
+
+pub found_ahead : (f : ℕ → Bool) (n k : ℕ) → k < n → f k ≡ true → IsAhead f n k → Some k ≡ find f (from 0 n)
+found_ahead f n k lt hits ahead =
+    let m : ℕ = n - suc k in
+    let later : k + suc m ≡ n = omega (arith, lt) in
+    sym (ahead (suc m) later ∙ ap (λ (b : Bool). cond b (Some k) (find f (from (suc k) m))) hits)
+
+pub none_ahead : (f : ℕ → Bool) (n k : ℕ) → k ≡ n → IsAhead f n k → None ≡ find f (from 0 n)
+none_ahead f n k e ahead =
+    let later : k + 0 ≡ n = omega (arith, e) in
+    sym (ahead 0 later)
+
+-- a procedure as it is declared, by its number
+pub declared_there : (ps : List Proc) (k : ℕ) (p : Proc) → k < length ps → p ≡ get_or ps k p → as_declared p ≡ declared_procedure ps k
+declared_there ps k p lt e = ap as_declared e ∙ sym (get_or-map as_declared ps k p none_declared lt)
 
 -- what is said
 abbrev said : Fault
@@ -39,6 +72,11 @@ pub is_missing : (runs has : Bool) (what : List ℕ) → what ≡ codes "main is
 is_missing false has what w e = absurd (true≢false (sym e))
 is_missing true true what w e = absurd (true≢false (sym e))
 is_missing true false what w e = ap (λ (t : List ℕ). Some (R.E4, t)) w
+
+-- where nothing is said there is one
+pub told_there : (has : Bool) (at : Place) (more : List Broken) → broken_at at (main_fault true has) ++ more ≡ [] → has ≡ true
+told_there true at more e = refl
+told_there false at more e = cc
 
 -- a predicate by its number
 no_main : (a b c : Bool) → false ≡ (a && (b && (false && c)))

@@ -12,6 +12,7 @@ ghost use Rattle.mc_accepted.specs.Inferred.{system_of};
 ghost use Rattle.mc_accepted.specs.DeterminismFaults.{is_main_name, are_states, takes_states, is_det_or_cc_multi, is_main, main_fault};
 ghost use Rattle.mc_procs.specs.Procedures.{source_of};
 ghost use Rattle.mc_det.specs.Determinisms.{as_declared, declared_procedure, declared_system};
+ghost use Rattle.mc_det_rules.specs.Main.{MainIsThere, main_number};
 ghost use Rattle.mc_det_rules.specs.code.Entry.{main_by, is_wanted};
 
 use mc_base::{Memory, Text};
@@ -31,7 +32,7 @@ pub fn main_fault(alloc: Global, procs: &Procs, runs: bool) -> Result<Option<(Ru
         → fault ≡ main_fault runs (list_any (λ k. is_main (system_of (declared_system outcome
         procs.now) ds) (declared_procedure procs.now.added k)) (from 0 (length procs.now.added)))) }
 {
-    let has_main = one_is_main(procs, procs.procs());
+    let has_main = main_procedure(procs).is_some();
     if is_missing(runs, has_main) {
         let what = Text::new(alloc, b"main is not a det or cc_multi predicate on io")?;
         return Ok(Some((Rule::E4, what)));
@@ -46,18 +47,22 @@ fn is_missing(runs: bool, has_main: bool) -> bool
     runs && !has_main
 }
 
-/// Whether one of these procedures is the `main` that is asked for.
-fn one_is_main(procs: &Procs, all: &[Proc]) -> bool
-    ensures { result ≡ list_any (λ (p : Proc). main_by (source_of procs.now).preds
-        (as_declared p)) all.now }
+/// The number of the `main` that `run` asks for, where there is one: that of the first such procedure.
+pub fn main_procedure(procs: &Procs) -> Option<u32>
+    ensures { result ≡ main_number procs.now }
 {
-    for p in all {
-        if is_main(procs, p) {
-            return true;
+    for k in 0..procs.count() {
+        if is_main(procs, procs.get(k)) {
+            return Some(k);
         }
     }
-    false
+    None
 }
+
+/// Where no rule of determinism is broken by what is to be run, there is a `main`: a law, and nothing to run.
+pub fn main_is_there()
+    ensures { MainIsThere }
+{}
 
 /// Whether a procedure is the `main` that is asked for.
 fn is_main(procs: &Procs, p: &Proc) -> bool

@@ -9,6 +9,6 @@ mod listed;
 mod rules;
 mod texts;
 
-pub use entry::main_fault;
+pub use entry::{main_fault, main_is_there, main_procedure};
 pub use listed::faults;
 pub use rules::{call_fault, declaration_fault, io_fault, undeclared_fault};

@@ -1,11 +1,10 @@
 use Rattle.std.proofs.Common.{◌≡◌, Option, sym, ap, ◌∙◌, subst, IfSome}
-use Rattle.mc_signatures.specs.TidyModes.{untidy_modes}
 use Rattle.mc_compile.specs.declared.moded.Moded.{Moded}
 use Rattle.mc_compile.specs.Linking.{plain_named}
 use Rattle.mc_compile.specs.Typing.{plain_typed}
 use Rattle.mc_compile.specs.Ruling.{IsModed, other_insts}
 use Rattle.mc_compile.proofs.Lists.{none_counted, some_counted}
-use Rattle.mc_compile.proofs.Modes.{modes_are, modes_are_broken}
+use Rattle.mc_compile.proofs.Modes.{faults_of, modes_are, modes_are_broken}
 use Rattle.mc_compile.proofs.moded.Moded.of.Goals as goal
 
 pub returns-in_default : goal.returns-in_default
@@ -17,8 +16,7 @@ returns-then-is_empty c = λ s same.
     let broken = c.in_ok-broken.broken in
     let have : IsModed c.args.first (plain_named c.args.checked.typed.named) m =
     subst (λ (o : Option Moded). IfSome o (IsModed c.args.first (plain_named c.args.checked.typed.named))) c.in-Some.is (c.in_ok-moded.ensures {u = tt}).some in
-    let is : broken.items ≡ untidy_modes m.whole.program.preds m.sigs.items =
-    c.in_ok-broken.ensures {u = tt} ∙ ap (λ ps. untidy_modes ps c.as_slice.result.now) c.as_slice-preds.ensures.items ∙ ap (untidy_modes m.whole.program.preds) c.as_slice.ensures.value in
+    let is : broken.items ≡ faults_of m = c.in_ok-broken.ensures {u = tt} in
     modes_are s c.args.first (plain_typed c.args.checked.typed) m same have (sym is ∙ none_counted broken.items broken.len broken.ok.0 c.if-is_empty.ensures)
 
 pub returns : goal.returns
@@ -27,7 +25,6 @@ returns c = λ s same.
     let broken = c.in_ok-broken.broken in
     let have : IsModed c.args.first (plain_named c.args.checked.typed.named) m =
     subst (λ (o : Option Moded). IfSome o (IsModed c.args.first (plain_named c.args.checked.typed.named))) c.in-Some.is (c.in_ok-moded.ensures {u = tt}).some in
-    let is : broken.items ≡ untidy_modes m.whole.program.preds m.sigs.items =
-    c.in_ok-broken.ensures {u = tt} ∙ ap (λ ps. untidy_modes ps c.as_slice.result.now) c.as_slice-preds.ensures.items ∙ ap (untidy_modes m.whole.program.preds) c.as_slice.ensures.value in
+    let is : broken.items ≡ faults_of m = c.in_ok-broken.ensures {u = tt} in
     modes_are_broken s c.args.first (plain_typed c.args.checked.typed) m c.in_ok-of.field-0 same have ((c.in_ok-of.ensures {u = tt}).elements ∙ is)
     (λ none. some_counted broken.items broken.len broken.ok.0 c.if-is_empty.ensures (is ∙ none))

@@ -4,49 +4,43 @@ use Rattle.mc_command_line.specs.Plain.{plain_bounds}
 use Rattle.mc_plain.specs.Running.{run_of}
 use Rattle.mc_cmd.specs.declared.status.Status.{Status}
 use Rattle.mc_cmd.specs.Ends.{Outcome}
-use Rattle.mc_cmd.specs.Outcome.{run_of_query, written_rules}
+use Rattle.mc_cmd.specs.Outcome.{run_of_query, written_query}
 use Rattle.mc_cmd.specs.code.Decisions.{Writes}
 use Rattle.mc_cmd.specs.code.Procs.{left_in}
 use Rattle.mc_cmd.proofs.Puts.{nothing_front, wrote_nothing}
 use Rattle.mc_cmd.proofs.Procs.{written_same}
 use Rattle.mc_cmd.proofs.Stops.{ends_there}
-use Rattle.mc_cmd.proofs.procs_run.write_procedures.Goals as goal
+use Rattle.mc_cmd.proofs.procs_run.write_query.Goals as goal
 
 pub returns-in_default-clause-output : goal.returns-in_default-clause-output
 returns-in_default-clause-output g c =
-    let e = c.args.executable.now in
     let w = g.O.Sink.written c.args.out.now in
-    nothing_front w w (written_rules (plain_bounds c.args.bounds) e.procs c.args.query e.variables).out (wrote_nothing w w refl)
+    nothing_front w w (written_query (plain_bounds c.args.bounds) c.args.procs.now c.args.query c.args.variables.now).out (wrote_nothing w w refl)
 
 pub returns-in_default-clause-errors : goal.returns-in_default-clause-errors
 returns-in_default-clause-errors g c =
-    let e = c.args.executable.now in
     let w = g.E.Sink.written c.args.err.now in
-    nothing_front w w (written_rules (plain_bounds c.args.bounds) e.procs c.args.query e.variables).err (wrote_nothing w w refl)
+    nothing_front w w (written_query (plain_bounds c.args.bounds) c.args.procs.now c.args.query c.args.variables.now).err (wrote_nothing w w refl)
 
 pub returns-clause-output : goal.returns-clause-output
 returns-clause-output g c =
-    let e = c.args.executable.now in
     subst (λ (o : Outcome). Writes (g.O.Sink.written c.args.out.now) (g.O.Sink.written c.write_run.new.out) c.write_run.result o.out)
-    (written_same (plain_bounds c.args.bounds) e.procs c.args.query e.variables c.program.result.now (left_in (run_of c.in-Ok.run'.plain)) c.program.ensures (c.in-Ok.ensures {u = tt}).left)
+    (written_same (plain_bounds c.args.bounds) c.args.procs.now c.args.query c.args.variables.now c.program.result.now (left_in (run_of c.in-Ok.run'.plain)) c.program.ensures (c.in-Ok.ensures {u = tt}).left)
     c.write_run.ensures.output
 
 pub returns-clause-errors : goal.returns-clause-errors
 returns-clause-errors g c =
-    let e = c.args.executable.now in
     subst (λ (o : Outcome). Writes (g.E.Sink.written c.args.err.now) (g.E.Sink.written c.write_run.new.err) c.write_run.result o.err)
-    (written_same (plain_bounds c.args.bounds) e.procs c.args.query e.variables c.program.result.now (left_in (run_of c.in-Ok.run'.plain)) c.program.ensures (c.in-Ok.ensures {u = tt}).left)
+    (written_same (plain_bounds c.args.bounds) c.args.procs.now c.args.query c.args.variables.now c.program.result.now (left_in (run_of c.in-Ok.run'.plain)) c.program.ensures (c.in-Ok.ensures {u = tt}).left)
     c.write_run.ensures.errors
 
 pub returns-clause-status : goal.returns-clause-status
 returns-clause-status g c =
-    let e = c.args.executable.now in
     subst (λ (o : Outcome). IfOk c.write_run.result (λ (s : Status). s ≡ o.status))
-    (written_same (plain_bounds c.args.bounds) e.procs c.args.query e.variables c.program.result.now (left_in (run_of c.in-Ok.run'.plain)) c.program.ensures (c.in-Ok.ensures {u = tt}).left)
+    (written_same (plain_bounds c.args.bounds) c.args.procs.now c.args.query c.args.variables.now c.program.result.now (left_in (run_of c.in-Ok.run'.plain)) c.program.ensures (c.in-Ok.ensures {u = tt}).left)
     c.write_run.ensures.status
 
 pub returns-clause-ends : goal.returns-clause-ends
 returns-clause-ends g c =
-    let e = c.args.executable.now in
     let b = c.args.bounds in
-    ends_there c.write_run.result (left_in (run_of c.in-Ok.run'.plain)) (run_of_query e.procs c.args.query b.budget b.depth) (c.in-Ok.ensures {u = tt}).left c.write_run.ensures.ends
+    ends_there c.write_run.result (left_in (run_of c.in-Ok.run'.plain)) (run_of_query c.args.procs.now c.args.query b.budget b.depth) (c.in-Ok.ensures {u = tt}).left c.write_run.ensures.ends
