@@ -16,11 +16,7 @@ pub struct ModeId {
 }
 
 /// The declared modes of a program, in the order in which their procedures are numbered.
-pub fn mode_ids(
-    alloc: Global,
-    program: &Program,
-    sigs: &[Sig],
-) -> Result<Vec<ModeId>, Memory>
+pub fn mode_ids(alloc: Global, program: &Program, sigs: &[Sig]) -> Result<Vec<ModeId>, Memory>
     ensures { IfOk result (λ ids. ids.items ≡ mode_ids program.now sigs.now) }
 {
     let mut ids = Vec::new(alloc);

@@ -1,0 +1,10 @@
+% Nearly nothing: what a start takes.
+
+:- module start.
+:- interface.
+
+:- pred nothing is det.
+
+:- implementation.
+
+nothing.

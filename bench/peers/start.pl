@@ -1,0 +1,3 @@
+% Nearly nothing: what a start takes.
+
+main :- write(true), nl.

@@ -1,0 +1,6 @@
+:- module shop.
+:- interface.
+:- import_module io.
+:- pred main(io::di, io::uo) is det.
+:- implementation.
+main(!IO) :- io.write_string("open\n", !IO).

@@ -1,0 +1,5 @@
+:- module shop.
+:- interface.
+:- pred main is det.
+:- implementation.
+main.

@@ -1,0 +1,9 @@
+:- module shop.
+:- interface.
+:- import_module io.
+:- pred main(io::di, io::uo) is det.
+:- implementation.
+:- import_module require.
+main(!IO) :-
+    io.write_string("open\n", !IO),
+    error("no \"tea\"\nleft").

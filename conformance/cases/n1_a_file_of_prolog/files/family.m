@@ -1,0 +1,3 @@
+parent(ann, bob).
+parent(bob, cid).
+grandparent(X, Z) :- parent(X, Y), parent(Y, Z).

@@ -1,0 +1,7 @@
+:- module shop.
+:- interface.
+:- type drink ---> green ; black.
+:- pred order(list(drink)::out) is nondet.
+:- implementation.
+order([green, black]).
+order([]).

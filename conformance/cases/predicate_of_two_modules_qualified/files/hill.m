@@ -1,0 +1,6 @@
+:- module hill.
+:- interface.
+:- import_module drinks.
+:- pred sells(drink::out) is multi.
+:- implementation.
+sells(green).

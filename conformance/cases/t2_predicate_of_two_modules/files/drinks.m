@@ -1,0 +1,3 @@
+:- module drinks.
+:- interface.
+:- type drink ---> green ; black.

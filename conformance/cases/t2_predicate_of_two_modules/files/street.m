@@ -1,0 +1,4 @@
+:- module street.
+:- interface.
+:- implementation.
+:- import_module drinks, hill, harbour.
