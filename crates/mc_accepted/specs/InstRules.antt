@@ -67,6 +67,11 @@ HasFree ds (bound_inst cs) = OneHasFree ds cs
 abbrev pub HasFreeInside : List PlainInstDef → ℕ → Type 0
 HasFreeInside ds k = HasFree ds (definition_at ds k)
 
+-- a constructor that an inst lists, by its name and its number of arguments
+pub record Functor : Type 0 where
+  pub name : List ℕ
+  pub arity : ℕ
+
 -- Definitions with parameters, before they are expanded for the insts that stand for those.
 mutual
   -- an inst: a parameter, a node, a definition over insts, or what a bound inst lists
@@ -74,7 +79,7 @@ mutual
     parameter : (number : ℕ) → InstTerm
     inst_node : (node : ℕ) → InstTerm
     defined : (definition : ℕ) → InstTerms → InstTerm
-    bound_over : InstTerms → InstTerm
+    bound_over : List Functor → InstTerms → InstTerm
 
   -- the insts of arguments; of a bound inst those of all its constructors, one behind another
   pub data InstTerms : Type 0 where
@@ -92,7 +97,7 @@ abbrev mutual
   over ts (parameter k) = inst_at ts k
   over ts (inst_node i) = inst_node i
   over ts (defined d is) = defined d (each_over ts is)
-  over ts (bound_over is) = bound_over (each_over ts is)
+  over ts (bound_over fs is) = bound_over fs (each_over ts is)
 
   pub each_over : InstTerms → InstTerms → InstTerms
   each_over ts no_insts = no_insts
@@ -104,7 +109,7 @@ abbrev mutual
   Mentions (parameter k) d ts = ⊥
   Mentions (inst_node i) d ts = ⊥
   Mentions (defined e is) d ts = ((e ≡ d) × (is ≡ ts)) ⊎ OneMentions is d ts
-  Mentions (bound_over is) d ts = OneMentions is d ts
+  Mentions (bound_over fs is) d ts = OneMentions is d ts
 
   pub OneMentions : InstTerms → (definition : ℕ) → InstTerms → Type 0
   OneMentions no_insts d ts = ⊥
@@ -156,14 +161,14 @@ OneIs (inst_then j js) i = (j ≡ i) ⊎ OneIs js i
 -- of a definition that puts that parameter into a constructor. So does one that is written in it.
 pub data PutsInside (body : Bodies) : InstTerm → InstTerm → Type 0 where
   listed :
-      {is : InstTerms} {i j : InstTerm} → OneIs is j → ComesTo body j i
-      → PutsInside body (bound_over is) i
+      {fs : List Functor} {is : InstTerms} {i j : InstTerm} → OneIs is j → ComesTo body j i
+      → PutsInside body (bound_over fs is) i
   given :
       {d k : ℕ} {is : InstTerms} {i : InstTerm} → PutsInside body (body d) (parameter k)
       → ComesTo body (inst_at is k) i → PutsInside body (defined d is) i
   in_listed :
-      {is : InstTerms} {i j : InstTerm} → OneIs is j → PutsInside body j i
-      → PutsInside body (bound_over is) i
+      {fs : List Functor} {is : InstTerms} {i j : InstTerm} → OneIs is j → PutsInside body j i
+      → PutsInside body (bound_over fs is) i
   in_given :
       {d : ℕ} {is : InstTerms} {i j : InstTerm} → OneIs is j → PutsInside body j i
       → PutsInside body (defined d is) i

@@ -1,6 +1,6 @@
 -- The kept insts of a switch's arms of several disjuncts: those of the disjuncts, merged. (Mercury
 -- Language Reference Manual: Modes, insts; Determinism, switches.)
-use Rattle.std.specs.Prelude.{◌≡◌, ℕ, List, [], ◌∷◌, map, Bool, true, false, not, ◌&&◌, ◌||◌, if◌then◌else◌}
+use Rattle.std.specs.Prelude.{◌≡◌, ℕ, List, [], ◌∷◌, ◌++◌, map, Bool, true, false, not, ◌&&◌, ◌||◌, if◌then◌else◌}
 use Rattle.mc_program.specs.Programs.{TypeTerm}
 use Rattle.mc_source.specs.Determinism.{is_zero}
 use Rattle.mc_model.specs.Insts.{InstNode, free, ground, unique, dead, bound}
@@ -72,6 +72,18 @@ module _ (S : System) (T : ℕ → TypeTerm) where
   arm_ends b no_arms = []
   arm_ends b (arm_then l n arms) = with_end b n (arm_ends b arms)
 
+  -- the same of the disjuncts that arms are made of: an arm that is a disjunction or a switch again
+  -- is one of several disjuncts
+  abbrev mutual
+    pub disjunct_ends : Insts → Arms → List Insts
+    disjunct_ends b no_arms = []
+    disjunct_ends b (arm_then l n arms) = ends_in_arm b n ++ disjunct_ends b arms
+
+    pub ends_in_arm : Insts → Node → List Insts
+    ends_in_arm b (node (Disj ns) changes d m) = ends b ns
+    ends_in_arm b (node (Switch x arms) changes d m) = disjunct_ends b arms
+    ends_in_arm b n = with_end b n []
+
   -- What an arm of several disjuncts changes, where the whole has these insts before and after it:
   -- a variable that was bound, or that the whole binds, gets the merged inst of the ends, and where
   -- these give it one inst, just that; any other stays free. Nothing is changed where no end is
@@ -90,10 +102,10 @@ module _ (S : System) (T : ℕ → TypeTerm) where
       → EachGives x i (e ∷ es) → change_at x changes (b x) ≡ i)
       × ((x : ℕ) → (is_bound (b x) || is_bound (c x)) ≡ false → change_at x changes (b x) ≡ 0)
 
-  -- an arm that is a disjunction or a switch again is one of several disjuncts
+  -- an arm of several disjuncts merges the ends of these, however they are in arms again
   abbrev pub ArmMerges : (before after : Insts) → Node → Type 0
   ArmMerges b c (node (Disj ns) changes d m) = ChangesMerge b c (ends b ns) changes
-  ArmMerges b c (node (Switch x arms) changes d m) = ChangesMerge b c (arm_ends b arms) changes
+  ArmMerges b c (node (Switch x arms) changes d m) = ChangesMerge b c (disjunct_ends b arms) changes
   ArmMerges b c n = Unit {0}
 
   -- In a goal in switch form each such arm changes what its disjuncts change together. The arms of

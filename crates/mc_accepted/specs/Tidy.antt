@@ -16,7 +16,8 @@ Leads P G ((s, k) ∷ path) j u i t =
     (λ is.
     (k < length is) × Leads P G path j u (get_or is k 0) (get_or ts k (variable_type 0))))
 
--- `unique` and `dead` stand at io's state alone, at any depth
+-- `unique` and `dead` stand at io's state alone, at any depth. A type variable isn't io's state, nor
+-- is what is below one, so a tidy inst is tidy at each instance of the type.
 abbrev pub Tidy : Source → Graph → ℕ → TypeTerm → Type 0
 Tidy P G i t =
     (path : Path) (j : ℕ) (u : TypeTerm)
@@ -26,3 +27,8 @@ abbrev pub EachTidy : Source → Graph → List ℕ → List TypeTerm → Type 0
 EachTidy P G [] ts = Unit {0}
 EachTidy P G (i ∷ is) [] = Unit {0}
 EachTidy P G (i ∷ is) (t ∷ ts) = Tidy P G i t × EachTidy P G is ts
+
+-- several insts at one type
+abbrev pub EachIsTidy : Source → Graph → List ℕ → TypeTerm → Type 0
+EachIsTidy P G [] t = Unit {0}
+EachIsTidy P G (i ∷ is) t = Tidy P G i t × EachIsTidy P G is t

@@ -28,7 +28,7 @@ mutual
       at_within is js k less
   over_over is js (inst_node i) h = refl
   over_over is js (defined d us) h = ap (defined d) (each_over_over is js us h)
-  over_over is js (bound_over us) h = ap bound_over (each_over_over is js us h)
+  over_over is js (bound_over gs us) h = ap (bound_over gs) (each_over_over is js us h)
 
   pub each_over_over :
       (is js us : InstTerms)
@@ -56,7 +56,7 @@ mutual
   over_full body is (inst_node i) fs f = tt
   over_full body is (defined d us) fs f =
       (subst (λ n. needs (body d) ≤ n) (sym (how_many_over is us)) f.0, each_full body is us fs f.1)
-  over_full body is (bound_over us) fs f = each_full body is us fs f
+  over_full body is (bound_over gs us) fs f = each_full body is us fs f
 
   each_full :
       (body : Bodies) (is us : InstTerms)
@@ -76,7 +76,7 @@ pub ends_further :
     (body : Bodies) (t u : InstTerm) (h : Head) → ComesTo body t u → Ends body u h → Ends body t h
 ends_further body t u (H.Parameter k) m e = comes_further body m e
 ends_further body t u (H.Node i) m e = comes_further body m e
-ends_further body t u H.Bound m e = (e.0, comes_further body m e.1)
+ends_further body t u H.Bound m e = (e.0, e.1, comes_further body m e.2)
 ends_further body t u H.Unknown m e = tt
 
 pub end_of_at :
@@ -98,7 +98,7 @@ from_after body zero t u e =
 from_after body (suc n) (parameter k) u e = cc
 from_after body (suc n) (inst_node i) u e = cc
 from_after body (suc n) (defined d is) u e = by_definition (from_after body n (over is (body d)) u e)
-from_after body (suc n) (bound_over is) u e = cc
+from_after body (suc n) (bound_over gs is) u e = cc
 
 -- One that comes to what is no name comes to names before that, and to nothing else.
 pub ends_once :
@@ -113,7 +113,7 @@ ends_once body zero (suc m) z (inst_node i) u stuck e f = cc
 ends_once body zero (suc m) z (defined d is) u stuck e f =
     let one : defined d is ≡ z = cc in
     absurd (stuck (subst IsName one tt))
-ends_once body zero (suc m) z (bound_over is) u stuck e f = cc
+ends_once body zero (suc m) z (bound_over gs is) u stuck e f = cc
 ends_once body (suc p) m z (parameter j) u stuck e f = cc
 ends_once body (suc p) m z (inst_node i) u stuck e f = cc
 ends_once body (suc p) zero z (defined d is) u stuck e f =
@@ -121,13 +121,13 @@ ends_once body (suc p) zero z (defined d is) u stuck e f =
     inl (subst IsName one tt)
 ends_once body (suc p) (suc m) z (defined d is) u stuck e f =
     ends_once body p m z (over is (body d)) u stuck e f
-ends_once body (suc p) m z (bound_over is) u stuck e f = cc
+ends_once body (suc p) m z (bound_over gs is) u stuck e f = cc
 
 name_over : (is : InstTerms) (u : InstTerm) → IsName u → IsName (over is u)
 name_over is (parameter k) n = absurd n
 name_over is (inst_node i) n = absurd n
 name_over is (defined d us) n = tt
-name_over is (bound_over us) n = absurd n
+name_over is (bound_over gs us) n = absurd n
 
 -- a definition over insts, with what its body comes to
 pub record ByBody (body : Bodies) (n : ℕ) (is : InstTerms) (u x : InstTerm) : Type 0 where
@@ -188,7 +188,7 @@ module _ (body : Bodies) (full : (d : ℕ) → IsFull body (body d)) where
         goes_on = e;
       })
   after_over (suc n) is (inst_node i) x f e = cc
-  after_over (suc n) is (bound_over us) x f e = cc
+  after_over (suc n) is (bound_over gs us) x f e = cc
   after_over (suc n) is (defined d js) x f e =
       let onward : after body n (over is (over js (body d))) ≡ Some x =
       ap (after body n) (over_over is js (body d) f.0) ∙ e
@@ -207,7 +207,7 @@ module _ (body : Bodies) (full : (d : ℕ) → IsFull body (body d)) where
         (by_definition (comes_over is (full d) m)) (given k)
     over_comes (H.Node i) d is m given = by_definition (comes_over is (full d) m)
     over_comes H.Bound d is m given =
-        (each_over is m.0, by_definition (comes_over is (full d) m.1))
+        (m.0, each_over is m.1, by_definition (comes_over is (full d) m.2))
     over_comes H.Unknown d is m given = tt
 
     mutual
@@ -215,7 +215,7 @@ module _ (body : Bodies) (full : (d : ℕ) → IsFull body (body d)) where
       end_comes (parameter k) = at_that
       end_comes (inst_node i) = at_that
       end_comes (defined d is) = over_comes (head_at heads d) d is (are d) (ends_come is)
-      end_comes (bound_over is) = (is, at_that)
+      end_comes (bound_over gs is) = (gs, is, at_that)
 
       ends_come :
           (is : InstTerms) (k : ℕ) → Ends body (inst_at is k) (end_at (ends (head_at heads) is) k)
@@ -277,7 +277,7 @@ module _ (body : Bodies) (full : (d : ℕ) → IsFull body (body d)) where
           → after body n t ≡ Some x → IsName x
       never limit n (parameter k) x less f end e = cc
       never limit n (inst_node i) x less f end e = cc
-      never limit n (bound_over is) x less f end e = cc
+      never limit n (bound_over gs is) x less f end e = cc
       never limit zero (defined d is) x less f end e =
           let one : defined d is ≡ x = cc in
           subst IsName one tt
@@ -309,10 +309,10 @@ module _ (body : Bodies) (full : (d : ℕ) → IsFull body (body d)) where
           ]
       told t u H.Bound f stuck m same end =
           let a = to_after body m in
-          let b = to_after body end.1 in
-          elim (ends_once body b.0 a.0 (bound_over end.0) t u (λ h. h) b.1 a.1) [
+          let b = to_after body end.2 in
+          elim (ends_once body b.0 a.0 (bound_over end.0 end.1) t u (λ h. h) b.1 a.1) [
             | inl name ↦ absurd (stuck name)
-            | inr one ↦ (end.0, one)
+            | inr one ↦ (end.0, end.1, one)
           ]
       told t u H.Unknown f stuck m same end =
           let a = to_after body m in

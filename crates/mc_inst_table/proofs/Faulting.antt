@@ -184,9 +184,9 @@ past_none (d ∷ ds) (suc k) past =
     let less : length ds ≤ k = omega arith in
     past_none ds k less
 
-empty_reaches : (body : Bodies) {d e : ℕ} {ts : InstTerms} → body d ≡ bound_over no_insts → Reaches body d e ts → ⊥
+empty_reaches : (body : Bodies) {d e : ℕ} {ts : InstTerms} → body d ≡ bound_over [] no_insts → Reaches body d e ts → ⊥
 empty_reaches body {d = d} {e = e} {ts = ts} empty (in_body m) =
-    let none : Mentions (bound_over no_insts) e ts =
+    let none : Mentions (bound_over [] no_insts) e ts =
     subst (λ t. Mentions t e ts) empty m
     in
     none
@@ -216,7 +216,7 @@ own_others l own x =
           )
       | inr past ↦
           let beyond : length l.insts ≤ k = omega (arith, past) in
-          let empty : body k ≡ bound_over no_insts = ap (inst_body_of l) (past_none l.insts k beyond) in (
+          let empty : body k ≡ bound_over [] no_insts = ap (inst_body_of l) (past_none l.insts k beyond) in (
             λ r. absurd (empty_reaches body empty r.1),
             λ r. absurd (empty_reaches body empty r.1),
           )

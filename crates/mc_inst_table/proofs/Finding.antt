@@ -22,7 +22,7 @@ body_there (j ∷ is) (suc d) i below at =
     let less : d < length is = omega arith in
     body_there is d i less at
 
-pub body_past : (is : List Inst) (d : ℕ) → length is ≤ d → bodies_of is d ≡ bound_over no_insts
+pub body_past : (is : List Inst) (d : ℕ) → length is ≤ d → bodies_of is d ≡ bound_over [] no_insts
 body_past [] d past = refl
 body_past (j ∷ is) zero past = absurd (let h : suc (length is) ≤ 0 = past in omega arith)
 body_past (j ∷ is) (suc d) past =
@@ -100,7 +100,7 @@ none_known is hs count unknown d =
       | inr past ↦
           let beyond : length hs ≤ d = omega (arith, count, past) in
           subst (Ends (bodies_of is) (bodies_of is d)) (sym (head_past hs d beyond))
-          (no_insts, subst (λ t. ComesTo (bodies_of is) t (bound_over no_insts)) (sym (body_past is d past)) at_that)
+          ([], no_insts, subst (λ t. ComesTo (bodies_of is) t (bound_over [] no_insts)) (sym (body_past is d past)) at_that)
     ]
 
 pub one_found :

@@ -73,7 +73,7 @@ is_parameter : (i : InstTerm) (j : ℕ) → parameter_of i ≡ Some j → i ≡ 
 is_parameter (parameter k) j e = let one : k ≡ j = cc in ap parameter one
 is_parameter (inst_node i) j e = absurd (let clash : None ≡ Some j = e in cc)
 is_parameter (defined d is) j e = absurd (let clash : None ≡ Some j = e in cc)
-is_parameter (bound_over is) j e = absurd (let clash : None ≡ Some j = e in cc)
+is_parameter (bound_over gs is) j e = absurd (let clash : None ≡ Some j = e in cc)
 
 given_within :
     (is : InstTerms) (p : ℕ) (g : Option ℕ)

@@ -16,4 +16,4 @@ pub mod Placing
 pub mod Judging
 pub mod Sizing
 pub mod Faulting
-pub mod Ending
+pub mod Listing

@@ -57,7 +57,7 @@ mutual
       inl (ap (λ (g : ℕ). record { to = g; given = given_of is }) (sym one.0)
       ∙ ap (λ vs. record { to = d; given = given_of vs }) (sym one.1))
   mentioned_links (defined d us) e is (inr m) = inr (all_mentioned us e is m)
-  mentioned_links (bound_over us) e is m = all_mentioned us e is m
+  mentioned_links (bound_over gs us) e is m = all_mentioned us e is m
 
   all_mentioned :
       (us : InstTerms) (e : ℕ) (is : InstTerms)
@@ -79,7 +79,7 @@ mutual
   linked_mentions (defined d us) l (inr m) =
       let rest = all_linked us l m in
       (rest.0, inr rest.1, rest.2)
-  linked_mentions (bound_over us) l m = all_linked us l m
+  linked_mentions (bound_over gs us) l m = all_linked us l m
 
   all_linked :
       (us : InstTerms) (l : Link)

@@ -54,7 +54,7 @@ module _ (body : Bodies) (full : (d : ℕ) → IsFull body (body d))
           | inl one ↦ (is, subst (λ g. ComesTo body (defined d is) (defined g is)) (sym one) at_that)
           | inr rest ↦ passes_behind (head_at heads d) d is f (are d) (given_comes is f) rest
         ]
-    passed_comes (bound_over is) f e = absurd (none_in f e)
+    passed_comes (bound_over gs is) f e = absurd (none_in f e)
 
     given_comes :
         (is : InstTerms) (f k : ℕ)
@@ -85,8 +85,8 @@ module _ (body : Bodies) (full : (d : ℕ) → IsFull body (body d))
       ]
   head_by d k H.Bound same end m =
       let a = to_after body m in
-      let b = to_after body end.1 in
-      elim (ends_once body a.0 b.0 (parameter k) (body d) (bound_over end.0) (λ h. h) a.1 b.1) [
+      let b = to_after body end.2 in
+      elim (ends_once body a.0 b.0 (parameter k) (body d) (bound_over end.0 end.1) (λ h. h) a.1 b.1) [
         | inl name ↦ absurd name
         | inr one ↦ cc
       ]
@@ -146,7 +146,7 @@ module _ (body : Bodies) (full : (d : ℕ) → IsFull body (body d))
         (head_by d k (head_at heads d) refl (are d) (from_after body n (body d) (parameter k) e))
         (ih 0 (inst_at is k) f js none (at_full body is k full_is) (ap Some same))
     by_part limit ih n d is f js (inst_node i) less full_is e same = cc
-    by_part limit ih n d is f js (bound_over us) less full_is e same = cc
+    by_part limit ih n d is f js (bound_over gs us) less full_is e same = cc
     by_part limit ih n d is f js (defined g us) less full_is e same =
         let one : g ≡ f = cc in
         let at_body : after body n (body d) ≡ Some (defined f us) =
@@ -177,10 +177,10 @@ module _ (body : Bodies) (full : (d : ℕ) → IsFull body (body d))
         → n ≤ limit → IsFull body t → after body n t ≡ Some (defined f js) → IsReached t f
     is_reached limit zero (parameter k) f js less f_t e = cc
     is_reached limit zero (inst_node i) f js less f_t e = cc
-    is_reached limit zero (bound_over is) f js less f_t e = cc
+    is_reached limit zero (bound_over gs is) f js less f_t e = cc
     is_reached limit (suc n) (parameter k) f js less f_t e = cc
     is_reached limit (suc n) (inst_node i) f js less f_t e = cc
-    is_reached limit (suc n) (bound_over is) f js less f_t e = cc
+    is_reached limit (suc n) (bound_over gs is) f js less f_t e = cc
     is_reached limit zero (defined d is) f js less f_t e =
         let one : f ≡ d = cc in
         inl (in_head f d (passed_behind (head_at heads d) (each_passed (head_at heads) is)) one)

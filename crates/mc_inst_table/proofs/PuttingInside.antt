@@ -88,12 +88,12 @@ abbrev headed : InstTerm → Head
 headed (parameter k) = H.Parameter k
 headed (inst_node i) = H.Node i
 headed (defined d is) = H.Unknown
-headed (bound_over is) = H.Bound
+headed (bound_over gs is) = H.Bound
 
 head_is : (x : InstTerm) (h : Head) → IsHead x h → h ≡ headed x
 head_is x (H.Parameter k) is = sym (ap headed is)
 head_is x (H.Node i) is = sym (ap headed is)
-head_is x H.Bound is = sym (ap headed is.1)
+head_is x H.Bound is = sym (ap headed is.2)
 head_is x H.Unknown is = absurd is
 
 end_put :
@@ -137,16 +137,16 @@ module _ (body : Bodies) (full : (d : ℕ) → IsFull body (body d))
                 let one = puts_one is h r in
                 end_kept body (defined d is) one.0 h (λ x p. in_given one.1 p) one.2
           ]
-      puts (bound_over is) h m =
+      puts (bound_over gs is) h m =
           elim (head_either h (ends (head_at heads) is)
           (all_put_ends (head_at heads) (inside_at inside) is) m) [
             | inl l ↦
                 let one = one_ends (head_at heads) is h l in
-                end_put body (bound_over is) one.0 h (λ x c. listed one.1 c)
+                end_put body (bound_over gs is) one.0 h (λ x c. listed one.1 c)
                 (subst (Ends body one.0) (sym one.2) (end_comes body full heads are one.0))
             | inr r ↦
                 let one = puts_one is h r in
-                end_kept body (bound_over is) one.0 h (λ x p. in_listed one.1 p) one.2
+                end_kept body (bound_over gs is) one.0 h (λ x p. in_listed one.1 p) one.2
           ]
 
       puts_one :

@@ -15,7 +15,7 @@ mutual
   mention_needs (defined d us) e is (inl one) =
       subst (λ (vs : InstTerms). all_need vs ≤ all_need us) one.1 (omega arith)
   mention_needs (defined d us) e is (inr m) = mentions_need us e is m
-  mention_needs (bound_over us) e is m = mentions_need us e is m
+  mention_needs (bound_over gs us) e is m = mentions_need us e is m
 
   mentions_need :
       (us : InstTerms) (e : ℕ) (is : InstTerms) → OneMentions us e is → all_need is ≤ all_need us
@@ -80,7 +80,7 @@ mutual
   over_own k (parameter j) h = let below : j < k = omega (arith, h) in at_own k j below
   over_own k (inst_node i) h = refl
   over_own k (defined d us) h = ap (defined d) (each_over_own k us h)
-  over_own k (bound_over us) h = ap bound_over (each_over_own k us h)
+  over_own k (bound_over gs us) h = ap (bound_over gs) (each_over_own k us h)
 
   each_over_own : (k : ℕ) (us : InstTerms) → all_need us ≤ k → each_over (parameters_from 0 k) us ≡ us
   each_over_own k no_insts h = refl
@@ -106,7 +106,7 @@ pub from_parameter :
 from_parameter xs (parameter j) q e = (j, refl, e)
 from_parameter xs (inst_node i) q e = cc
 from_parameter xs (defined d us) q e = cc
-from_parameter xs (bound_over us) q e = cc
+from_parameter xs (bound_over gs us) q e = cc
 
 -- WHAT IS REACHED, where definitions stand over as many insts as they have parameters
 module _ (body : Bodies) (width : ℕ → ℕ)

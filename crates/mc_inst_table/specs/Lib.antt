@@ -1,5 +1,4 @@
 pub mod Written
 pub mod Plain
 pub mod Rules
-pub mod InstEnds
 pub mod code

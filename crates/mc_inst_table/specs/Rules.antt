@@ -15,21 +15,22 @@ use Rattle.mc_linking.specs.Faults.{shown}
 use Rattle.mc_modules.specs.Linked.{Defined, Linked}
 use Rattle.mc_type_table.specs.Written.{parameters_of, home}
 use Rattle.mc_accepted.specs.InstRules.{InstTerm, defined, bound_over, InstTerms, no_insts, inst_then, Bodies, NotWellFounded, PutsFreeInside, OneIs, ModeIsUnfounded, free_inside, not_well_founded}
-use Rattle.mc_inst_table.specs.Written.{numbers_among, first_or, written_inst, all_listed, append_insts, ModeTerm, from_to, defined_mode, written_mode, insts_of_mode}
+use Rattle.mc_inst_table.specs.Written.{numbers_among, first_or, functors, written_inst, all_listed, append_insts, ModeTerm, from_to, defined_mode, written_mode, insts_of_mode}
 
 -- THE BODIES of definitions, each as its own module writes it.
 
 abbrev pub inst_body_by : Linked → (own : ℕ) → PlainDecl → Option InstTerm
 inst_body_by l own (SameInst h t) = Some (written_inst l own (parameters_of h) t)
-inst_body_by l own (BoundInst h ts) = Some (bound_over (all_listed l own (parameters_of h) ts))
+inst_body_by l own (BoundInst h ts) =
+    Some (bound_over (functors ts) (all_listed l own (parameters_of h) ts))
 inst_body_by l own i = None
 
 abbrev pub body_or_none : Option InstTerm → InstTerm
 body_or_none (Some i) = i
-body_or_none None = bound_over no_insts
+body_or_none None = bound_over [] no_insts
 
 abbrev pub inst_body_of : Linked → Option Defined → InstTerm
-inst_body_of l None = bound_over no_insts
+inst_body_of l None = bound_over [] no_insts
 inst_body_of l (Some d) = body_or_none (inst_body_by l (home l d) d.item)
 
 abbrev pub inst_bodies : Linked → Bodies

@@ -6,11 +6,12 @@ use Rattle.mc_term_data.specs.Names.{count, Row, row, found}
 use Rattle.mc_term_data.specs.Shapes.{is_the_word, operands}
 use Rattle.mc_decl_syntax.specs.Plain.{Path}
 use Rattle.mc_defs_uses.specs.Plain.{PlainNameArity, id, qualifiers, last_part}
+use Rattle.mc_defs_uses.specs.Definitions.{symbol_name}
 use Rattle.mc_modules.specs.Linked.{Defined, Linked}
 use Rattle.mc_modules.specs.Numbers.{numbers_where}
 use Rattle.mc_modules.specs.Candidates.{looked_in, type_fits}
 use Rattle.mc_type_table.specs.Written.{place_of}
-use Rattle.mc_accepted.specs.InstRules.{InstTerm, parameter, inst_node, defined, bound_over, InstTerms, no_insts, inst_then}
+use Rattle.mc_accepted.specs.InstRules.{Functor, InstTerm, parameter, inst_node, defined, bound_over, InstTerms, no_insts, inst_then}
 
 -- the builtin insts, by their nodes
 unfoldable pub builtin_insts : List (Row ℕ)
@@ -58,6 +59,19 @@ abbrev pub named_inst : Linked → (own : ℕ) → Path → (arity : ℕ) → In
 named_inst l own w n is =
     builtin_or_defined (builtin builtin_insts w n) (meaning l own l.insts w n) is
 
+-- the constructors that terms name
+abbrev pub functor : PlainNameArity → Functor
+functor x = record { name = x.name; arity = x.arity }
+
+abbrev pub functors : PlainTerms → List Functor
+functors no_term = []
+functors (more_terms t ts) = functor (symbol_name t) ∷ functors ts
+
+-- those that `bound` lists
+abbrev pub listed_functors : PlainTerm → List Functor
+listed_functors (at (Disj ts) line) = functors ts
+listed_functors t = functor (symbol_name t) ∷ []
+
 -- The inst that a term writes in the module of a number: a variable by its place among these names,
 -- what `bound` lists, a name by what it means there. (A term of another form is no inst: the items'
 -- form refuses it.)
@@ -74,7 +88,7 @@ abbrev mutual
       → InstTerm
   inst_over l own vs w is_bound no_term = named_inst l own w 0 no_insts
   inst_over l own vs w is_bound (more_terms t no_term) =
-      if is_bound then bound_over (listed_insts l own vs t)
+      if is_bound then bound_over (listed_functors t) (listed_insts l own vs t)
       else named_inst l own w 1 (inst_then (written_inst l own vs t) no_insts)
   inst_over l own vs w is_bound (more_terms t (more_terms u ts)) =
       named_inst l own w (2 + count ts)

@@ -7,4 +7,3 @@ pub mod Links
 pub mod Places
 pub mod Others
 pub mod Faults
-pub mod KeptEnds

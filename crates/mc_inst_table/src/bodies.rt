@@ -4,9 +4,10 @@ ghost use Rattle.mc_accepted.specs.InstRules.{bound_over};
 ghost use Rattle.mc_modules.specs.Linked.{plain_named, plain_names};
 ghost use Rattle.mc_type_table.specs.Written.{parameters_of};
 ghost use Rattle.mc_inst_table.specs.Plain.{plain_inst};
-ghost use Rattle.mc_inst_table.specs.Written.{written_inst, all_listed};
+ghost use Rattle.mc_inst_table.specs.Written.{functors, written_inst, all_listed};
 ghost use Rattle.mc_inst_table.specs.Rules.{inst_body_of};
 
+use crate::functors::functors;
 use crate::inst::Inst;
 use crate::written::{inst_of_term, insts_listed};
 use mc_base::{Memory, Row};
@@ -43,7 +44,7 @@ fn inst_body(alloc: Global, names: &Names, named: &Named) -> Result<Inst, Memory
     match &named.decl {
         Decl::SameInst(head, body) => same_inst(alloc, names, own, head, body),
         Decl::BoundInst(head, symbols) => bound_inst(alloc, names, own, head, symbols.as_slice()),
-        _ => Ok(Inst::Bound(Row::new(alloc))),
+        _ => Ok(Inst::Bound(Row::new(alloc), Row::new(alloc))),
     }
 }
 
@@ -84,11 +85,11 @@ pub fn bound_inst(
     ensures { IfOk result
         (λ i.
         plain_inst i
-        ≡ bound_over
+        ≡ bound_over (functors (tms (map plain_term symbols.now)))
         (all_listed (plain_names names.now) own (parameters_of (plain_term head.now))
         (tms (map plain_term symbols.now)))) }
 {
     let variables = parameters_of(alloc, head)?;
     let insts = insts_listed(alloc, names, own, variables.as_slice(), symbols)?;
-    Ok(Inst::Bound(insts))
+    Ok(Inst::Bound(functors(alloc, symbols)?, insts))
 }

@@ -27,7 +27,7 @@ pub fn end_of(heads: &Row<Head>, inst: &Inst) -> Head
     match inst {
         Inst::Parameter(k) => Head::Parameter(*k),
         Inst::Node(node) => Head::Node(*node),
-        Inst::Bound(_) => Head::Bound,
+        Inst::Bound(_, _) => Head::Bound,
         Inst::Defined(number, given) => match head_at(heads, *number) {
             Head::Parameter(k) => end_at(heads, given.as_slice(), k),
             Head::Node(node) => Head::Node(node),

@@ -234,7 +234,7 @@ fn put_ends(
             put_ends_at(heads, given.as_slice(), inside_at(inside, *number), ends)?;
             put_all_ends(heads, inside, given.as_slice(), ends)
         }
-        Inst::Bound(listed) => {
+        Inst::Bound(_, listed) => {
             put_ends_of(heads, listed.as_slice(), ends)?;
             put_all_ends(heads, inside, listed.as_slice(), ends)
         }

@@ -1,4 +1,11 @@
-use mc_base::Row;
+use mc_base::{Row, Text};
+
+/// A constructor that `bound` lists, by its name and its number of arguments.
+#[derive(Debug, PartialEq, Eq, Drop)]
+pub struct Functor {
+    pub name: Text,
+    pub arity: u32,
+}
 
 /// An inst as it is written, where definitions stand by their names.
 #[derive(Drop)]
@@ -9,8 +16,8 @@ pub enum Inst {
     Node(u32),
     /// A definition, by its number, over insts.
     Defined(u32, Row<Inst>),
-    /// What `bound` lists: the insts of the arguments of all its constructors, one behind another.
-    Bound(Row<Inst>),
+    /// What `bound` lists: its constructors, and the insts of the arguments of all of them, one behind another.
+    Bound(Row<Functor>, Row<Inst>),
 }
 
 /// A mode as it is written.

@@ -2,8 +2,8 @@
 #![tactic(auto)]
 
 mod bodies;
-mod ends;
 mod faults;
+mod functors;
 mod heads;
 mod inside;
 mod inst;
@@ -19,9 +19,8 @@ mod rings;
 mod written;
 
 pub use bodies::inst_bodies;
-pub use ends::{End, InstEnds};
 pub use faults::inst_faults;
-pub use inst::{Inst, Mode};
+pub use inst::{Functor, Inst, Mode};
 pub use items::insts_written;
 pub use modes::mode_of_term;
 pub use written::inst_of_term;

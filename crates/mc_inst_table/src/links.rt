@@ -51,7 +51,7 @@ fn put_links(alloc: Global, inst: &Inst, found: &mut Vec<Link>) -> Result<(), Me
             found.push(Link { to: *number, given })?;
             put_all_links(alloc, insts.as_slice(), found)
         }
-        Inst::Bound(insts) => put_all_links(alloc, insts.as_slice(), found),
+        Inst::Bound(_, insts) => put_all_links(alloc, insts.as_slice(), found),
     }
 }
 
@@ -85,6 +85,6 @@ fn parameter_of(inst: &Inst) -> Option<u32>
         Inst::Parameter(k) => Some(*k),
         Inst::Node(_) => None,
         Inst::Defined(_, _) => None,
-        Inst::Bound(_) => None,
+        Inst::Bound(_, _) => None,
     }
 }

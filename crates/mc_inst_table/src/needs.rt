@@ -45,7 +45,7 @@ fn needs(inst: &Inst) -> u64
         Inst::Parameter(k) => *k as u64 + 1,
         Inst::Node(_) => 0,
         Inst::Defined(_, insts) => all_need(insts.as_slice()),
-        Inst::Bound(insts) => all_need(insts.as_slice()),
+        Inst::Bound(_, insts) => all_need(insts.as_slice()),
     }
 }
 
@@ -76,7 +76,7 @@ pub fn is_full(needs: &[u64], inst: &Inst) -> bool
         Inst::Defined(number, insts) => {
             need_at(needs, *number) <= insts.len() as u64 && are_full(needs, insts.as_slice())
         }
-        Inst::Bound(insts) => are_full(needs, insts.as_slice()),
+        Inst::Bound(_, insts) => are_full(needs, insts.as_slice()),
     }
 }
 

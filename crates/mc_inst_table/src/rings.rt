@@ -139,7 +139,7 @@ fn put_passed(heads: &Row<Head>, inst: &Inst, numbers: &mut Vec<u32>) -> Result<
     match inst {
         Inst::Parameter(_) => Ok(()),
         Inst::Node(_) => Ok(()),
-        Inst::Bound(_) => Ok(()),
+        Inst::Bound(_, _) => Ok(()),
         Inst::Defined(number, given) => {
             numbers.push(*number)?;
             match head_at(heads, *number) {

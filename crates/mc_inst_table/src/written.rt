@@ -8,6 +8,7 @@ ghost use Rattle.mc_type_table.specs.Written.{place_of};
 ghost use Rattle.mc_inst_table.specs.Plain.{plain_inst, plain_insts};
 ghost use Rattle.mc_inst_table.specs.Written.{builtin_insts, builtin, named_inst, append_insts, inst_over, written_inst, written_insts, listed_insts, all_listed};
 
+use crate::functors::listed_functors;
 use crate::inst::Inst;
 use crate::meaning::meaning;
 use mc_base::{Memory, Row, Text};
@@ -90,8 +91,9 @@ fn inst_over_one(
         (is_the_word (codes "bound") name.now) (more_terms (plain_term argument.now) no_term)) }
 {
     if is_the_word(b"bound", name) {
+        let functors = listed_functors(alloc, argument)?;
         let insts = listed(alloc, names, own, variables, argument)?;
-        return Ok(Inst::Bound(Row::of(insts)?));
+        return Ok(Inst::Bound(functors, Row::of(insts)?));
     }
     let inst = inst_of_term(alloc, names, own, variables, argument)?;
     named_inst(alloc, names, own, name, 1, Row::one(alloc, inst)?)

@@ -3,7 +3,8 @@ use Rattle.std.proofs.Common.{◌≡◌, ◌⊎◌, inl, inr, ℕ, List, [], ◌
 use Rattle.mc_program.specs.Programs.{TypeTerm, Source}
 use Rattle.mc_model.specs.Insts.{InstNode, free, ground, unique, dead, bound, Graph}
 use Rattle.mc_accepted.specs.Inclusion.{Tip, Path, NoMore, AllFree, NoneIs, OneIsDead, NoMoreThere, NoneMore, LeastAbove, MergedNodes, Merged}
-use Rattle.mc_insts.specs.Merging.{LivesAbove, EachIsTidy, OneAllows, StandsForAll}
+use Rattle.mc_accepted.specs.Tidy.{EachIsTidy}
+use Rattle.mc_insts.specs.Merging.{LivesAbove, OneAllows, StandsForAll}
 use Rattle.mc_insts.specs.code.Answers.{Gathers}
 
 module _ (P : Source) (G : Graph) where

@@ -4,7 +4,8 @@ use Rattle.mc_program.specs.Programs.{TypeTerm, Source}
 use Rattle.mc_model.specs.Insts.{Graph}
 use Rattle.mc_accepted.specs.Inclusion.{Tip, Path, AllFree, OneIsDead, NoneMore}
 use Rattle.mc_insts.specs.declared.graph.Node.{Node}
-use Rattle.mc_insts.specs.Merging.{EachIsTidy, OneAllows}
+use Rattle.mc_accepted.specs.Tidy.{EachIsTidy}
+use Rattle.mc_insts.specs.Merging.{OneAllows}
 use Rattle.mc_insts.specs.code.Lists.{Extends}
 use Rattle.mc_insts.specs.code.Walks.{Scene, Proper}
 use Rattle.mc_insts.specs.code.Shown.{plain_graph}

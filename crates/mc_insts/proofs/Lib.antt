@@ -36,3 +36,4 @@ pub mod Definitions
 pub mod MadeNodes
 pub mod MakingNodes
 pub mod Added
+pub mod TidyWalks

@@ -6,6 +6,7 @@ use Rattle.mc_program.specs.Programs.{Source}
 use Rattle.mc_model.specs.Insts.{Graph, bound}
 use Rattle.mc_accepted.specs.Fits.{FitsInsts}
 use Rattle.mc_accepted.specs.Inclusion.{Allows}
+use Rattle.mc_accepted.specs.Tidy.{Tidy}
 use Rattle.mc_insts.specs.declared.insts.Insts.{Insts}
 use Rattle.mc_insts.specs.declared.graph.InstGraph.{InstGraph}
 use Rattle.mc_insts.specs.declared.graph.Shapes.{Shapes}
@@ -197,6 +198,7 @@ grown_shown P I J c e = record {
   more = omega arith;
   same = λ i w. ap (λ (G : Graph). G i) e;
   meaning = λ i w path tip t. subst (λ (G : Graph). Allows P (graph_of I) path tip i t ↔ Allows P G path tip i t) (sym e) ((λ a. a), (λ a. a));
+  tidy = λ i w t. subst (λ (G : Graph). Tidy P (graph_of I) i t ↔ Tidy P G i t) (sym e) ((λ a. a), (λ a. a));
 }
 
 pub grown_from : (P : Source) (I0 I J : Insts) → count_of I ≡ count_of I0 → graph_of I ≡ graph_of I0 → Grown P I J → Grown P I0 J
@@ -204,4 +206,5 @@ grown_from P I0 I J c e g = record {
   more = let m = g.more in omega arith;
   same = λ i w. g.same i (omega arith) ∙ ap (λ (G : Graph). G i) e;
   meaning = λ i w path tip t. subst (λ (G : Graph). Allows P G path tip i t ↔ Allows P (graph_of J) path tip i t) e (g.meaning i (omega arith) path tip t);
+  tidy = λ i w t. subst (λ (G : Graph). Tidy P G i t ↔ Tidy P (graph_of J) i t) e (g.tidy i (omega arith) t);
 }

@@ -5,6 +5,7 @@ use Rattle.std.proofs.lemmas.List.{take-append-drop, get_or-take, get_or-drop, l
 use Rattle.mc_program.specs.Programs.{TypeTerm, variable_type, Source}
 use Rattle.mc_model.specs.Insts.{Graph}
 use Rattle.mc_accepted.specs.Inclusion.{Allows}
+use Rattle.mc_accepted.specs.Tidy.{Tidy}
 use Rattle.mc_insts.specs.declared.insts.Insts.{Insts}
 use Rattle.mc_insts.specs.declared.graph.InstGraph.{InstGraph}
 use Rattle.mc_insts.specs.declared.graph.Shapes.{Shapes}
@@ -31,7 +32,7 @@ use Rattle.mc_insts.proofs.Gathering.{gathers_one, gathers_both, stands}
 use Rattle.mc_insts.proofs.Growths.{gathers_on}
 use Rattle.mc_insts.proofs.Forming.{formed_fits, fits_formed}
 use Rattle.mc_insts.proofs.Kept.{insts_of}
-use Rattle.mc_insts.proofs.Older.{kept, allows_on, allows_back}
+use Rattle.mc_insts.proofs.Older.{kept, allows_on, allows_back, tidy_on, tidy_back}
 
 -- rows don't speak of nodes
 pub rows_on : (P : Source) (fs : List Functor) (ns ms : List Node) (shapes : Shapes) (type : ℕ → TypeTerm) → RowsAre P (scene (insts_of fs ns) shapes) type → RowsAre P (scene (insts_of fs ms) shapes) type
@@ -215,6 +216,7 @@ grown_along P I J shapes proper older functors =
       meaning = λ i w path tip t.
           subst (λ (G : Graph). Allows P (graph_of I) path tip i t ↔ Allows P G path tip i t) e
           (allows_on C proper P ms older path tip i t w, allows_back C proper P ms older path tip i t w);
+      tidy = λ i w t. subst (λ (G : Graph). Tidy P (graph_of I) i t ↔ Tidy P G i t) e (tidy_on C proper P ms older i t w, tidy_back C proper P ms older i t w);
     }
 
 pub grown : (P : Source) (I0 I J : Insts) → I.graph ≡ I0.graph → Ready P I → Onward I J → Grown P I0 J
@@ -227,6 +229,7 @@ grown_same P I J e = record {
   same = λ i w. ap (λ (g : InstGraph). plain_graph g.functors g.nodes i) e;
   meaning = λ i w path tip t.
       subst (λ (G : Graph). Allows P (graph_of I) path tip i t ↔ Allows P G path tip i t) (sym (ap (λ (g : InstGraph). plain_graph g.functors g.nodes) e)) ((λ a. a), (λ a. a));
+  tidy = λ i w t. subst (λ (G : Graph). Tidy P (graph_of I) i t ↔ Tidy P G i t) (sym (ap (λ (g : InstGraph). plain_graph g.functors g.nodes) e)) ((λ a. a), (λ a. a));
 }
 
 -- the nodes that were added are dropped

@@ -10,7 +10,7 @@ use Rattle.mc_insts.proofs.Steps.{passed_on, child_below}
 
 module _ (C : Scene) where
   -- what holds of what stood, and of each argument of t, holds of all that stands
-  each_more : (P : Triple → Type 0) (t : Triple) (xs ys : List Triple) → Extends xs ys → ((m : ℕ) (u : Triple) → Stands xs m u → P u) → ((u : Triple) → IsChild C t u → P u) → Fresh C t xs ys → (m : ℕ) (u : Triple) → Stands ys m u → P u
+  pub each_more : (P : Triple → Type 0) (t : Triple) (xs ys : List Triple) → Extends xs ys → ((m : ℕ) (u : Triple) → Stands xs m u → P u) → ((u : Triple) → IsChild C t u → P u) → Fresh C t xs ys → (m : ℕ) (u : Triple) → Stands ys m u → P u
   each_more P t xs ys e before new fresh m u s =
       by_order m (length xs) (λ x. before m u (stands_before xs ys m u e x s)) (λ x. new u (fresh m u (omega arith) s)) (λ x. new u (fresh m u (omega arith) s))
 

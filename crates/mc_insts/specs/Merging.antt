@@ -5,7 +5,7 @@ use Rattle.mc_program.specs.Programs.{TypeTerm, Source}
 use Rattle.mc_model.specs.Insts.{free, dead, Graph}
 use Rattle.mc_accepted.specs.Inclusion.{Tip, Path, Allows, Included, AllFree, NoneIs, OneIsDead, NoneMore, LeastAbove, Merged}
 use Rattle.mc_accepted.specs.Proper.{ProperGraph}
-use Rattle.mc_accepted.specs.Tidy.{Tidy}
+use Rattle.mc_accepted.specs.Tidy.{Tidy, EachIsTidy}
 
 -- an inst of some graph that isn't dead is above them all
 pub record LivesAbove (P : Source) (G : Graph) (is : List ℕ) (t : TypeTerm) : Type 0 where
@@ -20,10 +20,6 @@ pub record LivesAbove (P : Source) (G : Graph) (is : List ℕ) (t : TypeTerm) : 
 -- type variable.
 abbrev pub Mergeable : Source → Graph → List ℕ → TypeTerm → Type 0
 Mergeable P G is t = AllFree G is ⊎ (NoneIs free G is × (OneIsDead G is ⊎ LivesAbove P G is t))
-
-abbrev pub EachIsTidy : Source → Graph → List ℕ → TypeTerm → Type 0
-EachIsTidy P G [] t = Unit {0}
-EachIsTidy P G (i ∷ is) t = Tidy P G i t × EachIsTidy P G is t
 
 -- one of the insts allows the path and what stands at its end
 abbrev pub OneAllows : Source → Graph → List ℕ → Path → Tip → TypeTerm → Type 0

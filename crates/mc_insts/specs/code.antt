@@ -21,3 +21,4 @@ pub mod Pairs
 pub mod Ready
 pub mod Chains
 pub mod Bounds
+pub mod TidyWalks

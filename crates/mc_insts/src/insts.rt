@@ -2,6 +2,7 @@ ghost use Rattle.std.specs.Prelude.{◌≡◌, ◌<◌, ◌↔◌, ℕ, ◌∷�
 ghost use Rattle.mc_program.specs.Programs.{Source};
 ghost use Rattle.mc_program.specs.PlainPrograms.{plain_type, plain_program};
 ghost use Rattle.mc_accepted.specs.Inclusion.{Included};
+ghost use Rattle.mc_accepted.specs.Tidy.{Tidy};
 ghost use Rattle.mc_insts.specs.Programs.{FitsConstructors};
 ghost use Rattle.mc_insts.specs.Narrowed.{Narrowed};
 ghost use Rattle.mc_insts.specs.code.Walks.{scene, Proper};
@@ -148,6 +149,26 @@ impl Insts {
     {
         let r = self.row(alloc, t, program)?;
         self.graph.includes(alloc, i, j, r, &self.shapes)
+    }
+
+    /// Whether `unique` and `dead` stand at io's state alone, at any depth of an inst at a type.
+    pub fn is_tidy(
+        &mut self,
+        alloc: Global,
+        i: InstId,
+        t: &Ty,
+        program: &Program,
+    ) -> Result<bool, Memory>
+        requires program { AreOf (plain_program program.now) self.old }
+        requires inst { i < count_of self.old }
+        ensures tidy { IfOk result
+            (λ b. IsTrue b ↔ Tidy (plain_program program.now) (graph_of self.old) i (plain_type t.now)) }
+        ensures program { AreOf (plain_program program.now) self.new }
+        ensures graph { graph_of self.new ≡ graph_of self.old }
+        ensures count { count_of self.new ≡ count_of self.old }
+    {
+        let r = self.row(alloc, t, program)?;
+        self.graph.is_tidy(alloc, i, r, &self.shapes)
     }
 
     /// The insts of a constructor's arguments, by its symbol; None exactly where the inst excludes it.

@@ -16,6 +16,7 @@ mod narrow;
 mod over;
 mod pairs;
 mod rows;
+mod tidy;
 mod triples;
 mod types;
 mod walk;

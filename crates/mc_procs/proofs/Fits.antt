@@ -7,6 +7,7 @@ use Rattle.mc_model.specs.Scheduled.{Procedure}
 use Rattle.mc_model.specs.PlainGoals.{plain_proc}
 use Rattle.mc_model.specs.declared.sched.Proc.{Proc}
 use Rattle.mc_accepted.specs.Inclusion.{Allows}
+use Rattle.mc_accepted.specs.Tidy.{Tidy}
 use Rattle.mc_insts.specs.declared.insts.Insts.{Insts}
 use Rattle.mc_insts.specs.Graphs.{graph_of, count_of}
 use Rattle.mc_insts.specs.Growing.{Grown}
@@ -158,6 +159,7 @@ same_graph P I J e c =
         λ a. subst (λ g. Allows P g path tip i t) (sym e) a,
         λ a. subst (λ g. Allows P g path tip i t) e a,
       );
+      tidy = λ i lt t. (λ a. subst (λ g. Tidy P g i t) (sym e) a, λ a. subst (λ g. Tidy P g i t) e a);
     }
 
 -- what a system has of these

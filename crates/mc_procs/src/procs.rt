@@ -2,6 +2,7 @@ ghost use Rattle.std.specs.Prelude.{◌≡◌, ◌↔◌, ◌+◌, ◌∷◌, �
 ghost use Rattle.mc_program.specs.PlainPrograms.{plain_program, plain_type};
 ghost use Rattle.mc_model.specs.PlainGoals.{plain_proc};
 ghost use Rattle.mc_accepted.specs.Inclusion.{Included};
+ghost use Rattle.mc_accepted.specs.Tidy.{Tidy};
 ghost use Rattle.mc_insts.specs.Graphs.{graph_of, count_of};
 ghost use Rattle.mc_insts.specs.Growing.{Grown};
 ghost use Rattle.mc_insts.specs.Kept.{AreOf};
@@ -158,6 +159,18 @@ impl Procs {
         ensures count { count_of self.new.insts ≡ count_of self.old.insts }
     {
         self.insts.includes(alloc, i, j, t, &self.program)
+    }
+
+    /// Whether `unique` and `dead` stand at io's state alone, at any depth of an inst at a type.
+    pub fn is_tidy(&mut self, alloc: Global, i: InstId, t: &Ty) -> Result<bool, Memory>
+        requires { i < count_of self.old.insts }
+        ensures tidy { IfOk result
+            (λ b. IsTrue b ↔ Tidy (source_of self.old) (insts_of self.old) i (plain_type t.now)) }
+        ensures others { self.new ≡ with_insts self.old self.new.insts }
+        ensures graph { insts_of self.new ≡ insts_of self.old }
+        ensures count { count_of self.new.insts ≡ count_of self.old.insts }
+    {
+        self.insts.is_tidy(alloc, i, t, &self.program)
     }
 
     /// Adds the insts that definitions define: a node for each that lists constructors, in their order. Each inst of the

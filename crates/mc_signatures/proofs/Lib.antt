@@ -1,6 +1,9 @@
-pub mod Means
-pub mod TidyNodes
-pub mod Telling
-pub mod Numbered
+pub mod InstKeys
+pub mod Expanding
+pub mod Meaning
+pub mod Choosing
+pub mod Placing
+pub mod Signing
+pub mod Following
 pub mod Kept
-pub mod Tidying
+pub mod Numbered

@@ -1,5 +1,4 @@
+pub mod MeantInsts
 pub mod MeantModes
 pub mod Signatures
-pub mod TidyModes
-pub mod Laws
 pub mod code

@@ -1,6 +1,6 @@
--- The signatures of predicates: their declared modes, each with the builtin insts that it means and
--- the number of its procedure. (The Mercury manual: Modes, predicate and function modes.)
-use Rattle.std.specs.Prelude.{◌≡◌, ◌⊎◌, ◌<◌, ℕ, suc, List, [], ◌∷◌, map, replicate, get_or, Option, Some, None}
+-- The signatures of predicates: their declared modes, each with the nodes that its insts are and the
+-- number of its procedure. (The Mercury manual: Modes, predicate and function modes.)
+use Rattle.std.specs.Prelude.{◌≡◌, ℕ, suc, List, [], ◌∷◌, map, replicate, get_or, Option, Some, None}
 use Rattle.mc_source.specs.declared.det.Det.{Det}
 use Rattle.mc_source.specs.declared.place.Place.{Place}
 use Rattle.mc_program.specs.declared.builtin.Builtin.{Builtin}
@@ -8,30 +8,8 @@ use Rattle.mc_program.specs.declared.program.Pred.{Pred}
 use Rattle.mc_program.specs.PlainPrograms.{plain_pred, no_pred}
 use Rattle.mc_model.specs.declared.inst.ModeDecl.{ModeDecl}
 use Rattle.mc_model.specs.declared.inst.Sig.{Sig}
-use Rattle.mc_modules.specs.Linked.{Linked}
 use Rattle.mc_inst_table.specs.Written.{ModeTerm}
 use Rattle.mc_declared_modes.specs.WrittenModes.{PlainMode}
-use Rattle.mc_signatures.specs.MeantModes.{MeansMode, HasOtherInst}
-
--- the modes of arguments go from these builtin insts to those
-abbrev pub EachMeans : Linked → List ModeTerm → (first last : List ℕ) → Type 0
-EachMeans l [] [] [] = Unit {0}
-EachMeans l (m ∷ ms) (a ∷ first) (b ∷ last) = MeansMode l m a b × EachMeans l ms first last
-EachMeans l _ _ _ = ⊥
-
--- each is one of the four builtin insts
-abbrev pub AreBuiltin : List ℕ → Type 0
-AreBuiltin [] = Unit {0}
-AreBuiltin (i ∷ is) = (i < 4) × AreBuiltin is
-
--- a declared mode is what is written, with the procedure of this number
-pub record IsDeclared (l : Linked) (number : ℕ) (w : PlainMode) (m : ModeDecl) : Type 0 where
-  pub proc : m.proc ≡ number
-  pub insts : EachMeans l w.modes m.first m.last
-  pub first : AreBuiltin m.first
-  pub last : AreBuiltin m.last
-  pub det : m.det ≡ w.det
-  pub at : m.at ≡ w.at
 
 -- THE NUMBERS of procedures: a mode of a builtin has none, and the number 0 stands there.
 
@@ -48,49 +26,44 @@ abbrev pub next_behind : Option Builtin → (next : ℕ) → List PlainMode → 
 next_behind op n [] = n
 next_behind op n (w ∷ ws) = next_behind op (next_number op n) ws
 
--- the declared modes of a predicate, numbered on
-abbrev pub AreDeclared :
-    Linked → Option Builtin → (next : ℕ) → List PlainMode → List ModeDecl → Type 0
-AreDeclared l op n [] [] = Unit {0}
-AreDeclared l op n (w ∷ ws) (m ∷ ms) =
-    IsDeclared l (number_or_none op n) w m × AreDeclared l op (next_number op n) ws ms
-AreDeclared l op n _ _ = ⊥
+-- SIGNATURES by what it means that a mode goes from one node to another
+module _ (Means : ModeTerm → (first last : ℕ) → Type 0) where
+  -- the modes of arguments go from these nodes to those
+  abbrev pub EachMeans : List ModeTerm → (first last : List ℕ) → Type 0
+  EachMeans [] [] [] = Unit {0}
+  EachMeans (m ∷ ms) (a ∷ first) (b ∷ last) = Means m a b × EachMeans ms first last
+  EachMeans _ _ _ = ⊥
 
--- The signatures of predicates from a number on, by the modes that are written of each; their
--- procedures are numbered on from the next number.
-abbrev pub AreSignatures :
-    Linked → (builtin : ℕ → Option Builtin) → (predicate next : ℕ) → List (List PlainMode)
-    → List Sig → Type 0
-AreSignatures l op p n [] [] = Unit {0}
-AreSignatures l op p n (ws ∷ rows) (s ∷ sigs) =
-    (s.pred ≡ p)
-    × AreDeclared l (op p) n ws s.modes
-    × AreSignatures l op (suc p) (next_behind (op p) n ws) rows sigs
-AreSignatures l op p n _ _ = ⊥
+  -- a declared mode is what is written, with the procedure of this number
+  pub record IsDeclared (number : ℕ) (w : PlainMode) (m : ModeDecl) : Type 0 where
+    pub proc : m.proc ≡ number
+    pub insts : EachMeans w.modes m.first m.last
+    pub det : m.det ≡ w.det
+    pub at : m.at ≡ w.at
 
--- WHERE A MODE HAS ANOTHER INST than builtin ones
+  -- the declared modes of a predicate, numbered on
+  abbrev pub AreDeclared :
+      Option Builtin → (next : ℕ) → List PlainMode → List ModeDecl → Type 0
+  AreDeclared op n [] [] = Unit {0}
+  AreDeclared op n (w ∷ ws) (m ∷ ms) =
+      IsDeclared (number_or_none op n) w m × AreDeclared op (next_number op n) ws ms
+  AreDeclared op n _ _ = ⊥
 
-abbrev pub OneHasOther : Linked → List ModeTerm → Type 0
-OneHasOther l [] = ⊥
-OneHasOther l (m ∷ ms) = HasOtherInst l m ⊎ OneHasOther l ms
-
-abbrev pub ModesHaveOther : Linked → List PlainMode → Type 0
-ModesHaveOther l [] = ⊥
-ModesHaveOther l (w ∷ ws) = OneHasOther l w.modes ⊎ ModesHaveOther l ws
-
-abbrev pub SomeHaveOther : Linked → List (List PlainMode) → Type 0
-SomeHaveOther l [] = ⊥
-SomeHaveOther l (ws ∷ rows) = ModesHaveOther l ws ⊎ SomeHaveOther l rows
+  -- The signatures of predicates from a number on, by the modes that are written of each; their
+  -- procedures are numbered on from the next number.
+  abbrev pub AreSignatures :
+      (builtin : ℕ → Option Builtin) → (predicate next : ℕ) → List (List PlainMode) → List Sig
+      → Type 0
+  AreSignatures op p n [] [] = Unit {0}
+  AreSignatures op p n (ws ∷ rows) (s ∷ sigs) =
+      (s.pred ≡ p)
+      × AreDeclared (op p) n ws s.modes
+      × AreSignatures op (suc p) (next_behind (op p) n ws) rows sigs
+  AreSignatures op p n _ _ = ⊥
 
 -- the builtin that a predicate is, by its number
 abbrev pub builtin_of : List Pred → (predicate : ℕ) → Option Builtin
 builtin_of preds p = (get_or (map plain_pred preds) p no_pred).builtin
-
--- what is answered: the signatures, or none where a mode has another inst
-abbrev pub Signed :
-    Linked → (builtin : ℕ → Option Builtin) → List (List PlainMode) → Option (List Sig) → Type 0
-Signed l op rows (Some sigs) = AreSignatures l op 0 0 rows sigs
-Signed l op rows None = SomeHaveOther l rows
 
 -- THE SIGNATURE OF A QUERY: one mode, in which each argument is free at first and ground at last
 abbrev pub query_signature :

@@ -1,2 +1,4 @@
+pub mod Keys
+pub mod Rows
 pub mod Definitions
-pub mod Telling
+pub mod Numbering

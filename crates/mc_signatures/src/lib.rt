@@ -1,13 +1,14 @@
-//! The signatures of predicates: what their declared modes mean over the builtin insts, and the rule of unique modes.
+//! The signatures of predicates: what their declared modes mean over nodes of the graph of insts, and the definitions of
+//! these nodes.
 #![tactic(auto)]
 
-mod laws;
+mod expansion;
+mod keys;
 mod meant;
+mod nodes;
 mod query;
+mod rows;
 mod signed;
-mod tidy;
 
-pub use laws::{means_one_thing, tidy_nodes};
 pub use query::query_signature;
-pub use signed::signatures;
-pub use tidy::untidy_modes;
+pub use signed::{ModeTable, signatures};

@@ -1,17 +1,17 @@
-ghost use Rattle.std.specs.Prelude.{◌≡◌, ◌<◌, map, Some, None, IfOk};
+ghost use Rattle.std.specs.Prelude.{◌≡◌, length, map, Some, IfOk};
 ghost use Rattle.std.specs.Option.{option_map};
-ghost use Rattle.mc_accepted.specs.InstRules.{InstTerms, over};
+ghost use Rattle.mc_insts.specs.code.Lists.{Extends};
 ghost use Rattle.mc_modules.specs.Linked.{Linked, plain_named, plain_names};
 ghost use Rattle.mc_inst_table.specs.Plain.{plain_inst, plain_mode};
-ghost use Rattle.mc_inst_table.specs.Written.{from_to};
-ghost use Rattle.mc_inst_table.specs.Rules.{inst_bodies};
-ghost use Rattle.mc_inst_table.specs.InstEnds.{HaveEnds};
-ghost use Rattle.mc_signatures.specs.MeantModes.{mode_body_of, mode_bodies, mode_over};
-ghost use Rattle.mc_signatures.specs.code.Definitions.{AreDefinitions, Tells, NodeIs};
+ghost use Rattle.mc_signatures.specs.MeantModes.{mode_body_of, mode_bodies};
+ghost use Rattle.mc_signatures.specs.code.Keys.{terms, AllBelow, IsInst, with_insts};
+ghost use Rattle.mc_signatures.specs.code.Definitions.{AreDefinitions, GoesBetween};
 
-use mc_base::Memory;
+use crate::expansion::{all_expanded, expanded};
+use crate::keys::InstSet;
+use mc_base::{Memory, Row};
 use mc_decl_syntax::Decl;
-use mc_inst_table::{End, Inst, InstEnds, Mode, mode_of_term};
+use mc_inst_table::{Inst, Mode, inst_bodies, mode_of_term};
 use mc_modules::{Named, Names};
 use mc_type_table::{home, parameters_of};
 use std::alloc::Global;
@@ -19,8 +19,15 @@ use std::alloc::Global;
 /// The definitions of insts and modes of a program, by which written modes mean something.
 #[derive(Drop)]
 pub struct Definitions {
-    pub insts: InstEnds,
+    pub insts: Row<Inst>,
     pub modes: Vec<Option<Mode>>,
+}
+
+/// The insts from which a mode goes and to which, by their numbers.
+#[derive(Clone, Copy)]
+pub struct Between {
+    pub first: u32,
+    pub last: u32,
 }
 
 impl Definitions {
@@ -28,43 +35,48 @@ impl Definitions {
     ///
     /// # Errors
     ///
-    /// `Memory` where there is no room, or where a definition stands over fewer insts than its body needs, which reading
-    /// and linking refuse.
+    /// `Memory` where there is no room.
     #[tactic(auto, using(crate::proofs::Kept::are_definitions))]
     pub fn of(alloc: Global, names: &Names) -> Result<Definitions, Memory>
         ensures { IfOk result (λ d. AreDefinitions (plain_names names.now) d) }
     {
-        let insts = InstEnds::of(alloc, names)?;
+        let insts = inst_bodies(alloc, names)?;
         let modes = mode_bodies(alloc, names)?;
         Ok(Definitions { insts, modes })
     }
 
-    /// The builtin insts from which a mode goes and to which; none where it has another inst.
+    /// The insts from which a mode goes and to which.
     ///
     /// # Errors
     ///
-    /// `Memory` where there is no room, or where definitions lead to no end, are over too few insts, or aren't there. (That
-    /// is refused.)
-    #[tactic(auto, using(crate::proofs::Telling::follows_itself, crate::proofs::Telling::follows_on, crate::proofs::Telling::follows_end))]
-    pub fn meant(&self, alloc: Global, written: &Mode) -> Result<Option<(u32, u32)>, Memory>
-        ensures { IfOk result
-            (λ told. (l : Linked) → AreDefinitions l self.now → Tells l (plain_mode written.now) told) }
+    /// `Memory` where there is no room, or where definitions lead to no end, stand over too few insts, or aren't there.
+    /// (That is refused.)
+    #[tactic(auto, using(crate::proofs::Following::follows_itself, crate::proofs::Following::follows_on, crate::proofs::Following::follows_end))]
+    pub fn meant(
+        &self,
+        alloc: Global,
+        insts: &mut InstSet,
+        written: &Mode,
+    ) -> Result<Between, Memory>
+        ensures extends { Extends (terms insts.old) (terms insts.new) }
+        ensures goes { IfOk result
+            (λ b.
+            (l : Linked) → AreDefinitions l self.now
+            → GoesBetween l (terms insts.new) (plain_mode written.now) b.first b.last) }
     {
         let mut given = Vec::new(alloc);
         let mut mode = written;
         for _ in 0..self.modes.len() {
             match mode {
                 Mode::FromTo(_, _) => break,
-                Mode::Defined(number, insts) => {
-                    given = self
-                        .insts
-                        .ends_over(alloc, given.as_slice(), insts.as_slice())?;
+                Mode::Defined(number, over) => {
+                    given = all_expanded(alloc, insts, given.as_slice(), over.as_slice())?;
                     mode = self.body(*number)?;
                 }
             }
         }
         match mode {
-            Mode::FromTo(first, last) => self.from_and_to(given.as_slice(), first, last),
+            Mode::FromTo(first, last) => ends_of(alloc, insts, given.as_slice(), first, last),
             Mode::Defined(_, _) => Err(Memory),
         }
     }
@@ -83,41 +95,26 @@ impl Definitions {
             None => Err(Memory),
         }
     }
-
-    // What a mode means that goes from one inst to another, over insts of which it is known what they come to.
-    #[tactic(auto, using(crate::proofs::Telling::told_both, crate::proofs::Telling::told_first, crate::proofs::Telling::told_last))]
-    fn from_and_to(
-        &self,
-        given: &[End],
-        first: &Inst,
-        last: &Inst,
-    ) -> Result<Option<(u32, u32)>, Memory>
-        ensures { IfOk result
-            (λ told.
-            (l : Linked) (is : InstTerms) → AreDefinitions l self.now
-            → HaveEnds (inst_bodies l) is given.now
-            → Tells l (mode_over is (from_to (plain_inst first.now) (plain_inst last.now))) told) }
-    {
-        let first = node_of(self.insts.end_over(given, first)?)?;
-        let last = node_of(self.insts.end_over(given, last)?)?;
-        match (first, last) {
-            (Some(first), Some(last)) => Ok(Some((first, last))),
-            (None, _) => Ok(None),
-            (Some(_), None) => Ok(None),
-        }
-    }
 }
 
-// The node of a builtin inst; there is none for another inst.
-fn node_of(end: End) -> Result<Option<u32>, Memory>
-    ensures { IfOk result (λ node. NodeIs end node) }
+// The insts from which a mode goes and to which that is written over insts of these numbers.
+fn ends_of(
+    alloc: Global,
+    insts: &mut InstSet,
+    over: &[u32],
+    first: &Inst,
+    last: &Inst,
+) -> Result<Between, Memory>
+    requires { AllBelow (length (terms insts.old)) over.now }
+    ensures extends { Extends (terms insts.old) (terms insts.new) }
+    ensures first { IfOk result
+        (λ b. IsInst (terms insts.new) b.first (with_insts (terms insts.old) over.now (plain_inst first.now))) }
+    ensures last { IfOk result
+        (λ b. IsInst (terms insts.new) b.last (with_insts (terms insts.old) over.now (plain_inst last.now))) }
 {
-    match end {
-        End::Node(node) if node < 4 => Ok(Some(node)),
-        End::Node(_) => Err(Memory),
-        End::Bound => Ok(None),
-        End::Parameter(_) => Ok(None),
-    }
+    let first = expanded(alloc, insts, over, first)?;
+    let last = expanded(alloc, insts, over, last)?;
+    Ok(Between { first, last })
 }
 
 // What the mode definitions of a program stand for, over their parameters, by their numbers.

@@ -4,6 +4,7 @@ use Rattle.std.specs.Prelude.{◌≡◌, ◌≢◌, ℕ, ◌<◌, List, [], ◌�
 use Rattle.mc_program.specs.Programs.{TypeTerm}
 use Rattle.mc_model.specs.Insts.{dead, AllowsSymbol, AllowsConstants}
 use Rattle.mc_accepted.specs.Inclusion.{Included, Merged}
+use Rattle.mc_accepted.specs.Tidy.{Tidy, EachIsTidy}
 use Rattle.mc_model.specs.Stream.{is_bound}
 use Rattle.mc_model.specs.Good.{System}
 use Rattle.mc_source.specs.Determinism.{is_zero}
@@ -25,9 +26,12 @@ module _ (S : System) (T : ℕ → TypeTerm) where
     pub dies : (i : ℕ) → C.is_dead i ≡ true → S.insts i ≡ dead
     pub lives : (i : ℕ) → C.is_dead i ≡ false → S.insts i ≢ dead
     pub over : (s i : ℕ) (is : List ℕ) → C.over s is ≡ Some i → IsSymbolOver S T i s is
+    -- Not all insts have a merged one: at a type variable `unique` and a bound inst that holds a dead
+    -- one have none. Tidy ones have, and it is tidy.
     pub joined :
         (t : TypeTerm) (is : List ℕ) (k : ℕ) (all : Bool) → AllAre all is → is ≢ []
-        → C.joined t is ≡ Some k → Merged S.world.source S.insts is k t
+        → EachIsTidy S.world.source S.insts is t → C.joined t is ≡ Some k
+        → Merged S.world.source S.insts is k t × Tidy S.world.source S.insts k t
     pub narrowed : (i s : ℕ) → IsNarrowed i s (C.narrowed i s)
     pub constants : (i : ℕ) → C.takes_constants i ≡ true → AllowsConstants (S.insts i)
     pub no_constants : (i : ℕ) → C.takes_constants i ≡ false → AllowsConstants (S.insts i) → ⊥

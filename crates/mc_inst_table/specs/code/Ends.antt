@@ -1,6 +1,6 @@
 -- What insts come to before any constructor, as it is found out: where the bodies of definitions lead.
 use Rattle.std.specs.Prelude.{◌≡◌, ◌≤◌, ℕ, zero, suc, max, List, [], ◌∷◌, map, slice_get, slice_index_or, Option, Some, None}
-use Rattle.mc_accepted.specs.InstRules.{InstTerm, parameter, inst_node, defined, bound_over, InstTerms, no_insts, inst_then, over, Bodies, ComesTo}
+use Rattle.mc_accepted.specs.InstRules.{Functor, InstTerm, parameter, inst_node, defined, bound_over, InstTerms, no_insts, inst_then, over, Bodies, ComesTo}
 use Rattle.mc_inst_table.specs.declared.inst.Inst.{Inst}
 use Rattle.mc_inst_table.specs.declared.heads.Head.{Head}
 use Rattle.mc_inst_table.specs.declared.heads.Head.TheVariants as H
@@ -18,7 +18,7 @@ abbrev mutual
   needs (parameter k) = suc k
   needs (inst_node i) = 0
   needs (defined d is) = all_need is
-  needs (bound_over is) = all_need is
+  needs (bound_over fs is) = all_need is
 
   pub all_need : InstTerms → ℕ
   all_need no_insts = 0
@@ -30,7 +30,7 @@ abbrev mutual
   IsFull body (parameter k) = Unit {0}
   IsFull body (inst_node i) = Unit {0}
   IsFull body (defined d is) = (needs (body d) ≤ how_many is) × AreFull body is
-  IsFull body (bound_over is) = AreFull body is
+  IsFull body (bound_over fs is) = AreFull body is
 
   pub AreFull : Bodies → InstTerms → Type 0
   AreFull body no_insts = Unit {0}
@@ -54,7 +54,7 @@ abbrev mutual
   end_of heads (parameter k) = H.Parameter k
   end_of heads (inst_node i) = H.Node i
   end_of heads (defined d is) = end_over (heads d) (ends heads is)
-  end_of heads (bound_over is) = H.Bound
+  end_of heads (bound_over fs is) = H.Bound
 
   pub ends : (heads : ℕ → Head) → InstTerms → List Head
   ends heads no_insts = []
@@ -64,7 +64,7 @@ abbrev mutual
 abbrev pub Ends : Bodies → InstTerm → Head → Type 0
 Ends body t (H.Parameter k) = ComesTo body t (parameter k)
 Ends body t (H.Node i) = ComesTo body t (inst_node i)
-Ends body t H.Bound = (is : InstTerms) × ComesTo body t (bound_over is)
+Ends body t H.Bound = (fs : List Functor) × (is : InstTerms) × ComesTo body t (bound_over fs is)
 Ends body t H.Unknown = Unit {0}
 
 -- where the body of a definition leads; there is nothing in that of one past the last
@@ -86,20 +86,20 @@ after body zero t = Some t
 after body (suc n) (parameter k) = None
 after body (suc n) (inst_node i) = None
 after body (suc n) (defined d is) = after body n (over is (body d))
-after body (suc n) (bound_over is) = None
+after body (suc n) (bound_over fs is) = None
 
 -- a definition over insts
 abbrev pub IsName : InstTerm → Type 0
 IsName (parameter k) = ⊥
 IsName (inst_node i) = ⊥
 IsName (defined d is) = Unit {0}
-IsName (bound_over is) = ⊥
+IsName (bound_over fs is) = ⊥
 
 -- an inst is at an end of this sort
 abbrev pub IsHead : InstTerm → Head → Type 0
 IsHead t (H.Parameter k) = t ≡ parameter k
 IsHead t (H.Node i) = t ≡ inst_node i
-IsHead t H.Bound = (is : InstTerms) × (t ≡ bound_over is)
+IsHead t H.Bound = (fs : List Functor) × (is : InstTerms) × (t ≡ bound_over fs is)
 IsHead t H.Unknown = ⊥
 
 -- the bodies of definitions as they are kept

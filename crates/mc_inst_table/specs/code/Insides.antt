@@ -21,7 +21,7 @@ abbrev mutual
   put_ends heads inside (inst_node i) = []
   put_ends heads inside (defined d is) =
       ends_at (ends heads is) (inside d) ++ all_put_ends heads inside is
-  put_ends heads inside (bound_over is) = ends heads is ++ all_put_ends heads inside is
+  put_ends heads inside (bound_over fs is) = ends heads is ++ all_put_ends heads inside is
 
   pub all_put_ends : (heads : ℕ → Head) → (inside : ℕ → List ℕ) → InstTerms → List Head
   all_put_ends heads inside no_insts = []

@@ -9,7 +9,7 @@ abbrev pub parameter_of : InstTerm → Option ℕ
 parameter_of (parameter k) = Some k
 parameter_of (inst_node i) = None
 parameter_of (defined d is) = None
-parameter_of (bound_over is) = None
+parameter_of (bound_over fs is) = None
 
 abbrev pub given_of : InstTerms → List (Option ℕ)
 given_of no_insts = []
@@ -20,7 +20,7 @@ abbrev mutual
   links (parameter k) = []
   links (inst_node i) = []
   links (defined d is) = record { to = d; given = given_of is } ∷ all_links is
-  links (bound_over is) = all_links is
+  links (bound_over fs is) = all_links is
 
   pub all_links : InstTerms → List Link
   all_links no_insts = []

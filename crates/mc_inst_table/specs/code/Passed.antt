@@ -15,7 +15,7 @@ abbrev mutual
   passed heads (parameter k) = []
   passed heads (inst_node i) = []
   passed heads (defined d is) = d ∷ passed_behind (heads d) (each_passed heads is)
-  passed heads (bound_over is) = []
+  passed heads (bound_over fs is) = []
 
   pub each_passed : (heads : ℕ → Head) → InstTerms → List (List ℕ)
   each_passed heads no_insts = []

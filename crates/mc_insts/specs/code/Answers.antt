@@ -3,7 +3,7 @@ use Rattle.std.specs.Prelude.{◌≡◌, ℕ, ◌<◌, List, length}
 use Rattle.mc_program.specs.Programs.{TypeTerm, Source}
 use Rattle.mc_model.specs.Insts.{free, dead, Graph}
 use Rattle.mc_accepted.specs.Inclusion.{Tip, Path, Allows, AllFree, OneIsDead, LeastAbove}
-use Rattle.mc_accepted.specs.Tidy.{Tidy}
+use Rattle.mc_accepted.specs.Tidy.{Tidy, EachIsTidy}
 use Rattle.mc_insts.specs.declared.graph.InstGraph.{InstGraph}
 use Rattle.mc_insts.specs.declared.graph.Shapes.{Shapes}
 use Rattle.mc_insts.specs.declared.graph.Node.{Node}
@@ -14,7 +14,7 @@ use Rattle.mc_insts.specs.code.Shown.{plain_graph, RowsAre}
 use Rattle.mc_insts.specs.code.Steps.{same_of}
 use Rattle.mc_insts.specs.code.Formed.{Formed}
 use Rattle.mc_insts.specs.code.Merges.{Builtins}
-use Rattle.mc_insts.specs.Merging.{LivesAbove, EachIsTidy, OneAllows}
+use Rattle.mc_insts.specs.Merging.{LivesAbove, OneAllows}
 
 -- both are neither free nor dead
 pub record BothInner (M K : Node) : Type 0 where

@@ -1,14 +1,22 @@
-use Rattle.std.proofs.Common.{subst}
 use Rattle.mc_inst_table.specs.Plain.{plain_mode}
-use Rattle.mc_signatures.specs.code.Definitions.{Tells}
-use Rattle.mc_signatures.proofs.Telling.{meant_more}
+use Rattle.std.proofs.Common.{map, take}
+use Rattle.mc_insts.proofs.Growth.{extends_on}
+use Rattle.mc_signatures.specs.code.Keys.{terms}
+use Rattle.mc_signatures.specs.code.Definitions.{GoesBetween}
+use Rattle.mc_signatures.proofs.Following.{between_later, meant_more, each_means_on}
 use Rattle.mc_signatures.proofs.signed.insts_of.Goals as goal
 
 pub loop-mode-preserved : goal.loop-mode-preserved
 loop-mode-preserved c =
-    λ linked are.
-    meant_more linked c.args.modes.now c.loop-mode.mode-index c.mode-item.result c.loop-mode.first.items
-    c.loop-mode.last.items c.push.new.self.items c.push-in-Some.new.self.items c.in-Some.from c.in-Some.to
-    c.loop-mode-test.true c.mode-item.is c.in_ok-push-in-Some.ensures.items c.in_ok-push-in-Some-2.ensures.items
-    (c.loop-mode.invariant linked are)
-    (subst (Tells linked (plain_mode c.mode-item.result)) c.in-Some.is (c.in_ok-from.ensures linked are))
+    let ts = terms c.loop-mode.insts in
+    let us = terms c.meant.new.insts in
+    record {
+      extends = extends_on _ ts us c.loop-mode.invariant.extends c.meant.ensures.extends;
+      means = λ linked are.
+          meant_more (GoesBetween linked us) c.args.modes.now c.loop-mode.mode-index c.mode-item.result c.loop-mode.first.items
+          c.loop-mode.last.items c.push.new.self.items c.push-in-loop-mode.new.self.items c.in_ok-ends.ends.first c.in_ok-ends.ends.last
+          c.loop-mode-test.true c.mode-item.is c.in_ok-push.ensures.items c.in_ok-push-2.ensures.items
+          (each_means_on (GoesBetween linked ts) (GoesBetween linked us) (λ m a b. between_later linked ts us m a b c.meant.ensures.extends)
+          (map plain_mode (take c.loop-mode.mode-index c.args.modes.now)) c.loop-mode.first.items c.loop-mode.last.items (c.loop-mode.invariant.means linked are))
+          (c.in_ok-ends.ensures.goes linked are);
+    }

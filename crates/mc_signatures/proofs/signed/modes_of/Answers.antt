@@ -1,22 +1,27 @@
-use Rattle.std.proofs.Common.{subst}
+use Rattle.std.proofs.Common.{map, take}
 use Rattle.mc_declared_modes.specs.WrittenModes.{plain_written}
-use Rattle.mc_signatures.specs.code.Telling.{TellsMode}
-use Rattle.mc_signatures.proofs.Numbered.{modes_more, mode_among}
+use Rattle.mc_insts.proofs.Growth.{extends_on}
+use Rattle.mc_signatures.specs.code.Keys.{terms}
+use Rattle.mc_signatures.specs.code.Definitions.{GoesBetween}
+use Rattle.mc_signatures.proofs.Following.{between_later}
+use Rattle.mc_signatures.proofs.Numbered.{modes_more, modes_on}
 use Rattle.mc_signatures.proofs.signed.modes_of.Goals as goal
-
-pub returns-in-None : goal.returns-in-None
-returns-in-None c =
-    λ l are.
-    mode_among l c.args.written.now c.loop-mode.mode-index c.mode-item.result c.loop-mode-test.true c.mode-item.is
-    (subst (TellsMode l c.number_or_none-number.result (plain_written c.mode-item.result)) c.in-None.is
-    (c.in_ok-declared.ensures l are))
 
 pub loop-mode-preserved : goal.loop-mode-preserved
 loop-mode-preserved c =
-    λ linked are.
-    modes_more linked c.args.builtin c.args.next.now c.args.written.now c.loop-mode.mode-index c.mode-item.result
-    c.loop-mode.modes.items c.push.new.self.items c.in-Some.declared c.loop-mode.next c.number_or_none-number.result
-    c.in_ok-next.field-0 c.loop-mode-test.true c.mode-item.is c.in_ok-push-in-Some.ensures.items
-    c.number_or_none-number.ensures c.in_ok-next.ensures (c.loop-mode.invariant linked are)
-    (subst (TellsMode linked c.number_or_none-number.result (plain_written c.mode-item.result)) c.in-Some.is
-    (c.in_ok-declared.ensures linked are))
+    let ts = terms c.loop-mode.insts in
+    let us = terms c.mode_of.new.insts in
+    record {
+      extends = extends_on _ ts us c.loop-mode.invariant.extends c.mode_of.ensures.extends;
+      modes = λ linked are.
+          let before = c.loop-mode.invariant.modes linked are in
+          modes_more (GoesBetween linked us) c.args.builtin c.args.next.now c.args.written.now c.loop-mode.mode-index c.mode-item.result
+          c.loop-mode.modes.items c.push.new.self.items c.in_ok-declared.declared c.loop-mode.next c.number_or_none-number.result
+          c.in_ok-next.field-0 c.loop-mode-test.true c.mode-item.is c.in_ok-push.ensures.items
+          c.number_or_none-number.ensures c.in_ok-next.ensures (
+            modes_on (GoesBetween linked ts) (GoesBetween linked us) (λ m a b. between_later linked ts us m a b c.mode_of.ensures.extends)
+                c.args.builtin c.args.next.now (map plain_written (take c.loop-mode.mode-index c.args.written.now)) c.loop-mode.modes.items before.0,
+            before.1,
+          )
+          (c.in_ok-declared.ensures.mode linked are);
+    }

@@ -1,34 +1,36 @@
-use Rattle.std.proofs.Common.{◌<◌, length, map, refl, subst, arith}
 use Rattle.mc_modules.specs.Linked.{plain_names}
+use Rattle.mc_inst_table.specs.Rules.{inst_bodies}
+use Rattle.mc_insts.specs.Defining.{plain_definitions}
 use Rattle.mc_declared_modes.specs.WrittenModes.{plain_written}
-use Rattle.mc_signatures.specs.Signatures.{builtin_of, ModesHaveOther}
-use Rattle.mc_signatures.proofs.Numbered.{none_told, some_told, told_row, rows_more, row_among}
+use Rattle.std.proofs.Common.{map}
+use Rattle.mc_signatures.specs.Signatures.{builtin_of}
+use Rattle.mc_signatures.specs.code.Keys.{terms}
+use Rattle.mc_signatures.specs.code.Definitions.{GoesBetween}
+use Rattle.mc_signatures.proofs.Kept.{bodies_are}
+use Rattle.mc_signatures.proofs.Choosing.{rows_fit}
+use Rattle.mc_signatures.proofs.Following.{between_later}
+use Rattle.mc_signatures.proofs.Numbered.{signatures_on}
+use Rattle.mc_signatures.proofs.Signing.{all_signed}
 use Rattle.mc_signatures.proofs.signed.signatures.Goals as goal
 
-pub returns-in-None : goal.returns-in-None
-returns-in-None c =
+pub returns-clause-signatures : goal.returns-clause-signatures
+returns-clause-signatures c =
     let l = plain_names c.args.names.now in
-    let test = c.loop-pred-test.true in
-    let count = c.len-pred-end.ensures in
-    let below : c.loop-pred.pred < length c.args.modes.now = omega (arith, test, count) in
-    row_among l c.args.modes.now c.loop-pred.pred c.get.result.now below c.get.ensures
-    (subst (λ ws. ModesHaveOther l (map plain_written ws)) c.as_slice.ensures.items
-    (none_told _ l c.builtin_of-builtin.result c.loop-pred.next c.as_slice.result.now c.in_ok-declared.field-0
-    c.modes_of.new.next c.in-None.is (c.in_ok-declared.ensures l c.in_ok-definitions.ensures)))
+    let d = c.in_ok-definitions.definitions in
+    let are = c.in_ok-definitions.ensures in
+    let ts = terms c.numbered.new.insts in
+    let us = terms c.rows.new.insts in
+    let ds = plain_definitions c.in_ok-defs.defs in
+    let rows = map (map plain_written) c.args.modes.now in
+    let op = builtin_of c.args.preds.now in
+    let expanded = c.in_ok-defs.ensures.rows (inst_bodies l) (bodies_are l d are) in
+    all_signed l us ds expanded op 0 0 rows c.in_ok-numbered.numbered.items c.in_ok-sigs.sigs.items
+    (signatures_on (GoesBetween l ts) (GoesBetween l us) (λ m a b. between_later l ts us m a b c.rows.ensures.extends) op 0 0 rows c.in_ok-numbered.numbered.items
+    (c.in_ok-numbered.ensures.sigs l are))
+    c.in_ok-sigs.ensures
 
-pub loop-pred-preserved : goal.loop-pred-preserved
-loop-pred-preserved c =
+pub returns-clause-fit : goal.returns-clause-fit
+returns-clause-fit c =
     let l = plain_names c.args.names.now in
-    let test = c.loop-pred-test.true in
-    let count = c.len-pred-end.ensures in
-    let below : c.loop-pred.pred < length c.args.modes.now = omega (arith, test, count) in
-    let row = c.get.result.now in
-    let modes = c.in_ok-of-in-Some.field-0 in
-    rows_more l (builtin_of c.args.preds.now) c.args.modes.now c.loop-pred.pred row c.loop-pred.sigs.items
-    c.push.new.self.items (record { pred = c.loop-pred.pred; modes = modes }) c.loop-pred.next c.modes_of.new.next
-    below c.get.ensures c.in_ok-push-in-Some.ensures.items refl c.loop-pred.invariant
-    (told_row l c.builtin_of-builtin.result (builtin_of c.args.preds.now c.loop-pred.pred) c.loop-pred.next
-    c.as_slice.result.now row c.in-Some.declared.items modes c.modes_of.new.next c.builtin_of-builtin.ensures
-    c.as_slice.ensures.items c.in_ok-of-in-Some.ensures.elements
-    (some_told _ l c.builtin_of-builtin.result c.loop-pred.next c.as_slice.result.now c.in_ok-declared.field-0
-    c.in-Some.declared c.modes_of.new.next c.in-Some.is (c.in_ok-declared.ensures l c.in_ok-definitions.ensures)))
+    rows_fit (inst_bodies l) (terms c.rows.new.insts) (plain_definitions c.in_ok-defs.defs)
+    (c.in_ok-defs.ensures.rows (inst_bodies l) (bodies_are l c.in_ok-definitions.definitions c.in_ok-definitions.ensures))
