@@ -3,6 +3,7 @@ pub mod Assembling
 pub mod Distinct
 pub mod Instances
 pub mod Listing
+pub mod Predicates
 pub mod SameTypes
 pub mod Scoping
 pub mod Tidying

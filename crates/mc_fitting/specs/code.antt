@@ -3,6 +3,5 @@ pub mod Constructors
 pub mod Names
 pub mod Parts
 pub mod Symbols
-pub mod Tidying
 pub mod VariableTypes
 pub mod WrittenScopes

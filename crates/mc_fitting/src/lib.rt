@@ -10,7 +10,6 @@ mod named;
 mod procedure;
 mod proper;
 mod scopes;
-mod tidy;
 mod typed;
 mod types;
 mod variables;

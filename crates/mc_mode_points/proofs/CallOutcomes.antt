@@ -4,6 +4,7 @@ use Rattle.std.proofs.lemmas.List.{length-drop, nil_from_length}
 use Rattle.mc_program.specs.Programs.{TypeTerm, Source}
 use Rattle.mc_model.specs.Stream.{is_bound}
 use Rattle.mc_accepted.specs.Inclusion.{Allows, Included}
+use Rattle.mc_accepted.specs.Tidy.{Tidy}
 use Rattle.mc_accepted.specs.Ordered.{Mode, zipped, times_in}
 use Rattle.mc_accepted.specs.Arranged.{Declared, Point, is_input, usable}
 use Rattle.mc_accepted.specs.Chosen.{Chosen, of_nodes}
@@ -29,6 +30,7 @@ grown-same P I J g n = record {
   more = omega (arith, n);
   same = λ i l. ap (λ G. G i) g;
   meaning = λ i l path e t. (λ a. subst (λ G. Allows P G path e i t) (sym g) a, λ a. subst (λ G. Allows P G path e i t) g a);
+  tidy = λ i l t. (λ a. subst (λ G. Tidy P G i t) (sym g) a, λ a. subst (λ G. Tidy P G i t) g a);
 }
 
 are-grown : (P : Source) (I J : Insts) (N : Nodes) → Grown P I J → NodesAre P I N → NodesAre P J N

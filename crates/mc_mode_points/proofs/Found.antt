@@ -57,7 +57,7 @@ module _ (old new : List Entry) (n : ℕ) (js : List ℕ) (k : ℕ)
   put-only m v is some = only_by m is v (nat_eq m n && bytes_eq is js) refl (sym (put m is) ∙ some)
 
 pub grown-refl : (P : Source) (I : Insts) → Grown P I I
-grown-refl P I = record { more = omega arith; same = λ i h. refl; meaning = λ i h path e t. (λ a. a, λ a. a) }
+grown-refl P I = record { more = omega arith; same = λ i h. refl; meaning = λ i h path e t. (λ a. a, λ a. a); tidy = λ i h t. (λ a. a, λ a. a) }
 
 pub grown-trans : (P : Source) (I J K : Insts) → Grown P I J → Grown P J K → Grown P I K
 grown-trans P I J K g h = record {
@@ -66,6 +66,10 @@ grown-trans P I J K g h = record {
   meaning = λ i l path e t.
       let x = g.meaning i l path e t in
       let y = h.meaning i (let a = g.more in omega arith) path e t in
+      (λ a. y.0 (x.0 a), λ a. x.1 (y.1 a));
+  tidy = λ i l t.
+      let x = g.tidy i l t in
+      let y = h.tidy i (let a = g.more in omega arith) t in
       (λ a. y.0 (x.0 a), λ a. x.1 (y.1 a));
 }
 

@@ -11,6 +11,7 @@ use Rattle.mc_accepted.specs.Normal.{normal_goal}
 use Rattle.mc_insts.specs.Growing.{Grown}
 use Rattle.mc_insts.specs.Graphs.{count_of}
 use Rattle.mc_procs.specs.Procedures.{PlainProcs, source_of, with_insts, with_proc}
+use Rattle.mc_procs.proofs.Fits.{same_graph}
 use Rattle.mc_procs.proofs.Naming.{numbers_more}
 use Rattle.mc_mode_points.specs.Modes.{ModesFit}
 use Rattle.mc_mode_points.proofs.Found.{grown-refl, grown-trans}
@@ -19,7 +20,7 @@ use Rattle.mc_modes.specs.Signatures.{modes_at, mode_in, SigsFit}
 use Rattle.mc_modes.specs.Schedules.{NormalFits}
 use Rattle.mc_orders.specs.NormalGoals.{goal_at, IsNormal, AreNormal}
 use Rattle.mc_orders.specs.Outcomes.{GrownFrom}
-use Rattle.mc_orders.specs.code.Steps.{IsBody, CanTry}
+use Rattle.mc_orders.specs.code.Steps.{IsBody, CanTry, SameGraph}
 use Rattle.mc_orders.specs.declared.modes.ModeId.{ModeId}
 use Rattle.mc_orders.proofs.Ids.{IsMode}
 
@@ -43,6 +44,9 @@ grown_by q r e g =
       grown = g;
     }
 
+pub grown_same : (q r : PlainProcs) → SameGraph q r → GrownFrom q r
+grown_same q r s = grown_by q r s.others (same_graph (source_of q) q.insts r.insts s.graph s.count)
+
 pub grown_added : (q : PlainProcs) (p : Proc) → GrownFrom q (with_proc q p)
 grown_added q p = record { program = refl; preds = refl; grown = grown-refl (source_of q) q.insts }
 
@@ -64,6 +68,8 @@ can_try sigs goals first q id g is fit normal grown m =
     let f : NormalFits first (mode_in sigs id.pred id.mode) g = n.fits id.mode m.mode in
     record {
       sigs_fit = λ p. modes_more (count_of first.insts) (count_of q.insts) (modes_at sigs p) grown.grown.more (fit p);
+      there = subst (λ p. p < length q.program.preds) (sym n.pred)
+          (subst (λ (P : Program). id.pred < length P.preds) (sym grown.program) m.pred);
       mode = subst (λ p. id.mode < length (modes_at sigs p)) (sym n.pred) m.mode;
       fits = subst (λ p. NormalFits q (mode_in sigs p id.mode) g) (sym n.pred)
           (record {

@@ -40,13 +40,9 @@ module _ (sigs : List Sig) (g : Normal) (k : ℕ) (exported : Bool) where
 
   pub came_or_not : {X : Type 0} (b : Result Bool X) (q m r : PlainProcs) (old : List Broken) (p : Proc) → old ≡ [] → IsScheduled sigs g k (mode_in sigs g.pred k) q m p → IfOk b (AddsOrNot exported p m r) → IfOk b (Steps sigs g k exported q r old old)
   came_or_not (Ok true) q m r old p none s h =
-      inl (record { none_before = none; none = none; proc = p; found = m; scheduled = s; added = h })
+      inl (record { none_before = none; none = none; proc = p; found = m; scheduled = s; adds = h })
   came_or_not (Ok false) q m r old p none s h =
-      record {
-        none_before = none;
-        proc = p;
-        scheduled = subst (λ (x : PlainProcs). IsScheduled sigs g k (mode_in sigs g.pred k) q x p) (sym h) s;
-      }
+      record { none_before = none; proc = p; found = m; scheduled = s; adds_none = h }
   came_or_not (Err e) q m r old p none s h = tt
 
   abbrev one_listed : Place → Fault → Broken

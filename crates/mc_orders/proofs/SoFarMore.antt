@@ -23,7 +23,7 @@ use Rattle.mc_orders.specs.Numbering.{mode_ids, IsNumbered}
 use Rattle.mc_orders.specs.Outcomes.{GrownFrom, Tried, IsTried, AreBroken, IsOrdered, IsUnfit}
 use Rattle.mc_orders.specs.code.Steps.{Came, Passed, Listed, Unfit, Steps, SoFar, exported_as, IsNext}
 use Rattle.mc_orders.specs.declared.modes.ModeId.{ModeId}
-use Rattle.mc_orders.proofs.Grows.{grown_none, grown_then, grown_by, grown_added}
+use Rattle.mc_orders.proofs.Grows.{grown_none, grown_then, grown_by, grown_same, grown_added}
 
 zip_weaker : {X Y : Type 0} (R S : X → Y → Type 0) (xs : List X) (ys : List Y) → ((x : X) (y : Y) → R x y → S x y) → AllZip R xs ys → AllZip S xs ys
 zip_weaker R S [] [] f h = tt
@@ -64,6 +64,9 @@ put_some b (c ∷ cs) e = at (stands_before c.at b.at) e
 pub some_by_place : (bs : List Broken) → (bs ≡ [] → ⊥) → by_place bs ≡ [] → ⊥
 some_by_place [] h e = h refl
 some_by_place (b ∷ bs) h e = put_some b (by_place bs) e
+
+same_added : (q r : PlainProcs) → r ≡ with_insts q r.insts → q.added ≡ r.added
+same_added q r e = sym (ap (λ (x : PlainProcs). x.added) e)
 
 module _ (sigs : List Sig) (goals : List Normal) where
   tried_later : (first q r : PlainProcs) → GrownFrom q r → (t : Tried) → IsTried sigs goals first q t → IsTried sigs goals first r t
@@ -131,16 +134,16 @@ module _ (sigs : List Sig) (goals : List Normal) (exported : List Bool) where
           ended = h;
         }
 
-    same_added : (found : PlainProcs) → found ≡ with_insts q found.insts → q.added ≡ found.added
-    same_added found e = sym (ap (λ (x : PlainProcs). x.added) e)
-
     came : (r : PlainProcs) (new : List Broken) → Came sigs g id.mode is_out q r old new → SoFar sigs goals exported first r (ids ++ id ∷ []) new
     came r new c =
         let m = c.scheduled in
         let b = m.becomes in
         let found = c.found in
+        let tested = c.adds.tested in
         let one = exported_as is_out c.proc in
-        let h : GrownFrom found r = subst (λ (x : PlainProcs). GrownFrom found x) (sym c.added) (grown_added found one) in
+        let h : GrownFrom found r =
+        grown_then found tested r (grown_same found tested c.adds.same)
+        (subst (λ (x : PlainProcs). GrownFrom tested x) (sym c.adds.added) (grown_added tested one)) in
         let all : GrownFrom q r = grown_then q found r (grown_by q found b.others b.grown) h in
         let t : Tried = record { id = id; verdict = in_order (plain_node c.proc.body) } in
         record {
@@ -149,9 +152,9 @@ module _ (sigs : List Sig) (goals : List Normal) (exported : List Bool) where
               (tried_one found r m.end (in_order (plain_node c.proc.body)) b h)
               (c.none ∙ sym c.none_before ∙ sym (append-nil old));
           ordered = λ _.
-              subst (λ (ps : List Proc). AllZip (IsOrdered sigs goals exported first r) (ids ++ id ∷ []) ps) (sym (ap (λ (x : PlainProcs). x.added) c.added))
-              (zip_push (IsOrdered sigs goals exported first r) ids found.added id one
-              (subst (λ (ps : List Proc). AllZip (IsOrdered sigs goals exported first r) ids ps) (same_added found b.others)
+              subst (λ (ps : List Proc). AllZip (IsOrdered sigs goals exported first r) (ids ++ id ∷ []) ps) (sym (ap (λ (x : PlainProcs). x.added) c.adds.added))
+              (zip_push (IsOrdered sigs goals exported first r) ids tested.added id one
+              (subst (λ (ps : List Proc). AllZip (IsOrdered sigs goals exported first r) ids ps) (same_added q found b.others ∙ same_added found tested c.adds.same.others)
               (zip_weaker (IsOrdered sigs goals exported first q) (IsOrdered sigs goals exported first r) ids q.added (ordered_later first q r all) (s.ordered c.none_before)))
               (ordered_one found r c.proc m h));
         }
@@ -194,17 +197,22 @@ module _ (sigs : List Sig) (goals : List Normal) (exported : List Bool) where
     one_unfit r new c =
         let m = c.scheduled in
         let b = m.becomes in
-        let all : GrownFrom q r = grown_by q r b.others b.grown in (
+        let found = c.found in
+        let same = c.adds_none.same in
+        let h = grown_same found r same in
+        let all : GrownFrom q r = grown_then q found r (grown_by q found b.others b.grown) h in
+        let added : q.added ≡ r.added = same_added q found b.others ∙ same_added found r same.others in (
           record {
             id = id;
             proc = exported_as is_out c.proc;
             before = ids;
             are = refl;
-            came = subst (λ (ps : List Proc). AllZip (IsOrdered sigs goals exported first r) ids ps) (same_added r b.others)
+            came = subst (λ (ps : List Proc). AllZip (IsOrdered sigs goals exported first r) ids ps) added
                 (zip_weaker (IsOrdered sigs goals exported first q) (IsOrdered sigs goals exported first r) ids q.added (ordered_later first q r all) (s.ordered c.none_before));
-            ordered = ordered_one r r c.proc m (grown_none r);
+            ordered = ordered_one found r c.proc m h;
+            unfit = c.adds_none.unfit;
           },
-          sym (same_added r b.others),
+          sym added,
           grown_then first q r s.grown all,
         )
 

@@ -4,7 +4,7 @@ use Rattle.std.specs.Prelude.{◌≡◌, ◌<◌, Bool, false, List, [], ◌∷�
 use Rattle.std.specs.List.{AllZip}
 use Rattle.mc_source.specs.Rules.{first_rules}
 use Rattle.mc_source.specs.declared.rule.Broken.{Broken}
-use Rattle.mc_model.specs.PlainGoals.{plain_flat}
+use Rattle.mc_model.specs.PlainGoals.{plain_flat, plain_proc}
 use Rattle.mc_model.specs.declared.flat.Normal.{Normal}
 use Rattle.mc_model.specs.declared.inst.Sig.{Sig}
 use Rattle.mc_model.specs.declared.sched.Proc.{Proc}
@@ -12,6 +12,7 @@ use Rattle.mc_accepted.specs.Arranged.{Verdict}
 use Rattle.mc_accepted.specs.DeterminismFaults.{by_place}
 use Rattle.mc_insts.specs.Growing.{Grown}
 use Rattle.mc_procs.specs.Procedures.{PlainProcs, source_of}
+use Rattle.mc_procs.specs.Fitting.{ProcedureFits}
 use Rattle.mc_mode_points.specs.declared.state.State.{State}
 use Rattle.mc_modes.specs.Signatures.{mode_in}
 use Rattle.mc_modes.specs.Arrangements.{Becomes}
@@ -75,8 +76,8 @@ module _ (sigs : List Sig) (goals : List Normal) (exported : List Bool) where
     pub is_exported : p.exported ≡ get_or exported id.pred false
     pub ended : GrownFrom after last
 
-  -- The goals of these modes are in their order, and the procedure of the last one isn't known to
-  -- fit; those of the others came.
+  -- The goals of these modes are in their order, and the procedure of the last one doesn't fit; those
+  -- of the others came.
   pub record IsUnfit (first last : PlainProcs) (ids : List ModeId) : Type 0 where
     pub id : ModeId
     pub proc : Proc
@@ -84,6 +85,7 @@ module _ (sigs : List Sig) (goals : List Normal) (exported : List Bool) where
     pub are : ids ≡ before ++ id ∷ []
     pub came : AllZip (IsOrdered first last) before last.added
     pub ordered : IsOrdered first last id proc
+    pub unfit : ProcedureFits last (plain_proc proc) → ⊥
 
   abbrev pub Became : (first last : PlainProcs) → Orders → Type 0
   -- each mode has its procedure, and no other came

@@ -22,7 +22,7 @@ pub enum Orders {
     All,
     /// The rules that are broken, in the order of places; at least one.
     Broken(Vec<Broken>),
-    /// A goal is in its order, but its procedure isn't known to fit: the number of the first such procedure.
+    /// A goal is in its order, but its procedure doesn't fit: the number of the first such procedure.
     Unfit(u32),
 }
 

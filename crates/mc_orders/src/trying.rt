@@ -1,4 +1,4 @@
-ghost use Rattle.std.specs.Prelude.{◌≡◌, [], IfOk};
+ghost use Rattle.std.specs.Prelude.{◌≡◌, ◌<◌, [], length, IfOk};
 ghost use Rattle.mc_orders.specs.code.Steps.{IsNext, CanTry, IsBody, Steps, AddsOrNot};
 
 use crate::faults::rule_of;
@@ -13,7 +13,7 @@ use mc_source::rule::Broken;
 use std::alloc::Global;
 
 /// Tries a predicate's goal in one of its modes: the rule that it breaks is listed, or, where none was listed before, its
-/// procedure comes where it is known to fit. Whether all is well so far: it isn't where that procedure didn't come.
+/// procedure comes where it fits. Whether all is well so far: it isn't where that procedure didn't come.
 pub(crate) fn try_mode(
     alloc: Global,
     procs: &mut Procs,
@@ -44,7 +44,7 @@ pub(crate) fn try_mode(
     }
 }
 
-/// The next procedure comes, exported or not, where it is known to fit; whether it does.
+/// The next procedure comes, exported or not, where it fits; whether it does.
 fn add(
     alloc: Global,
     procs: &mut Procs,
@@ -53,6 +53,7 @@ fn add(
     proc: Proc,
 ) -> Result<bool, Memory>
     requires pred { proc.pred ≡ goal.now.pred }
+    requires there { goal.now.pred < length procs.old.program.preds }
     requires next { IsNext procs.old goal.now }
     requires body { IsBody procs.old goal.now }
     ensures { IfOk result (AddsOrNot exported proc procs.old procs.new) }

@@ -3,14 +3,15 @@ use Rattle.std.specs.Prelude.{◌≡◌, ◌<◌, ◌⊎◌, ℕ, Bool, true, fa
 use Rattle.std.specs.List.{AllZip}
 use Rattle.mc_source.specs.Rules.{Fault}
 use Rattle.mc_source.specs.declared.rule.Broken.{Broken}
-use Rattle.mc_model.specs.PlainGoals.{plain_flat}
+use Rattle.mc_model.specs.PlainGoals.{plain_flat, plain_proc}
 use Rattle.mc_model.specs.declared.flat.Normal.{Normal}
 use Rattle.mc_model.specs.declared.inst.Sig.{Sig}
 use Rattle.mc_model.specs.declared.sched.Proc.{Proc}
 use Rattle.mc_accepted.specs.Arranged.{Verdict, faulty, unmet}
 use Rattle.mc_accepted.specs.Normal.{normal_goal}
 use Rattle.mc_insts.specs.Graphs.{count_of}
-use Rattle.mc_procs.specs.Procedures.{PlainProcs, source_of, with_proc}
+use Rattle.mc_procs.specs.Procedures.{PlainProcs, source_of, insts_of, with_insts, with_proc}
+use Rattle.mc_procs.specs.Fitting.{ProcedureFits}
 use Rattle.mc_mode_points.specs.Answers.{plain_fault}
 use Rattle.mc_mode_points.specs.declared.state.State.{State}
 use Rattle.mc_modes.specs.Signatures.{modes_at, mode_in, SigsFit}
@@ -43,6 +44,7 @@ IsNext q g = (length q.added < length q.preds) × (g.pred ≡ get_or q.preds (le
 -- what a goal needs to be tried in a mode
 pub record CanTry (sigs : List Sig) (k : ℕ) (q : PlainProcs) (g : Normal) : Type 0 where
   pub sigs_fit : SigsFit (count_of q.insts) sigs
+  pub there : g.pred < length q.program.preds
   pub mode : k < length (modes_at sigs g.pred)
   pub fits : NormalFits q (mode_in sigs g.pred k) g
   pub body : IsBody q g
@@ -50,10 +52,26 @@ pub record CanTry (sigs : List Sig) (k : ℕ) (q : PlainProcs) (g : Normal) : Ty
 abbrev pub exported_as : Bool → Proc → Proc
 exported_as b p = record p { exported = b }
 
--- the procedure came, or it isn't known to fit
+-- the insts learned of types alone: the graph is as before
+pub record SameGraph (q r : PlainProcs) : Type 0 where
+  pub others : r ≡ with_insts q r.insts
+  pub graph : insts_of r ≡ insts_of q
+  pub count : count_of r.insts ≡ count_of q.insts
+
+-- the procedure came
+pub record Adds (exported : Bool) (p : Proc) (q r : PlainProcs) : Type 0 where
+  pub tested : PlainProcs
+  pub same : SameGraph q tested
+  pub added : r ≡ with_proc tested (exported_as exported p)
+
+-- it doesn't fit
+pub record AddsNone (exported : Bool) (p : Proc) (q r : PlainProcs) : Type 0 where
+  pub same : SameGraph q r
+  pub unfit : ProcedureFits r (plain_proc (exported_as exported p)) → ⊥
+
 abbrev pub AddsOrNot : (exported : Bool) → Proc → (q r : PlainProcs) → (fits : Bool) → Type 0
-AddsOrNot b p q r true = r ≡ with_proc q (exported_as b p)
-AddsOrNot b p q r false = r ≡ q
+AddsOrNot b p q r true = Adds b p q r
+AddsOrNot b p q r false = AddsNone b p q r
 
 module _ (sigs : List Sig) (g : Normal) (k : ℕ) (exported : Bool) (q r : PlainProcs)
     (old new : List Broken) where
@@ -64,7 +82,7 @@ module _ (sigs : List Sig) (g : Normal) (k : ℕ) (exported : Bool) (q r : Plain
     pub proc : Proc
     pub found : PlainProcs
     pub scheduled : IsScheduled sigs g k (mode_in sigs g.pred k) q found proc
-    pub added : r ≡ with_proc found (exported_as exported proc)
+    pub adds : Adds exported proc found r
 
   -- it has an order, and some rule was listed before
   pub record Passed : Type 0 where
@@ -88,11 +106,13 @@ module _ (sigs : List Sig) (g : Normal) (k : ℕ) (exported : Bool) (q r : Plain
         ++ record { rule = told.0; at = (mode_in sigs g.pred k).at; what = told.1 }
         ∷ []
 
-  -- its procedure isn't known to fit
+  -- its procedure doesn't fit
   pub record Unfit : Type 0 where
     pub none_before : old ≡ []
     pub proc : Proc
-    pub scheduled : IsScheduled sigs g k (mode_in sigs g.pred k) q r proc
+    pub found : PlainProcs
+    pub scheduled : IsScheduled sigs g k (mode_in sigs g.pred k) q found proc
+    pub adds_none : AddsNone exported proc found r
 
   abbrev pub Steps : (fits : Bool) → Type 0
   Steps true = Came ⊎ (Passed ⊎ Listed)

@@ -13,6 +13,7 @@ use Rattle.mc_mode_points.specs.States.{point_of, is_outside}
 use Rattle.mc_mode_points.specs.Answers.{end_of, FreshAlike}
 use Rattle.mc_mode_points.specs.declared.part.Part.{Part}
 use Rattle.mc_mode_points.proofs.EndColumns.{ascending-below}
+use Rattle.mc_mode_points.proofs.Growths.{nodes_grown, only_grown_trans, stepped_then_grown}
 use Rattle.mc_mode_points.proofs.Steps.{same-refl, moved-refl, moved-trans, stepped-refl, stepped-trans}
 use Rattle.mc_modes.specs.Fitting.{GoalFits}
 use Rattle.mc_modes.specs.Tries.{trying, tells_outside, Does}
@@ -436,6 +437,12 @@ first_ready-goal_at-requires t c =
     let h : k < length ks = omega (arith, c.loop-place-test.true) in
     place-below (length gs) ks k c.requires.waiting h
 
+pub first_ready-returns-in-Err-Memory-clause-kept : goal.first_ready-returns-in-Err-Memory-clause-kept
+first_ready-returns-in-Err-Memory-clause-kept t c =
+    let q = c.args.procs.now in
+    let p = c.loop-place.procs in
+    only_grown_trans q p c.try_among.new.procs (nodes_grown q p c.args.state.now.nodes c.loop-place.state.nodes c.loop-place.invariant.moved.nodes) c.in-Err-Memory.ensures.kept
+
 pub first_ready-returns-in-Ok-clause-does : goal.first_ready-returns-in-Ok-clause-does
 first_ready-returns-in-Ok-clause-does t c =
     let q = c.args.procs.now in
@@ -549,6 +556,16 @@ in_turn-stuck-requires-clause-variables t c =
     (subst (λ x. NumbersBelow x (variables_of_each (goals_at gs ks))) (sym n.same.count)
     (each-below (length u.insts.items) gs ks i.places (below-more (length s.insts.items) (length u.insts.items) (variables_of_all (flats (map plain_flat gs))) i.onward.more c.requires.fits.variables)))
 
+pub in_turn-returns-in-NoneReady-clause-kept : goal.in_turn-returns-in-NoneReady-clause-kept
+in_turn-returns-in-NoneReady-clause-kept t c =
+    let q = c.args.procs.now in
+    let p = c.turns.procs in
+    let r = c.first_ready.new.procs in
+    let u = c.turns.state in
+    let v = c.first_ready.new.state in
+    let n : NoneIsReady c.args.sigs.now (goals_at c.args.goals.now c.deref.result.now) p r u v c.in-NoneReady.found = rw c.in-NoneReady.is at c.in_ok-place.ensures.does in
+    only_grown_trans q p r (nodes_grown q p c.args.state.now.nodes u.nodes c.turns.invariant.onward.moved.nodes) (nodes_grown p r u.nodes v.nodes n.moved.nodes)
+
 pub in_turn-returns-in-NoneReady-clause-does : goal.in_turn-returns-in-NoneReady-clause-does
 in_turn-returns-in-NoneReady-clause-does t c =
     let q = c.args.procs.now in
@@ -609,6 +626,10 @@ disjunction-loop-goal-init t c =
     subst (λ (bs : List GoalNode). Forked c.args.sigs.now gs gs seen bs c.new-ends.result.items q q s s) (sym c.new-branches.ensures.items)
     (subst (λ (es : List (List ℕ)). Forked c.args.sigs.now gs gs seen [] es q q s s) (sym c.new-ends.ensures.items)
     (forked-begins c.args.sigs.now gs seen q s c.requires.stands))
+
+pub disjunction-returns-in_Err-node-clause-kept : goal.disjunction-returns-in_Err-node-clause-kept
+disjunction-returns-in_Err-node-clause-kept t c =
+    stepped_then_grown c.args.procs.now c.loop-goal.procs c.branch-node.new.procs c.args.state.now c.loop-goal.state c.loop-goal.invariant.stepped c.in_Err-node.ensures.kept
 
 pub disjunction-returns-in_Err-node-clause-does : goal.disjunction-returns-in_Err-node-clause-does
 disjunction-returns-in_Err-node-clause-does t c =
@@ -966,6 +987,11 @@ test_and_then-returns-in-Ok-then_branch-clause-alike t c =
     begun-alike (plain_flat c.args.condition.now) (plain_flat c.args.then_part.now) u t v c.in-Ok.first.goal c.in-Ok-then_branch.then_goal (keeps-taken u t c.in-Ok-then_branch.ensures.does.stepped.moved.types) (keeps-same t v c.back.ensures.types)
     c.in-Ok.ensures.alike c.in-Ok-then_branch.ensures.alike
 
+pub test_and_then-returns-in-Err-then_branch-clause-kept : goal.test_and_then-returns-in-Err-then_branch-clause-kept
+test_and_then-returns-in-Err-then_branch-clause-kept t c =
+    let first = c.in-Ok.ensures.does in
+    stepped_then_grown c.args.procs.now c.test.new.procs c.then_branch.new.procs c.args.state.now c.test.new.state first.stepped c.in-Err-then_branch.ensures.kept
+
 pub test_and_then-returns-in-Err-then_branch-clause-does : goal.test_and_then-returns-in-Err-then_branch-clause-does
 test_and_then-returns-in-Err-then_branch-clause-does t c =
     let first = c.in-Ok.ensures.does in
@@ -1064,6 +1090,11 @@ if_then_else-returns-in_Ok-else_goal-clause-alike t c =
     let v = c.chosen.new.state in
     ite-alike c.args.vars.now (plain_flat c.args.condition.now) (plain_flat c.args.then_part.now) (plain_flat c.args.else_part.now) t u v c.in-Ok.begun c.in_Ok-else_goal.else_goal c.deref-in_Ok-else_goal.result.now c.in_ok-seen.seen
     c.deref-in_Ok-else_goal-2.result.now c.branch-else_goal.new.procs c.chosen.new.procs c.chosen.result c.in-Ok.ensures.alike c.in_Ok-else_goal.ensures.alike (keeps-taken t u c.in_Ok-else_goal.ensures.does.stepped.moved.types) c.chosen.ensures.chosen
+
+pub if_then_else-returns-clause-kept : goal.if_then_else-returns-clause-kept
+if_then_else-returns-clause-kept t c =
+    let first = rw c.new-ends.ensures.items at c.in-Ok.ensures.does in
+    stepped_then_grown c.args.procs.now c.test_and_then.new.procs c.branch-else_goal.new.procs c.args.state.now c.test_and_then.new.state first.stepped c.in_Err-else_goal.ensures.kept
 
 pub if_then_else-returns-clause-does : goal.if_then_else-returns-clause-does
 if_then_else-returns-clause-does t c =

@@ -59,6 +59,11 @@ returns-then-not-branch-clause-usable c = λ declared C T a.
     (ap₂ (λ (u v : ℕ). taken_by r s declared e.stepped.moved.stands C T a (source_of q) xs (u, v) (get_or xs k 0)) (sym m) (sym n)
     ∙ (e.takes declared C T a ∙ c.if-not-branch.true))
 
+pub returns-then-not-branch-clause-stepped : goal.returns-then-not-branch-clause-stepped
+returns-then-not-branch-clause-stepped c =
+    let s = c.args.self.now in
+    stepped-trans c.args.procs.now c.loop-k.procs c.takes.new.procs s s s c.loop-k.invariant.stepped c.in_ok-takes.ensures.stepped
+
 pub loop-k-preserved : goal.loop-k-preserved
 loop-k-preserved c =
     let q = c.args.procs.now in

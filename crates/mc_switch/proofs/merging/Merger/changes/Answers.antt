@@ -20,6 +20,10 @@ pub push_change-requires-clause-ends : goal.push_change-requires-clause-ends
 push_change-requires-clause-ends c =
     ends_grown c.args.procs.now c.loop-x.procs c.args.around.now c.args.disjuncts.now c.loop-x.invariant.grew c.requires.ends
 
+pub returns-in_err-push_change-clause-grew : goal.returns-in_err-push_change-clause-grew
+returns-in_err-push_change-clause-grew c =
+    grown_twice c.args.procs.now c.loop-x.procs c.push_change.new.procs c.loop-x.invariant.grew c.in_err-push_change.ensures.grew
+
 pub loop-x-preserved : goal.loop-x-preserved
 loop-x-preserved c =
     let now = c.loop-x in

@@ -1,0 +1,3 @@
+pub mod HasLibrary
+pub mod MadeTypes
+pub mod code

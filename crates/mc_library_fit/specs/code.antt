@@ -1,0 +1,3 @@
+pub mod Names
+pub mod Predicates
+pub mod Types

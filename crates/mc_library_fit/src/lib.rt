@@ -1,0 +1,14 @@
+//! Whether the library in a program is the one that the language defines, tested as the program runs.
+#![tactic(auto)]
+
+mod constructors;
+mod declared;
+mod fit;
+mod laws;
+mod predicates;
+#[cfg(test)]
+mod tests;
+mod types;
+
+pub use fit::library_fits;
+pub use laws::has_library;
