@@ -17,7 +17,7 @@ use Rattle.mc_sound.specs.Soundness.{AcceptedAreGood}
 use Rattle.mc_order_laws.proofs.NormalScopes.{from_length}
 use Rattle.mc_order_laws.proofs.EndsMet.{in-order-is-ordered}
 use Rattle.mc_determinism_laws.proofs.Faultless.{faultless_meets}
-use Rattle.mc_acceptance_laws.specs.AcceptedLaws.{IsTold, IsFormed, FaultlessIsAccepted, FormIsAccepted, InOrderIsAccepted, ComputedAreGood}
+use Rattle.mc_acceptance_laws.specs.AcceptedLaws.{IsTold, IsFormed, FaultlessIsAccepted, FormIsAccepted, InOrderIsAccepted, ComputedAreAccepted, ComputedAreGood}
 use Rattle.mc_acceptance_laws.specs.FormLaws.{BoundAreOutside}
 use Rattle.mc_acceptance_laws.specs.Told.{Retold}
 use Rattle.mc_acceptance_laws.proofs.FormedGoals.{forms_stay_ordered}
@@ -71,7 +71,7 @@ pub in_order_is_accepted : InOrderIsAccepted
 in_order_is_accepted D ds k x closed lt e t q =
     let S : System = system_of D ds in
     let p : Procedure = S.procs k in
-    let h = in-order-is-ordered S p q.choice q.modes q.truthful q.declared q.next (goal_of S p).body x (as_long S p t) q.head_below q.goal_below q.scopes q.order q.alike in
+    let h = in-order-is-ordered S p q.choice q.modes q.truthful q.declared q.ends q.next (goal_of S p).body x (as_long S p t) q.head_below q.goal_below q.scopes q.typed q.enters q.order q.alike in
     let n : Node = h.1.0 in
     let alike : (m : Node) → changed_node m ≡ x → Retold n m = λ m same. (changed_is_retold n m).0 (h.1.1 ∙ sym same) in
     let back : (m : Node) → changed_node m ≡ x → Retold m n = λ m same. (changed_is_retold m n).0 (same ∙ sym h.1.1) in (
@@ -81,7 +81,10 @@ in_order_is_accepted D ds k x closed lt e t q =
       (λ m same insts form. form_is_accepted D ds k n h.0 closed lt insts e t (h.1.2, h.2) (form_of_told S p m n (back m same) form)),
     )
 
+pub computed_are_accepted : ComputedAreAccepted
+computed_are_accepted D ds insts closed computed k lt =
+    let c = computed k lt in form_is_accepted D ds k c.goal c.after closed lt insts c.faultless c.told c.ordered c.form
+
 pub computed_are_good : AcceptedAreGood → ComputedAreGood
 computed_are_good good D ds E fits closed computed =
-    good (system_of D ds) E fits
-    (λ k lt. let c = computed k lt in form_is_accepted D ds k c.goal c.after closed lt fits.insts c.faultless c.told c.ordered c.form)
+    good (system_of D ds) E fits (computed_are_accepted D ds fits.insts closed computed)

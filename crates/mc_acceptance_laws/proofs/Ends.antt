@@ -37,32 +37,32 @@ name_lists P (l ∷ ls) s e = by_test (pointwise nat_eq l.name (P.symbols s).nam
         inl ((bytes_decides l.name (P.symbols s).name.bytes).0 h.0, eqb-true l.arity (P.symbols s).name.arity h.1, tt)
     by_test false q e later = inr (later e)
 
-name_allows : (P : Source) (N : InstNode) (i s : ℕ) → allows_name N (P.symbols s).name ≡ true → AllowsSymbol P N i s (λ js. Unit {0})
+pub name_allows : (P : Source) (N : InstNode) (i s : ℕ) → allows_name N (P.symbols s).name ≡ true → AllowsSymbol P N i s (λ js. Unit {0})
 name_allows P free i s e = cc
 name_allows P ground i s e = tt
 name_allows P unique i s e = tt
 name_allows P dead i s e = tt
 name_allows P (bound ls) i s e = name_lists P ls s e
 
-excluded : (t : Bool) → (t ≡ true → ⊥) → not t ≡ true
+pub excluded : (t : Bool) → (t ≡ true → ⊥) → not t ≡ true
 excluded true f = absurd (f refl)
 excluded false f = refl
 
-constants_taken : (N : InstNode) → AllowsConstants N → not (takes_constants N) ≡ false
+pub constants_taken : (N : InstNode) → AllowsConstants N → not (takes_constants N) ≡ false
 constants_taken free h = absurd h
 constants_taken ground h = refl
 constants_taken unique h = refl
 constants_taken dead h = refl
 constants_taken (bound ls) h = absurd h
 
-constants_left : (N : InstNode) → (AllowsConstants N → ⊥) → not (takes_constants N) ≡ true
+pub constants_left : (N : InstNode) → (AllowsConstants N → ⊥) → not (takes_constants N) ≡ true
 constants_left free h = refl
 constants_left ground h = absurd (h tt)
 constants_left unique h = absurd (h tt)
 constants_left dead h = absurd (h tt)
 constants_left (bound ls) h = refl
 
-never_answers : (m : Most) (c : Insts) → is_zero m ≡ is_none (unless_never m c)
+pub never_answers : (m : Most) (c : Insts) → is_zero m ≡ is_none (unless_never m c)
 never_answers Zero c = refl
 never_answers One c = refl
 never_answers Many c = refl
@@ -81,7 +81,7 @@ module _ (S : System) (T : ℕ → TypeTerm) where
   one_answer : (op : Builtin) → builtin_most op ≡ One → is_zero (builtin_most op) ≡ false
   one_answer op e = ap is_zero e
 
-  last_none : (t : Bool) → (t && true) ≡ t
+  pub last_none : (t : Bool) → (t && true) ≡ t
   last_none true = refl
   last_none false = refl
 

@@ -1,11 +1,17 @@
 pub mod Accepting
 pub mod Ends
+pub mod EvenGroups
+pub mod FormEnds
 pub mod FormVariables
 pub mod FormedAppend
 pub mod FormedFacts
 pub mod FormedGoals
 pub mod Groups
+pub mod KeptArms
+pub mod KeptGathered
+pub mod KeptTold
 pub mod Moving
+pub mod NoSwitches
 pub mod Outside
 pub mod Retelling
 pub mod Staying

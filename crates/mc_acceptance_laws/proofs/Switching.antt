@@ -19,7 +19,7 @@ use Rattle.mc_accepted.specs.Least.{least}
 use Rattle.mc_accepted.specs.Ordered as R
 use Rattle.mc_accepted.specs.Ordered.{Insts, change_at, Parts, arm_goal, reachable, is_pruned, KeepsChanges, Joined, Ordered, OrderedNode, OrderedAny, OrderedArms, kept, Opens, OpensScheduled, EachOpens, EachArmOpens, IsLabel, AbsentFrom}
 use Rattle.mc_accepted.specs.Determined.{insts_after, allowed_in}
-use Rattle.mc_accepted.specs.MergedArms.{EachGives, never_ends, never_ends_in, each_never_ends, each_arm_never_ends, with_end, ends, arm_ends, ChangesMerge, ArmMerges, ArmsMerge, ArmsMergeIn, ArmsMergeInEach, EachArmMerges, MergeInside}
+use Rattle.mc_accepted.specs.MergedArms.{EachGives, never_ends, never_ends_in, each_never_ends, each_arm_never_ends, with_end, ends, arm_ends, disjunct_ends, ends_in_arm, ChangesMerge, ArmMerges, ArmsMerge, ArmsMergeIn, ArmsMergeInEach, EachArmMerges, MergeInside}
 use Rattle.mc_accepted.specs.Switched.{Disjunct, openings, goals_of, label_in, same_label, is_label, opens_with, is_told, others, and_label, labels_of, those, Kept, arm_of, arms_on, on_chosen, is_opened, covers, opened_variables, chosen, grouped}
 use Rattle.mc_laws.proofs.Merging.{one_is_merged}
 use Rattle.mc_determinism_laws.specs.SwitchLaws.{Told}
@@ -38,11 +38,11 @@ use Rattle.mc_acceptance_laws.proofs.Staying.{insts_at, free_merged, merged_set}
 use Rattle.mc_laws.proofs.FlatGoals.{in_either, in_left, in_right}
 
 -- ---- labels
-abbrev NotAmong : Label → List Label → Type 0
+abbrev pub NotAmong : Label → List Label → Type 0
 NotAmong l [] = Unit {0}
 NotAmong l (k ∷ ks) = (l ≢ k) × NotAmong l ks
 
-abbrev Distinct : List Label → Type 0
+abbrev pub Distinct : List Label → Type 0
 Distinct [] = Unit {0}
 Distinct (l ∷ ls) = NotAmong l ls × Distinct ls
 
@@ -83,7 +83,7 @@ label_others k (j ∷ ls) h = at (same_label k j) (label_others k ls h.1)
     at false r = (h.0, r)
 
 module _ (x : ℕ) where
-  distinct_labels : (ds : List Disjunct) → Distinct (labels_of x ds)
+  pub distinct_labels : (ds : List Disjunct) → Distinct (labels_of x ds)
   distinct_labels [] = tt
   distinct_labels (d ∷ ds) = at (label_in x d.opens) (distinct_labels ds)
     where
@@ -100,11 +100,11 @@ module _ (x : ℕ) where
       at (Some k) q r = ((openings_open x d.goal k (subst (λ os. label_in x os ≡ Some k) t.0 q)).1, label_others k (labels_of x ds) r)
 
   -- a disjunct has one of the labels
-  abbrev HasOne : List Label → Disjunct → Type 0
+  abbrev pub HasOne : List Label → Disjunct → Type 0
   HasOne [] d = ⊥
   HasOne (l ∷ ls) d = (opens_with x l d ≡ true) ⊎ HasOne ls d
 
-  abbrev EachHasOne : List Label → List Disjunct → Type 0
+  abbrev pub EachHasOne : List Label → List Disjunct → Type 0
   EachHasOne ls [] = Unit {0}
   EachHasOne ls (d ∷ ds) = HasOne ls d × EachHasOne ls ds
 
@@ -122,7 +122,7 @@ module _ (x : ℕ) where
   each_others k ls [] h = tt
   each_others k ls (d ∷ ds) h = (has_others k ls d h.0, each_others k ls ds h.1)
 
-  each_has_one : (ds : List Disjunct) → list_all (λ (d : Disjunct). is_told (label_in x d.opens)) ds ≡ true → EachHasOne (labels_of x ds) ds
+  pub each_has_one : (ds : List Disjunct) → list_all (λ (d : Disjunct). is_told (label_in x d.opens)) ds ≡ true → EachHasOne (labels_of x ds) ds
   each_has_one [] e = tt
   each_has_one (d ∷ ds) e = (let p = and_parts (is_told (label_in x d.opens)) (list_all (λ (d : Disjunct). is_told (label_in x d.opens)) ds) e in at (label_in x d.opens) refl p.0 (each_has_one ds p.1))
     where
@@ -134,10 +134,10 @@ module _ (x : ℕ) where
   has_label l None e = cc
   has_label l (Some k) e = ap Some (sym (label_same l k e))
 
-  abbrev without_label : Label → List Disjunct → List Disjunct
+  abbrev pub without_label : Label → List Disjunct → List Disjunct
   without_label l ds = those (λ d. not (opens_with x l d)) ds
 
-  others_left : (l : Label) (ls : List Label) (ds : List Disjunct) → EachHasOne (l ∷ ls) ds → EachHasOne ls (without_label l ds)
+  pub others_left : (l : Label) (ls : List Label) (ds : List Disjunct) → EachHasOne (l ∷ ls) ds → EachHasOne ls (without_label l ds)
   others_left l ls [] h = tt
   others_left l ls (d ∷ ds) h = at (opens_with x l d) refl h.0 (others_left l ls ds h.1)
     where
@@ -146,7 +146,7 @@ module _ (x : ℕ) where
       at false q (inl e) r = cc
       at false q (inr a) r = (a, r)
 
-  same_left : (l k : Label) → l ≢ k → (ds : List Disjunct) → those (opens_with x k) (without_label l ds) ≡ those (opens_with x k) ds
+  pub same_left : (l k : Label) → l ≢ k → (ds : List Disjunct) → those (opens_with x k) (without_label l ds) ≡ those (opens_with x k) ds
   same_left l k ne [] = refl
   same_left l k ne (d ∷ ds) = at (opens_with x l d) (opens_with x k d) refl refl (same_left l k ne ds)
     where
@@ -155,7 +155,7 @@ module _ (x : ℕ) where
       at true false p q r = r
       at false u p q r = ap (λ v. if v then d ∷ those (opens_with x k) (without_label l ds) else those (opens_with x k) (without_label l ds)) q ∙ ap (λ es. if u then d ∷ es else es) r
 
-abbrev AllLabelled : ℕ → Label → List Disjunct → Type 0
+abbrev pub AllLabelled : ℕ → Label → List Disjunct → Type 0
 AllLabelled z l [] = Unit {0}
 AllLabelled z l (d ∷ ds) = (label_in z d.opens ≡ Some l) × AllLabelled z l ds
 
@@ -167,7 +167,7 @@ labelled_those z l f (d ∷ ds) h = at (f d) (labelled_those z l f ds h.1)
     at true r = (h.0, r)
     at false r = r
 
-labelled_group : (x : ℕ) (l : Label) (ds : List Disjunct) → AllLabelled x l (those (opens_with x l) ds)
+pub labelled_group : (x : ℕ) (l : Label) (ds : List Disjunct) → AllLabelled x l (those (opens_with x l) ds)
 labelled_group x l [] = tt
 labelled_group x l (d ∷ ds) = at (opens_with x l d) refl (labelled_group x l ds)
   where
@@ -176,14 +176,14 @@ labelled_group x l (d ∷ ds) = at (opens_with x l d) refl (labelled_group x l d
     at false q r = r
 
 -- ---- ends
-abbrev no_end : List Insts → Bool
+abbrev pub no_end : List Insts → Bool
 no_end [] = true
 no_end (c ∷ cs) = false
 
-same_cons : (z : ℕ) (xs ys : List ℕ) → Same xs ys → Same (z ∷ xs) (z ∷ ys)
+pub same_cons : (z : ℕ) (xs ys : List ℕ) → Same xs ys → Same (z ∷ xs) (z ∷ ys)
 same_cons z xs ys h = ((λ w i. ⊎_elim (λ e. inl e) (λ j. inr (h.0 w j)) i), (λ w i. ⊎_elim (λ e. inl e) (λ j. inr (h.1 w j)) i))
 
-same_middle : (z : ℕ) (xs us vs : List ℕ) → Same xs (us ++ vs) → Same (z ∷ xs) (us ++ (z ∷ vs))
+pub same_middle : (z : ℕ) (xs us vs : List ℕ) → Same xs (us ++ vs) → Same (z ∷ xs) (us ++ (z ∷ vs))
 same_middle z xs us vs h = (
   (λ w i. ⊎_elim (λ e. in_right w us (z ∷ vs) (inl e)) (λ j. ⊎_elim (λ a. in_left w us (z ∷ vs) a) (λ a. in_right w us (z ∷ vs) (inr a)) (in_either w us vs (h.0 w j))) i),
   (λ w i. ⊎_elim (λ a. inr (h.1 w (in_left w us vs a))) (λ a. ⊎_elim (λ e. inl e) (λ j. inr (h.1 w (in_right w us vs j))) a) (in_either w us (z ∷ vs) i)),
@@ -216,13 +216,39 @@ module _ (S : System) (T : ℕ → TypeTerm) (b : Insts) where
       at true = e
       at false = refl
 
-  each_never : (ns : Nodes) → each_never_ends S T b ns ≡ no_end (ends S T b ns)
+  pub each_never : (ns : Nodes) → each_never_ends S T b ns ≡ no_end (ends S T b ns)
   each_never no_nodes = refl
   each_never (node_then n ns) = one_more n (each_never_ends S T b ns) (ends S T b ns) (each_never ns)
 
   each_arm_never : (arms : Arms) → each_arm_never_ends S T b arms ≡ no_end (arm_ends S T b arms)
   each_arm_never no_arms = refl
   each_arm_never (arm_then l n arms) = one_more n (each_arm_never_ends S T b arms) (arm_ends S T b arms) (each_arm_never arms)
+
+  -- an arm that begins with a deconstruction is one disjunct
+  pub one_disjunct : (x : ℕ) (l : Label) (n : Node) → label_in x (openings n) ≡ Some l → ends_in_arm S T b n ≡ with_end S T b n []
+  one_disjunct x l (node (Conj ns) changes d m) e = refl
+  one_disjunct x l (node (Disj ns) changes d m) e = cc
+  one_disjunct x l (node (Switch y arms) changes d m) e = cc
+  one_disjunct x l (node (Ite vs n t u) changes d m) e = refl
+  one_disjunct x l (node (Not n) changes d m) e = refl
+  one_disjunct x l (node (Exists vs n) changes d m) e = refl
+  one_disjunct x l (node (Assign y z) changes d m) e = refl
+  one_disjunct x l (node (Test y z) changes d m) e = refl
+  one_disjunct x l (node (Build y s ys) changes d m) e = refl
+  one_disjunct x l (node (Take y s ys) changes d m) e = refl
+  one_disjunct x l (node (Const y v) changes d m) e = refl
+  one_disjunct x l (node (TestConst y v) changes d m) e = refl
+  one_disjunct x l (node (Call p xs implied last) changes d m) e = refl
+  one_disjunct x l (node (Apply op xs ys) changes d m) e = refl
+
+-- ends of some branches and of others
+pub ends_append : (y : ℕ) (cs ds : List Insts) → insts_at y (cs ++ ds) ≡ insts_at y cs ++ insts_at y ds
+ends_append y [] ds = refl
+ends_append y (c ∷ cs) ds = ap (λ is. c y ∷ is) (ends_append y cs ds)
+
+pub no_end_append : (cs ds : List Insts) → no_end (cs ++ ds) ≡ (no_end cs && no_end ds)
+no_end_append [] ds = refl
+no_end_append (c ∷ cs) ds = refl
 
 -- ---- what is asked of the arms is asked of each disjunct
 module _ (S : System) (T : ℕ → TypeTerm) (b c : Insts) (keep : Kept) where
@@ -447,12 +473,6 @@ module _ (S : System) (T : ℕ → TypeTerm) (fits : FitsInsts S.insts) (O Q : L
       at (c ∷ cs) (d ∷ ds) None e j f = absurd j
       at (c ∷ cs) (d ∷ ds) (Some z) e j f = λ y. ((λ i. f y i (z y) ((j y).0 i)), (j y).1)
 
-  -- what joins the groups' ends joins all ends
-  apart : (all : List Insts) (os : List (Option Insts)) → Grouped os all → (y : ℕ) → In y O → (k : ℕ) → Merged P S.insts (insts_at y (reachable os)) k (T y) → Merged P S.insts (insts_at y all) k (T y)
-  apart all os g y i k m =
-      let q = g y i in
-      merging_keeps_sets P S.insts (in_groups q.0) (insts_at y all) k (T y) q.1.0 q.1.1 ((groups_merge_as_all P S.insts fits.proper q.0 (insts_at y (reachable os)) k (T y) q.2).1 m)
-
   -- ---- what is kept of an arm joins the ends of its disjuncts
   abbrev end_by : List Insts → List (ℕ × ℕ) → Option Insts
   end_by all changes = if no_end all then None else Some (λ x. change_at x changes (b x))
@@ -462,9 +482,16 @@ module _ (S : System) (T : ℕ → TypeTerm) (fits : FitsInsts S.insts) (O Q : L
     keeps : KeepsChanges b (end_by all changes) changes
     fine : FineEnd O b (end_by all changes)
 
-  gives_one : (y : ℕ) (cs : List Insts) → AllFine cs → (In y O → ⊥) → is_bound (b y) ≡ true → NoneIs free S.insts (insts_at y cs) → EachGives y (b y) cs
-  gives_one y [] f n q set = tt
-  gives_one y (e ∷ cs) f n q set = (⊎_elim (λ a. a) (λ z. absurd (set.0 (ap S.insts z ∙ fits.is_free))) (f.0 y n q), gives_one y cs f.1 n q set.1)
+  abbrev IsKeptOrFree : ℕ → List ℕ → Type 0
+  IsKeptOrFree y is = (i : ℕ) → In i is → (i ≡ b y) ⊎ (i ≡ 0)
+
+  kept_or_free : (y : ℕ) (cs : List Insts) → AllFine cs → (In y O → ⊥) → is_bound (b y) ≡ true → IsKeptOrFree y (insts_at y cs)
+  kept_or_free y [] f n q i j = absurd j
+  kept_or_free y (e ∷ cs) f n q i j = ⊎_elim (λ h. subst (λ k. (k ≡ b y) ⊎ (k ≡ 0)) (sym h) (f.0 y n q)) (λ k. kept_or_free y cs f.1 n q i k) j
+
+  gives_one : (y : ℕ) (cs : List Insts) → IsKeptOrFree y (insts_at y cs) → NoneIs free S.insts (insts_at y cs) → EachGives y (b y) cs
+  gives_one y [] f set = tt
+  gives_one y (e ∷ cs) f set = (⊎_elim (λ a. a) (λ z. absurd (set.0 (ap S.insts z ∙ fits.is_free))) (f (e y) (inl refl)), gives_one y cs (λ i j. f i (inr j)) set.1)
 
   neither : (t u : Bool) → t ≡ false → u ≡ false → (t || u) ≡ false
   neither true u e f = cc
@@ -474,11 +501,11 @@ module _ (S : System) (T : ℕ → TypeTerm) (fits : FitsInsts S.insts) (O Q : L
   one_of true u e = refl
   one_of false u e = cc
 
-  merges_join : (cs all : List Insts) (changes : List (ℕ × ℕ)) → ((y : ℕ) → In y O → (k : ℕ) → Merged P S.insts (insts_at y cs) k (T y) → Merged P S.insts (insts_at y all) k (T y)) → no_end cs ≡ no_end all → AllFine cs → ((y : ℕ) → In y O → is_bound (c y) ≡ false → AllFree S.insts (insts_at y all)) → ChangesMerge S T b c cs changes → JoinsTo all changes
-  merges_join [] [] changes up e fine un m = record { joined = refl; keeps = m; fine = tt }
-  merges_join [] (a ∷ all) changes up e fine un m = cc
-  merges_join (d ∷ cs) [] changes up e fine un m = cc
-  merges_join (d ∷ cs) (a ∷ all) changes up e fine un m =
+  merges_join : (cs all : List Insts) (changes : List (ℕ × ℕ)) → ((y : ℕ) → Same (insts_at y cs) (insts_at y all)) → no_end cs ≡ no_end all → AllFine all → ((y : ℕ) → In y O → is_bound (c y) ≡ false → AllFree S.insts (insts_at y all)) → ChangesMerge S T b c cs changes → JoinsTo all changes
+  merges_join [] [] changes same e fine un m = record { joined = refl; keeps = m; fine = tt }
+  merges_join [] (a ∷ all) changes same e fine un m = cc
+  merges_join (d ∷ cs) [] changes same e fine un m = cc
+  merges_join (d ∷ cs) (a ∷ all) changes same e fine un m =
       record {
         joined = λ y. ((λ i. inside y i (is_bound (b y) || is_bound (c y)) refl), (λ n. outside y n (is_bound (b y)) refl));
         keeps = ((λ y. refl), m.0, m.1);
@@ -489,7 +516,7 @@ module _ (S : System) (T : ℕ → TypeTerm) (fits : FitsInsts S.insts) (O Q : L
       after y = change_at y changes (b y)
 
       inside : (y : ℕ) → In y O → (t : Bool) → (is_bound (b y) || is_bound (c y)) ≡ t → Merged P S.insts (insts_at y (a ∷ all)) (after y) (T y)
-      inside y i true q = up y i (after y) (m.2 y q)
+      inside y i true q = merging_keeps_sets P S.insts (insts_at y (d ∷ cs)) (insts_at y (a ∷ all)) (after y) (T y) (same y).0 (same y).1 (m.2 y q)
       inside y i false q = free_merged S fits (insts_at y (a ∷ all)) (after y) (T y) (un y i (or-second (is_bound (b y)) (is_bound (c y)) q)) (m.4 y q)
 
       outside : (y : ℕ) → (In y O → ⊥) → (t : Bool) → is_bound (b y) ≡ t → (after y ≡ 0) ⊎ (after y ≡ b y)
@@ -501,7 +528,7 @@ module _ (S : System) (T : ℕ → TypeTerm) (fits : FitsInsts S.insts) (O Q : L
 
           at : (u : Bool) → is_bound (after y) ≡ u → (after y ≡ 0) ⊎ (after y ≡ b y)
           at false r = inl (is-unset (after y) r)
-          at true r = inr (m.3 y (b y) either (gives_one y (d ∷ cs) fine n q (merged_set S fits (insts_at y (d ∷ cs)) (after y) (T y) (m.2 y either) r)))
+          at true r = inr (m.3 y (b y) either (gives_one y (d ∷ cs) (λ k j. kept_or_free y (a ∷ all) fine n q k ((same y).0 k j)) (merged_set S fits (insts_at y (d ∷ cs)) (after y) (T y) (m.2 y either) r)))
 
   -- ---- arms
   pub record Stands (s : Scheduled) (hs : Flat_goals) (us : List Disjunct) : Type 0 where
@@ -511,6 +538,8 @@ module _ (S : System) (T : ℕ → TypeTerm) (fits : FitsInsts S.insts) (O Q : L
     opens : (z : ℕ) (l : Label) → AllLabelled z l us → OpensScheduled z l form
     ends : never_ends_in S T b s ≡ no_end (reach us)
     joins : (changes : List (ℕ × ℕ)) → ArmMerges S T b c (node s changes (inferred det) false) → JoinsTo (reach us) changes
+    same_ends : (changes : List (ℕ × ℕ)) (y : ℕ) → Same (insts_at y (ends_in_arm S T b (node s changes (inferred det) false))) (insts_at y (reach us))
+    none_ends : (changes : List (ℕ × ℕ)) → no_end (ends_in_arm S T b (node s changes (inferred det) false)) ≡ no_end (reach us)
 
   record ArmStands (n : Node) (hs : Flat_goals) (us : List Disjunct) : Type 0 where
     form : Node
@@ -520,6 +549,8 @@ module _ (S : System) (T : ℕ → TypeTerm) (fits : FitsInsts S.insts) (O Q : L
     groups : Grouped (end_of S T b n ∷ []) (reach us)
     ends : no_end (reachable (end_of S T b n ∷ [])) ≡ no_end (reach us)
     fine : FineEnd O b (end_of S T b n)
+    same_ends : (y : ℕ) → Same (insts_at y (ends_in_arm S T b n)) (insts_at y (reach us))
+    none_ends : no_end (ends_in_arm S T b n) ≡ no_end (reach us)
 
   each_opens : {hs : Flat_goals} {us : List Disjunct} (e : Each hs us) → (z : ℕ) (l : Label) → AllLabelled z l us → EachOpens z l (forms e)
   each_opens none z l a = tt
@@ -542,11 +573,14 @@ module _ (S : System) (T : ℕ → TypeTerm) (fits : FitsInsts S.insts) (O Q : L
           groups = g.0;
           ends = g.1;
           fine = subst (FineEnd O b) is_end j.fine;
+          same_ends = r.same_ends (keep us);
+          none_ends = r.none_ends (keep us);
         }
 
-    arm_stands : (hs : Flat_goals) (us : List Disjunct) → Each hs us → ArmMerges S T b c (arm_of keep again us) → MergeInside S T b c (arm_of keep again us) → ArmStands (arm_of keep again us) hs us
-    arm_stands _ [] none merges inside = several no_flat [] refl none merges inside
-    arm_stands _ (d ∷ []) (more {m = m} w h t f fine un none) merges inside =
+    arm_stands : (x : ℕ) (l : Label) (hs : Flat_goals) (us : List Disjunct) → AllLabelled x l us → Each hs us → ArmMerges S T b c (arm_of keep again us) → MergeInside S T b c (arm_of keep again us) → ArmStands (arm_of keep again us) hs us
+    arm_stands x l _ [] a none merges inside = several no_flat [] refl none merges inside
+    arm_stands x l _ (d ∷ []) a (more {m = m} w h t f fine un none) merges inside =
+        let e : ends_in_arm S T b d.goal ≡ reach (d ∷ []) = one_disjunct S T b x l d.goal (subst (λ os. label_in x os ≡ Some l) t a.0) ∙ with_reachable S T b d.goal [] [] refl in
         record {
           form = m;
           same = w;
@@ -555,8 +589,10 @@ module _ (S : System) (T : ℕ → TypeTerm) (fits : FitsInsts S.insts) (O Q : L
           groups = alone_group (end_of S T b d.goal);
           ends = refl;
           fine = fine;
+          same_ends = λ y. subst (λ cs. Same (insts_at y (ends_in_arm S T b d.goal)) (insts_at y cs)) e (same_self (insts_at y (ends_in_arm S T b d.goal)));
+          none_ends = ap no_end e;
         }
-    arm_stands hs (d ∷ e ∷ us) (more w h t f fine un (more w' h' t' f' fine' un' r)) merges inside = several _ (d ∷ e ∷ us) refl (more w h t f fine un (more w' h' t' f' fine' un' r)) merges inside
+    arm_stands x l hs (d ∷ e ∷ us) a (more w h t f fine un (more w' h' t' f' fine' un' r)) merges inside = several _ (d ∷ e ∷ us) refl (more w h t f fine un (more w' h' t' f' fine' un' r)) merges inside
 
     module _ (x : ℕ) (ds : List Disjunct) where
       record ArmsStand (ls : List Label) (ks : Flat_goals) (es : List Disjunct) : Type 0 where
@@ -570,6 +606,8 @@ module _ (S : System) (T : ℕ → TypeTerm) (fits : FitsInsts S.insts) (O Q : L
         ends : no_end (reachable os) ≡ no_end (reach es)
         reached : arm_ends S T b (arms_on (arm_of keep again) x ds ls) ≡ reachable os
         fine : AllFine (reachable os)
+        same_ends : (y : ℕ) → Same (insts_at y (disjunct_ends S T b (arms_on (arm_of keep again) x ds ls))) (insts_at y (reach es))
+        none_ends : no_end (disjunct_ends S T b (arms_on (arm_of keep again) x ds ls)) ≡ no_end (reach es)
 
       abbrev Agree : List Label → List Disjunct → Type 0
       Agree [] es = Unit {0}
@@ -580,13 +618,13 @@ module _ (S : System) (T : ℕ → TypeTerm) (fits : FitsInsts S.insts) (O Q : L
       agree_left l (k ∷ ls) es n a = (same_left x l k n.0 es ∙ a.0, agree_left l ls es n.1 a.1)
 
       arms_stand : (ls : List Label) (ks : Flat_goals) (es : List Disjunct) → Each ks es → Agree ls es → EachHasOne x ls es → Distinct ls → EachLabel ls → EachArmMerges S T b c (arms_on (arm_of keep again) x ds ls) → ArmsStand ls ks es
-      arms_stand [] ks [] none a h di el j = record { arms = no_arms; os = []; same = W.no_arm; ordered = R.no_arm; opens = λ z l a. tt; absent = λ l n. tt; groups = λ y i. ([], same_self [], tt); ends = refl; reached = refl; fine = tt }
+      arms_stand [] ks [] none a h di el j = record { arms = no_arms; os = []; same = W.no_arm; ordered = R.no_arm; opens = λ z l a. tt; absent = λ l n. tt; groups = λ y i. ([], same_self [], tt); ends = refl; reached = refl; fine = tt; same_ends = λ y. same_self []; none_ends = refl }
       arms_stand [] ks (e ∷ es) r a h di el j = absurd h.0
       arms_stand (l ∷ ls) ks es r a h di el j =
           let s = split (opens_with x l) r in
           let n : Node = arm_of keep again (those (opens_with x l) ds) in
           let end : Option Insts = end_of S T b n in
-          let one = arm_stands s.hs (those (opens_with x l) ds) (subst (λ us. Each s.hs us) a.0 s.taken) j.0 j.1 in
+          let one = arm_stands x l s.hs (those (opens_with x l) ds) (labelled_group x l ds) (subst (λ us. Each s.hs us) a.0 s.taken) j.0 j.1 in
           let rest = arms_stand ls s.ks (without_label x l es) s.left (agree_left l ls es di.0 a.1) (others_left x l ls es h) di.1 el.1 j.2 in
           record {
             arms = arm_then l one.form rest.arms;
@@ -608,6 +646,16 @@ module _ (S : System) (T : ℕ → TypeTerm) (fits : FitsInsts S.insts) (O Q : L
             ends = none_both_ends end rest.os ∙ ap₂ (λ t u. t && u) one.ends rest.ends ∙ sym (subst (λ us. no_end (reach es) ≡ (no_end (reach us) && no_end (reach (without_label x l es)))) a.0 s.ends);
             reached = with_reachable S T b n (arm_ends S T b (arms_on (arm_of keep again) x ds ls)) rest.os rest.reached;
             fine = all_fine end rest.os one.fine rest.fine;
+            same_ends = λ y.
+                (let cs = ends_in_arm S T b n in
+                let ws = disjunct_ends S T b (arms_on (arm_of keep again) x ds ls) in
+                subst (λ is. Same is (insts_at y (reach es))) (sym (ends_append y cs ws))
+                (same_onto (insts_at y cs ++ insts_at y ws) (insts_at y (reach (those (opens_with x l) ds)) ++ insts_at y (reach (without_label x l es))) (insts_at y (reach es))
+                (same_both (insts_at y cs) (insts_at y ws) (insts_at y (reach (those (opens_with x l) ds))) (insts_at y (reach (without_label x l es))) (one.same_ends y) (rest.same_ends y))
+                (let m = subst (λ us. Same (insts_at y (reach es)) (insts_at y (reach us) ++ insts_at y (reach (without_label x l es)))) a.0 (s.between y) in (m.1, m.0))));
+            none_ends =
+                no_end_append (ends_in_arm S T b n) (disjunct_ends S T b (arms_on (arm_of keep again) x ds ls))
+                ∙ ap₂ (λ t u. t && u) one.none_ends rest.none_ends ∙ sym (subst (λ us. no_end (reach es) ≡ (no_end (reach us) && no_end (reach (without_label x l es)))) a.0 s.ends);
           }
 
       agree_all : (ls : List Label) → Agree ls ds
@@ -642,7 +690,9 @@ module _ (S : System) (T : ℕ → TypeTerm) (fits : FitsInsts S.insts) (O Q : L
         ordered = λ o j. R.disj (ordered_each e) j;
         opens = λ z l a. each_opens e z l a;
         ends = each_never S T b (goals_of us) ∙ ap no_end (ends_reachable S T b us);
-        joins = λ changes m. merges_join (reach us) (reach us) changes (λ y i k q. q) refl (fine_each e) (free_each e) (subst (λ cs. ChangesMerge S T b c cs changes) (ends_reachable S T b us) m);
+        joins = λ changes m. merges_join (reach us) (reach us) changes (λ y. same_self (insts_at y (reach us))) refl (fine_each e) (free_each e) (subst (λ cs. ChangesMerge S T b c cs changes) (ends_reachable S T b us) m);
+        same_ends = λ changes y. subst (λ cs. Same (insts_at y cs) (insts_at y (reach us))) (sym (ends_reachable S T b us)) (same_self (insts_at y (reach us)));
+        none_ends = λ changes. ap no_end (ends_reachable S T b us);
       }
 
   pub grouped_stands : (k : ℕ) (out : List ℕ) (hs : Flat_goals) (us : List Disjunct) → Each hs us → ArmsMergeIn S T b c (grouped S T keep k b out us) → Stands (grouped S T keep k b out us) hs us
@@ -663,5 +713,7 @@ module _ (S : System) (T : ℕ → TypeTerm) (fits : FitsInsts S.insts) (O Q : L
             ordered = λ o j. R.switch (is_set (b x) opened.0) (chosen_free e out x q opened.0 all) r.ordered (regrouped (reach us) r.os o r.groups r.ends j);
             opens = λ z l a. r.opens z l a;
             ends = each_arm_never S T b (arms_on (arm_of keep form) x us (labels_of x us)) ∙ ap no_end r.reached ∙ r.ends;
-            joins = λ changes m. merges_join (reachable r.os) (reach us) changes (apart (reach us) r.os r.groups) r.ends r.fine (free_each e) (subst (λ cs. ChangesMerge S T b c cs changes) r.reached m);
+            joins = λ changes m. merges_join (disjunct_ends S T b (arms_on (arm_of keep form) x us (labels_of x us))) (reach us) changes r.same_ends r.none_ends (fine_each e) (free_each e) m;
+            same_ends = λ changes. r.same_ends;
+            none_ends = λ changes. r.none_ends;
           }

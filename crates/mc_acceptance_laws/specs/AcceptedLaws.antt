@@ -16,13 +16,15 @@ use Rattle.mc_accepted.specs.Fits.{FitsInsts, Fits, goal_of, type_of}
 use Rattle.mc_accepted.specs.Unmarked.{changed_node}
 use Rattle.mc_accepted.specs.Arranged.{Declared, in_order, arrange}
 use Rattle.mc_accepted.specs.FreshTests.{TestsAlike}
+use Rattle.mc_accepted.specs.Typing.{TypedGoal}
 use Rattle.mc_accepted.specs.Chosen.{Chosen, of_nodes}
 use Rattle.mc_accepted.specs.code.Truthful.{Truthful, AllDeclared}
-use Rattle.mc_accepted.specs.Accepted.{entered, FinalAfter, KeepsDeterminism, AcceptedProcedure}
+use Rattle.mc_accepted.specs.Accepted.{entered, FinalAfter, KeepsDeterminism, AcceptedProcedure, Accepted}
 use Rattle.mc_accepted.specs.Inferred.{DeclaredProcedure, DeclaredSystem, system_of, Closed}
 use Rattle.mc_accepted.specs.DeterminismFaults.{procedure_fault}
 use Rattle.mc_accepted.specs.PrunedMarks.{KeepsMarks}
 use Rattle.mc_order_laws.specs.OrderLaws.{Below, FlatScopes}
+use Rattle.mc_order_laws.specs.Tidying.{EndsTidily, TidyPoint}
 use Rattle.mc_acceptance_laws.specs.Told.{Retold}
 
 -- An ordered goal stays ordered where its determinisms are told by the table and its marks by the
@@ -88,13 +90,18 @@ FormIsAccepted =
 -- The procedure's goal is in order over nodes of the graph, where the functions that look for nodes
 -- tell its truth, the modes are those of the procedures, variables from the next number on are in
 -- no goal, those of them that stand for implied outputs are typed like them, and the goal's scopes
--- are written out.
+-- are written out. The goal is typed, and insts are tidy: where it is entered, and where each
+-- procedure ends.
 pub record IsInOrder (S : System) (p : Procedure) (x : Node) : Type 0 where
   pub choice : Chosen
   pub modes : ℕ → List Declared
   pub next : ℕ
   pub truthful : Truthful S (type_of S p) choice
-  pub declared : (q : ℕ) → AllDeclared S (type_of S p) q (modes q)
+  pub declared :
+      (q : ℕ) → (S.world.source.preds q).builtin ≡ None → AllDeclared S (type_of S p) q (modes q)
+  pub ends : EndsTidily S
+  pub typed : TypedGoal S.world.source (type_of S p) (goal_of S p).body
+  pub enters : TidyPoint S (type_of S p) (entered p.head p.first)
   pub head_below : Below next p.head
   pub goal_below : Below next (variables_of (goal_of S p).body)
   pub scopes : FlatScopes p.head (goal_of S p).body
@@ -138,8 +145,16 @@ pub record IsComputed (S : System) (d : DeclaredProcedure) (p : Procedure) : Typ
   pub told : IsTold S p
   pub faultless : procedure_fault S d p ≡ None
 
--- So the procedures of a system that fits are good, where each is computed and determinisms are
--- closed.
+-- So procedures are accepted, where each is computed, determinisms are closed and insts fit.
+abbrev pub ComputedAreAccepted : Type 0
+ComputedAreAccepted =
+    (D : DeclaredSystem) (ds : ℕ → Det) → FitsInsts D.insts → Closed D ds
+    → ((k : ℕ)
+    → k < D.count
+    → IsComputed (system_of D ds) (D.procs k) ((system_of D ds).procs k))
+    → Accepted (system_of D ds)
+
+-- And those of a system that fits are good.
 abbrev pub ComputedAreGood : Type 0
 ComputedAreGood =
     (D : DeclaredSystem) (ds : ℕ → Det) (E : Parameters) → Fits (system_of D ds) E → Closed D ds

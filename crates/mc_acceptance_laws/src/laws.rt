@@ -1,7 +1,8 @@
 //! The laws that what the definitions compute is accepted. Each is the contract of a function that does nothing.
 ghost use Rattle.mc_acceptance_laws.specs.FormLaws.{FormsKeepVariables, FormsStayOrdered};
 ghost use Rattle.mc_acceptance_laws.specs.GroupLaws.{GroupsMergeAsAll, MergingKeepsSets};
-ghost use Rattle.mc_acceptance_laws.specs.AcceptedLaws.{ComputedAreGood, FaultlessIsAccepted, FormIsAccepted, InOrderIsAccepted, ToldStaysOrdered};
+ghost use Rattle.mc_acceptance_laws.specs.KeptLaws.{FormsEndAlike, FormsTellKept, GroupsAreEven, KeptMergeArms, OrdersHaveNoSwitch};
+ghost use Rattle.mc_acceptance_laws.specs.AcceptedLaws.{ComputedAreAccepted, ComputedAreGood, FaultlessIsAccepted, FormIsAccepted, InOrderIsAccepted, ToldStaysOrdered};
 ghost use Rattle.mc_acceptance_laws.specs.Told.{ChangedIsRetold};
 
 use mc_sound::laws::accepted_are_good;
@@ -33,6 +34,11 @@ pub fn in_order_is_accepted()
     ensures { InOrderIsAccepted }
 {}
 
+/// Procedures are accepted, where each is what its phases make.
+pub fn computed_procedures_are_accepted()
+    ensures { ComputedAreAccepted }
+{}
+
 /// The procedures of a system that fits are good, where each is what its phases make: the switch form of an ordered
 /// goal, told, without a fault of determinism.
 pub fn computed_procedures_are_good()
@@ -55,4 +61,32 @@ pub fn forms_keep_variables()
 /// An ordered goal is ordered in its switch form, where the kept insts of arms merge the ends of their disjuncts.
 pub fn forms_stay_ordered()
     ensures { FormsStayOrdered }
+{}
+
+/// Where what is kept of each group that shares an arm merges the ends of its disjuncts, the arms of the switch form
+/// merge.
+pub fn kept_merge_arms()
+    ensures { KeptMergeArms }
+{}
+
+/// A goal that is a switch form for what is kept in two ways tells that the same is kept in both of each group that
+/// shares an arm.
+pub fn forms_tell_kept()
+    ensures { FormsTellKept }
+{}
+
+/// An order that is computed has no switch.
+pub fn orders_have_no_switch()
+    ensures { OrdersHaveNoSwitch }
+{}
+
+/// The point after a goal's switch form is reachable exactly where that after the goal is.
+pub fn forms_end_alike()
+    ensures { FormsEndAlike }
+{}
+
+/// At the ends of disjuncts that share an arm, in an order from tidy insts, what the whole binds is free at all or at
+/// none, and tidy.
+pub fn groups_are_even()
+    ensures { GroupsAreEven }
 {}

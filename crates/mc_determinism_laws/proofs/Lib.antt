@@ -4,6 +4,7 @@ pub mod Forms
 pub mod Grouping
 mod Inferring
 pub mod Labels
+pub mod NoFaults
 pub mod Opened
 mod Places
 mod Placing

@@ -80,3 +80,10 @@ FaultlessMeets =
     → Closed D ds → k < D.count →
     procedure_fault (system_of D ds) (D.procs k) ((system_of D ds).procs k) ≡ None →
     MeetsDeterminism (system_of D ds) ((system_of D ds).procs k)
+
+-- where no rule of determinism is broken, no procedure has a fault
+abbrev pub NoFaultAnywhere : Type 0
+NoFaultAnywhere =
+    (runs : Bool) (D : DeclaredSystem) (ds : ℕ → Det) → determinism_faults runs D ds ≡ []
+    → (k : ℕ) → k < D.count
+    → procedure_fault (system_of D ds) (D.procs k) ((system_of D ds).procs k) ≡ None

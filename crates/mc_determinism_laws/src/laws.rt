@@ -1,5 +1,5 @@
 //! The laws of switch forms and of determinisms. Each is the contract of a function that does nothing.
-ghost use Rattle.mc_determinism_laws.specs.FaultLaws.{AllowsTells, ByPlaceIsInPlaces, FaultlessMeets, FaultsAreOne, JoinIsLeast, LeastIsOne, MisplacedTells, MisplacesIoTells};
+ghost use Rattle.mc_determinism_laws.specs.FaultLaws.{AllowsTells, ByPlaceIsInPlaces, FaultlessMeets, FaultsAreOne, JoinIsLeast, LeastIsOne, MisplacedTells, MisplacesIoTells, NoFaultAnywhere};
 ghost use Rattle.mc_determinism_laws.specs.SwitchLaws.{SwitchesKeepLists, GoalsKeepLists, FormsKeepLists, FormsAreWhole, OpeningsOpen};
 ghost use Rattle.mc_determinism_laws.specs.TableLaws.{TableIsMonotone, TableDepends};
 
@@ -51,4 +51,9 @@ pub fn faults_tell()
 /// Broken rules are put in the order of their places, and stay as many.
 pub fn rules_are_in_places()
     ensures { ByPlaceIsInPlaces }
+{}
+
+/// Where the list of broken rules is empty, no procedure has a fault.
+pub fn no_fault_anywhere()
+    ensures { NoFaultAnywhere }
 {}

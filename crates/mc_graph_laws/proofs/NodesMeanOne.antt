@@ -10,7 +10,7 @@ use Rattle.mc_model.specs.Lists.{In, is_in}
 use Rattle.mc_model.specs.Types.{takes, argument_types, instance_of, type_at}
 use Rattle.mc_model.specs.Stream.{is_bound}
 use Rattle.mc_accepted.specs.Inclusion.{gone, Tip, symbol_tip, constant_tip, state_tip, Path, AllowsMark, OnTypes, Allows, NoMore, IncludedNodes, AllFree, NoneIs, NoneMore}
-use Rattle.mc_accepted.specs.Tidy.{Leads, Tidy}
+use Rattle.mc_accepted.specs.Tidy.{Leads, Tidy, EachIsTidy}
 use Rattle.mc_accepted.specs.Determined.{is_dead}
 use Rattle.mc_accepted.specs.Forms.{node_takes_constants}
 use Rattle.mc_accepted.specs.Fits.{NoneFree, NoArgumentFree, FitsInsts, FitsTypes}
@@ -18,7 +18,7 @@ use Rattle.mc_accepted.specs.ProperTypes.{Parameters}
 use Rattle.mc_accepted.specs.InOrder.{SameName}
 use Rattle.mc_accepted.specs.Typing.{constructor_types, ConstantOf}
 use Rattle.mc_accepted.specs.Chosen.{Chosen, of_nodes}
-use Rattle.mc_insts.specs.Merging.{OneAllows, EachIsTidy}
+use Rattle.mc_insts.specs.Merging.{OneAllows}
 use Rattle.mc_insts.specs.Narrowed.{Narrowed}
 use Rattle.mc_insts.proofs.Bridge.{get_replicate}
 use Rattle.mc_insts.proofs.Overs.{Over, over_allows, over_once, over_length, rank, builtin_more}

@@ -7,7 +7,7 @@ use Rattle.mc_model.specs.Lists.{is_in}
 use Rattle.mc_model.specs.Stream.{is_bound}
 use Rattle.mc_model.specs.Flat.{Flat_goal, variables_of}
 use Rattle.mc_accepted.specs.Inclusion.{Tip, Path, Allows, Included, AllFree, NoneIs, NoneMore}
-use Rattle.mc_accepted.specs.Tidy.{Tidy}
+use Rattle.mc_accepted.specs.Tidy.{Tidy, EachIsTidy}
 use Rattle.mc_accepted.specs.Determined.{is_dead}
 use Rattle.mc_accepted.specs.Forms.{node_takes_constants}
 use Rattle.mc_accepted.specs.Fits.{FitsInsts, FitsTypes}
@@ -16,7 +16,7 @@ use Rattle.mc_accepted.specs.InOrder.{SameName}
 use Rattle.mc_accepted.specs.Typing.{TypedGoal}
 use Rattle.mc_accepted.specs.Arranged.{Declared, faulty, lacks, arrange}
 use Rattle.mc_accepted.specs.Chosen.{Chosen, of_nodes}
-use Rattle.mc_insts.specs.Merging.{OneAllows, EachIsTidy}
+use Rattle.mc_insts.specs.Merging.{OneAllows}
 use Rattle.mc_insts.specs.Narrowed.{Narrowed}
 use Rattle.mc_graph_laws.specs.Related.{Below, OneVerdict, NodesRelated, DeclaredRelated}
 

@@ -9,8 +9,12 @@ use Rattle.std.proofs.Math.Nat.{le_refl}
 use Rattle.mc_program.specs.Programs.{TypeTerm, FullName, Source, variable_type}
 use Rattle.mc_program.specs.PlainPrograms.{plain_type, plain_symbol, no_symbol}
 use Rattle.mc_program.specs.declared.ty.Ty.{Ty}
-use Rattle.mc_model.specs.Insts.{Listed, InstNode, free, ground, unique, dead, bound, Lists, AllowsSymbol, Graph}
+use Rattle.mc_model.specs.Insts.{Listed, InstNode, free, ground, unique, dead, bound, Lists, AllowsSymbol, AllowsConstants, Graph}
+use Rattle.mc_model.specs.Good.{System}
 use Rattle.mc_accepted.specs.Determined.{is_dead}
+use Rattle.mc_accepted.specs.Inclusion.{Included, Merged}
+use Rattle.mc_accepted.specs.Tidy.{Tidy, EachIsTidy}
+use Rattle.mc_accepted.specs.code.Truthful.{AllAre, IsNarrowed, Truthful}
 use Rattle.mc_accepted.specs.Forms.{Form, at, node_takes_constants}
 use Rattle.mc_accepted.specs.InOrder.{Tells}
 use Rattle.mc_accepted.specs.Chosen.{Chosen}
@@ -28,6 +32,8 @@ use Rattle.mc_mode_points.proofs.Narrow.{Below, narrowed-below}
 use Rattle.mc_order_laws.specs.SomeTest.{InstsEnd, SymbolsEnd, TypesMet, SomeTestTells, NodesAreTold}
 use Rattle.mc_mode_laws.specs.OrdersNamed.{FindsBelow}
 use Rattle.mc_mode_laws.specs.ChosenNodes.{SomeAgree}
+use Rattle.mc_order_laws.proofs.Arranging.{not-both}
+use Rattle.mc_mode_laws.proofs.MergedThere.{node-dies, node-lives, node-takes, node-takes-not, stood-merged}
 use Rattle.mc_mode_laws.proofs.SameTypes.{same_type, same-refl, same-one, plain_type-injective}
 
 -- ---- narrowing
@@ -109,6 +115,16 @@ module _ (joins : List Entry) where
       at true h later = (r, h)
       at false h later = later h
 
+  -- so is one of that type
+  joined-typed : (r : ℕ) (us : List Ty) (t : TypeTerm) (is : List ℕ) (k : ℕ) → joined_from r us t is ≡ Some k → (n : ℕ) × (node_in joins (r + n) is ≡ Some k) × (type_in us n ≡ t)
+  joined-typed r [] t is k e = cc
+  joined-typed r (u ∷ us) t is k e = at (same_type (plain_type u) t) refl e (joined-typed (suc r) us t is k)
+    where
+      at : (b : Bool) → same_type (plain_type u) t ≡ b → cond b (node_in joins r is) (joined_from (suc r) us t is) ≡ Some k → (joined_from (suc r) us t is ≡ Some k → (n : ℕ) × (node_in joins (suc r + n) is ≡ Some k) × (type_in us n ≡ t)) →
+          (n : ℕ) × (node_in joins (r + n) is ≡ Some k) × (type_in (u ∷ us) n ≡ t)
+      at true q h later = (0, ap (λ n. node_in joins n is) (omega arith) ∙ h, same-one (plain_type u) t q)
+      at false q h later = (let f = later h in (suc f.0, ap (λ n. node_in joins n is) (omega arith) ∙ f.1, f.2))
+
   rest-once : (u : Ty) (us : List Ty) → Once (u ∷ us) → Once us
   rest-once u us h r v t lt less e = h (suc r) (suc v) t (omega (arith, lt)) (omega (arith, less)) e
 
@@ -175,7 +191,53 @@ module _ (q : PlainProcs) (s : State) (stands : Stands q s) where
           (row-allowed (source_of q) f (insts_of q i) i is (row_at (insts_of q i) i ((source_of q).symbols f).name) e (row-of (source_of q) f (insts_of q i) i)));
     }
 
+    -- ---- the truth of a system of these
+    abbrev P : Source
+    P = source_of q
+
+    abbrev G : Graph
+    G = insts_of q
+
+    choice-joined : (t : TypeTerm) (is : List ℕ) (k : ℕ) (all : Bool) → AllAre all is → EachIsTidy P G is t → choice.joined t is ≡ Some k → Merged P G is k t × Tidy P G k t
+    choice-joined t is k all are tidy e =
+        let found = joined-typed s.nodes.joins 0 s.nodes.types.items t is k e in
+        let stood = (stands.nodes.joins found.0 k is (ap (λ n. node_in s.nodes.joins n is) (omega arith) ∙ found.1)).1 in
+        subst (λ u. Merged P G is k u × Tidy P G k u) found.2
+        (stood-merged P q.insts stands.fit.program.insts_are.insts is k (type_in s.nodes.types.items found.0) all stood are (subst (λ u. EachIsTidy P G is u) (sym found.2) tidy))
+
+    module _ (S : System) (same-source : S.world.source ≡ P) (same-insts : S.insts ≡ G) (T : ℕ → TypeTerm) where
+      abbrev Told : (Source → Graph → Type 0) → Type 0
+      Told A = A S.world.source S.insts
+
+      told-there : (A : Source → Graph → Type 0) → A P G → Told A
+      told-there A a = subst (λ p. A p S.insts) (sym same-source) (subst (λ g. A P g) (sym same-insts) a)
+
+      told-here : (A : Source → Graph → Type 0) → Told A → A P G
+      told-here A a = subst (λ g. A P g) same-insts (subst (λ p. A p S.insts) same-source a)
+
+      narrowed-there : (i f : ℕ) (o : Option (List ℕ)) → Narrowed P G i f o → IsNarrowed S T i f o
+      narrowed-there i f None h = told-there (λ p g. AllowsSymbol p (g i) i f (λ js. Unit {0}) → ⊥) h
+      narrowed-there i f (Some is) h = told-there (λ p g. AllowsSymbol p (g i) i f (λ js. js ≡ is)) h
+
+      choice-truthful : Truthful S T choice
+      choice-truthful = record {
+        dies = λ i e. told-there (λ p g. g i ≡ dead) (node-dies (G i) e);
+        lives = λ i e d. node-lives (G i) e (told-here (λ p g. g i ≡ dead) d);
+        over = λ f i is e.
+            told-there
+            (λ p g. g i ≡ bound (record { name = (p.symbols f).name.bytes; arity = (p.symbols f).name.arity; args = is } ∷ []))
+            (stands.nodes.overs f i is e).1;
+        joined = λ t is k all are ne tidy e.
+            told-there (λ p g. Merged p g is k t × Tidy p g k t) (choice-joined t is k all are (told-here (λ p g. EachIsTidy p g is t) tidy) e);
+        narrowed = λ i f.
+            narrowed-there i f (row_at (G i) i (P.symbols f).name) (narrowed-row P f G i (row_at (G i) i (P.symbols f).name) (row-of P f (G i) i));
+        constants = λ i e. told-there (λ p g. AllowsConstants (g i)) (node-takes P G (G i) e);
+        no_constants = λ i e a. node-takes-not P G (G i) e (told-here (λ p g. AllowsConstants (g i)) a);
+        fits = λ i j t e. told-there (λ p g. Included p g i j t) ((told P G fits tells i j t).0 e);
+        fits_not = λ i j t e a. not-both (fits (at i) j t) ((told P G fits tells i j t).1 (told-here (λ p g. Included p g i j t) a)) e;
+      }
+
 pub some-agree : SomeTestTells → NodesAreTold → SomeAgree
 some-agree tests told q s stands met =
     let some = tests (source_of q) (insts_of q) (count_of q.insts) (length (map plain_symbol q.program.symbols)) stands.fit.program.insts_are.insts (insts-end q s stands) (symbols-end q s stands) met in
-    (choice q s stands some.0 some.1 told, choice-agrees q s stands some.0 some.1 told, choice-below q s stands some.0 some.1 told)
+    (choice q s stands some.0 some.1 told, choice-agrees q s stands some.0 some.1 told, choice-below q s stands some.0 some.1 told, (λ S e i T. choice-truthful q s stands some.0 some.1 told S e i T))

@@ -1,3 +1,4 @@
 pub mod OrdersNamed
 pub mod SameTypes
+pub mod MergedThere
 pub mod ChosenNodes

@@ -1,5 +1,5 @@
 -- What the tests of arranged goals say.
-use Rattle.std.proofs.Common.{◌≡◌, ◌≢◌, ◌⊎◌, inl, inr, ℕ, suc, ◌+◌, ◌<◌, ◌≤◌, Bool, true, false, cond, not, nat_eq, ◌&&◌, ◌||◌, List, [], ◌∷◌, ◌++◌, length, Some, None, refl, ap, sym, ◌∙◌, subst, ⊎_elim, arith}
+use Rattle.std.proofs.Common.{◌≡◌, ◌≢◌, ◌⊎◌, inl, inr, ℕ, suc, ◌+◌, ◌<◌, ◌≤◌, Bool, true, false, cond, not, nat_eq, ◌&&◌, ◌||◌, List, [], ◌∷◌, ◌++◌, map, length, Some, None, refl, ap, sym, ◌∙◌, subst, ⊎_elim, arith}
 use Rattle.std.specs.List.{list_any}
 use Rattle.std.proofs.lemmas.Bool.{eqb-true, eqb-false, eq-eqb}
 use Rattle.std.proofs.Math.Nat.{lt_of_lt_of_le}
@@ -13,9 +13,9 @@ use Rattle.mc_model.specs.Good.{System}
 use Rattle.mc_accepted.specs.Inclusion.{Included}
 use Rattle.mc_accepted.specs.Ordered.{Insts, Mode, is_state, also, take_all, times_in, implied_places, binds_one, AllBound, NoneDead, NoneState, UsableAt, AfterArguments, After, no_more, not_passed, output, implied, dies, keeps, becomes}
 use Rattle.mc_accepted.specs.Least.{least, lesser}
-use Rattle.mc_accepted.specs.Arranged.{Declared, usable, is_input, after_call, taken, fresh_at, tests_at, with_fresh, those_in}
+use Rattle.mc_accepted.specs.Arranged.{Declared, usable, is_input, after_call, taken, fresh_at, tests_at, with_fresh, those_in, differs}
 use Rattle.mc_accepted.specs.Chosen.{Chosen, of_nodes}
-use Rattle.mc_accepted.specs.code.Truthful.{Truthful}
+use Rattle.mc_accepted.specs.code.Truthful.{AllAre, Truthful}
 use Rattle.mc_order_laws.specs.OrderLaws.{Below}
 use Rattle.mc_laws.proofs.FlatGoals.{in_either, in_left, in_right}
 use Rattle.mc_laws.proofs.FlatWhole.{in_list}
@@ -240,3 +240,26 @@ module _ (S : System) (T : ℕ → TypeTerm) (C : Chosen) (declared : ℕ → Li
   took-all [] is b = refl
   took-all (y ∷ ys) [] b = refl
   took-all (y ∷ ys) (i ∷ is) b = took-all ys is (cond (is_bound (b y)) b (also y i b))
+
+  -- ---- ends of branches
+  abbrev ends_differ : List Insts → ℕ → Bool
+  ends_differ es x = differs (of_nodes C) S.world.source declared T es x
+
+  none-free : (cs : List Insts) (x : ℕ) → list_any (λ (c : Insts). not (is_bound (c x))) cs ≡ false → AllAre true (map (λ (c : Insts). c x) cs)
+  none-free [] x e = tt
+  none-free (c ∷ cs) x e = (not-false (is_bound (c x)) (or-first (not (is_bound (c x))) _ e), none-free cs x (or-second (not (is_bound (c x))) _ e))
+
+  none-set : (cs : List Insts) (x : ℕ) → list_any (λ (c : Insts). is_bound (c x)) cs ≡ false → AllAre false (map (λ (c : Insts). c x) cs)
+  none-set [] x e = tt
+  none-set (c ∷ cs) x e = (or-first (is_bound (c x)) _ e, none-set cs x (or-second (is_bound (c x)) _ e))
+
+  and-true : (t : Bool) → (t && true) ≡ false → t ≡ false
+  and-true true e = cc
+  and-true false e = refl
+
+  pub all-are : (c : Insts) (cs : List Insts) (x : ℕ) → ends_differ (c ∷ cs) x ≡ false → AllAre (is_bound (c x)) (map (λ (d : Insts). d x) (c ∷ cs))
+  all-are c cs x e = (refl, at (is_bound (c x)) e)
+    where
+      at : (t : Bool) → ((not t || list_any (λ (c : Insts). not (is_bound (c x))) cs) && (t || list_any (λ (c : Insts). is_bound (c x)) cs)) ≡ false → AllAre t (map (λ (d : Insts). d x) cs)
+      at true h = none-free cs x (and-true (list_any (λ (c : Insts). not (is_bound (c x))) cs) h)
+      at false h = none-set cs x h

@@ -17,4 +17,6 @@ pub mod ScopedNames
 pub mod SomeTest
 pub mod StandingFacts
 pub mod Telling
+pub mod TidyInsts
+pub mod Tidying
 pub mod TruthOfNodes

@@ -81,10 +81,10 @@ change-at (suc j) k b c x le h = at (nat_eq (b k) (c k)) refl (nat_eq x k) refl 
     at false p true q r = ap (λ t. cond t (c k) (change_at x (later_than k j b c) (b x))) q ∙ ap c (sym (eqb-true x k q))
     at false p false q r = ap (λ t. cond t (c k) (change_at x (later_than k j b c) (b x))) q ∙ r (later q)
 
-keeps-changes : (m : ℕ) (b c : Insts) → ((x : ℕ) → m ≤ x → c x ≡ b x) → KeepsChanges b (Some c) (changes other_node m b (Some c))
+pub keeps-changes : (m : ℕ) (b c : Insts) → ((x : ℕ) → m ≤ x → c x ≡ b x) → KeepsChanges b (Some c) (changes other_node m b (Some c))
 keeps-changes m b c h = ((λ x. sym (change-at m 0 b c x (omega arith) (λ le. h x (omega (arith, le))))), rises m 0 b c, each-changes m 0 b c)
 
-abbrev EndFrom : ℕ → Insts → Option Insts → Type 0
+abbrev pub EndFrom : ℕ → Insts → Option Insts → Type 0
 EndFrom m b None = Unit {0}
 EndFrom m b (Some c) = (x : ℕ) → m ≤ x → c x ≡ b x
 
@@ -92,7 +92,7 @@ keeps-end : (m : ℕ) (b : Insts) (o : Option Insts) → EndFrom m b o → Keeps
 keeps-end m b None h = refl
 keeps-end m b (Some c) h = keeps-changes m b c h
 
-end-from : (own : List ℕ) (n m : ℕ) (b : Insts) (o : Option Insts) → Below n own → n ≤ m → EndStays own n m b o → EndFrom m b o
+pub end-from : (own : List ℕ) (n m : ℕ) (b : Insts) (o : Option Insts) → Below n own → n ≤ m → EndStays own n m b o → EndFrom m b o
 end-from own n m b None bo le h = tt
 end-from own n m b (Some c) bo le h = λ x lx. h x (λ i. not-le_of_lt (lt_of_lt_of_le (bo x i) le) lx) (inr lx)
 
@@ -193,10 +193,10 @@ parts-rest (there {k = k} {g = g} {gs = gs} {rest = rest} p) O h = (
       (parts-rest p (O ++ variables_of k) h.1),
 )
 
-abbrev FreeFrom : ℕ → Insts → Type 0
+abbrev pub FreeFrom : ℕ → Insts → Type 0
 FreeFrom n b = (y : ℕ) → n ≤ y → b y ≡ 0
 
-free-later : (own : List ℕ) (n m : ℕ) (b c : Insts) → Below n own → n ≤ m → Stays own n m b c → FreeFrom n b → FreeFrom m c
+pub free-later : (own : List ℕ) (n m : ℕ) (b c : Insts) → Below n own → n ≤ m → Stays own n m b c → FreeFrom n b → FreeFrom m c
 free-later own n m b c bo le s fr y ly = s y (λ i. not-le_of_lt (lt_of_lt_of_le (bo y i) le) ly) (inr ly) ∙ fr y (le_trans le ly)
 
 module _ (Y : System) (T : ℕ → TypeTerm) where

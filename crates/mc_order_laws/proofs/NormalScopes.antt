@@ -780,9 +780,9 @@ from_length n zero = refl
 from_length n (suc k) = ap suc (from_length (suc n) k)
 
 pub normal_order_is_ordered : NormalOrderIsOrdered
-normal_order_is_ordered S p C declared truth known h x e al =
+normal_order_is_ordered S p C declared truth known tidily h x e al =
     let g = goal_of S p in
     let cls = (S.world.source.preds p.pred).clauses in
     let below = normal_goals_below g.arity cls h.heads in
-    in-order-is-ordered S p C declared truth known g.variables g.body x (h.last ∙ sym (ap length h.head ∙ from_length 0 g.arity)) (subst (λ xs. Below g.variables xs) (sym h.head) below.0) below.1
-    (subst (λ xs. FlatScopes xs g.body) (sym h.head) (normal_goals_scoped g.arity cls h.heads h.apart)) e al
+    in-order-is-ordered S p C declared truth known tidily g.variables g.body x (h.last ∙ sym (ap length h.head ∙ from_length 0 g.arity)) (subst (λ xs. Below g.variables xs) (sym h.head) below.0) below.1
+    (subst (λ xs. FlatScopes xs g.body) (sym h.head) (normal_goals_scoped g.arity cls h.heads h.apart)) h.typed h.tidy e al

@@ -1,18 +1,24 @@
 -- Functions that look for nodes of a small graph tell its truth.
 use Rattle.std.proofs.Common.{◌≡◌, ◌≢◌, ℕ, zero, suc, Bool, true, false, cond, nat_eq, List, [], ◌∷◌, Option, Some, None, refl, subst, ⊎_elim, arith}
 use Rattle.std.proofs.lemmas.Bool.{eqb-true}
-use Rattle.mc_program.specs.Programs.{TypeTerm}
+use Rattle.mc_program.specs.Programs.{TypeTerm, int_type}
+use Rattle.mc_program.specs.declared.builtin.Builtin.{Builtin}
 use Rattle.mc_model.specs.Insts.{dead, AllowsConstants}
 use Rattle.mc_accepted.specs.Inclusion.{Included, Merged}
+use Rattle.mc_accepted.specs.Accepted.{entered}
 use Rattle.mc_accepted.specs.Fits.{type_of}
+use Rattle.mc_accepted.specs.Tidy.{Tidy, EachIsTidy}
 use Rattle.mc_accepted.specs.code.Truthful.{Truthful, IsNarrowed}
 use Rattle.mc_order_laws.specs.OrderLaws.{Below}
+use Rattle.mc_order_laws.specs.Tidying.{EndsTidily, TidyPoint}
 use Rattle.mc_order_laws.specs.code.Examples as example
 use Rattle.mc_order_laws.specs.code.ExamplesOfNodes.{few, joined, fits, chosen, copies, system, PremisesAreMet}
 use Rattle.mc_order_laws.specs.code.ExamplesOfNodes as N
 use Rattle.mc_order_laws.proofs.DeclaredModes.{modes-are-declared}
 use Rattle.mc_order_laws.proofs.MarkedGoals.{Each, merged-one}
 use Rattle.mc_order_laws.proofs.Arranging.{and-first, and-second}
+use Rattle.mc_order_laws.proofs.TidyInsts.{free-tidy, ground-tidy}
+use Rattle.mc_order_laws.proofs.Tidying.{entry-tidy}
 
 is-dead : (i : ℕ) → N.is_dead i ≡ true → few i ≡ dead
 is-dead zero e = cc
@@ -24,7 +30,7 @@ is-alive zero e = λ q. cc
 is-alive (suc zero) e = λ q. cc
 is-alive (suc (suc i)) e = cc
 
-included : (i j : ℕ) (t : TypeTerm) → fits i j ≡ true → Included example.source few i j t
+included : (i j : ℕ) (t : TypeTerm) → fits i j ≡ true → Included N.source few i j t
 included zero zero t e = tt
 included zero (suc zero) t e = cc
 included zero (suc (suc j)) t e = cc
@@ -35,7 +41,7 @@ included (suc (suc i)) zero t e = cc
 included (suc (suc i)) (suc zero) t e = cc
 included (suc (suc i)) (suc (suc j)) t e = tt
 
-excluded : (i j : ℕ) (t : TypeTerm) → fits i j ≡ false → Included example.source few i j t → ⊥
+excluded : (i j : ℕ) (t : TypeTerm) → fits i j ≡ false → Included N.source few i j t → ⊥
 excluded zero zero t e h = cc
 excluded zero (suc zero) t e h = h
 excluded zero (suc (suc j)) t e h = h
@@ -65,12 +71,12 @@ each-one : (i : ℕ) (js : List ℕ) → N.each_is i js ≡ true → Each system
 each-one i [] e = tt
 each-one i (j ∷ js) e = (eqb-true j i (and-first (nat_eq j i) _ e), each-one i js (and-second (nat_eq j i) _ e))
 
-is-joined : (t : TypeTerm) (is : List ℕ) (k : ℕ) → joined is ≡ Some k → Merged example.source few is k t
-is-joined t [] k e = cc
-is-joined t (i ∷ is) k e = at (N.each_is i is) refl e
+is-joined : (t : TypeTerm) (is : List ℕ) (k : ℕ) → EachIsTidy N.source few is t → joined is ≡ Some k → Merged N.source few is k t × Tidy N.source few k t
+is-joined t [] k d e = cc
+is-joined t (i ∷ is) k d e = at (N.each_is i is) refl e
   where
-    at : (u : Bool) → N.each_is i is ≡ u → cond u (Some i) None ≡ Some k → Merged example.source few (i ∷ is) k t
-    at true q h = subst (λ l. Merged example.source few (i ∷ is) l t) (let r : i ≡ k = cc in r) (merged-one system (type_of system copies) i i is t (refl, each-one i is q))
+    at : (u : Bool) → N.each_is i is ≡ u → cond u (Some i) None ≡ Some k → Merged N.source few (i ∷ is) k t × Tidy N.source few k t
+    at true q h = (let r : i ≡ k = cc in (subst (λ l. Merged N.source few (i ∷ is) l t) r (merged-one system (type_of system copies) i i is t (refl, each-one i is q)), subst (λ l. Tidy N.source few l t) r d.0))
     at false q h = cc
 
 truthful : Truthful system (type_of system copies) chosen
@@ -79,7 +85,7 @@ truthful =
       dies = is-dead;
       lives = is-alive;
       over = λ s i is e. (let q : ◌≡◌ {A = Option ℕ} None (Some i) = e in cc);
-      joined = λ t is k all a ne e. is-joined t is k e;
+      joined = λ t is k all a ne d e. is-joined t is k d e;
       narrowed = is-narrowed;
       constants = takes;
       no_constants = takes-not;
@@ -90,5 +96,18 @@ truthful =
 two-below : Below 2 copies.head
 two-below x i = ⊎_elim (λ e. omega (arith, e)) (λ j. ⊎_elim (λ e. omega (arith, e)) (λ k. absurd k) j) i
 
+ends-tidily : EndsTidily system
+ends-tidily =
+    record {
+      is_free = refl;
+      is_ground = refl;
+      names = λ u s r i j e a. (let q : s ∷ [] ≡ r ∷ [] = e in cc);
+      builtins = (record { list = 0; result = 1 }, λ p op e. (let q : ◌≡◌ {A = Option Builtin} None (Some op) = e in cc));
+      procedures = λ k lt. (ground-tidy N.source few refl int_type, (ground-tidy N.source few refl int_type, tt));
+    }
+
+enters-tidily : TidyPoint system (type_of system copies) (entered copies.head copies.first)
+enters-tidily = entry-tidy system (type_of system copies) refl copies.head copies.first (int_type ∷ int_type ∷ []) refl (ground-tidy N.source few refl int_type, (free-tidy N.source few refl int_type, tt))
+
 pub premises-are-met : PremisesAreMet
-premises-are-met = (truthful, (λ p. (modes-are-declared system (type_of system copies) p).0), refl, refl, two-below, tt, refl)
+premises-are-met = (truthful, (λ p. (modes-are-declared system (type_of system copies) p).0), refl, refl, ends-tidily, two-below, tt, refl, enters-tidily, refl)

@@ -1,7 +1,7 @@
 -- The scopes of predicates' normal goals, and the number from which variables are in none: what the
 -- order of goals asks of them follows from the clauses. (Mercury Language Reference Manual: Syntax,
 -- implicit quantification; this project's normal form.)
-use Rattle.std.specs.Prelude.{◌≡◌, ℕ, List, [], ◌∷◌, ◌++◌, length, Option}
+use Rattle.std.specs.Prelude.{◌≡◌, ℕ, List, [], ◌∷◌, ◌++◌, length, Option, None}
 use Rattle.mc_program.specs.Programs.{expressions, Formula, Equal, Call, And, Or, If, Not, Exists, Formulas, no_formulas, formula_then, ClauseForm}
 use Rattle.mc_model.specs.Flat.{variables_of}
 use Rattle.mc_model.specs.Lists.{Apart, from, without}
@@ -15,8 +15,10 @@ use Rattle.mc_accepted.specs.Accepted.{entered, FinalAfter}
 use Rattle.mc_accepted.specs.Arranged.{Declared, in_order, arrange}
 use Rattle.mc_accepted.specs.Chosen.{Chosen, of_nodes}
 use Rattle.mc_accepted.specs.FreshTests.{TestsAlike}
+use Rattle.mc_accepted.specs.Typing.{TypedGoal}
 use Rattle.mc_accepted.specs.code.Truthful.{Truthful, AllDeclared}
 use Rattle.mc_order_laws.specs.OrderLaws.{Below, FlatScopes, IsOrderOf}
+use Rattle.mc_order_laws.specs.Tidying.{EndsTidily, TidyPoint}
 
 -- the variables that occur in a goal, or that a quantifier of it names
 abbrev pub mentioned : Formula → List ℕ
@@ -106,12 +108,15 @@ NormalGoalsBelow =
     × Below (normal_goal arity cls).variables (variables_of (normal_goal arity cls).body)
 
 -- What is asked of a procedure: its clauses' heads have the predicate's arity and their quantifiers
--- are named apart, and its head variables and their final insts are as many.
+-- are named apart, its head variables and their final insts are as many, its goal is typed, and it is
+-- entered with tidy insts.
 pub record HasClauses (S : System) (p : Procedure) : Type 0 where
   pub heads : HeadsHave (goal_of S p).arity (S.world.source.preds p.pred).clauses
   pub apart : EachNamedApart (S.world.source.preds p.pred).clauses
   pub head : p.head ≡ from 0 (goal_of S p).arity
   pub last : length p.last ≡ (goal_of S p).arity
+  pub typed : TypedGoal S.world.source (type_of S p) (goal_of S p).body
+  pub tidy : TidyPoint S (type_of S p) (entered p.head p.first)
 
 -- Where a predicate's normal goal is in order over nodes of the graph, variables being numbered on
 -- from its own, and those that stand for implied outputs are typed like them, that is the order of
@@ -120,7 +125,9 @@ abbrev pub NormalOrderIsOrdered : Type 0
 NormalOrderIsOrdered =
     (S : System) (p : Procedure) (C : Chosen) (declared : ℕ → List Declared)
     → Truthful S (type_of S p) C
-    → ((q : ℕ) → AllDeclared S (type_of S p) q (declared q))
+    → ((q : ℕ)
+    → (S.world.source.preds q).builtin ≡ None → AllDeclared S (type_of S p) q (declared q))
+    → EndsTidily S
     → HasClauses S p
     → (x : Node)
     → arrange (of_nodes C) S.world.source declared (type_of S p) (goal_of S p).variables p.head

@@ -14,11 +14,13 @@ use Rattle.mc_accepted.specs.Least.{least}
 use Rattle.mc_accepted.specs.Unmarked.{changed_node}
 use Rattle.mc_accepted.specs.Arranged.{Operations, Declared, Point, runs, trial, alone, lacks, in_order, faulty, ascending, arrange}
 use Rattle.mc_accepted.specs.Chosen.{Chosen, of_nodes}
-use Rattle.mc_accepted.specs.FreshTests.{TestsAlike}
+use Rattle.mc_accepted.specs.FreshTests.{TestsAlike, AllAlike}
 use Rattle.mc_accepted.specs.Forms.{Form, of_forms}
+use Rattle.mc_accepted.specs.Typing.{TypedGoal}
 use Rattle.mc_accepted.specs.InOrder.{Tells, modes_declared}
 use Rattle.mc_accepted.specs.code.Truthful.{Truthful, AllDeclared}
 use Rattle.mc_accepted.specs.code.Standing.{Standing}
+use Rattle.mc_order_laws.specs.Tidying.{EndsTidily, TidyPoint}
 
 -- Variables from the next number on are in no goal.
 abbrev pub Below : (next : ℕ) → List ℕ → Type 0
@@ -52,14 +54,18 @@ abbrev mutual
   DisjunctsScoped O (flat_then g gs) = FlatScopes O g × DisjunctsScoped O gs
 
 -- What is arranged over nodes of a graph stands in the relation, where the functions that look for
--- nodes tell the truth of the graph.
+-- nodes tell the truth of the graph. It is that of a typed goal, from tidy insts, and fresh variables
+-- in it are typed like those for which they stand: tidy insts have merged ones. A builtin predicate
+-- has no procedures.
 abbrev pub ArrangedStands : Type 0
 ArrangedStands =
     (S : System) (T : ℕ → TypeTerm) (C : Chosen) (declared : ℕ → List Declared) → Truthful S T C
-    → ((p : ℕ) → AllDeclared S T p (declared p))
+    → ((p : ℕ) → (S.world.source.preds p).builtin ≡ None → AllDeclared S T p (declared p))
+    → EndsTidily S
     → (g : Flat_goal) (O : List ℕ) (n : ℕ) (b : Insts) (gs : Nodes) (o : Option Insts) (m : ℕ)
     (zs : List ℕ)
-    → trial (of_nodes C) S.world.source declared T g O n b ≡ runs gs o m zs
+    → TypedGoal S.world.source T g → TidyPoint S T b
+    → trial (of_nodes C) S.world.source declared T g O n b ≡ runs gs o m zs → AllAlike T n gs
     → Standing S T O n b g (alone (of_nodes C) m b o gs) o m
 
 -- no variable of the list is one of those numbered from n on and below m
@@ -83,17 +89,21 @@ StandingIsOrdered =
     → ((y : ℕ) → n ≤ y → b y ≡ 0)
     → IsOrderOf S T O Q b g x o
 
--- Where a procedure's goal is in order over nodes, and in that order the variables that stand for
--- implied outputs are typed like them, it is the order of an ordered goal, from the insts at a call,
--- and each argument is included in its final inst at its end. So the body of an accepted procedure
--- can be had from it.
+-- Where a procedure's typed goal is in order over nodes, from tidy insts, and in that order the
+-- variables that stand for implied outputs are typed like them, it is the order of an ordered goal,
+-- from the insts at a call, and each argument is included in its final inst at its end. So the body
+-- of an accepted procedure can be had from it.
 abbrev pub InOrderIsOrdered : Type 0
 InOrderIsOrdered =
     (S : System) (p : Procedure) (C : Chosen) (declared : ℕ → List Declared)
     → Truthful S (type_of S p) C
-    → ((q : ℕ) → AllDeclared S (type_of S p) q (declared q))
+    → ((q : ℕ)
+    → (S.world.source.preds q).builtin ≡ None → AllDeclared S (type_of S p) q (declared q))
+    → EndsTidily S
     → (n : ℕ) (g : Flat_goal) (x : Node) → length p.last ≡ length p.head
     → Below n p.head → Below n (variables_of g) → FlatScopes p.head g
+    → TypedGoal S.world.source (type_of S p) g
+    → TidyPoint S (type_of S p) (entered p.head p.first)
     → arrange (of_nodes C) S.world.source declared (type_of S p) n p.head p.first p.last g
     ≡ in_order x
     → TestsAlike (type_of S p) n x

@@ -6,3 +6,4 @@ pub mod ExamplesOfNodes
 pub mod ExamplesOfOrder
 pub mod ExamplesOfScopes
 pub mod ExamplesOfTests
+pub mod ExamplesOfTidiness

@@ -6,6 +6,7 @@ ghost use Rattle.mc_order_laws.specs.code.ExamplesOfInOrder.{OnesInOrder};
 ghost use Rattle.mc_order_laws.specs.code.ExamplesOfNodes.{ChangesAreKept, PremisesAreMet};
 ghost use Rattle.mc_order_laws.specs.code.ExamplesOfScopes.{ScopesAlone, ScopesApart};
 ghost use Rattle.mc_order_laws.specs.code.ExamplesOfTests.{ListsAreTold};
+ghost use Rattle.mc_order_laws.specs.code.ExamplesOfTidiness.{TidyBelowVariables};
 ghost use Rattle.mc_order_laws.specs.code.ExamplesOfFaults.{NoGoalRuns, NegatedGoalsBind, BranchesDiffer, FinalInstsUnmet};
 
 /// Which goal runs first, and in which of its modes a call runs.
@@ -63,4 +64,9 @@ pub fn scopes()
 /// Some test tells inclusion of the insts of lists.
 pub fn tests()
     ensures { ListsAreTold }
+{}
+
+/// Insts that are tidy at a type variable and at its instances, and insts that aren't.
+pub fn tidiness()
+    ensures { TidyBelowVariables }
 {}

@@ -4,12 +4,28 @@ ghost use Rattle.std.specs.Prelude.{ℕ};
 ghost use Rattle.mc_accepted.specs.Forms.{Form};
 ghost use Rattle.mc_order_laws.specs.NormalScopes.{NormalGoalsBelow, NormalGoalsScoped, NormalOrderIsOrdered, ScopedNamedApart};
 ghost use Rattle.mc_order_laws.specs.SomeTest.{NodesAreTold, SomeTestTells};
+ghost use Rattle.mc_order_laws.specs.Tidying.{EntriesAreTidy, OrdersStayTidy, TidyAtInstances};
 ghost use Rattle.mc_order_laws.specs.OrderLaws.{ArrangedStands, InOrderIsOrdered, ModesAreDeclared, NamedByFaults, NothingLacks, OneOrder, OthersStay, StandingIsOrdered};
 
 /// A goal changes no variable but its own, and those that are numbered on.
 pub fn others_stay()
     ensures of_nodes { OthersStay ℕ }
     ensures of_forms { OthersStay Form }
+{}
+
+/// A tidy inst is tidy at each instance of its type.
+pub fn tidy_at_instances()
+    ensures { TidyAtInstances }
+{}
+
+/// A typed goal that is arranged from a tidy point has tidy insts at each point in its order.
+pub fn orders_stay_tidy()
+    ensures { OrdersStayTidy }
+{}
+
+/// A procedure that fits is entered with tidy insts.
+pub fn entries_are_tidy()
+    ensures { EntriesAreTidy }
 {}
 
 /// What is arranged over nodes of a graph stands in the relation of ordered goals.

@@ -1,5 +1,5 @@
 -- What builtins do fits the types of their predicates and their determinisms.
-use Rattle.std.proofs.Common.{◌≡◌, ◌≢◌, ℕ, zero, suc, ◌+◌, ◌<◌, ◌≤◌, ◌^◌, List, [], ◌∷◌, ◌++◌, length, drop, Bool, true, false, cond, nat_eq, nat_lt, nat_le, ◌&&◌, refl, sym, ap, subst, arith}
+use Rattle.std.proofs.Common.{◌≡◌, ◌≢◌, ℕ, zero, suc, ◌+◌, ◌<◌, ◌≤◌, ◌^◌, List, [], ◌∷◌, ◌++◌, length, drop, Bool, true, false, cond, Some, nat_eq, nat_lt, nat_le, ◌&&◌, refl, sym, ap, subst, arith}
 use Rattle.std.specs.Prelude.{ℤ, pos, negsuc, neg_ℤ, ◌+ℤ◌, ◌-ℤ◌, ◌*ℤ◌, int_lt, int_le, FitsSigned, encode_utf8}
 use Rattle.std.specs.Char.{IsScalar}
 use Rattle.std.specs.Int.{w64}
@@ -15,15 +15,15 @@ use Rattle.std.proofs.lemmas.Fmt.{IsAscii-signed}
 use Rattle.std.proofs.lemmas.Str.{IsUtf8-append, IsUtf8-encode, IsUtf8-from_ascii, IsUtf8-from_is_utf8, scalars-chars}
 use Rattle.mc_program.specs.Values.{Val, int, char, str, con, state, no_vals, val_then}
 use Rattle.mc_program.specs.Programs.{TypeTerm, int_type, char_type, string_type, state_type, variable_type, Source}
-use Rattle.mc_model.specs.Types.{OfType, AllOfTypes}
+use Rattle.mc_model.specs.Types.{OfType, AllOfTypes, argument_types}
 use Rattle.mc_model.specs.EventList.{zero_divide, error}
 use Rattle.mc_model.specs.Outcomes.{Outcome, fails, gives, throws, writes, reads, reads_and_throws, inputs_of}
 use Rattle.mc_model.specs.Builtins.{Library, on_int, on_char, on_str, on_state, on_any, on_two_ints, at_end, gives_int, gives_str, gives_char, succeeds_if, int_floor, int_mod, fits_64, parsed_int, char_list, is_scalar, char_of_code, write_at, line_of, line_outcome, read_from, line_limit, outcome}
 use Rattle.mc_accepted.specs.Determined.{builtin_determinism}
 use Rattle.mc_model.specs.Good.{TypeChoice}
 use Rattle.mc_accepted.specs.BuiltinFits.{at_places, EachOf, GivesOf, Throws}
-use Rattle.mc_accepted.specs.BuiltinTypes.{Library_types, list_of, Has_types, builtin_types}
-use Rattle.mc_sound.specs.BuiltinLaws.{BuiltinsFit}
+use Rattle.mc_accepted.specs.BuiltinTypes.{Library_types, list_of, builtin_types}
+use Rattle.mc_sound.specs.BuiltinLaws.{BuiltinsFit, HasBuiltin, MakesTypes}
 use Rattle.mc_program.specs.declared.builtin.Builtin.{Builtin}
 use Rattle.mc_program.specs.declared.builtin.Builtin.TheVariants as B
 use Rattle.mc_sound.proofs.TypeInstances.{none_of}
@@ -107,11 +107,11 @@ drop_le [] left (suc k) b e = absurd (no b left e)
 drop_le (c ∷ bs) left (suc k) b e = omega (arith, drop_le bs left k b e)
 
 -- characters of a text make a list
-list_typed : (P : Source) (L : Library) (K : Library_types) → Has_types P L K → (cs : List ℕ) → scalars cs ≡ true → OfType P (char_list L cs) (list_of K char_type)
-list_typed P L K t [] e = subst (λ o. AllOfTypes P no_vals o) (sym t.nil) tt
-list_typed P L K t (c ∷ cs) e =
+list_typed : (P : Source) (L : Library) (K : Library_types) → argument_types P L.nil (list_of K char_type) ≡ Some [] → argument_types P L.cons (list_of K char_type) ≡ Some (char_type ∷ list_of K char_type ∷ []) → (cs : List ℕ) → scalars cs ≡ true → OfType P (char_list L cs) (list_of K char_type)
+list_typed P L K nil cons [] e = subst (λ o. AllOfTypes P no_vals o) (sym nil) tt
+list_typed P L K nil cons (c ∷ cs) e =
     let p = and_parts _ _ e in
-    subst (λ o. AllOfTypes P (val_then (char c) (val_then (char_list L cs) no_vals)) o) (sym t.cons) ((p.0, refl), (list_typed P L K t cs p.1, tt))
+    subst (λ o. AllOfTypes P (val_then (char c) (val_then (char_list L cs) no_vals)) o) (sym cons) ((p.0, refl), (list_typed P L K nil cons cs p.1, tt))
 
 fits_number : (z : ℤ) → fits_64 z ≡ true → FitsSigned w64 z
 fits_number (pos n) e = record { sfits = ltb-true _ _ e }
@@ -136,7 +136,7 @@ not_reads_and k x e = cc
 no_failure : true ≡ false → ⊥
 no_failure e = cc
 
-module _ (P : Source) (L : Library) (K : Library_types) (input : List ℕ) (has : Has_types P L K) (small : length input < 2 ^ 64) (θ : TypeChoice) where
+module _ (P : Source) (L : Library) (K : Library_types) (input : List ℕ) (has : MakesTypes P L K) (small : length input < 2 ^ 64) (θ : TypeChoice) where
   abbrev Gives : Builtin → Outcome → Type 0
   Gives op o = GivesOf P θ (at_places false (inputs_of op) (builtin_types K op)) o
 
@@ -158,45 +158,45 @@ module _ (P : Source) (L : Library) (K : Library_types) (input : List ℕ) (has 
       on [] e = f k w l
       on (b ∷ bs) e = at_line (line_of (b ∷ bs)) (omega (arith, drop_le input bs k b e, line_le (b ∷ bs), small))
 
-  outputs : (op : Builtin) (vs : List Val) → Inputs op vs → Gives op (outcome L input op vs)
-  outputs B.IntPlus vs h = ints_in P θ (Gives B.IntPlus) (λ a b. gives_int (a +ℤ b)) vs h (λ a b. ((SFits-int_wrap w64 (a +ℤ b), refl), tt))
-  outputs B.IntMinus vs h = ints_in P θ (Gives B.IntMinus) (λ a b. gives_int (a -ℤ b)) vs h (λ a b. ((SFits-int_wrap w64 (a -ℤ b), refl), tt))
-  outputs B.IntTimes vs h = ints_in P θ (Gives B.IntTimes) (λ a b. gives_int (a *ℤ b)) vs h (λ a b. ((SFits-int_wrap w64 (a *ℤ b), refl), tt))
-  outputs B.IntQuotient vs h = ints_in P θ (Gives B.IntQuotient) (λ a b. cond (int_eq b (pos 0)) (throws zero_divide) (gives_int (int_div a b))) vs h (λ a b. cond_in (Gives B.IntQuotient) (int_eq b (pos 0)) (throws zero_divide) (gives_int (int_div a b)) (λ e. tt) (λ e. ((SFits-int_wrap w64 (int_div a b), refl), tt)))
-  outputs B.IntDiv vs h = ints_in P θ (Gives B.IntDiv) (λ a b. cond (int_eq b (pos 0)) (throws zero_divide) (gives_int (int_floor a b))) vs h (λ a b. cond_in (Gives B.IntDiv) (int_eq b (pos 0)) (throws zero_divide) (gives_int (int_floor a b)) (λ e. tt) (λ e. ((SFits-int_wrap w64 (int_floor a b), refl), tt)))
-  outputs B.IntMod vs h = ints_in P θ (Gives B.IntMod) (λ a b. cond (int_eq b (pos 0)) (throws zero_divide) (gives_int (int_mod a b))) vs h (λ a b. cond_in (Gives B.IntMod) (int_eq b (pos 0)) (throws zero_divide) (gives_int (int_mod a b)) (λ e. tt) (λ e. ((SFits-int_wrap w64 (int_mod a b), refl), tt)))
-  outputs B.IntRem vs h = ints_in P θ (Gives B.IntRem) (λ a b. cond (int_eq b (pos 0)) (throws zero_divide) (gives_int (int_rem a b))) vs h (λ a b. cond_in (Gives B.IntRem) (int_eq b (pos 0)) (throws zero_divide) (gives_int (int_rem a b)) (λ e. tt) (λ e. ((SFits-int_wrap w64 (int_rem a b), refl), tt)))
-  outputs B.IntNegate vs h = int_one P θ (Gives B.IntNegate) (λ a. gives_int (neg_ℤ a)) vs h (λ a f. ((SFits-int_wrap w64 (neg_ℤ a), refl), tt))
-  outputs B.IntLess vs h = ints_in P θ (Gives B.IntLess) (λ a b. succeeds_if (int_lt a b)) vs h (λ a b. cond_in (Gives B.IntLess) (int_lt a b) (gives []) fails (λ e. tt) (λ e. tt))
-  outputs B.IntGreater vs h = ints_in P θ (Gives B.IntGreater) (λ a b. succeeds_if (int_lt b a)) vs h (λ a b. cond_in (Gives B.IntGreater) (int_lt b a) (gives []) fails (λ e. tt) (λ e. tt))
-  outputs B.IntAtMost vs h = ints_in P θ (Gives B.IntAtMost) (λ a b. succeeds_if (int_le a b)) vs h (λ a b. cond_in (Gives B.IntAtMost) (int_le a b) (gives []) fails (λ e. tt) (λ e. tt))
-  outputs B.IntAtLeast vs h = ints_in P θ (Gives B.IntAtLeast) (λ a b. succeeds_if (int_le b a)) vs h (λ a b. cond_in (Gives B.IntAtLeast) (int_le b a) (gives []) fails (λ e. tt) (λ e. tt))
-  outputs B.StringJoin vs h = str_in P θ (Gives B.StringJoin) (λ s. on_str (λ t. at_end (gives_str (s ++ t)))) (string_type ∷ []) vs h (λ s f ws k. str_one P θ (Gives B.StringJoin) (λ t. gives_str (s ++ t)) ws k (λ t g. ((IsUtf8-append s t f g, refl), tt)))
-  outputs B.StringLength vs h = str_one P θ (Gives B.StringLength) (λ s. gives_int (pos (length s))) vs h (λ s f. ((SFits-int_wrap w64 (pos (length s)), refl), tt))
-  outputs B.StringCodePoints vs h = str_one P θ (Gives B.StringCodePoints) (λ s. gives_int (pos (length (chars s)))) vs h (λ s f. ((SFits-int_wrap w64 (pos (length (chars s))), refl), tt))
-  outputs B.IntToString vs h = int_one P θ (Gives B.IntToString) (λ a. gives_str (signed_decimal a)) vs h (λ a f. ((IsUtf8-from_ascii (signed_decimal a) (IsAscii-signed a f.sfits), refl), tt))
-  outputs B.CharToString vs h = char_one P θ (Gives B.CharToString) (λ c. gives_str (encode_utf8 c)) vs h (λ c f. ((IsUtf8-encode c f, refl), tt))
-  outputs B.ToCharList vs h = str_one P θ (Gives B.ToCharList) (λ s. gives (char_list L (chars s) ∷ [])) vs h (λ s f. (list_typed P L K has (chars s) (scalars-chars s f), tt))
-  outputs B.StringToInt vs h = str_one P θ (Gives B.StringToInt) (λ s. parsed_int s) vs h (λ s f.
+  outputs : (op : Builtin) → HasBuiltin P op → (vs : List Val) → Inputs op vs → Gives op (outcome L input op vs)
+  outputs B.IntPlus b vs h = ints_in P θ (Gives B.IntPlus) (λ a b. gives_int (a +ℤ b)) vs h (λ a b. ((SFits-int_wrap w64 (a +ℤ b), refl), tt))
+  outputs B.IntMinus b vs h = ints_in P θ (Gives B.IntMinus) (λ a b. gives_int (a -ℤ b)) vs h (λ a b. ((SFits-int_wrap w64 (a -ℤ b), refl), tt))
+  outputs B.IntTimes b vs h = ints_in P θ (Gives B.IntTimes) (λ a b. gives_int (a *ℤ b)) vs h (λ a b. ((SFits-int_wrap w64 (a *ℤ b), refl), tt))
+  outputs B.IntQuotient b vs h = ints_in P θ (Gives B.IntQuotient) (λ a b. cond (int_eq b (pos 0)) (throws zero_divide) (gives_int (int_div a b))) vs h (λ a b. cond_in (Gives B.IntQuotient) (int_eq b (pos 0)) (throws zero_divide) (gives_int (int_div a b)) (λ e. tt) (λ e. ((SFits-int_wrap w64 (int_div a b), refl), tt)))
+  outputs B.IntDiv b vs h = ints_in P θ (Gives B.IntDiv) (λ a b. cond (int_eq b (pos 0)) (throws zero_divide) (gives_int (int_floor a b))) vs h (λ a b. cond_in (Gives B.IntDiv) (int_eq b (pos 0)) (throws zero_divide) (gives_int (int_floor a b)) (λ e. tt) (λ e. ((SFits-int_wrap w64 (int_floor a b), refl), tt)))
+  outputs B.IntMod b vs h = ints_in P θ (Gives B.IntMod) (λ a b. cond (int_eq b (pos 0)) (throws zero_divide) (gives_int (int_mod a b))) vs h (λ a b. cond_in (Gives B.IntMod) (int_eq b (pos 0)) (throws zero_divide) (gives_int (int_mod a b)) (λ e. tt) (λ e. ((SFits-int_wrap w64 (int_mod a b), refl), tt)))
+  outputs B.IntRem b vs h = ints_in P θ (Gives B.IntRem) (λ a b. cond (int_eq b (pos 0)) (throws zero_divide) (gives_int (int_rem a b))) vs h (λ a b. cond_in (Gives B.IntRem) (int_eq b (pos 0)) (throws zero_divide) (gives_int (int_rem a b)) (λ e. tt) (λ e. ((SFits-int_wrap w64 (int_rem a b), refl), tt)))
+  outputs B.IntNegate b vs h = int_one P θ (Gives B.IntNegate) (λ a. gives_int (neg_ℤ a)) vs h (λ a f. ((SFits-int_wrap w64 (neg_ℤ a), refl), tt))
+  outputs B.IntLess b vs h = ints_in P θ (Gives B.IntLess) (λ a b. succeeds_if (int_lt a b)) vs h (λ a b. cond_in (Gives B.IntLess) (int_lt a b) (gives []) fails (λ e. tt) (λ e. tt))
+  outputs B.IntGreater b vs h = ints_in P θ (Gives B.IntGreater) (λ a b. succeeds_if (int_lt b a)) vs h (λ a b. cond_in (Gives B.IntGreater) (int_lt b a) (gives []) fails (λ e. tt) (λ e. tt))
+  outputs B.IntAtMost b vs h = ints_in P θ (Gives B.IntAtMost) (λ a b. succeeds_if (int_le a b)) vs h (λ a b. cond_in (Gives B.IntAtMost) (int_le a b) (gives []) fails (λ e. tt) (λ e. tt))
+  outputs B.IntAtLeast b vs h = ints_in P θ (Gives B.IntAtLeast) (λ a b. succeeds_if (int_le b a)) vs h (λ a b. cond_in (Gives B.IntAtLeast) (int_le b a) (gives []) fails (λ e. tt) (λ e. tt))
+  outputs B.StringJoin b vs h = str_in P θ (Gives B.StringJoin) (λ s. on_str (λ t. at_end (gives_str (s ++ t)))) (string_type ∷ []) vs h (λ s f ws k. str_one P θ (Gives B.StringJoin) (λ t. gives_str (s ++ t)) ws k (λ t g. ((IsUtf8-append s t f g, refl), tt)))
+  outputs B.StringLength b vs h = str_one P θ (Gives B.StringLength) (λ s. gives_int (pos (length s))) vs h (λ s f. ((SFits-int_wrap w64 (pos (length s)), refl), tt))
+  outputs B.StringCodePoints b vs h = str_one P θ (Gives B.StringCodePoints) (λ s. gives_int (pos (length (chars s)))) vs h (λ s f. ((SFits-int_wrap w64 (pos (length (chars s))), refl), tt))
+  outputs B.IntToString b vs h = int_one P θ (Gives B.IntToString) (λ a. gives_str (signed_decimal a)) vs h (λ a f. ((IsUtf8-from_ascii (signed_decimal a) (IsAscii-signed a f.sfits), refl), tt))
+  outputs B.CharToString b vs h = char_one P θ (Gives B.CharToString) (λ c. gives_str (encode_utf8 c)) vs h (λ c f. ((IsUtf8-encode c f, refl), tt))
+  outputs B.ToCharList b vs h = str_one P θ (Gives B.ToCharList) (λ s. gives (char_list L (chars s) ∷ [])) vs h (λ s f. (list_typed P L K (has.nil b) (has.cons b) (chars s) (scalars-chars s f), tt))
+  outputs B.StringToInt b vs h = str_one P θ (Gives B.StringToInt) (λ s. parsed_int s) vs h (λ s f.
       cond_in (Gives B.StringToInt) (nat_lt 0 (length (without_leading_sign s)) && all_ascii_digits (without_leading_sign s) && fits_64 (signed_digits_value 10 s)) (gives (int (signed_digits_value 10 s) ∷ [])) fails
       (λ e. ((fits_number (signed_digits_value 10 s) (and_parts (nat_lt 0 (length (without_leading_sign s)) && all_ascii_digits (without_leading_sign s)) (fits_64 (signed_digits_value 10 s)) e).1, refl), tt)) (λ e. tt))
-  outputs B.CharToInt vs h = char_one P θ (Gives B.CharToInt) (λ c. gives_int (pos c)) vs h (λ c f. ((SFits-int_wrap w64 (pos c), refl), tt))
-  outputs B.CharFromInt vs h = int_one P θ (Gives B.CharFromInt) (λ a. char_of_code a) vs h (λ a f. code a)
+  outputs B.CharToInt b vs h = char_one P θ (Gives B.CharToInt) (λ c. gives_int (pos c)) vs h (λ c f. ((SFits-int_wrap w64 (pos c), refl), tt))
+  outputs B.CharFromInt b vs h = int_one P θ (Gives B.CharFromInt) (λ a. char_of_code a) vs h (λ a f. code a)
     where
       code : (a : ℤ) → Gives B.CharFromInt (char_of_code a)
       code (pos n) = cond_in (Gives B.CharFromInt) (is_scalar n) (gives_char n) fails (λ e. ((e, refl), tt)) (λ e. tt)
       code (negsuc n) = tt
-  outputs B.CharIsDigit vs h = char_one P θ (Gives B.CharIsDigit) (λ c. succeeds_if (nat_le 48 c && nat_le c 57)) vs h (λ c f. cond_in (Gives B.CharIsDigit) (nat_le 48 c && nat_le c 57) (gives []) fails (λ e. tt) (λ e. tt))
-  outputs B.WriteString vs h = str_in P θ (Gives B.WriteString) (λ s. write_at s) (state_type ∷ []) vs h (λ s f ws k. write_in P θ (Gives B.WriteString) s ws k (λ w j l. ((l, refl), tt)))
-  outputs B.WriteChar vs h = char_in P θ (Gives B.WriteChar) (λ c. write_at (encode_utf8 c)) (state_type ∷ []) vs h (λ c f ws k. write_in P θ (Gives B.WriteChar) (encode_utf8 c) ws k (λ w j l. ((l, refl), tt)))
-  outputs B.WriteInt vs h = int_in P θ (Gives B.WriteInt) (λ a. write_at (signed_decimal a)) (state_type ∷ []) vs h (λ a f ws k. write_in P θ (Gives B.WriteInt) (signed_decimal a) ws k (λ w j l. ((l, refl), tt)))
-  outputs B.Write vs h = any_in P θ (Gives B.Write) (λ v. write_at (L.text_of v)) (variable_type 0) (state_type ∷ []) vs h (λ v ws k. write_in P θ (Gives B.Write) (L.text_of v) ws k (λ w j l. ((l, refl), tt)))
-  outputs B.Nl vs h = write_in P θ (Gives B.Nl) (10 ∷ []) vs h (λ w j l. ((l, refl), tt))
-  outputs B.ReadLine vs h =
+  outputs B.CharIsDigit b vs h = char_one P θ (Gives B.CharIsDigit) (λ c. succeeds_if (nat_le 48 c && nat_le c 57)) vs h (λ c f. cond_in (Gives B.CharIsDigit) (nat_le 48 c && nat_le c 57) (gives []) fails (λ e. tt) (λ e. tt))
+  outputs B.WriteString b vs h = str_in P θ (Gives B.WriteString) (λ s. write_at s) (state_type ∷ []) vs h (λ s f ws k. write_in P θ (Gives B.WriteString) s ws k (λ w j l. ((l, refl), tt)))
+  outputs B.WriteChar b vs h = char_in P θ (Gives B.WriteChar) (λ c. write_at (encode_utf8 c)) (state_type ∷ []) vs h (λ c f ws k. write_in P θ (Gives B.WriteChar) (encode_utf8 c) ws k (λ w j l. ((l, refl), tt)))
+  outputs B.WriteInt b vs h = int_in P θ (Gives B.WriteInt) (λ a. write_at (signed_decimal a)) (state_type ∷ []) vs h (λ a f ws k. write_in P θ (Gives B.WriteInt) (signed_decimal a) ws k (λ w j l. ((l, refl), tt)))
+  outputs B.Write b vs h = any_in P θ (Gives B.Write) (λ v. write_at (L.text_of v)) (variable_type 0) (state_type ∷ []) vs h (λ v ws k. write_in P θ (Gives B.Write) (L.text_of v) ws k (λ w j l. ((l, refl), tt)))
+  outputs B.Nl b vs h = write_in P θ (Gives B.Nl) (10 ∷ []) vs h (λ w j l. ((l, refl), tt))
+  outputs B.ReadLine b vs h =
       state_in P θ (Gives B.ReadLine) (λ w k. at_end (read_from L line_limit k w (drop k input))) [] vs h
       (λ w k l ws r. end_in P θ (Gives B.ReadLine) (read_from L line_limit k w (drop k input)) ws r
-      (read_line (Gives B.ReadLine) (λ k w l. (subst (λ o. AllOfTypes P no_vals o) (sym has.eof) tt, ((l, refl), tt))) (λ k w line u m. (subst (λ o. AllOfTypes P (val_then (str line) no_vals) o) (sym has.ok) ((u, refl), tt), ((m, refl), tt))) (λ k x. tt) w k l))
-  outputs B.Error vs h = str_one P θ (Gives B.Error) (λ s. throws (error s)) vs h (λ s f. tt)
+      (read_line (Gives B.ReadLine) (λ k w l. (subst (λ o. AllOfTypes P no_vals o) (sym (has.eof b)) tt, ((l, refl), tt))) (λ k w line u m. (subst (λ o. AllOfTypes P (val_then (str line) no_vals) o) (sym (has.ok b)) ((u, refl), tt), ((m, refl), tt))) (λ k x. tt) w k l))
+  outputs B.Error b vs h = str_one P θ (Gives B.Error) (λ s. throws (error s)) vs h (λ s f. tt)
 
   succeeds : (op : Builtin) (vs : List Val) → Inputs op vs → (builtin_determinism op).can_fail ≡ false → Holds (outcome L input op vs)
   succeeds B.IntPlus vs h d = ints_in P θ Holds (λ a b. gives_int (a +ℤ b)) vs h (λ a b. not_fails _)
@@ -237,7 +237,7 @@ error_throws P L input θ vs h = str_one P θ Throws (λ s. throws (error s)) vs
 pub builtins_fit : BuiltinsFit
 builtins_fit P L K input has types small =
     record {
-      outputs = λ θ p op vs q h. subst (λ ts. GivesOf P θ (at_places false (inputs_of op) ts) (outcome L input op vs)) (sym (types p op q).1) (outputs P L K input has small θ op vs (subst (λ ts. EachOf P θ (at_places true (inputs_of op) ts) vs) (types p op q).1 h));
+      outputs = λ θ p op vs q h. subst (λ ts. GivesOf P θ (at_places false (inputs_of op) ts) (outcome L input op vs)) (sym (types p op q).1) (outputs P L K input has small θ op (p, q) vs (subst (λ ts. EachOf P θ (at_places true (inputs_of op) ts) vs) (types p op q).1 h));
       succeeds = λ θ p op vs q h f. succeeds P L K input has small θ op vs (subst (λ ts. EachOf P θ (at_places true (inputs_of op) ts) vs) (types p op q).1 h) f;
       error_throws = λ θ p vs q h. error_throws P L input θ vs (subst (λ ts. EachOf P θ (at_places true (inputs_of B.Error) ts) vs) (types p B.Error q).1 h);
     }

@@ -5,9 +5,10 @@ use Rattle.mc_accepted.specs.Ordered.{Insts, also, here, conj, next, done, call,
 use Rattle.mc_accepted.specs.ProperTypes.{ProperType}
 use Rattle.mc_accepted.specs.Fits.{FitsTypes, FitsProcedure, type_of}
 use Rattle.mc_accepted.specs.Accepted.{entered, AcceptedProcedure, Accepted}
-use Rattle.mc_accepted.specs.BuiltinTypes.{Has_types, HasBuiltins, builtin_name, builtin_types}
+use Rattle.mc_accepted.specs.BuiltinTypes.{HasBuiltins, builtin_name, builtin_types}
 use Rattle.mc_program.specs.declared.builtin.Builtin.{Builtin}
 use Rattle.mc_program.specs.declared.builtin.Builtin.TheVariants as B
+use Rattle.mc_sound.specs.BuiltinLaws.{MakesTypes}
 use Rattle.mc_sound.specs.code.Examples.{parameters, library, library_types}
 use Rattle.mc_sound.specs.code.MainExamples.{line_pred, peek_pred, peeking_pred, peek_source, peek_procedure, peeking_procedure, peek_procedures, peeks, PeeksFit, OneLineIsWritten}
 use Rattle.mc_sound.proofs.BuiltinIo.{builtins_do_io}
@@ -19,8 +20,8 @@ use Rattle.mc_laws.proofs.ListInsts.{swapped}
 types_of_peeks : FitsTypes peek_source parameters
 types_of_peeks = record { arities = types_fit.arities; parameters = types_fit.parameters; arguments = types_fit.arguments }
 
-has_types : Has_types peek_source library library_types
-has_types = record { nil = refl; cons = refl; ok = refl; eof = refl }
+makes_types : MakesTypes peek_source library library_types
+makes_types = record { nil = λ h. refl; cons = λ h. refl; ok = λ h. refl; eof = λ h. refl }
 
 some_is : (a b : Builtin) → Some a ≡ Some b → a ≡ b
 some_is a b e = cc
@@ -132,7 +133,7 @@ accepted (suc (suc k)) l = absurd (no_more_than_two k l)
 
 pub peeks_fit : PeeksFit
 peeks_fit = (
-  record { insts = insts_fit; types = types_of_peeks; builtins = builtins_fit peek_source library library_types [] has_types has_builtins (omega arith); io = (library_types, builtins_do_io peek_source library library_types [] has_builtins); procedures = fits },
+  record { insts = insts_fit; types = types_of_peeks; builtins = builtins_fit peek_source library library_types [] makes_types has_builtins (omega arith); io = (library_types, builtins_do_io peek_source library library_types [] has_builtins); procedures = fits },
   accepted,
 )
 

@@ -11,9 +11,10 @@ use Rattle.mc_accepted.specs.Ordered.{Insts, also, apply, kept, no_more, output,
 use Rattle.mc_accepted.specs.ProperTypes.{ProperType}
 use Rattle.mc_accepted.specs.Fits.{FitsTypes, FitsProcedure, type_of}
 use Rattle.mc_accepted.specs.Accepted.{entered, AcceptedProcedure}
-use Rattle.mc_accepted.specs.BuiltinTypes.{Has_types, HasBuiltins, builtin_name, builtin_types}
+use Rattle.mc_accepted.specs.BuiltinTypes.{HasBuiltins, builtin_name, builtin_types}
 use Rattle.mc_program.specs.declared.builtin.Builtin.{Builtin}
 use Rattle.mc_program.specs.declared.builtin.Builtin.TheVariants as B
+use Rattle.mc_sound.specs.BuiltinLaws.{MakesTypes}
 use Rattle.mc_sound.specs.code.Examples.{parameters, library, library_types, graph}
 use Rattle.mc_sound.specs.code.MainExamples.{main_pred, line_pred, line_source, main_procedure, lines_over, LinesFit, LineIsWritten}
 use Rattle.mc_sound.proofs.BuiltinIo.{builtins_do_io}
@@ -27,8 +28,8 @@ apart a b e = eqb-false a b e
 pub types_of_lines : FitsTypes line_source parameters
 types_of_lines = record { arities = types_fit.arities; parameters = types_fit.parameters; arguments = types_fit.arguments }
 
-has_types : Has_types line_source library library_types
-has_types = record { nil = refl; cons = refl; ok = refl; eof = refl }
+makes_types : MakesTypes line_source library library_types
+makes_types = record { nil = λ h. refl; cons = λ h. refl; ok = λ h. refl; eof = λ h. refl }
 
 named : (t : Bool) (op : Builtin) → (cond t line_pred main_pred).builtin ≡ Some op → ((cond t line_pred main_pred).name ≡ (builtin_name op).name) × ((cond t line_pred main_pred).types ≡ builtin_types library_types op)
 named true op e = let q = some_is B.Nl op e in (ap (λ o. (builtin_name o).name) q, ap (λ o. builtin_types library_types o) q)
@@ -99,7 +100,7 @@ module _ (o : Builtin → List Val → Outcome) where
 
 pub lines_fit : LinesFit
 lines_fit = (
-  record { insts = insts_fit; types = types_of_lines; builtins = builtins_fit line_source library library_types [] has_types has_builtins (omega arith); io = (library_types, builtins_do_io line_source library library_types [] has_builtins); procedures = λ k l. procedure_fits (outcome library []) },
+  record { insts = insts_fit; types = types_of_lines; builtins = builtins_fit line_source library library_types [] makes_types has_builtins (omega arith); io = (library_types, builtins_do_io line_source library library_types [] has_builtins); procedures = λ k l. procedure_fits (outcome library []) },
   (λ k l. accepted (outcome library [])),
 )
 

@@ -9,9 +9,10 @@ use Rattle.mc_accepted.specs.Inclusion.{Included}
 use Rattle.mc_accepted.specs.ProperTypes.{ProperType}
 use Rattle.mc_accepted.specs.Fits.{FitsTypes, type_of}
 use Rattle.mc_accepted.specs.Accepted.{entered, AcceptedProcedure, Accepted}
-use Rattle.mc_accepted.specs.BuiltinTypes.{Has_types, HasBuiltins, builtin_name, builtin_types}
+use Rattle.mc_accepted.specs.BuiltinTypes.{HasBuiltins, builtin_name, builtin_types}
 use Rattle.mc_program.specs.declared.builtin.Builtin.{Builtin}
 use Rattle.mc_program.specs.declared.builtin.Builtin.TheVariants as B
+use Rattle.mc_sound.specs.BuiltinLaws.{MakesTypes}
 use Rattle.mc_sound.specs.code.Examples.{parameters, library, library_types}
 use Rattle.mc_sound.specs.code.MainExamples.{line_pred}
 use Rattle.mc_sound.specs.code.Premises.{Asked, its_heads, its_scopes, its_types, its_head_types, its_atoms, its_insts, its_predicate, Asks, copy_pred, copying_pred, copy_source, copy_procedure, copying_procedure, copies, UniqueInstsAreAsked}
@@ -24,8 +25,8 @@ use Rattle.mc_laws.proofs.ListInsts.{swapped}
 types_of_copies : FitsTypes copy_source parameters
 types_of_copies = record { arities = types_fit.arities; parameters = types_fit.parameters; arguments = types_fit.arguments }
 
-has_types : Has_types copy_source library library_types
-has_types = record { nil = refl; cons = refl; ok = refl; eof = refl }
+makes_types : MakesTypes copy_source library library_types
+makes_types = record { nil = λ h. refl; cons = λ h. refl; ok = λ h. refl; eof = λ h. refl }
 
 some_is : (a b : Builtin) → Some a ≡ Some b → a ≡ b
 some_is a b e = cc
@@ -160,4 +161,4 @@ copies_are_bad good =
     lost said.0.0 said.0.1
 
 pub unique_insts_asked : UniqueInstsAreAsked
-unique_insts_asked = (insts_fit, types_of_copies, builtins_fit copy_source library library_types [] has_types has_builtins (omega arith), (library_types, builtins_do_io copy_source library library_types [] has_builtins), asked, accepted, copies_are_bad)
+unique_insts_asked = (insts_fit, types_of_copies, builtins_fit copy_source library library_types [] makes_types has_builtins (omega arith), (library_types, builtins_do_io copy_source library library_types [] has_builtins), asked, accepted, copies_are_bad)

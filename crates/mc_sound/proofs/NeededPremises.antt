@@ -186,4 +186,4 @@ plus_is_bad good =
     not_denied (run.none_omitted tt (int (pos 1) ∷ int (pos 2) ∷ int (pos 3) ∷ []) (refl, (refl, (refl, tt))) tt)
 
 pub predicates_asked : PredicatesAreAsked
-predicates_asked = (insts_fit, types_fit, builtins_fit source library library_types [] Sums.has_types Sums.has_builtins (omega arith), (library_types, builtins_do_io source library library_types [] Sums.has_builtins), (λ k l. plus_asked), (λ k l. plus_accepted), plus_is_bad)
+predicates_asked = (insts_fit, types_fit, builtins_fit source library library_types [] Sums.makes_types Sums.has_builtins (omega arith), (library_types, builtins_do_io source library library_types [] Sums.has_builtins), (λ k l. plus_asked), (λ k l. plus_accepted), plus_is_bad)

@@ -11,7 +11,8 @@ use Rattle.mc_accepted.specs.Ordered.{Insts, also, here, implied_alone, implied_
 use Rattle.mc_accepted.specs.ProperTypes.{ProperType, EachProper, EachBelow}
 use Rattle.mc_accepted.specs.Fits.{FitsInsts, FitsTypes, FitsProcedure, type_of}
 use Rattle.mc_accepted.specs.Accepted.{entered, AcceptedProcedure}
-use Rattle.mc_accepted.specs.BuiltinTypes.{Has_types, HasBuiltins, builtin_name, builtin_types}
+use Rattle.mc_accepted.specs.BuiltinTypes.{HasBuiltins, builtin_name, builtin_types}
+use Rattle.mc_sound.specs.BuiltinLaws.{MakesTypes}
 use Rattle.mc_sound.specs.code.Examples.{symbols, parameters, library, library_types, sum_pred, plus_pred, source, graph, sum_procedure, sums, SumsFit}
 use Rattle.mc_program.specs.declared.builtin.Builtin.{Builtin}
 use Rattle.mc_program.specs.declared.builtin.Builtin.TheVariants as B
@@ -74,8 +75,8 @@ types_fit = record { arities = arities; parameters = λ s k e i. below s k e; ar
     arities (suc (suc (suc (suc s)))) = refl
 
 -- builtins
-pub has_types : Has_types source library library_types
-has_types = record { nil = refl; cons = refl; ok = refl; eof = refl }
+pub makes_types : MakesTypes source library library_types
+makes_types = record { nil = λ h. refl; cons = λ h. refl; ok = λ h. refl; eof = λ h. refl }
 
 named : (t : Bool) (op : Builtin) → (cond t plus_pred sum_pred).builtin ≡ Some op → ((cond t plus_pred sum_pred).name ≡ (builtin_name op).name) × ((cond t plus_pred sum_pred).types ≡ builtin_types library_types op)
 named true op e = let q = some_is B.IntPlus op e in (ap (λ o. (builtin_name o).name) q, ap (λ o. builtin_types library_types o) q)
@@ -155,4 +156,4 @@ accepted =
     }
 
 pub sums_fit : SumsFit
-sums_fit = (record { insts = insts_fit; types = types_fit; builtins = builtins_fit source library library_types [] has_types has_builtins (omega arith); io = (library_types, builtins_do_io source library library_types [] has_builtins); procedures = λ k l. procedure_fits }, (λ k l. accepted))
+sums_fit = (record { insts = insts_fit; types = types_fit; builtins = builtins_fit source library library_types [] makes_types has_builtins (omega arith); io = (library_types, builtins_do_io source library library_types [] has_builtins); procedures = λ k l. procedure_fits }, (λ k l. accepted))

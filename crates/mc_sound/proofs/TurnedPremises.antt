@@ -22,7 +22,7 @@ use Rattle.mc_sound.specs.code.Examples.{semidet, sums}
 use Rattle.mc_sound.specs.code.MainExamples.{main_pred, line_pred, line_source}
 use Rattle.mc_sound.specs.code.Premises.{turned, silent, silent_lines, InstsAreAsked, SymbolsAreAsked, BuiltinsAreAsked, DeterminismsAreAsked, SumsFail, MarksAreAsked, ArmsAreAsked, IoIsAsked}
 use Rattle.mc_sound.proofs.MainExample as M
-use Rattle.mc_sound.proofs.SumsExample.{insts_fit, has_types, has_builtins, accepted}
+use Rattle.mc_sound.proofs.SumsExample.{insts_fit, has_builtins, accepted}
 
 pub insts_asked : InstsAreAsked
 insts_asked = (insts_fit, (λ f. no f.is_unique))
@@ -31,7 +31,7 @@ insts_asked = (insts_fit, (λ f. no f.is_unique))
     no e = cc
 
 pub symbols_asked : SymbolsAreAsked
-symbols_asked = (has_types, (λ h. no _ h.cons))
+symbols_asked = (record { nil = λ h. refl; cons = λ h. refl; ok = λ h. refl; eof = λ h. refl }, (λ h. no _ (h.cons (9, refl))))
   where
     no : (ts : List TypeTerm) → None ≡ Some ts → ⊥
     no ts e = cc

@@ -58,7 +58,7 @@ abbrev pub list : InstTerm → InstTerm
 list i = defined 0 (one i)
 
 abbrev pub cells_of : InstTerm → Bodies
-cells_of rest d = bound_over (inst_then (parameter 0) (one rest))
+cells_of rest d = bound_over [] (inst_then (parameter 0) (one rest))
 
 abbrev pub OtherParameters : Type 0
 OtherParameters =
@@ -82,10 +82,10 @@ abbrev pub its_parameter : InstTerm
 its_parameter = parameter 0
 
 abbrev pub x_of_it : InstTerm
-x_of_it = bound_over (one (parameter 0))
+x_of_it = bound_over [] (one (parameter 0))
 
 abbrev pub c_of_it : InstTerm → InstTerm
-c_of_it i = bound_over (inst_then (parameter 0) (one i))
+c_of_it i = bound_over [] (inst_then (parameter 0) (one i))
 
 -- `:- inst list(I) == list(I).` comes back to itself, and the list above doesn't. Where f(I) is I,
 -- `:- inst a == f(a).` comes back to itself, f doesn't, nor does `:- inst a == f(ground).`; and

@@ -1,20 +1,23 @@
 -- Functions that look for nodes and tell the truth of a graph: the laws of the order have premises
 -- that can be met. Over nodes each goal in order has the insts that it changes.
 use Rattle.std.specs.Prelude.{◌≡◌, ◌≢◌, ℕ, zero, suc, List, [], ◌∷◌, map, replicate, Option, Some, None, Bool, true, false, nat_eq, ◌&&◌, if◌then◌else◌}
-use Rattle.mc_program.specs.Programs.{int_type}
+use Rattle.mc_program.specs.Programs.{int_type, Source}
 use Rattle.mc_model.specs.Outcomes.{fails}
 use Rattle.mc_model.specs.Insts.{free, ground, dead, Graph}
 use Rattle.mc_model.specs.Flat as F
 use Rattle.mc_model.specs.Flat.{Flat_goal, no_flat, flat_then}
 use Rattle.mc_model.specs.Scheduled.{Node, node, Scheduled, Conj, Disj, Not, Exists, Assign, Procedure, nodes}
 use Rattle.mc_model.specs.Good.{System}
+use Rattle.mc_accepted.specs.Accepted.{entered}
 use Rattle.mc_accepted.specs.Fits.{type_of}
+use Rattle.mc_accepted.specs.Typing.{TypedGoal}
 use Rattle.mc_accepted.specs.Unmarked.{unmarked}
 use Rattle.mc_accepted.specs.Arranged.{Verdict, in_order, arrange}
 use Rattle.mc_accepted.specs.InOrder.{modes_declared}
 use Rattle.mc_accepted.specs.Chosen.{Chosen, of_nodes}
 use Rattle.mc_accepted.specs.code.Truthful.{Truthful, AllDeclared}
 use Rattle.mc_order_laws.specs.OrderLaws.{Below, FlatScopes}
+use Rattle.mc_order_laws.specs.Tidying.{EndsTidily, TidyPoint}
 use Rattle.mc_source.specs.Determinism.{inferred, det}
 use Rattle.mc_order_laws.specs.code.Examples as example
 
@@ -78,10 +81,26 @@ copies =
       var_types = int_type ∷ int_type ∷ [];
     }
 
+-- predicates of two integers, and no builtin
+abbrev pub source : Source
+source =
+    record {
+      symbols = example.symbol;
+      symbols_of = example.source.symbols_of;
+      preds =
+          λ k.
+          record {
+            name = record { module_name = []; bytes = k ∷ []; arity = 2 };
+            types = int_type ∷ int_type ∷ [];
+            clauses = [];
+            builtin = None;
+          };
+    }
+
 abbrev pub system : System
 system =
     record {
-      world = record { source = example.source; outcome = λ op vs. fails };
+      world = record { source = source; outcome = λ op vs. fails };
       count = 1;
       procs = λ k. copies;
       insts = few;
@@ -98,16 +117,19 @@ PremisesAreMet =
     × (modes_declared system 0
     ≡ record { proc = 0; modes = (1, 1) ∷ (0, 1) ∷ []; never = false } ∷ [])
     × (modes_declared system 1 ≡ [])
+    × EndsTidily system
     × Below 2 copies.head
     × FlatScopes copies.head (F.Same 1 0)
-    × (arrange (of_nodes chosen) example.source (modes_declared system) (type_of system copies) 2
+    × TypedGoal source (type_of system copies) (F.Same 1 0)
+    × TidyPoint system (type_of system copies) (entered copies.head copies.first)
+    × (arrange (of_nodes chosen) source (modes_declared system) (type_of system copies) 2
     copies.head copies.first copies.last (F.Same 1 0)
     ≡ in_order (ground_after (1 ∷ []) (Assign 1 0)))
 
 -- a goal of X and Y, variables 0 and 1, in its order over nodes; it may have variable 2 too, W
 abbrev pub over_nodes : Flat_goal → Verdict
 over_nodes g =
-    arrange (of_nodes chosen) example.source (modes_declared system) (type_of system copies) 3
+    arrange (of_nodes chosen) source (modes_declared system) (type_of system copies) 3
     copies.head copies.first copies.last g
 
 abbrev pub both : Flat_goal → Flat_goal → Flat_goal

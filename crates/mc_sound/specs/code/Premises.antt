@@ -15,7 +15,7 @@ use Rattle.mc_model.specs.Good.{System, GoodProcedures}
 use Rattle.mc_source.specs.declared.det.Det.{Det}
 use Rattle.mc_source.specs.declared.det.Most.TheVariants.{Zero}
 use Rattle.mc_accepted.specs.BuiltinFits.{FitsBuiltins}
-use Rattle.mc_accepted.specs.BuiltinTypes.{Library_types, Has_types, HasBuiltins}
+use Rattle.mc_accepted.specs.BuiltinTypes.{Library_types, HasBuiltins, builtin_name, builtin_types}
 use Rattle.mc_accepted.specs.IoFits.{FitsIo}
 use Rattle.mc_accepted.specs.ProperTypes.{ProperType}
 use Rattle.mc_accepted.specs.Tidy.{EachTidy}
@@ -25,6 +25,7 @@ use Rattle.mc_accepted.specs.Ordered.{Opens}
 use Rattle.mc_accepted.specs.Accepted.{AcceptedProcedure, Accepted}
 use Rattle.mc_program.specs.declared.builtin.Builtin.{Builtin}
 use Rattle.mc_program.specs.declared.builtin.Builtin.TheVariants as B
+use Rattle.mc_sound.specs.BuiltinLaws.{MakesTypes}
 use Rattle.mc_sound.specs.code.Examples.{det, semidet, symbols, symbols_of, parameters, library, library_types, sum_pred, plus_pred, source, graph, sum, sum_procedure, sums}
 use Rattle.mc_sound.specs.code.MainExamples.{line_pred, main_procedure, lines_over}
 
@@ -35,18 +36,31 @@ shared_graph i = if nat_eq i 2 then ground else graph i
 abbrev pub InstsAreAsked : Type 0
 InstsAreAsked = FitsInsts graph × (FitsInsts shared_graph → ⊥)
 
--- a list of symbols: that of lists has both of its constructors
-abbrev pub short_source : Source
-short_source =
+-- a list of symbols: that of lists has both of its constructors, where a builtin makes lists
+abbrev pub characters_pred : Predicate
+characters_pred =
+    record {
+      name = (builtin_name B.ToCharList).name;
+      types = builtin_types library_types B.ToCharList;
+      clauses = [];
+      builtin = Some B.ToCharList;
+    }
+
+abbrev pub characters_over : (ℕ → List ℕ) → Source
+characters_over listed =
     record {
       symbols = symbols;
-      symbols_of = λ u. if nat_eq u 0 then 0 ∷ [] else symbols_of u;
-      preds = source.preds;
+      symbols_of = listed;
+      preds = λ k. if nat_eq k 9 then characters_pred else sum_pred;
     }
+
+abbrev pub short_lists : ℕ → List ℕ
+short_lists u = if nat_eq u 0 then 0 ∷ [] else symbols_of u
 
 abbrev pub SymbolsAreAsked : Type 0
 SymbolsAreAsked =
-    Has_types source library library_types × (Has_types short_source library library_types → ⊥)
+    MakesTypes (characters_over symbols_of) library library_types
+    × (MakesTypes (characters_over short_lists) library library_types → ⊥)
 
 -- a builtin: what is named `+` adds
 abbrev pub minus_pred : Predicate

@@ -120,13 +120,13 @@ abbrev Comes : Bodies → InstTerm → InstTerm → Type 0
 Comes body (parameter k) j = parameter k ≡ j
 Comes body (inst_node i) j = inst_node i ≡ j
 Comes body (defined d is) j = (defined d is ≡ j) ⊎ ComesTo body (over is (body d)) j
-Comes body (bound_over is) j = bound_over is ≡ j
+Comes body (bound_over fs is) j = bound_over fs is ≡ j
 
 comes : (body : Bodies) (i j : InstTerm) → ComesTo body i j → Comes body i j
 comes body (parameter k) j at_that = refl
 comes body (inst_node i) j at_that = refl
 comes body (defined d is) j at_that = inl refl
-comes body (bound_over is) j at_that = refl
+comes body (bound_over fs is) j at_that = refl
 comes body (defined d is) j (by_definition c) = inr c
 
 parameter_is : (k d : ℕ) (is : InstTerms) → parameter k ≡ defined d is → ⊥
@@ -135,14 +135,14 @@ parameter_is k d is e = cc
 node_is : (k d : ℕ) (is : InstTerms) → inst_node k ≡ defined d is → ⊥
 node_is k d is e = cc
 
-bound_is : (js : InstTerms) (d : ℕ) (is : InstTerms) → bound_over js ≡ defined d is → ⊥
+bound_is : (js : InstTerms) (d : ℕ) (is : InstTerms) → bound_over [] js ≡ defined d is → ⊥
 bound_is js d is e = cc
 
 abbrev number : InstTerm → ℕ
 number (parameter k) = k
 number (inst_node i) = i
 number (defined d is) = d
-number (bound_over is) = 0
+number (bound_over fs is) = 0
 
 zero_is : (js is : InstTerms) → defined 0 js ≡ defined 1 is → ⊥
 zero_is js is e = omega (arith, ap number e)
@@ -176,7 +176,7 @@ ground_comes : (is : InstTerms) → ComesTo (f_and_a its_parameter (f_of (inst_n
 ground_comes is c = ⊎_elim (λ e. zero_is (one (inst_node 1)) is e) (λ c. node_is 1 1 is (comes (f_and_a its_parameter (f_of (inst_node 1))) (inst_node 1) (defined 1 is) c)) (comes (f_and_a its_parameter (f_of (inst_node 1))) (f_of (inst_node 1)) (defined 1 is) c)
 
 x_comes : (is : InstTerms) → ComesTo (f_and_a x_of_it (f_of a)) (f_of a) (defined 1 is) → ⊥
-x_comes is c = ⊎_elim (λ e. zero_is (one a) is e) (λ c. bound_is (one a) 1 is (comes (f_and_a x_of_it (f_of a)) (bound_over (one a)) (defined 1 is) c)) (comes (f_and_a x_of_it (f_of a)) (f_of a) (defined 1 is) c)
+x_comes is c = ⊎_elim (λ e. zero_is (one a) is e) (λ c. bound_is (one a) 1 is (comes (f_and_a x_of_it (f_of a)) (bound_over [] (one a)) (defined 1 is) c)) (comes (f_and_a x_of_it (f_of a)) (f_of a) (defined 1 is) c)
 
 pub returns-clause-parameters_founded : goal.returns-clause-parameters_founded
 returns-clause-parameters_founded c = (
@@ -193,13 +193,13 @@ abbrev Inside : Bodies → InstTerm → InstTerm → Type 0
 Inside body (parameter k) j = ⊥
 Inside body (inst_node i) j = ⊥
 Inside body (defined d is) j = ((k : ℕ) × PutsInside body (body d) (parameter k) × ComesTo body (inst_at is k) j) ⊎ ((i : InstTerm) × OneIs is i × PutsInside body i j)
-Inside body (bound_over is) j = (i : InstTerm) × OneIs is i × (ComesTo body i j ⊎ PutsInside body i j)
+Inside body (bound_over fs is) j = (i : InstTerm) × OneIs is i × (ComesTo body i j ⊎ PutsInside body i j)
 
 inside : (body : Bodies) (i j : InstTerm) → PutsInside body i j → Inside body i j
 inside body (parameter k) j p = elim p [ ]
 inside body (inst_node k) j p = elim p [ ]
-inside body (bound_over is) j (listed {j = i} o c) = (i, o, inl c)
-inside body (bound_over is) j (in_listed {j = i} o p) = (i, o, inr p)
+inside body (bound_over fs is) j (listed {j = i} o c) = (i, o, inl c)
+inside body (bound_over fs is) j (in_listed {j = i} o p) = (i, o, inr p)
 inside body (defined d is) j (given {k = k} p c) = inl (k, p, c)
 inside body (defined d is) j (in_given {j = i} o p) = inr (i, o, p)
 
@@ -222,8 +222,8 @@ module _ (body : Bodies) where
   nothing_inside i j (inl h) p = inside body (parameter h.0) j (subst (λ i. PutsInside body i j) (sym h.1) p)
   nothing_inside i j (inr h) p = inside body (inst_node 1) j (subst (λ i. PutsInside body i j) (sym h) p)
 
-  no_free_listed : (is : InstTerms) → ((i : InstTerm) → OneIs is i → Other i) → PutsInside body (bound_over is) (inst_node 0) → ⊥
-  no_free_listed is others p = (let h = inside body (bound_over is) (inst_node 0) p in ⊎_elim (λ c. not_free h.0 (others h.0 h.1) c) (λ p. nothing_inside h.0 (inst_node 0) (others h.0 h.1) p) h.2)
+  no_free_listed : (is : InstTerms) → ((i : InstTerm) → OneIs is i → Other i) → PutsInside body (bound_over [] is) (inst_node 0) → ⊥
+  no_free_listed is others p = (let h = inside body (bound_over [] is) (inst_node 0) p in ⊎_elim (λ c. not_free h.0 (others h.0 h.1) c) (λ p. nothing_inside h.0 (inst_node 0) (others h.0 h.1) p) h.2)
 
   no_free_given : (d : ℕ) (is : InstTerms) → ((k : ℕ) → Other (inst_at is k)) → ((i : InstTerm) → OneIs is i → Other i) → PutsInside body (defined d is) (inst_node 0) → ⊥
   no_free_given d is at others p = ⊎_elim (λ h. not_free (inst_at is h.0) (at h.0) h.2) (λ h. nothing_inside h.0 (inst_node 0) (others h.0 h.1) h.2) (inside body (defined d is) (inst_node 0) p)

@@ -7,7 +7,6 @@ use Rattle.mc_accepted.specs.Inclusion.{Merged, LeastAbove}
 use Rattle.mc_accepted.specs.Ordered.{Insts, change_at}
 use Rattle.mc_determinism_laws.specs.code.Examples.{source, graph, ground_are}
 use Rattle.mc_determinism_laws.specs.code.ExamplesOfSwitches.{integers, colours}
-use Rattle.mc_laws.proofs.Merging.{one_is_merged}
 use Rattle.mc_determinism_laws.proofs.examples.switches.Goals as goal
 
 least : (i : ℕ) (t : TypeTerm) → LeastAbove source graph (i ∷ i ∷ []) i t
@@ -64,7 +63,7 @@ pair_after x = change_at x ((2, 1) ∷ []) (pair_before x)
 pub returns-clause-nested : goal.returns-clause-nested
 returns-clause-nested c = (
   (
-    ((omega arith, tt), (none_is_one, tt), (λ x e. one_is_merged source graph (pair_after x) 0 (colours x)), (λ x i e g. g.0), (λ x e. stays_free (pair_before x) (pair_after x) e)),
+    ((omega arith, tt), (none_is_one, tt), (λ x e. merges (pair_after x) (colours x)), (λ x i e g. g.0), (λ x e. stays_free (pair_before x) (pair_after x) e)),
     (
       ((omega arith, tt), (none_is_one, tt), (λ x e. merges (pair_after x) (colours x)), (λ x i e g. g.0), (λ x e. stays_free (pair_before x) (pair_after x) e)),
       ((tt, (tt, (tt, tt))), ((tt, (tt, (tt, tt))), tt)),
