@@ -1,5 +1,6 @@
 -- What comes of procedures.
-use Rattle.std.proofs.Common.{◌≡◌, ℕ, ◌==◌, Bool, true, false, true≢false, List, Vec, Global, [], ◌∷◌, length, map, refl, sym, ap, subst, ◌∙◌}
+use Rattle.std.proofs.Common.{◌≡◌, ◌≤◌, ℕ, ◌==◌, Bool, true, false, true≢false, List, Vec, Global, [], ◌∷◌, length, map, refl, sym, ap, subst, ◌∙◌}
+use Rattle.std.specs.Prelude.{Result, Ok, Err, IfOk}
 use Rattle.std.proofs.Math.Dec.{eqb-suc-zero}
 use Rattle.mc_source.specs.declared.rule.Broken.{Broken}
 use Rattle.mc_program.specs.PlainPrograms.{plain_program}
@@ -7,17 +8,24 @@ use Rattle.mc_program.specs.declared.program.Program.{Program}
 use Rattle.mc_model.specs.declared.flat.Normal.{Normal}
 use Rattle.mc_model.specs.declared.inst.Sig.{Sig}
 use Rattle.mc_insts.specs.declared.insts.Insts.{Insts}
-use Rattle.mc_insts.specs.Graphs.{BuiltinAlone}
+use Rattle.mc_insts.specs.Defining.{Defined, AreSound, IsFault}
+use Rattle.mc_insts.specs.declared.define.InstFault.TheVariants as F
+use Rattle.mc_insts.specs.Graphs.{graph_of, count_of}
 use Rattle.mc_insts.specs.Kept.{AreOf}
 use Rattle.mc_procs.specs.Procedures.{PlainProcs}
+use Rattle.mc_library_fit.specs.HasLibrary.{HasLibrary}
 use Rattle.mc_orders.specs.Numbering.{mode_ids, IsNumbered}
 use Rattle.mc_orders.specs.NormalGoals.{AreNormal}
 use Rattle.mc_orders.specs.Outcomes.{GrownFrom, Became}
 use Rattle.mc_orders.specs.declared.modes.ModeId.{ModeId}
+use Rattle.mc_orders.specs.declared.ordering.Orders.{Orders}
 use Rattle.mc_orders.specs.declared.ordering.Orders.TheVariants as O
 use Rattle.mc_whole.specs.Goals.{HasNormalGoals}
-use Rattle.mc_rules.specs.Premises.{Begins, TellNumbers, GoalsFitModes}
-use Rattle.mc_rules.specs.Rules.{Comes, break_no_rule, break_modes, break_determinism, no_types, no_constructors, no_exported, no_insts, no_numbers, no_goals, no_procedure}
+use Rattle.mc_accepted.specs.InstRules.{PlainInstDef}
+use Rattle.mc_model.specs.Insts.{Graph}
+use Rattle.mc_rules.specs.Untidy.{AreUntidy}
+use Rattle.mc_rules.specs.Premises.{HasInsts, Begins, AskedOf, TellNumbers, GoalsFitModes}
+use Rattle.mc_rules.specs.Rules.{Ordered, Comes, break_no_rule, break_modes, break_determinism, no_types, no_constructors, no_library, no_exported, no_predicates, no_determinisms, no_numbers, no_goals, no_procedure}
 use Rattle.mc_rules.specs.code.Judged.{answered, ByDeterminism}
 use Rattle.mc_rules.specs.code.Missing.{IsMissing, IsUnfit}
 use Rattle.mc_rules.specs.declared.judging.Judgement.{Judgement}
@@ -35,10 +43,31 @@ pub some_listed : {A : Type 0} (xs : List A) (n : ℕ) → n ≡ length xs → f
 some_listed [] n e t h = true≢false (sym (t ∙ ap (λ k. k == 0) e))
 some_listed (x ∷ xs) n e t h = cc
 
-pub begins : (P : Program) (sigs : List Sig) (insts : Insts) (preds : List ℕ) (q : PlainProcs) → q ≡ record { program = P; insts = insts; preds = preds; added = [] } → AreOf (plain_program P) insts → BuiltinAlone insts → preds ≡ map (λ (m : ModeId). m.pred) (mode_ids P sigs) → Begins P sigs q
-begins P sigs insts preds q e of alone are =
-    subst (λ (r : PlainProcs). Begins P sigs r) (sym e)
-    (record { program = refl; insts = of; builtin = alone; preds = are; none = refl })
+pub if_ok : {T E : Type 0} (r : Result T E) (P Q : T → Type 0) → IfOk r P → ((x : T) → P x → Q x) → IfOk r Q
+if_ok (Ok x) P Q h f = f x h
+if_ok (Err e) P Q h f = tt
+
+pub begins : (P : Program) (ds : List PlainInstDef) (sigs : List Sig) (insts : Insts) (q : PlainProcs) → q ≡ record { program = P; insts = insts; preds = map (λ (m : ModeId). m.pred) (mode_ids P sigs); added = [] } → HasLibrary P → HasInsts P ds insts → AreUntidy (plain_program P) (graph_of insts) sigs [] → Begins P ds sigs q
+begins P ds sigs insts q e library has tidy =
+    subst (λ (r : PlainProcs). Begins P ds sigs r) (sym e)
+    (record { program = refl; library = library; insts = has; tidy = tidy; preds = refl; none = refl })
+
+-- insts that only know more types
+pub insts_on : (P : Program) (ds : List PlainInstDef) (I J : Insts) → AreOf (plain_program P) J → graph_of J ≡ graph_of I → count_of J ≡ count_of I → HasInsts P ds I → HasInsts P ds J
+insts_on P ds I J are graph count has =
+    record {
+      are_of = are;
+      nodes = has.nodes;
+      defined = subst (λ (G : Graph). Defined ds 4 G has.nodes) (sym graph) has.defined;
+      count = count ∙ has.count;
+    }
+
+-- a fault is found where definitions aren't sound
+pub free_unsound : (ds : List PlainInstDef) (k : ℕ) → IsFault ds (F.FreeInside k) → AreSound ds (length ds) → ⊥
+free_unsound ds k is sound = (sound k is.0).no_free is.1
+
+pub ring_unsound : (ds : List PlainInstDef) (k : ℕ) → IsFault ds (F.NotFounded k) → AreSound ds (length ds) → ⊥
+ring_unsound ds k is sound = (sound k is.0).founded is.1
 
 pub are_normal : (q : PlainProcs) (sigs : List Sig) (goals : List Normal) → HasNormalGoals q.program goals → GoalsFitModes q sigs goals → AreNormal q sigs goals
 are_normal q sigs goals h f =
@@ -52,52 +81,64 @@ are_normal q sigs goals h f =
       };
     }
 
-pub are_numbered : (q : PlainProcs) (sigs : List Sig) → Begins q.program sigs q → TellNumbers q sigs → IsNumbered q sigs
-are_numbered q sigs b t = record { preds = b.preds; procs = t }
+pub are_numbered : (q : PlainProcs) (sigs : List Sig) → q.preds ≡ map (λ (m : ModeId). m.pred) (mode_ids q.program sigs) → TellNumbers q sigs → IsNumbered q sigs
+are_numbered q sigs preds t = record { preds = preds; procs = t }
 
 -- where a program's procedures begin, the program is theirs
-module _ (P : Program) (sigs : List Sig) (q : PlainProcs) (b : Begins P sigs q) where
-  pub begins_itself : Begins q.program sigs q
-  begins_itself = subst (λ (X : Program). Begins X sigs q) (sym b.program) b
+module _ (P : Program) (ds : List PlainInstDef) (sigs : List Sig) (q : PlainProcs) (b : Begins P ds sigs q) where
+  pub begins_itself : Begins q.program ds sigs q
+  begins_itself = subst (λ (X : Program). Begins X ds sigs q) (sym b.program) b
 
   pub goals_there : (goals : List Normal) → HasNormalGoals P goals → HasNormalGoals q.program goals
   goals_there goals h = subst (λ (X : Program). HasNormalGoals X goals) (sym b.program) h
 
-  pub comes : (goals : List Normal) (exported : List Bool) (runs : Bool) (r s : Ruled) → s ≡ r → Comes q.program sigs goals exported runs r → Comes P sigs goals exported runs s
+  pub comes : (goals : List Normal) (exported : List Bool) (runs : Bool) (r s : Ruled) → s ≡ r → Comes q.program ds sigs goals exported runs r → Comes P ds sigs goals exported runs s
   comes goals exported runs r s e c =
-      subst (Comes P sigs goals exported runs) (sym e)
-      (subst (λ (X : Program). Comes X sigs goals exported runs r) b.program c)
+      subst (Comes P ds sigs goals exported runs) (sym e)
+      (subst (λ (X : Program). Comes X ds sigs goals exported runs r) b.program c)
 
-module _ (P : Program) (sigs : List Sig) (goals : List Normal) (exported : List Bool) (runs : Bool) where
-  pub one_unfit : (u : Unseen) → IsUnfit P u → Comes P sigs goals exported runs (R.Unseen u)
+module _ (P : Program) (ds : List PlainInstDef) (sigs : List Sig) (goals : List Normal) (exported : List Bool) (runs : Bool) where
+  pub one_unfit : (u : Unseen) → IsUnfit P u → Comes P ds sigs goals exported runs (R.Unseen u)
   one_unfit U.Types isnt = no_types isnt
   one_unfit U.Constructors isnt = no_constructors isnt
+  one_unfit U.Library isnt = no_library isnt
   one_unfit U.Exported isnt = absurd isnt
+  one_unfit U.Predicates isnt = absurd isnt
+  one_unfit U.Determinisms isnt = absurd isnt
+  one_unfit U.Definitions isnt = absurd isnt
   one_unfit U.Insts isnt = absurd isnt
   one_unfit U.Numbers isnt = absurd isnt
   one_unfit U.Goals isnt = absurd isnt
   one_unfit (U.Procedure k) isnt = absurd isnt
 
-module _ (P : Program) (sigs : List Sig) (goals : List Normal) (exported : List Bool) (runs : Bool) (first : PlainProcs) (begun : Begins P sigs first) where
-  pub all_ordered : (ordered last : PlainProcs) (j : Judgement) → Became sigs goals exported first ordered O.All → GrownFrom first ordered → ByDeterminism runs ordered last j → Comes P sigs goals exported runs (answered last j)
-  all_ordered ordered last J.Keeps became grown d =
-      break_no_rule (record { first = first; begins = begun; became = became; grown = grown }) d.0 d.1
-  all_ordered ordered last (J.Broken list) became grown d =
-      break_determinism (record { first = first; begins = begun; became = became; grown = grown }) d.0 d.1 d.2
-  all_ordered ordered last (J.Unseen u) became grown d = absurd d
+module _ (P : Program) (ds : List PlainInstDef) (sigs : List Sig) (goals : List Normal) (exported : List Bool) (runs : Bool) (first : PlainProcs) (begun : Begins P ds sigs first) where
+  -- what is said of goals that were put in order
+  ordering : {orders : Orders} {last : PlainProcs} → AskedOf first sigs goals exported → Became sigs goals exported first last orders → GrownFrom first last → Ordered P ds sigs goals exported orders last
+  ordering asked became grown =
+      record { first = first; begins = begun; asked = asked; became = became; grown = grown }
 
-  pub modes_broken : (last : PlainProcs) (list : Vec Broken Global) → Became sigs goals exported first last (O.Broken list) → GrownFrom first last → Comes P sigs goals exported runs (R.Broken list)
-  modes_broken last list became grown =
-      break_modes (record { first = first; begins = begun; became = became; grown = grown })
+  pub all_ordered : (ordered last : PlainProcs) (j : Judgement) → AskedOf first sigs goals exported → Became sigs goals exported first ordered O.All → GrownFrom first ordered → ByDeterminism runs ordered last j → Comes P ds sigs goals exported runs (answered last j)
+  all_ordered ordered last J.Keeps asked became grown d =
+      break_no_rule (ordering asked became grown) d.0 d.1 d.2
+  all_ordered ordered last (J.Broken list) asked became grown d =
+      break_determinism (ordering asked became grown) d.0 d.1 d.3 d.2
+  all_ordered ordered last (J.Unseen u) asked became grown d = absurd d
 
-  pub procedure_unfit : (last : PlainProcs) (k : ℕ) → Became sigs goals exported first last (O.Unfit k) → GrownFrom first last → Comes P sigs goals exported runs (R.Unseen (U.Procedure k))
-  procedure_unfit last k became grown =
-      no_procedure (record { first = first; begins = begun; became = became; grown = grown })
+  pub modes_broken : (last : PlainProcs) (list : Vec Broken Global) → AskedOf first sigs goals exported → Became sigs goals exported first last (O.Broken list) → GrownFrom first last → Comes P ds sigs goals exported runs (R.Broken list)
+  modes_broken last list asked became grown = break_modes (ordering asked became grown)
 
-  pub one_missing : (u : Unseen) → IsMissing first sigs goals exported u → Comes P sigs goals exported runs (R.Unseen u)
+  pub procedure_unfit : (last : PlainProcs) (k : ℕ) → AskedOf first sigs goals exported → Became sigs goals exported first last (O.Unfit k) → GrownFrom first last → Comes P ds sigs goals exported runs (R.Unseen (U.Procedure k))
+  procedure_unfit last k asked became grown = no_procedure (ordering asked became grown)
+
+  pub one_missing : (u : Unseen) → IsMissing first sigs goals exported u → Comes P ds sigs goals exported runs (R.Unseen u)
   one_missing U.Exported isnt =
       no_exported (subst (λ (Q : Program). length exported ≡ length Q.preds → ⊥) begun.program isnt)
-  one_missing U.Insts isnt = no_insts (record { first = first; begins = begun; isnt = isnt })
+  one_missing U.Predicates isnt =
+      no_predicates (subst (λ (Q : Program). length sigs ≤ length Q.preds → ⊥) begun.program isnt)
+  one_missing U.Determinisms isnt = no_determinisms isnt
+  one_missing U.Library isnt = absurd isnt
+  one_missing U.Definitions isnt = absurd isnt
+  one_missing U.Insts isnt = absurd isnt
   one_missing U.Numbers isnt = no_numbers (record { first = first; begins = begun; isnt = isnt })
   one_missing U.Goals isnt = no_goals (record { first = first; begins = begun; isnt = isnt })
   one_missing U.Types isnt = absurd isnt

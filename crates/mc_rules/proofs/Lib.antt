@@ -1,3 +1,5 @@
 pub mod Flat
 pub mod Parts
 pub mod Coming
+pub mod Untidying
+pub mod Committing

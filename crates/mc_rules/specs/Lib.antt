@@ -1,3 +1,4 @@
+pub mod Untidy
 pub mod Premises
 pub mod Rules
 pub mod code

@@ -1,7 +1,7 @@
 -- What comes of a program: its procedures in their declared modes, or the rules of modes or of
 -- determinism that they break. (Mercury Language Reference Manual: Modes; Determinism; this project's
 -- rules.)
-use Rattle.std.specs.Prelude.{◌≡◌, ℕ, Bool, List, Vec, [], length}
+use Rattle.std.specs.Prelude.{◌≡◌, ◌≤◌, ℕ, Bool, List, Vec, [], length}
 use Rattle.std.specs.Global.{Global}
 use Rattle.mc_source.specs.declared.rule.Broken.{Broken}
 use Rattle.mc_program.specs.Values.{Val}
@@ -11,10 +11,15 @@ use Rattle.mc_program.specs.declared.program.Program.{Program}
 use Rattle.mc_model.specs.Outcomes.{Outcome}
 use Rattle.mc_model.specs.declared.flat.Normal.{Normal}
 use Rattle.mc_model.specs.declared.inst.Sig.{Sig}
-use Rattle.mc_accepted.specs.DeterminismFaults.{determinism_faults}
+use Rattle.mc_accepted.specs.DeterminismFaults.{determinism_faults, by_place}
 use Rattle.mc_accepted.specs.Fits.{FitsTypes}
-use Rattle.mc_insts.specs.Graphs.{count_of}
+use Rattle.mc_accepted.specs.InstRules.{PlainInstDef}
+use Rattle.mc_insts.specs.declared.insts.Insts.{Insts}
+use Rattle.mc_insts.specs.Defining.{AreSound}
+use Rattle.mc_insts.specs.Graphs.{graph_of, count_of}
 use Rattle.mc_insts.specs.Programs.{FitsConstructors}
+use Rattle.mc_library_fit.specs.HasLibrary.{HasLibrary}
+use Rattle.mc_procs.specs.Fitting.{AllFit}
 use Rattle.mc_procs.specs.Procedures.{PlainProcs, parameters_in}
 use Rattle.mc_modes.specs.Signatures.{SigsFit}
 use Rattle.mc_orders.specs.Outcomes.{GrownFrom, Became}
@@ -25,7 +30,8 @@ use Rattle.mc_det.specs.Determinisms.{AreDeterminisms, declared_system}
 use Rattle.mc_det.specs.MarkedProcedures.{Inferred, MarksHold, determinisms_of}
 use Rattle.mc_det.specs.PrunedProcedures.{Pruned}
 use Rattle.mc_switch.specs.SwitchedBodies.{Switches}
-use Rattle.mc_rules.specs.Premises.{Begins, TellNumbers, GoalsFitModes}
+use Rattle.mc_rules.specs.Premises.{HasInsts, Begins, TellNumbers, GoalsFitModes, CommittedAreMany, AskedOf}
+use Rattle.mc_rules.specs.Untidy.{AreUntidy}
 use Rattle.mc_rules.specs.declared.rules.Ruled.{Ruled}
 use Rattle.mc_rules.specs.declared.rules.Ruled.TheVariants as R
 use Rattle.mc_rules.specs.declared.rules.Unseen.TheVariants as U
@@ -48,56 +54,77 @@ FaultsAre runs q faults =
     → faults ≡ determinism_faults runs (declared_system outcome q) (assigned (determinisms_of q))
 
 -- this became of the goals of all declared modes, from the beginning on
-pub record Ordered (P : Program) (sigs : List Sig) (goals : List Normal) (exported : List Bool)
+pub record Ordered (P : Program) (ds : List PlainInstDef) (sigs : List Sig) (goals : List Normal) (exported : List Bool)
     (orders : Orders) (last : PlainProcs) : Type 0 where
   pub first : PlainProcs
-  pub begins : Begins P sigs first
+  pub begins : Begins P ds sigs first
+  pub asked : AskedOf first sigs goals exported
   pub became : Became sigs goals exported first last orders
   pub grown : GrownFrom first last
 
 -- this isn't so where it begins
-pub record IsntAtFirst (P : Program) (sigs : List Sig) (Holds : PlainProcs → Type 0) : Type 0 where
+pub record IsntAtFirst (P : Program) (ds : List PlainInstDef) (sigs : List Sig) (Holds : PlainProcs → Type 0) : Type 0 where
   pub first : PlainProcs
-  pub begins : Begins P sigs first
+  pub begins : Begins P ds sigs first
   pub isnt : Holds first → ⊥
 
--- Procedures come where no rule is broken. Rules of determinism are told where goals are in order.
--- That a procedure isn't seen to fit doesn't say that it doesn't.
-pub data Comes (P : Program) (sigs : List Sig) (goals : List Normal) (exported : List Bool)
+-- Procedures come where no rule is broken; they fit one another, as they do where a rule of determinism
+-- is broken. What isn't seen is told first; then the rule of unique modes, in the order of places; then
+-- the other rules of modes, or the first procedure that doesn't fit; and then rules of determinism.
+pub data Comes (P : Program) (ds : List PlainInstDef) (sigs : List Sig) (goals : List Normal) (exported : List Bool)
     (runs : Bool) : Ruled → Type 0 where
   break_no_rule :
       {ordered last : PlainProcs}
-      → Ordered P sigs goals exported O.All ordered
-      → Determined ordered last → FaultsAre runs last []
-      → Comes P sigs goals exported runs (R.Procs last)
+      → Ordered P ds sigs goals exported O.All ordered
+      → Determined ordered last → FaultsAre runs last [] → AllFit last
+      → Comes P ds sigs goals exported runs (R.Procs last)
+  break_uniqueness :
+      {insts : Insts} {untidy : List Broken} {list : Vec Broken Global}
+      → HasInsts P ds insts → AreUntidy (plain_program P) (graph_of insts) sigs untidy
+      → list.items ≡ by_place untidy → (untidy ≡ [] → ⊥)
+      → Comes P ds sigs goals exported runs (R.Broken list)
   break_modes :
       {last : PlainProcs} {list : Vec Broken Global}
-      → Ordered P sigs goals exported (O.Broken list) last
-      → Comes P sigs goals exported runs (R.Broken list)
+      → Ordered P ds sigs goals exported (O.Broken list) last
+      → Comes P ds sigs goals exported runs (R.Broken list)
   break_determinism :
       {ordered last : PlainProcs} {list : Vec Broken Global}
-      → Ordered P sigs goals exported O.All ordered
-      → Determined ordered last → FaultsAre runs last list.items → (list.items ≡ [] → ⊥)
-      → Comes P sigs goals exported runs (R.Broken list)
+      → Ordered P ds sigs goals exported O.All ordered
+      → Determined ordered last → FaultsAre runs last list.items → AllFit last
+      → (list.items ≡ [] → ⊥)
+      → Comes P ds sigs goals exported runs (R.Broken list)
   no_types :
       (FitsTypes (plain_program P) (parameters_in P) → ⊥)
-      → Comes P sigs goals exported runs (R.Unseen U.Types)
+      → Comes P ds sigs goals exported runs (R.Unseen U.Types)
   no_constructors :
       (FitsConstructors (plain_program P) → ⊥)
-      → Comes P sigs goals exported runs (R.Unseen U.Constructors)
+      → Comes P ds sigs goals exported runs (R.Unseen U.Constructors)
+  no_library :
+      (HasLibrary P → ⊥)
+      → Comes P ds sigs goals exported runs (R.Unseen U.Library)
   no_exported :
       (length exported ≡ length P.preds → ⊥)
-      → Comes P sigs goals exported runs (R.Unseen U.Exported)
+      → Comes P ds sigs goals exported runs (R.Unseen U.Exported)
+  no_predicates :
+      (length sigs ≤ length P.preds → ⊥)
+      → Comes P ds sigs goals exported runs (R.Unseen U.Predicates)
+  no_determinisms :
+      (CommittedAreMany sigs → ⊥)
+      → Comes P ds sigs goals exported runs (R.Unseen U.Determinisms)
+  no_definitions :
+      (AreSound ds (length ds) → ⊥)
+      → Comes P ds sigs goals exported runs (R.Unseen U.Definitions)
   no_insts :
-      IsntAtFirst P sigs (λ q. SigsFit (count_of q.insts) sigs)
-      → Comes P sigs goals exported runs (R.Unseen U.Insts)
+      {insts : Insts}
+      → HasInsts P ds insts → (SigsFit (count_of insts) sigs → ⊥)
+      → Comes P ds sigs goals exported runs (R.Unseen U.Insts)
   no_numbers :
-      IsntAtFirst P sigs (λ q. TellNumbers q sigs)
-      → Comes P sigs goals exported runs (R.Unseen U.Numbers)
+      IsntAtFirst P ds sigs (λ q. TellNumbers q sigs)
+      → Comes P ds sigs goals exported runs (R.Unseen U.Numbers)
   no_goals :
-      IsntAtFirst P sigs (λ q. GoalsFitModes q sigs goals)
-      → Comes P sigs goals exported runs (R.Unseen U.Goals)
+      IsntAtFirst P ds sigs (λ q. GoalsFitModes q sigs goals)
+      → Comes P ds sigs goals exported runs (R.Unseen U.Goals)
   no_procedure :
       {k : ℕ} {last : PlainProcs}
-      → Ordered P sigs goals exported (O.Unfit k) last
-      → Comes P sigs goals exported runs (R.Unseen (U.Procedure k))
+      → Ordered P ds sigs goals exported (O.Unfit k) last
+      → Comes P ds sigs goals exported runs (R.Unseen (U.Procedure k))

@@ -1,4 +1,9 @@
-ghost use Rattle.std.specs.Prelude.{IfOk, OnOk};
+ghost use Rattle.std.specs.Prelude.{◌≡◌, List, [], map, IfOk, OnOk};
+ghost use Rattle.mc_accepted.specs.InstRules.{PlainInstDef};
+ghost use Rattle.mc_insts.specs.Graphs.{count_of};
+ghost use Rattle.mc_modes.specs.Signatures.{SigsFit};
+ghost use Rattle.mc_orders.specs.Numbering.{mode_ids};
+ghost use Rattle.mc_orders.specs.declared.modes.ModeId.{ModeId};
 ghost use Rattle.mc_whole.specs.Goals.{HasNormalGoals};
 ghost use Rattle.mc_rules.specs.Premises.{Begins, AskedOf};
 ghost use Rattle.mc_rules.specs.Rules.{Comes, Determined};
@@ -37,10 +42,13 @@ pub(crate) fn judged(
     exported: &[bool],
     runs: bool,
 ) -> Result<Judgement, Memory>
-    requires begins { Begins procs.old.program sigs.now procs.old }
+    requires sigs { SigsFit (count_of procs.old.insts) sigs.now }
     requires goals { HasNormalGoals procs.old.program goals.now }
+    requires preds { procs.old.preds ≡ map (λ (m : ModeId). m.pred) (mode_ids procs.old.program sigs.now) }
+    requires none { procs.old.added ≡ [] }
     ensures { IfOk result
-        (λ j. Comes procs.old.program sigs.now goals.now exported.now runs (answered procs.new j)) }
+        (λ j. (ds : List PlainInstDef) → Begins procs.old.program ds sigs.now procs.old
+        → Comes procs.old.program ds sigs.now goals.now exported.now runs (answered procs.new j)) }
 {
     match missing(alloc, procs, sigs, goals, exported)? {
         Some(unseen) => Ok(Judgement::Unseen(unseen)),
@@ -57,11 +65,13 @@ fn by_order(
     exported: &[bool],
     runs: bool,
 ) -> Result<Judgement, Memory>
-    requires begins { Begins procs.old.program sigs.now procs.old }
     requires asked { AskedOf procs.old sigs.now goals.now exported.now }
     requires goals { HasNormalGoals procs.old.program goals.now }
+    requires preds { procs.old.preds ≡ map (λ (m : ModeId). m.pred) (mode_ids procs.old.program sigs.now) }
+    requires none { procs.old.added ≡ [] }
     ensures { IfOk result
-        (λ j. Comes procs.old.program sigs.now goals.now exported.now runs (answered procs.new j)) }
+        (λ j. (ds : List PlainInstDef) → Begins procs.old.program ds sigs.now procs.old
+        → Comes procs.old.program ds sigs.now goals.now exported.now runs (answered procs.new j)) }
 {
     match order_goals(alloc, procs, sigs, goals, exported)? {
         Orders::All => {
@@ -79,6 +89,7 @@ fn by_determinism(alloc: Global, procs: &mut Procs, runs: bool) -> Result<Judgem
 {
     determine(alloc, procs)?;
     let found = faults(alloc, procs, runs)?;
+    procs.fit();
     if found.is_empty() {
         Ok(Judgement::Keeps)
     } else {

@@ -1,10 +1,12 @@
 //! The procedures of a program in its declared modes, or the rules of modes and of determinism that they break.
 #![tactic(auto)]
 
+mod determinisms;
 mod goals;
 mod judging;
 mod premises;
 mod rules;
 mod signatures;
+mod untidy;
 
 pub use rules::{Ruled, Unseen, procedures};

@@ -1,11 +1,13 @@
 ghost use Rattle.std.specs.Prelude.{◌≡◌, ◌↔◌, IsTrue, IfOk, MatchOption, length};
+ghost use Rattle.mc_insts.specs.Graphs.{count_of};
+ghost use Rattle.mc_modes.specs.Signatures.{SigsFit};
 ghost use Rattle.mc_rules.specs.Premises.{AskedOf, TellNumbers};
 ghost use Rattle.mc_rules.specs.code.Tests.{FollowOn, number_in};
 ghost use Rattle.mc_rules.specs.code.Missing.{IsMissing};
 
+use crate::determinisms::committed_are_many;
 use crate::goals::goals_fit;
 use crate::rules::Unseen;
-use crate::signatures::signatures_fit;
 use mc_base::Memory;
 use mc_model::flat::Normal;
 use mc_model::inst::Sig;
@@ -14,7 +16,7 @@ use mc_orders::{ModeId, mode_ids};
 use mc_procs::Procs;
 use std::alloc::Global;
 
-/// What is asked of declared modes and goals and doesn't hold; None where all of it holds.
+/// What is asked of declared modes, whose insts are there, and of goals and doesn't hold; None where all of it holds.
 pub(crate) fn missing(
     alloc: Global,
     procs: &Procs,
@@ -22,7 +24,8 @@ pub(crate) fn missing(
     goals: &[Normal],
     exported: &[bool],
 ) -> Result<Option<Unseen>, Memory>
-    requires { length goals.now ≡ length procs.now.program.preds }
+    requires as_many { length goals.now ≡ length procs.now.program.preds }
+    requires sigs { SigsFit (count_of procs.now.insts) sigs.now }
     ensures { IfOk result
         (λ found. MatchOption found (AskedOf procs.now sigs.now goals.now exported.now)
         (IsMissing procs.now sigs.now goals.now exported.now)) }
@@ -30,8 +33,11 @@ pub(crate) fn missing(
     if exported.len() != procs.program().preds.len() as usize {
         return Ok(Some(Unseen::Exported));
     }
-    if !signatures_fit(procs.insts().count(), sigs) {
-        return Ok(Some(Unseen::Insts));
+    if sigs.len() > procs.program().preds.len() as usize {
+        return Ok(Some(Unseen::Predicates));
+    }
+    if !committed_are_many(sigs) {
+        return Ok(Some(Unseen::Determinisms));
     }
     if !tell_numbers(alloc, procs, sigs)? {
         return Ok(Some(Unseen::Numbers));

@@ -9,6 +9,7 @@ pub returns-then-is_empty : goal.returns-then-is_empty
 returns-then-is_empty c = (
   c.in_ok-determine.ensures {u = tt},
   λ outcome. sym (none_listed c.in_ok-found.found.items c.in_ok-found.found.len c.in_ok-found.found.ok.0 c.if-is_empty.ensures) ∙ (c.in_ok-found.ensures {u = tt}) outcome,
+  c.fit.ensures.all,
 )
 
 pub returns-else-is_empty : goal.returns-else-is_empty
@@ -16,4 +17,5 @@ returns-else-is_empty c = (
   c.in_ok-determine.ensures {u = tt},
   c.in_ok-found.ensures {u = tt},
   some_listed c.in_ok-found.found.items c.in_ok-found.found.len c.in_ok-found.found.ok.0 c.if-is_empty.ensures,
+  c.fit.ensures.all,
 )

@@ -5,14 +5,14 @@ use Rattle.mc_rules.proofs.Coming.{are_normal, are_numbered, all_ordered, modes_
 use Rattle.mc_rules.proofs.judging.by_order.Goals as goal
 
 pub order_goals-requires-clause-none : goal.order_goals-requires-clause-none
-order_goals-requires-clause-none c = c.requires.begins.none
+order_goals-requires-clause-none c = c.requires.none
 
 pub order_goals-requires-clause-sigs : goal.order_goals-requires-clause-sigs
 order_goals-requires-clause-sigs c = c.requires.asked.insts_there
 
 pub order_goals-requires-clause-numbered : goal.order_goals-requires-clause-numbered
 order_goals-requires-clause-numbered c =
-    are_numbered c.args.procs.now c.args.sigs.now c.requires.begins c.requires.asked.numbers_told
+    are_numbered c.args.procs.now c.args.sigs.now c.requires.preds c.requires.asked.numbers_told
 
 pub order_goals-requires-clause-goals : goal.order_goals-requires-clause-goals
 order_goals-requires-clause-goals c =
@@ -25,7 +25,9 @@ pub returns-in_ok-judgement-in-All : goal.returns-in_ok-judgement-in-All
 returns-in_ok-judgement-in-All c =
     let q = c.args.procs.now in
     let r = c.order_goals.new.procs in
-    all_ordered q.program c.args.sigs.now c.args.goals.now c.args.exported.now c.args.runs q c.requires.begins r c.by_determinism.new.procs c.in_ok-judgement-in-All.judgement
+    λ ds begun.
+    all_ordered q.program ds c.args.sigs.now c.args.goals.now c.args.exported.now c.args.runs q begun r c.by_determinism.new.procs c.in_ok-judgement-in-All.judgement
+    c.requires.asked
     (subst (λ (o : Orders). Became c.args.sigs.now c.args.goals.now c.args.exported.now q r o) c.in-All.is c.in_ok-order_goals.ensures.became)
     c.in_ok-order_goals.ensures.others
     (c.in_ok-judgement-in-All.ensures {u = tt})
@@ -34,7 +36,9 @@ pub returns-in-Broken : goal.returns-in-Broken
 returns-in-Broken c =
     let q = c.args.procs.now in
     let r = c.order_goals.new.procs in
-    modes_broken q.program c.args.sigs.now c.args.goals.now c.args.exported.now c.args.runs q c.requires.begins r c.in-Broken.list
+    λ ds begun.
+    modes_broken q.program ds c.args.sigs.now c.args.goals.now c.args.exported.now c.args.runs q begun r c.in-Broken.list
+    c.requires.asked
     (subst (λ (o : Orders). Became c.args.sigs.now c.args.goals.now c.args.exported.now q r o) c.in-Broken.is c.in_ok-order_goals.ensures.became)
     c.in_ok-order_goals.ensures.others
 
@@ -42,6 +46,8 @@ pub returns-in-Unfit : goal.returns-in-Unfit
 returns-in-Unfit c =
     let q = c.args.procs.now in
     let r = c.order_goals.new.procs in
-    procedure_unfit q.program c.args.sigs.now c.args.goals.now c.args.exported.now c.args.runs q c.requires.begins r c.in-Unfit.k
+    λ ds begun.
+    procedure_unfit q.program ds c.args.sigs.now c.args.goals.now c.args.exported.now c.args.runs q begun r c.in-Unfit.k
+    c.requires.asked
     (subst (λ (o : Orders). Became c.args.sigs.now c.args.goals.now c.args.exported.now q r o) c.in-Unfit.is c.in_ok-order_goals.ensures.became)
     c.in_ok-order_goals.ensures.others

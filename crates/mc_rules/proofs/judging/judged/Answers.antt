@@ -5,8 +5,11 @@ use Rattle.mc_rules.specs.declared.rules.Unseen.{Unseen}
 use Rattle.mc_rules.proofs.Coming.{one_missing}
 use Rattle.mc_rules.proofs.judging.judged.Goals as goal
 
-pub missing-requires : goal.missing-requires
-missing-requires c = c.requires.goals.as_many
+pub missing-requires-clause-as_many : goal.missing-requires-clause-as_many
+missing-requires-clause-as_many c = c.requires.goals.as_many
+
+pub missing-requires-clause-sigs : goal.missing-requires-clause-sigs
+missing-requires-clause-sigs c = c.requires.sigs
 
 pub returns-in-Some : goal.returns-in-Some
 returns-in-Some c =
@@ -14,7 +17,8 @@ returns-in-Some c =
     let sigs = c.args.sigs.now in
     let goals = c.args.goals.now in
     let exported = c.args.exported.now in
-    one_missing q.program sigs goals exported c.args.runs q c.requires.begins c.in-Some.unseen
+    λ ds begun.
+    one_missing q.program ds sigs goals exported c.args.runs q begun c.in-Some.unseen
     (subst (λ (o : Option Unseen). MatchOption o (AskedOf q sigs goals exported) (IsMissing q sigs goals exported)) c.in-Some.is (c.in_ok-unseen.ensures {u = tt}))
 
 pub by_order-requires-clause-asked : goal.by_order-requires-clause-asked

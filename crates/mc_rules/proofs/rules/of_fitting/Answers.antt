@@ -1,23 +1,30 @@
-use Rattle.mc_rules.proofs.Coming.{begins_itself, goals_there, comes}
-use Rattle.mc_rules.specs.code.Judged.{answered}
+use Rattle.std.proofs.Common.{Option, MatchOption, List, length, subst}
+use Rattle.mc_accepted.specs.InstRules.{PlainInstDef}
+use Rattle.mc_insts.specs.Defining.{plain_definitions, AreSound}
+use Rattle.mc_insts.specs.declared.insts.Insts.{Insts}
+use Rattle.mc_rules.specs.Premises.{HasInsts}
+use Rattle.mc_rules.specs.Rules.{Comes, no_definitions}
+use Rattle.mc_rules.proofs.Coming.{if_ok}
 use Rattle.mc_rules.proofs.rules.of_fitting.Goals as goal
 
-pub first_procs-requires-clause-types : goal.first_procs-requires-clause-types
-first_procs-requires-clause-types c = c.requires.fits.0
+pub over_insts-requires-clause-program : goal.over_insts-requires-clause-program
+over_insts-requires-clause-program c =
+    let ds = plain_definitions c.args.defs.now in
+    (subst (λ (o : Option Insts). MatchOption o (AreSound ds (length ds) → ⊥) (HasInsts c.args.program ds)) c.in-Some.is (c.in_ok-insts.ensures {u = tt})).are_of
 
-pub first_procs-requires-clause-constructors : goal.first_procs-requires-clause-constructors
-first_procs-requires-clause-constructors c = c.requires.fits.1
+pub returns-in-Some : goal.returns-in-Some
+returns-in-Some c =
+    let P = c.args.program in
+    let ds = plain_definitions c.args.defs.now in
+    let has : HasInsts P ds c.in-Some.insts = subst (λ (o : Option Insts). MatchOption o (AreSound ds (length ds) → ⊥) (HasInsts P ds)) c.in-Some.is (c.in_ok-insts.ensures {u = tt}) in
+    if_ok c.over_insts.result
+    (λ ruled. (es : List PlainInstDef) → HasInsts P es c.in-Some.insts → Comes P es c.args.sigs.now c.args.goals.now c.args.exported.now c.args.runs ruled)
+    (Comes P ds c.args.sigs.now c.args.goals.now c.args.exported.now c.args.runs)
+    c.over_insts.ensures
+    (λ ruled comes. comes ds has)
 
-pub judged-requires-clause-begins : goal.judged-requires-clause-begins
-judged-requires-clause-begins c =
-    begins_itself c.args.program c.args.sigs.now c.in_ok-procs.procs (c.in_ok-procs.ensures {u = tt})
-
-pub judged-requires-clause-goals : goal.judged-requires-clause-goals
-judged-requires-clause-goals c =
-    goals_there c.args.program c.args.sigs.now c.in_ok-procs.procs (c.in_ok-procs.ensures {u = tt}) c.args.goals.now c.requires.goals
-
-pub returns : goal.returns
-returns c =
-    comes c.args.program c.args.sigs.now c.in_ok-procs.procs (c.in_ok-procs.ensures {u = tt}) c.args.goals.now c.args.exported.now c.args.runs
-    (answered c.judged.new.procs c.in_ok-judgement.judgement) c.answered.result
-    c.answered.ensures (c.in_ok-judgement.ensures {u = tt})
+pub returns-in-None : goal.returns-in-None
+returns-in-None c =
+    let ds = plain_definitions c.args.defs.now in
+    no_definitions
+    (subst (λ (o : Option Insts). MatchOption o (AreSound ds (length ds) → ⊥) (HasInsts c.args.program ds)) c.in-None.is (c.in_ok-insts.ensures {u = tt}))

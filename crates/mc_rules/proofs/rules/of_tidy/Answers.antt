@@ -1,0 +1,41 @@
+use Rattle.std.proofs.Common.{◌≡◌, [], map, refl, sym, subst}
+use Rattle.mc_insts.specs.Graphs.{count_of}
+use Rattle.mc_procs.specs.Procedures.{PlainProcs}
+use Rattle.mc_modes.specs.Signatures.{SigsFit}
+use Rattle.mc_orders.specs.Numbering.{mode_ids}
+use Rattle.mc_orders.specs.declared.modes.ModeId.{ModeId}
+use Rattle.mc_whole.specs.Goals.{HasNormalGoals}
+use Rattle.mc_rules.specs.code.Judged.{answered}
+use Rattle.mc_rules.proofs.Coming.{begins, begins_itself, comes}
+use Rattle.mc_rules.proofs.rules.of_tidy.Goals as goal
+
+pub first_procs-requires-clause-types : goal.first_procs-requires-clause-types
+first_procs-requires-clause-types c = c.requires.fits.0
+
+pub first_procs-requires-clause-program : goal.first_procs-requires-clause-program
+first_procs-requires-clause-program c = c.requires.program
+
+pub judged-requires-clause-sigs : goal.judged-requires-clause-sigs
+judged-requires-clause-sigs c =
+    subst (λ (q : PlainProcs). SigsFit (count_of q.insts) c.args.sigs.now) (sym (c.in_ok-procs.ensures {u = tt})) c.requires.sigs
+
+pub judged-requires-clause-goals : goal.judged-requires-clause-goals
+judged-requires-clause-goals c =
+    subst (λ (q : PlainProcs). HasNormalGoals q.program c.args.goals.now) (sym (c.in_ok-procs.ensures {u = tt})) c.requires.goals
+
+pub judged-requires-clause-preds : goal.judged-requires-clause-preds
+judged-requires-clause-preds c =
+    subst (λ (q : PlainProcs). q.preds ≡ map (λ (m : ModeId). m.pred) (mode_ids q.program c.args.sigs.now)) (sym (c.in_ok-procs.ensures {u = tt})) refl
+
+pub judged-requires-clause-none : goal.judged-requires-clause-none
+judged-requires-clause-none c =
+    subst (λ (q : PlainProcs). q.added ≡ []) (sym (c.in_ok-procs.ensures {u = tt})) refl
+
+pub returns : goal.returns
+returns c =
+    λ ds has.
+    let q = c.in_ok-procs.procs in
+    let begun = begins c.args.program ds c.args.sigs.now c.args.insts q (c.in_ok-procs.ensures {u = tt}) c.requires.fits.2 has c.requires.tidy in
+    comes c.args.program ds c.args.sigs.now q begun c.args.goals.now c.args.exported.now c.args.runs
+    (answered c.judged.new.procs c.in_ok-judgement.judgement) c.answered.result
+    c.answered.ensures (c.in_ok-judgement.ensures {u = tt} ds (begins_itself c.args.program ds c.args.sigs.now q begun))

@@ -1,0 +1,60 @@
+use Rattle.std.proofs.Common.{ℕ, [], List, false, IsTrue, sym, subst, ◌∙◌}
+use Rattle.mc_source.specs.declared.rule.Broken.{Broken}
+use Rattle.mc_program.specs.PlainPrograms.{plain_program}
+use Rattle.mc_model.specs.Insts.{Graph}
+use Rattle.mc_accepted.specs.InstRules.{PlainInstDef}
+use Rattle.mc_insts.specs.Graphs.{graph_of}
+use Rattle.mc_modes.specs.Signatures.{SigsFit}
+use Rattle.mc_rules.specs.Untidy.{AreUntidy}
+use Rattle.mc_rules.specs.Premises.{HasInsts}
+use Rattle.mc_rules.specs.Rules.{Comes, break_uniqueness, no_insts}
+use Rattle.mc_rules.proofs.Coming.{none_listed, some_listed, if_ok, insts_on}
+use Rattle.mc_rules.proofs.rules.over_insts.Goals as goal
+
+-- the insts are there, or it is told that they aren't
+pub returns-then-not-signatures_fit : goal.returns-then-not-signatures_fit
+returns-then-not-signatures_fit c =
+    λ ds has.
+    no_insts has
+    (λ f.
+    let x : IsTrue false = c.if-not-signatures_fit.ensures.1 (subst (λ (n : ℕ). SigsFit n c.args.sigs.now) (sym c.count.ensures) f) in
+    cc)
+
+pub untidy_modes-requires-clause-program : goal.untidy_modes-requires-clause-program
+untidy_modes-requires-clause-program c = c.requires.program
+
+pub untidy_modes-requires-clause-sigs : goal.untidy_modes-requires-clause-sigs
+untidy_modes-requires-clause-sigs c =
+    subst (λ (n : ℕ). SigsFit n c.args.sigs.now) c.count.ensures (c.signatures_fit.ensures.0 c.if-not-signatures_fit.false)
+
+pub returns-then-not-is_empty : goal.returns-then-not-is_empty
+returns-then-not-is_empty c =
+    λ ds has.
+    break_uniqueness has (c.in_ok-untidy.ensures {u = tt}).untidy (c.in_ok-sort_by_place.ensures {u = tt})
+    (some_listed c.in_ok-untidy.untidy.items c.in_ok-untidy.untidy.len c.in_ok-untidy.untidy.ok.0 c.if-not-is_empty.ensures)
+
+pub of_tidy-requires-clause-program : goal.of_tidy-requires-clause-program
+of_tidy-requires-clause-program c = c.untidy_modes.ensures.program
+
+pub of_tidy-requires-clause-sigs : goal.of_tidy-requires-clause-sigs
+of_tidy-requires-clause-sigs c =
+    subst (λ (n : ℕ). SigsFit n c.args.sigs.now) (c.count.ensures ∙ sym c.untidy_modes.ensures.count)
+    (c.signatures_fit.ensures.0 c.if-not-signatures_fit.false)
+
+pub of_tidy-requires-clause-tidy : goal.of_tidy-requires-clause-tidy
+of_tidy-requires-clause-tidy c =
+    let P = plain_program c.args.program in
+    let none = none_listed c.in_ok-untidy.untidy.items c.in_ok-untidy.untidy.len c.in_ok-untidy.untidy.ok.0 c.if-not-is_empty.ensures in
+    subst (λ (G : Graph). AreUntidy P G c.args.sigs.now []) (sym c.untidy_modes.ensures.graph)
+    (subst (λ (bs : List Broken). AreUntidy P (graph_of c.args.insts) c.args.sigs.now bs) none (c.in_ok-untidy.ensures {u = tt}).untidy)
+
+pub returns : goal.returns
+returns c =
+    let P = c.args.program in
+    let J = c.untidy_modes.new.insts in
+    if_ok c.of_tidy.result
+    (λ ruled. (ds : List PlainInstDef) → HasInsts P ds J → Comes P ds c.args.sigs.now c.args.goals.now c.args.exported.now c.args.runs ruled)
+    (λ ruled. (ds : List PlainInstDef) → HasInsts P ds c.args.insts → Comes P ds c.args.sigs.now c.args.goals.now c.args.exported.now c.args.runs ruled)
+    c.of_tidy.ensures
+    (λ ruled comes ds has.
+    comes ds (insts_on P ds c.args.insts J c.untidy_modes.ensures.program c.untidy_modes.ensures.graph c.untidy_modes.ensures.count has))
