@@ -18,12 +18,13 @@ use Rattle.mc_ground_form.specs.Program.{IsProgram}
 use Rattle.mc_compile.specs.Sources.{Sources}
 use Rattle.mc_compile.specs.Forming.{Formed}
 use Rattle.mc_compile.specs.Compiling.{Compiles}
-use Rattle.mc_compile.specs.Building.{of_facts, of_procedures, Builds}
+use Rattle.mc_compile.specs.Building.{Built, of_facts, of_procedures, Builds}
 use Rattle.mc_compile.specs.Laws.{CompiledFits, CompiledAsks, QueryIsAsked}
+use Rattle.mc_program_laws.specs.ProgramTruth.{ExecutablesAreTrue}
 use Rattle.mc_cmd.specs.Messages.{usage_line, unreadable_line, broken_lines}
 use Rattle.mc_cmd.specs.Ends.{Outcome, said, stop_of, end_status, written_run}
 use Rattle.mc_cmd.specs.Outcome.{files_of, bounds_of, sources_of, run_of_goal, written_of, written, Answers, refused, ran, Texts, These, Missing, texts_in, AnswersOver, DefinedFor, Defined}
-use Rattle.mc_cmd.specs.Call.{Told, NoneRose, AnswersWhole, Wrote, LacksOne, CannotRead, OfFiles, OfSources, BreaksRules, IsUnbuilt, RunsToEnd, StopsBy, IsThrown, IsTrueProgram, SaidUnreadable, SaysUnreadable, PutsDefined, HoldTexts}
+use Rattle.mc_cmd.specs.Call.{Told, NoneRose, AnswersWhole, Wrote, LacksOne, CannotRead, OfFiles, OfSources, BreaksRules, IsUnbuilt, RunsToEnd, StopsBy, IsThrown, IsTrueProgram, IsTrue, SaidUnreadable, SaysUnreadable, PutsDefined, HoldTexts}
 use Rattle.mc_cmd.specs.Laws.{AtMostOneAnswer, IsSettled}
 use Rattle.mc_cmd.specs.declared.status.Status.{Status}
 use Rattle.mc_cmd.specs.declared.status.Status.TheVariants as S
@@ -510,8 +511,8 @@ module _ (words : List (List ℕ)) (store : Option Held) (f0 f1 a0 a1 : ℕ) (ou
   pub deep_cause : s ≡ S.TooDeep → OfSources words store (StopsBy (λ halt. halt ≡ too_deep))
   deep_cause e = stop_cause (λ halt. halt ≡ too_deep) S.TooDeep tt stops_deep e
 
--- every run of what sources compile to is good, and every run of the query
-pub true_program : CompiledFits → CompiledAsks → FactsAreGood → QueriesAreGood → (s : Sources) (x : Formed) → Builds s (Ok (of_facts x)) → IsTrueProgram x
+-- every run of facts to which sources compile is good, and every run of the query
+true_program : CompiledFits → CompiledAsks → FactsAreGood → QueriesAreGood → (s : Sources) (x : Formed) → Builds s (Ok (of_facts x)) → IsTrueProgram x
 true_program fit ask facts queries s x j =
     record { system = system_of x.database x.question; bare = refl; procedures = facts x.database x.question (fit s x (facts_compile s x j)); query = queried x.question refl }
   where
@@ -523,3 +524,8 @@ true_program fit ask facts queries s x j =
     queried (Some q) e =
         subst (λ (o : Option Question). (n h : ℕ) → GoodQuery (system_of x.database o) n h (query_procedure x.database q)) (sym e)
         (queries x.database q (fit s x k) (ask s x q k e))
+
+-- what sources are built to runs true
+pub true_built : CompiledFits → CompiledAsks → FactsAreGood → QueriesAreGood → ExecutablesAreTrue → (s : Sources) (b : Built) → Builds s (Ok b) → IsTrue b
+true_built fit ask facts queries executables s (of_facts x) j = true_program fit ask facts queries s x j
+true_built fit ask facts queries executables s (of_procedures e) j = executables s e j

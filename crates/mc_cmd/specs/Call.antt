@@ -13,6 +13,7 @@ use Rattle.mc_compile.specs.Forming.{Formed}
 use Rattle.mc_compile.specs.Ruling.{PlainExecutable}
 use Rattle.mc_compile.specs.Building.{Built, of_facts, of_procedures, Builds}
 use Rattle.mc_compile.specs.declared.executable.Goal.{Goal}
+use Rattle.mc_program_laws.specs.ProgramTruth.{IsTrueExecutable}
 use Rattle.mc_cmd.specs.declared.status.Status.{Status}
 use Rattle.mc_cmd.specs.Messages.{unreadable_line}
 use Rattle.mc_cmd.specs.Ends.{Outcome, stop_of}
@@ -149,3 +150,8 @@ pub record IsTrueProgram (x : Formed) : Type 0 where
   pub procedures : GoodProcedures system
   pub query :
       IfSome x.question (λ q. (n h : ℕ) → GoodQuery system n h (query_procedure x.database q))
+
+-- What sources are built to runs true: every run of its procedures, of the query and of `main` is good.
+abbrev pub IsTrue : Built → Type 0
+IsTrue (of_facts x) = IsTrueProgram x
+IsTrue (of_procedures e) = IsTrueExecutable e

@@ -20,8 +20,6 @@ const LINES: &[u8] =
 
 const USAGE: &[u8] = b"merc: usage: merc check|run|query|gen\n";
 
-const NOT_BUILT: &[u8] = b"merc: not built yet\n";
-
 /// What a call of the command answered.
 #[derive(Drop)]
 struct Answered {
@@ -136,16 +134,32 @@ const NARROW: &[u8] = b":- module narrow.
 head([X | _], X).
 ";
 
+const CLOSED: &[u8] = b":- module closed.
+:- interface.
+:- type door ---> open ; shut.
+:- inst shut == bound(shut).
+:- pred closed(door::out(shut)) is det.
+:- implementation.
+closed(open).
+";
+
 #[test]
-fn what_is_not_built_is_told(rt: HostRuntime) -> Result<(), Fail> {
+fn insts_that_list_constructors_are_checked(rt: HostRuntime) -> Result<(), Fail> {
     let alloc = rt.alloc();
-    let files: [File<'_>; 1] = [("narrow.m", NARROW)];
+    let files: [File<'_>; 2] = [("narrow.m", NARROW), ("closed.m", CLOSED)];
     check(
         &rt,
         &call(&rt, alloc, &["check", "narrow.m"], &files, &NONE)?,
-        Status::NotBuilt,
+        Status::Done,
         b"",
-        NOT_BUILT,
+        b"",
+    );
+    check(
+        &rt,
+        &call(&rt, alloc, &["check", "closed.m"], &files, &NONE)?,
+        Status::Rejected,
+        b"",
+        b"closed.m:5: M4 final inst of argument 1 is not met\n",
     );
     Ok(())
 }

@@ -4,12 +4,11 @@ ghost use Rattle.mc_outside.specs.Meaning.{Held, PutsFront};
 ghost use Rattle.mc_model.specs.EventList.{budget, too_deep};
 ghost use Rattle.mc_command_line.specs.Words.{Meaning, meaning};
 ghost use Rattle.mc_compile.specs.Sources.{Sources};
-ghost use Rattle.mc_compile.specs.Forming.{Formed};
-ghost use Rattle.mc_compile.specs.Building.{of_facts, Builds};
+ghost use Rattle.mc_compile.specs.Building.{Built, Builds};
 ghost use Rattle.mc_cmd.specs.Ends.{Outcome};
 ghost use Rattle.mc_cmd.specs.Outcome.{Defined, files_of};
 ghost use Rattle.mc_cmd.specs.Laws.{IsSettled};
-ghost use Rattle.mc_cmd.specs.Call.{AnswersWhole, BreaksRules, IsThrown, IsTrueProgram, IsUnbuilt, LacksOne, NoneRose, OfFiles, OfSources, PutsDefined, RunsToEnd, SaidUnreadable, SaysUnreadable, StopsBy, Told, Wrote};
+ghost use Rattle.mc_cmd.specs.Call.{AnswersWhole, BreaksRules, IsThrown, IsTrue, IsUnbuilt, LacksOne, NoneRose, OfFiles, OfSources, PutsDefined, RunsToEnd, SaidUnreadable, SaysUnreadable, StopsBy, Told, Wrote};
 ghost use Rattle.mc_cmd.specs.code.Decisions.{CountPuts, EndsRun, Happened, Quiet, Writes, ended, told_of};
 
 use crate::decide::decide;
@@ -24,13 +23,14 @@ use crate::write::{put_line, put_rules};
 use mc_compile::{facts_fit, query_is_asked, question_asks};
 use mc_ground_form::{facts_are_answered, facts_are_good, queries_are_good};
 use mc_outside::{Files, PutFault, Sink, Source};
+use mc_program_laws::laws::executables_are_true;
 use std::alloc::Global;
 
 /// The command: reads the words and then the files that they name, one after another, and compiles them. Writes the
 /// answers of a query on `out`, one line each, or what `main` writes, or on `err` the line of each broken rule, or one
 /// line that says why nothing is answered, and answers how it ended.
 ///
-/// At this stage insts that list constructors aren't built: what asks for such and breaks no rule is `NotBuilt`. The
+/// What breaks no rule of the phases before is `NotBuilt` where something that its procedures need isn't seen to fit. The
 /// first put that fails ends the call with `WriteFault`, and nothing more is put. `Memory` ends the call at once.
 pub fn merc<F: Files, I: Source, O: Sink, E: Sink>(
     alloc: Global,
@@ -73,9 +73,10 @@ pub fn merc<F: Files, I: Source, O: Sink, E: Sink>(
         → F.faults files.old < F.faults files.new
         → Wrote (O.written out.old) (O.written out.new) []
         × SaysUnreadable (F.held files.old) (E.written err.old) (E.written err.new) (files_of m) }
-    // Where any sources compile to facts, every run of these is good, and so is every run of the query, where there
-    // is one: each printed answer is true in the completion, and each assignment that is not printed is false.
-    ensures truth { (s : Sources) (x : Formed) → Builds s (Ok (of_facts x)) → IsTrueProgram x }
+    // What any sources are built to runs true: no unbound variable is read, each answer binds what its modes declare
+    // and is true in the completion, success counts obey determinism, where a run ends each assignment that isn't
+    // answered is false, and what `main` writes is what its last state has gained.
+    ensures truth { (s : Sources) (b : Built) → Builds s (Ok b) → IsTrue b }
     // Done comes only where the sources compile, and the run of the query, or of `main`, ends.
     ensures done { result ≡ Status.Done
         → OfSources (map string_bytes words.now.items) (F.held files.old) RunsToEnd }
@@ -108,7 +109,7 @@ pub fn merc<F: Files, I: Source, O: Sink, E: Sink>(
     ensures write_seen { (O.faults out.old < O.faults out.new)
         ⊎ (E.faults err.old < E.faults err.new)
         → result ≡ Status.WriteFault }
-    // NotBuilt comes only where the sources break no rule of the phases before, and ask for what isn't built.
+    // NotBuilt comes only where the sources break no rule of the phases before, and something isn't seen to fit.
     ensures not_built { result ≡ Status.NotBuilt
         → OfSources (map string_bytes words.now.items) (F.held files.old) IsUnbuilt }
     // Threw, Budget and TooDeep come only where the run of the query, or of `main`, over procedures stops so.
@@ -130,6 +131,7 @@ pub fn merc<F: Files, I: Source, O: Sink, E: Sink>(
     facts_fit();
     question_asks();
     query_is_asked();
+    executables_are_true();
     at_most_one_answer();
     let _ = input;
     carry_out(alloc, words, files, out, err)

@@ -1,8 +1,7 @@
 -- What the phase of declared modes makes of typed clauses.
-use Rattle.std.proofs.Common.{◌≡◌, ℕ, Bool, true, false, true≢false, List, [], ◌∷◌, ◌++◌, map, Option, Some, None, Ok, Err, refl, sym, ap, ◌∙◌, subst}
+use Rattle.std.proofs.Common.{◌≡◌, ℕ, Bool, true, false, true≢false, List, [], ◌∷◌, ◌++◌, map, Option, Some, None, Ok, refl, sym, ap, ◌∙◌, subst}
 use Rattle.std.specs.Option.{is_some, option_map, option_to_list}
 use Rattle.std.proofs.lemmas.List.{append-nil}
-use Rattle.mc_source.specs.declared.rule.Broken.{Broken}
 use Rattle.mc_program.specs.declared.program.Resolved.{Resolved}
 use Rattle.mc_model.specs.declared.inst.Sig.{Sig}
 use Rattle.mc_linking.specs.Files.{plain_files}
@@ -13,22 +12,20 @@ use Rattle.mc_clause_phase.specs.Judging.{AreTyped}
 use Rattle.mc_clause_phase.specs.declared.judged.TypedClause.{TypedClause}
 use Rattle.mc_declared_modes.specs.WrittenModes.{plain_written, declared_modes}
 use Rattle.mc_declared_modes.specs.declared.written.WrittenMode.{WrittenMode}
-use Rattle.mc_signatures.specs.Signatures.{Signed, builtin_of}
-use Rattle.mc_accepted.specs.DeterminismFaults.{by_place}
-use Rattle.mc_signatures.specs.TidyModes.{untidy_modes}
+use Rattle.mc_insts.specs.Defining.{plain_definitions, DefinitionsFit}
+use Rattle.mc_signatures.specs.MeantModes.{MeansMode}
+use Rattle.mc_signatures.specs.Signatures.{AreSignatures, builtin_of}
 use Rattle.mc_ground_form.specs.Program.{plain_goal}
 use Rattle.mc_whole_program.specs.Wholes.{numbered_clause, IsWhole}
-use Rattle.mc_compile.specs.declared.given.CompileFault.TheVariants as F
 use Rattle.mc_compile.specs.declared.moded.Moded.{Moded}
-use Rattle.mc_compile.specs.Phases.{unless_broken, Tells, Viewed}
+use Rattle.mc_compile.specs.Phases.{Tells, Viewed}
 use Rattle.mc_compile.specs.Sources.{Sources}
 use Rattle.mc_compile.specs.declared.named.Named.{Named}
 use Rattle.mc_compile.specs.Linking.{PlainNamed, plain_named}
 use Rattle.mc_compile.specs.Typing.{PlainTyped}
 use Rattle.mc_compile.specs.Checking.{items_of}
-use Rattle.mc_compile.specs.Ruling.{numbered, query_number, query_sigs, IsModed, Modes, with_modes}
+use Rattle.mc_compile.specs.Ruling.{numbered, query_number, query_sigs, IsModed, Modes}
 use Rattle.mc_compile.specs.code.Parts.{IsParted}
-use Rattle.mc_compile.proofs.Chains.{broken_up, none_broken}
 use Rattle.mc_compile.proofs.Queries.{some_goal}
 
 -- the query's clause among those that are typed
@@ -54,11 +51,12 @@ pub is_moded :
     → AreTyped named.files.names (definitions_seen named.files.names) (items_of named) all
     → IsParted all (is_some named.goal) clauses query
     → IsWhole named.files.names (map numbered clauses) (option_map typed_clause query) m.whole
-    → Signed named.files.names (builtin_of m.whole.program.preds) (declared_modes named.files.names named.files.all) (Some declared)
+    → AreSignatures (MeansMode named.files.names (plain_definitions m.defs)) (builtin_of m.whole.program.preds) 0 0 (declared_modes named.files.names named.files.all) declared
+    → DefinitionsFit 4 (plain_definitions m.defs)
     → m.sigs.items ≡ declared ++ query_sigs first named m.whole declared named.goal
     → m.query ≡ query_number m.whole declared named.goal
     → IsModed first named m
-is_moded first named all clauses query declared m typed parted whole signed sigs number =
+is_moded first named all clauses query declared m typed parted whole signed defined sigs number =
     let q = has_query all (is_some named.goal) clauses query parted in
     let l = named.files.names in
     record {
@@ -69,24 +67,16 @@ is_moded first named all clauses query declared m typed parted whole signed sigs
       whole = subst (λ o. IsWhole l (map numbered clauses) o m.whole) (sym q.is) whole;
       declared = declared;
       signed = signed;
+      defined = defined;
       sigs = sigs;
       number = number;
     }
 
--- where no mode breaks the rule of unique modes, and where some do
-abbrev pub faults_of : Moded → List Broken
-faults_of m = by_place (untidy_modes m.whole.program.preds m.sigs.items)
-
-pub modes_are : (s : Sources) (first : Bool) (typed : PlainTyped) (m : Moded) → s.first ≡ first → IsModed first typed.named m → faults_of m ≡ []
+-- what is put in order is what the phase makes
+pub modes_are : (s : Sources) (first : Bool) (typed : PlainTyped) (m : Moded) → s.first ≡ first → IsModed first typed.named m
     → Tells (Modes s) (Viewed (λ x. x)) typed (Ok m)
-modes_are s first typed m e moded none =
-    (m, refl, with_modes (subst (λ b. IsModed b typed.named m) (sym e) moded) (none_broken (faults_of m) m none))
-
-pub modes_are_broken : (s : Sources) (first : Bool) (typed : PlainTyped) (m : Moded) (rules : List Broken) → s.first ≡ first → IsModed first typed.named m → rules ≡ faults_of m → (faults_of m ≡ [] → ⊥)
-    → Tells (Modes s) (Viewed (λ (x : Moded). x)) typed (Err (F.Rejected rules))
-modes_are_broken s first typed m rules e moded is some =
-    with_modes {moded = m} (subst (λ b. IsModed b typed.named m) (sym e) moded)
-    (broken_up rules m (λ none. some (sym is ∙ none)) ∙ ap (λ bs. unless_broken bs m) is)
+modes_are s first typed m e moded =
+    (m, refl, record { moded = m; is_moded = subst (λ b. IsModed b typed.named m) (sym e) moded; is = refl })
 
 -- the same of the values that the phase makes: pairs of the clauses, and the modes that are written
 pub modes_made :
@@ -97,14 +87,15 @@ pub modes_made :
     → map numbered_clause pairs ≡ map numbered clauses
     → IsWhole (plain_names named.names) (map numbered_clause pairs) (option_map typed_clause query) m.whole
     → map (map plain_written) rows ≡ declared_modes (plain_names named.names) (plain_files named.files)
-    → Signed (plain_names named.names) (builtin_of m.whole.program.preds) (map (map plain_written) rows) (Some declared)
+    → AreSignatures (MeansMode (plain_names named.names) (plain_definitions m.defs)) (builtin_of m.whole.program.preds) 0 0 (map (map plain_written) rows) declared
+    → DefinitionsFit 4 (plain_definitions m.defs)
     → m.sigs.items ≡ declared ++ query_sigs first (plain_named named) m.whole declared (plain_goal named.goal)
     → m.query ≡ query_number m.whole declared (plain_goal named.goal)
     → IsModed first (plain_named named) m
-modes_made first named all clauses query has pairs rows declared m typed there parted same whole written signed sigs number =
+modes_made first named all clauses query has pairs rows declared m typed there parted same whole written signed defined sigs number =
     let l = plain_names named.names in
     is_moded first (plain_named named) all clauses query declared m typed
     (subst (λ (b : Bool). IsParted all b clauses query) (there ∙ sym (some_goal named.goal)) parted)
     (subst (λ cs. IsWhole l cs (option_map typed_clause query) m.whole) same whole)
-    (subst (λ ws. Signed l (builtin_of m.whole.program.preds) ws (Some declared)) written signed)
-    sigs number
+    (subst (λ ws. AreSignatures (MeansMode l (plain_definitions m.defs)) (builtin_of m.whole.program.preds) 0 0 ws declared) written signed)
+    defined sigs number

@@ -14,8 +14,9 @@ use Rattle.mc_clause_phase.specs.Judging.{AreTyped}
 use Rattle.mc_clause_phase.specs.declared.judged.TypedClause.{TypedClause}
 use Rattle.mc_inst_table.specs.Rules.{items_from, AreInstFaults}
 use Rattle.mc_declared_modes.specs.WrittenModes.{declared_modes}
-use Rattle.mc_signatures.specs.Signatures.{Signed, builtin_of, SomeHaveOther, query_signature}
-use Rattle.mc_signatures.specs.TidyModes.{untidy_modes}
+use Rattle.mc_insts.specs.Defining.{plain_definitions, DefinitionsFit}
+use Rattle.mc_signatures.specs.MeantModes.{MeansMode}
+use Rattle.mc_signatures.specs.Signatures.{AreSignatures, builtin_of, query_signature}
 use Rattle.mc_procs.specs.Procedures.{PlainProcs}
 use Rattle.mc_orders.specs.Numbering.{mode_ids}
 use Rattle.mc_det_rules.specs.Main.{main_number}
@@ -23,7 +24,6 @@ use Rattle.mc_rules.specs.Rules.{Comes}
 use Rattle.mc_rules.specs.declared.rules.Ruled.{Ruled}
 use Rattle.mc_rules.specs.declared.rules.Ruled.TheVariants as R
 use Rattle.mc_whole_program.specs.Wholes.{IsWhole}
-use Rattle.mc_accepted.specs.DeterminismFaults.{by_place}
 use Rattle.mc_accepted.specs.NormalTypes as N
 use Rattle.mc_whole_program.specs.declared.program.WholeProgram.{WholeProgram}
 use Rattle.mc_compile.specs.declared.executable.Executable.{Executable}
@@ -88,26 +88,20 @@ pub record IsModed (first : Bool) (named : PlainNamed) (moded : Moded) : Type 0 
       (option_map (λ (c : TypedClause). typed_clause c.resolved) query) moded.whole
   pub declared : List Sig
   pub signed :
-      Signed named.files.names (builtin_of moded.whole.program.preds)
-      (declared_modes named.files.names named.files.all) (Some declared)
+      AreSignatures (MeansMode named.files.names (plain_definitions moded.defs))
+      (builtin_of moded.whole.program.preds) 0 0
+      (declared_modes named.files.names named.files.all) declared
+  pub defined : DefinitionsFit 4 (plain_definitions moded.defs)
   pub sigs :
       moded.sigs.items ≡ declared ++ query_sigs first named moded.whole declared named.goal
   pub number : moded.query ≡ query_number moded.whole declared named.goal
 
--- The phase of declared modes: the program that runs with its modes, unless one has `unique` or `dead`
--- where the type isn't io's state (M8), told in the order of places. Insts that list constructors
--- aren't built yet.
-pub data Modes (sources : Sources) (typed : PlainTyped) : Result Moded Refusal → Type 0 where
-  other_insts :
-      SomeHaveOther typed.named.files.names
-      (declared_modes typed.named.files.names typed.named.files.all)
-      → Modes sources typed (Err Unbuilt)
-  with_modes :
-      {moded : Moded} {result : Result Moded Refusal}
-      → IsModed sources.first typed.named moded
-      → result
-      ≡ unless_broken (by_place (untidy_modes moded.whole.program.preds moded.sigs.items)) moded
-      → Modes sources typed result
+-- The phase of declared modes: the program that runs, with its modes and the definitions of the insts of
+-- which they speak.
+pub record Modes (sources : Sources) (typed : PlainTyped) (result : Result Moded Refusal) : Type 0 where
+  pub moded : Moded
+  pub is_moded : IsModed sources.first typed.named moded
+  pub is : result ≡ Ok moded
 
 -- What is run: `main` where it is wanted, and else the query, where there is one. (Where `main` is
 -- wanted there is one, since a program without it breaks E4: `MainIsRun` of Laws.)
@@ -130,13 +124,13 @@ executable wants_main moded (R.Broken list) = Err (Breaks list.items)
 executable wants_main moded (R.Unseen u) = Err Unbuilt
 
 -- The phase of procedures: each mode's goal in its one order, with its determinism, unless they break
--- a rule of modes (M1 to M4) or of determinism (E1 to E4, U1).
+-- a rule of modes (M8, M1 to M4) or of determinism (E1 to E4, U1).
 pub record Procedures (sources : Sources) (moded : Moded) (result : Result PlainExecutable Refusal)
     : Type 0 where
   pub ruled : Ruled
   pub comes :
-      Comes moded.whole.program moded.sigs.items moded.whole.goals.items
-      moded.whole.exported.items sources.wants_main ruled
+      Comes moded.whole.program (plain_definitions moded.defs) moded.sigs.items
+      moded.whole.goals.items moded.whole.exported.items sources.wants_main ruled
   pub is : result ≡ executable sources.wants_main moded ruled
 
 -- the phases of a program with rules, behind those of types

@@ -34,8 +34,8 @@ use std::alloc::Global;
 /// # Errors
 ///
 /// `Rejected` with the rules that are broken of the first phase that has a fault: one for each faulty item, in the
-/// order of the files, and the query's last. `NotBuilt` where none of the phases before is broken, and a form that isn't
-/// compiled yet is asked for.
+/// order of the files, and the query's last. `NotBuilt` where none is broken, and something that procedures need isn't
+/// seen to fit.
 pub fn compile(
     alloc: Global,
     files: &Row<Given>,

@@ -1,13 +1,8 @@
-ghost use Rattle.std.specs.Prelude.{◌≡◌, ◌++◌, None, map, IfOk, IfSome};
-ghost use Rattle.mc_linking.specs.Files.{plain_files};
+ghost use Rattle.std.specs.Prelude.{◌≡◌, ◌++◌, map, IfOk};
 ghost use Rattle.mc_modules.specs.Linked.{plain_names};
 ghost use Rattle.mc_type_table.specs.Sight.{definitions_seen};
 ghost use Rattle.mc_ground_form.specs.Program.{plain_goal};
 ghost use Rattle.mc_clause_phase.specs.Judging.{AreTyped};
-ghost use Rattle.mc_declared_modes.specs.WrittenModes.{declared_modes};
-ghost use Rattle.mc_accepted.specs.DeterminismFaults.{by_place};
-ghost use Rattle.mc_signatures.specs.Signatures.{SomeHaveOther};
-ghost use Rattle.mc_signatures.specs.TidyModes.{untidy_modes};
 ghost use Rattle.mc_compile.specs.Phases.{Tells, Viewed};
 ghost use Rattle.mc_compile.specs.Sources.{Sources};
 ghost use Rattle.mc_compile.specs.Linking.{plain_named};
@@ -23,22 +18,22 @@ use crate::named::Named;
 use mc_base::{Memory, Row};
 use mc_clause_phase::TypedClause;
 use mc_declared_modes::declared_modes;
+use mc_insts::InstDef;
 use mc_model::inst::Sig;
 use mc_orders::mode_ids;
-use mc_places::sort_by_place;
 use mc_program::program::Resolved;
-use mc_signatures::{query_signature, signatures, untidy_modes};
+use mc_signatures::{ModeTable, query_signature, signatures};
 use mc_source::det::{Det, Most};
 use mc_source::place::Place;
-use mc_source::rule::Broken;
 use mc_whole_program::{WholeProgram, whole_program};
 use std::alloc::Global;
 
 /// A program that is put in order: as it runs, with the declared modes of its predicates, the query's behind the others,
-/// and the number of the query's procedure where there is a query.
+/// the definitions of the insts of which modes speak, and the number of the query's procedure where there is a query.
 #[derive(Drop)]
 pub struct Moded {
     pub whole: WholeProgram,
+    pub defs: Row<InstDef>,
     pub sigs: Vec<Sig>,
     pub query: Option<u32>,
 }
@@ -49,8 +44,7 @@ impl Moded {
     ///
     /// # Errors
     ///
-    /// `Rejected` with the rule M8 for each mode that breaks it, in the order of places. `NotBuilt` where a declared mode has an inst that lists
-    /// constructors.
+    /// `Memory` where there is no room.
     pub fn of(alloc: Global, checked: Checked, first: bool) -> Result<Moded, CompileFault>
         requires { AreTyped (plain_names checked.typed.named.names)
             (definitions_seen (plain_names checked.typed.named.names))
@@ -59,56 +53,34 @@ impl Moded {
             → Tells (Modes s) (Viewed (λ m. m)) (plain_typed checked.typed) result }
     {
         let Checked { typed, clauses } = checked;
-        let Some(moded) = with_modes(alloc, &typed.named, clauses, first)? else {
-            return Err(CompileFault::NotBuilt);
-        };
-        let broken = untidy(alloc, &moded)?;
-        if broken.is_empty() {
-            return Ok(moded);
-        }
-        Err(CompileFault::Rejected(Row::of(broken)?))
+        let moded = with_modes(alloc, &typed.named, clauses, first)?;
+        Ok(moded)
     }
 }
 
-// The rule M8 for each mode that breaks it, in the order of places.
-fn untidy(alloc: Global, moded: &Moded) -> Result<Vec<Broken>, Memory>
-    ensures { IfOk result
-        (λ broken.
-        broken.items
-        ≡ by_place (untidy_modes moded.now.whole.program.preds moded.now.sigs.items)) }
-{
-    let preds = moded.whole.program.preds.as_slice();
-    let mut broken = untidy_modes(alloc, preds, moded.sigs.as_slice())?;
-    sort_by_place(&mut broken)?;
-    Ok(broken)
-}
-
-// The program with its declared modes; none where one has an inst that lists constructors.
+// The program with its declared modes.
 fn with_modes(
     alloc: Global,
     named: &Named,
     clauses: Vec<TypedClause>,
     first: bool,
-) -> Result<Option<Moded>, Memory>
+) -> Result<Moded, Memory>
     requires { AreTyped (plain_names named.now.names) (definitions_seen (plain_names named.now.names))
         (items_of (plain_named named.now)) clauses.items }
-    ensures some { IfOk result
-        (λ moded. IfSome moded (IsModed first (plain_named named.now))) }
-    ensures none { IfOk result
-        (λ moded. moded ≡ None
-        → SomeHaveOther (plain_names named.now.names)
-        (declared_modes (plain_names named.now.names) (plain_files named.now.files))) }
+    ensures { IfOk result (IsModed first (plain_named named.now)) }
 {
     let (clauses, query) = parted(clauses, named.goal.is_some())?;
     let whole = whole_program(alloc, &named.names, numbered(alloc, clauses)?, query)?;
     let rows = declared_modes(alloc, &named.names, named.files.as_slice())?;
-    match signatures(alloc, &named.names, whole.program.preds.as_slice(), &rows)? {
-        Some(declared) => {
-            let (sigs, query) = with_query(alloc, named, &whole, declared, first)?;
-            Ok(Some(Moded { whole, sigs, query }))
-        }
-        None => Ok(None),
-    }
+    let table = signatures(alloc, &named.names, whole.program.preds.as_slice(), &rows)?;
+    let ModeTable { defs, sigs } = table;
+    let (sigs, query) = with_query(alloc, named, &whole, sigs, first)?;
+    Ok(Moded {
+        whole,
+        defs,
+        sigs,
+        query,
+    })
 }
 
 // Typed clauses, and the query behind them where there is one.

@@ -3,6 +3,7 @@ ghost use Rattle.std.specs.Option.{option_copied};
 ghost use Rattle.mc_modules.specs.Linked.{plain_names};
 ghost use Rattle.mc_type_table.specs.Sight.{definitions_seen};
 ghost use Rattle.mc_clause_phase.specs.Judging.{AreTyped};
+ghost use Rattle.mc_insts.specs.Defining.{plain_definitions, DefinitionsFit};
 ghost use Rattle.mc_whole.specs.Goals.{HasNormalGoals};
 ghost use Rattle.mc_compile.specs.declared.given.Given.{Given};
 ghost use Rattle.mc_compile.specs.Phases.{Tells, Then, Viewed};
@@ -30,8 +31,8 @@ use std::alloc::Global;
 /// # Errors
 ///
 /// `Rejected` with the rules of insts (M6, M7) that items break; else with those of modes (M8, and then M1 to M4) that
-/// declared modes break; else with those of determinism (E1 to E4 and U1) that procedures break. `NotBuilt` where a
-/// declared mode has an inst that lists constructors, and where something isn't seen to fit.
+/// declared modes break; else with those of determinism (E1 to E4 and U1) that procedures break. `NotBuilt` where
+/// something isn't seen to fit.
 pub fn rules(
     alloc: Global,
     checked: Checked,
@@ -87,11 +88,17 @@ fn with_modes(
 
 // The phase of procedures.
 fn executable(alloc: Global, moded: Moded, want_main: bool) -> Result<Executable, CompileFault>
-    requires { HasNormalGoals moded.whole.program moded.whole.goals.items }
+    requires goals { HasNormalGoals moded.whole.program moded.whole.goals.items }
+    requires defs { DefinitionsFit 4 (plain_definitions moded.defs) }
     ensures { (s : Sources) → s.wants_main ≡ want_main
         → Tells (Procedures s) (Viewed plain_executable) moded result }
 {
-    let Moded { whole, sigs, query } = moded;
+    let Moded {
+        whole,
+        defs,
+        sigs,
+        query,
+    } = moded;
     let WholeProgram {
         program,
         goals,
@@ -99,7 +106,7 @@ fn executable(alloc: Global, moded: Moded, want_main: bool) -> Result<Executable
         variables,
     } = whole;
     let (sigs, goals, exported) = (sigs.as_slice(), goals.as_slice(), exported.as_slice());
-    match procedures(alloc, program, sigs, goals, exported, want_main)? {
+    match procedures(alloc, program, &defs, sigs, goals, exported, want_main)? {
         Ruled::Procs(procs) => {
             let goal = goal_of(want_main, &procs, query, variables);
             Ok(Executable { procs, goal })

@@ -1,4 +1,4 @@
-use Rattle.mc_cmd.proofs.Calls.{Laws, whole, prefixes, puts_defined, unread, true_program, done_cause, usage_cause, usage_told, rejected_cause, not_built_cause, absent_cause, absent_lacks, absent_seen, read_cause, read_told, read_seen, write_cause, write_seen, threw_cause, spent_cause, deep_cause}
+use Rattle.mc_cmd.proofs.Calls.{Laws, whole, prefixes, puts_defined, unread, true_built, done_cause, usage_cause, usage_told, rejected_cause, not_built_cause, absent_cause, absent_lacks, absent_seen, read_cause, read_told, read_seen, write_cause, write_seen, threw_cause, spent_cause, deep_cause}
 use Rattle.mc_cmd.proofs.top.merc.Goals as goal
 
 pub returns-clause-whole_answer : goal.returns-clause-whole_answer
@@ -20,7 +20,7 @@ pub returns-clause-unreadable : goal.returns-clause-unreadable
 returns-clause-unreadable g c = λ m e f. unread _ _ _ _ _ _ _ _ _ c.carry_out.ensures.happened m e f
 
 pub returns-clause-truth : goal.returns-clause-truth
-returns-clause-truth g c = λ s x k. true_program c.facts_fit.ensures c.question_asks.ensures c.facts_are_good.ensures c.queries_are_good.ensures s x k
+returns-clause-truth g c = λ s b k. true_built c.facts_fit.ensures c.question_asks.ensures c.facts_are_good.ensures c.queries_are_good.ensures c.executables_are_true.ensures s b k
 
 pub returns-clause-done : goal.returns-clause-done
 returns-clause-done g c =

@@ -6,12 +6,13 @@ use Rattle.mc_compile.specs.declared.moded.Moded.{Moded}
 use Rattle.mc_compile.proofs.Modes.{modes_made}
 use Rattle.mc_compile.proofs.moded.with_modes.Goals as goal
 
-pub returns-in_ok-sigs-in-Some-clause-some : goal.returns-in_ok-sigs-in-Some-clause-some
-returns-in_ok-sigs-in-Some-clause-some c =
+pub returns : goal.returns
+returns c =
     let named = c.args.named.now in
-    let made : Moded = record { whole = c.in_ok-whole.whole; sigs = c.in_ok-sigs-in-Some.sigs; query = c.in_ok-sigs-in-Some.query } in
+    let table = c.in_ok-table.table in
+    let made : Moded = record { whole = c.in_ok-whole.whole; defs = table.defs; sigs = c.in_ok-sigs.sigs; query = c.in_ok-sigs.query } in
     let written = c.in_ok-rows.ensures ∙ ap (λ fs. declared_modes (plain_names named.names) (plain_files fs)) c.as_slice.ensures.items in
-    let signed = rw (c.in-Some.is, c.as_slice-2.ensures.items) at (c.in_ok-declared.ensures {u = tt}) in
-    let told = c.in_ok-sigs-in-Some.ensures {u = tt} in
-    modes_made c.args.first named c.args.clauses.items c.in_ok-clauses.clauses.items c.in_ok-clauses.query c.is_some.result c.in_ok-numbered.field-0.items c.in_ok-rows.rows c.in-Some.declared.items made
-    c.requires c.is_some.ensures (c.in_ok-clauses.ensures {u = tt}) (c.in_ok-numbered.ensures {u = tt}) (c.in_ok-whole.ensures {u = tt}) written signed told.sigs told.number
+    let signed = rw (c.as_slice-2.ensures.items) at (c.in_ok-table.ensures {u = tt}).signatures in
+    let told = c.in_ok-sigs.ensures {u = tt} in
+    modes_made c.args.first named c.args.clauses.items c.in_ok-clauses.clauses.items c.in_ok-clauses.query c.is_some.result c.in_ok-numbered.field-0.items c.in_ok-rows.rows table.sigs.items made
+    c.requires c.is_some.ensures (c.in_ok-clauses.ensures {u = tt}) (c.in_ok-numbered.ensures {u = tt}) (c.in_ok-whole.ensures {u = tt}) written signed (c.in_ok-table.ensures {u = tt}).fit told.sigs told.number

@@ -6,13 +6,18 @@ use Rattle.mc_compile.specs.Sources.{sources_of}
 use Rattle.mc_compile.specs.Typing.{plain_typed}
 use Rattle.mc_compile.specs.Ruling.{Modes, Procedures, plain_executable}
 use Rattle.mc_compile.proofs.Chains.{stops, goes_on_by}
-use Rattle.mc_compile.proofs.Procedures.{has_goals}
+use Rattle.mc_compile.proofs.Procedures.{has_goals, has_definitions}
 use Rattle.mc_compile.proofs.rules.with_modes.Goals as goal
 
-pub executable-requires : goal.executable-requires
-executable-requires c =
+pub executable-requires-clause-goals : goal.executable-requires-clause-goals
+executable-requires-clause-goals c =
     let s = sources_of [] (option_copied c.args.query) c.args.want_main in
     has_goals s (plain_typed c.args.checked.typed) c.in-Ok.moded (c.in-Ok.ensures {u = tt} s (sym c.is_first.ensures))
+
+pub executable-requires-clause-defs : goal.executable-requires-clause-defs
+executable-requires-clause-defs c =
+    let s = sources_of [] (option_copied c.args.query) c.args.want_main in
+    has_definitions s (plain_typed c.args.checked.typed) c.in-Ok.moded (c.in-Ok.ensures {u = tt} s (sym c.is_first.ensures))
 
 pub returns-in-Ok : goal.returns-in-Ok
 returns-in-Ok c = λ files.
