@@ -29,7 +29,7 @@ use Rattle.mc_mode_points.proofs.Steps.{moved-trans}
 use Rattle.mc_modes.specs.Signatures.{declared_in}
 use Rattle.mc_modes.specs.Fitting.{Known, GoalFits}
 use Rattle.mc_modes.specs.Tries.{with_types, trying, tells_outside, Runs, Breaks}
-use Rattle.mc_modes.specs.Arrangements.{Becomes, Arranges}
+use Rattle.mc_modes.specs.Arrangements.{Becomes, NumbersTo, Numbers, Arranges}
 use Rattle.mc_modes.specs.code.Parts.{alone_at}
 use Rattle.mc_modes.specs.code.Judging.{IsBeginning, unmet_at, IsUnmet, Judges}
 use Rattle.mc_modes.specs.declared.arranging.Arrangement.{Arrangement}
@@ -146,12 +146,24 @@ module _ (sigs : List Sig) (types : List Ty) (head first last : List ℕ) (g : F
     grown = (moved-trans q r u s t t d.stepped.moved j.stepped.moved).nodes.grown;
   }
 
+  -- the state at the end has as many variables as the order numbers
+  numbers-ran : (r u : PlainProcs) (t : State) (p : Part) (place : Option ℕ) (count : ℕ)
+      → Runs (tells_outside (variables_of g) s) (trying sigs g q s) q r s t p → IsUnmet head last p.reachable r u t place
+      → length t.insts.items ≡ count → Numbers sigs types head first g q u t count
+  numbers-ran r u t p place count d j e C T z =
+      subst (NumbersTo count)
+      (sym
+      (ap₂ (λ (n : ℕ) (b : Point ℕ). trial (of_nodes C) (source_of q) (declared_in sigs) T g head n b) (sym count-begun) (begun.point (source_of q) (declared_in sigs) C T)
+      ∙ d.outcome (length types) head C T told (suits-before (length types) C r u t t T d.stepped.moved.stands j.stepped.moved z)))
+      e
+
   -- it runs, and its end is judged
   pub arranges-judged : (r u : PlainProcs) (t : State) (p : Part) (res : Result Arrangement Refusal)
       → Runs (tells_outside (variables_of g) s) (trying sigs g q s) q r s t p → FreshAlike g t p → Judges head last p (length s.log.items) r u t res → Arranges sigs types head first last g q u res
   arranges-judged r u t p (Ok a) d f j = (
     t,
     becomes-ran r u t p None _ d j.0 (λ C. ap unless-none (sym (body C))),
+    numbers-ran r u t p None (length a.types.items) d j.0 (sym t-even ∙ ap (λ (ts : Vec Ty Global). length ts.items) (sym j.1)),
     ap (λ (ts : Vec Ty Global). ts.items) j.1,
     subst (TestsAlike (type_in a.types.items) (length types)) (sym (body none_chosen))
         (alone-alike (type_in a.types.items) (length types) none_chosen (length t.insts.items) (point_of s.insts.items) (end_of p.reachable t) (nodes (map plain_node p.goals.items))
@@ -160,6 +172,9 @@ module _ (sigs : List Sig) (types : List Ty) (head first last : List ℕ) (g : F
     where
       body : (C : Chosen) → plain_node a.body ≡ alone_at C t p (point_of s.insts.items)
       body = j.2 s d.stepped.later.leads refl
+
+      t-even : length t.types.items ≡ length t.insts.items
+      t-even = d.stepped.moved.stands.even.types
 
       unless-none : Node → Verdict
       unless-none n = unless_unmet n None

@@ -13,7 +13,7 @@ use Rattle.mc_procs.specs.Procedures.{PlainProcs}
 use Rattle.mc_mode_points.specs.Modes.{ModeFits, ModesFit}
 use Rattle.mc_mode_points.specs.Nodes.{type_in}
 use Rattle.mc_modes.specs.Signatures.{modes_at, mode_in, no_mode, SigsFit}
-use Rattle.mc_modes.specs.Arrangements.{Becomes, Arranges}
+use Rattle.mc_modes.specs.Arrangements.{Becomes, Numbers, Arranges}
 use Rattle.mc_modes.specs.Schedules.{IsScheduled}
 use Rattle.mc_modes.specs.code.Making.{IsMadeOf}
 use Rattle.mc_modes.specs.declared.arranging.Arrangement.{Arrangement}
@@ -32,10 +32,11 @@ scheduled-of : (sigs : List Sig) (g : Normal) (k : ℕ) (m : ModeDecl) (q r : Pl
 scheduled-of sigs g k m q r a p x made = record {
   end = x.0;
   becomes = subst (λ (b : GoalNode). Becomes sigs g.var_types g.head m.first m.last (plain_flat g.body) q r x.0 (in_order (plain_node b))) (sym made.body) x.1;
-  var_types = made.var_types ∙ x.2;
+  numbered = subst (λ (ts : List Ty). Numbers sigs g.var_types g.head m.first (plain_flat g.body) q r x.0 (length ts)) (sym made.var_types) x.2;
+  var_types = made.var_types ∙ x.3;
   alike =
       subst (λ (ts : List Ty). TestsAlike (type_in ts) (length g.var_types) (plain_node p.body)) (sym made.var_types)
-      (subst (λ (b : GoalNode). TestsAlike (type_in a.types.items) (length g.var_types) (plain_node b)) (sym made.body) x.3);
+      (subst (λ (b : GoalNode). TestsAlike (type_in a.types.items) (length g.var_types) (plain_node b)) (sym made.body) x.4);
   pred = made.pred;
   mode = made.mode;
   head = made.head;

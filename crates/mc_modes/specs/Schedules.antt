@@ -17,7 +17,7 @@ use Rattle.mc_mode_points.specs.Nodes.{type_in}
 use Rattle.mc_mode_points.specs.declared.state.State.{State}
 use Rattle.mc_modes.specs.Signatures.{mode_in}
 use Rattle.mc_modes.specs.Fitting.{Known}
-use Rattle.mc_modes.specs.Arrangements.{Becomes, Arranges}
+use Rattle.mc_modes.specs.Arrangements.{Becomes, Numbers, Arranges}
 use Rattle.mc_modes.specs.declared.arranging.Refusal.{Refusal}
 
 -- what a goal names is there, and it has a head variable for each inst of the mode
@@ -34,14 +34,16 @@ first_determinism None = inferred det
 
 -- The procedure. Its body is the goal in its order, with the insts that each of its goals changes,
 -- whatever comes later; its variables' types are those of the goal, and behind them those of the
--- fresh ones, of which each test compares values of one type. Of the procedures that are there
--- nothing changed, but that their graph may have more nodes.
+-- fresh ones, as many as the order numbers, of which each test compares values of one type. Of the
+-- procedures that are there nothing changed, but that their graph may have more nodes.
 pub record IsScheduled (sigs : List Sig) (g : Normal) (k : ℕ) (m : ModeDecl) (q r : PlainProcs)
     (p : Proc) : Type 0 where
   pub end : State
   pub becomes :
       Becomes sigs g.var_types g.head m.first m.last (plain_flat g.body) q r end
       (in_order (plain_node p.body))
+  pub numbered :
+      Numbers sigs g.var_types g.head m.first (plain_flat g.body) q r end (length p.var_types)
   pub var_types : p.var_types ≡ end.types.items
   pub alike : TestsAlike (type_in p.var_types) (length g.var_types) (plain_node p.body)
   pub pred : p.pred ≡ g.pred
