@@ -42,7 +42,7 @@ pub each-variables : (gs : List Flat) → variables_of_all (flats (map plain_fla
 each-variables [] = refl
 each-variables (g ∷ gs) = ap (λ vs. variables_of (plain_flat g) ++ vs) (each-variables gs)
 
-known-at : (P : Program) (gs : List Flat_goal) (k : ℕ) (d : Flat_goal) → AllKnown P (flats gs) → k < length gs → Known P (get_or gs k d)
+pub known-at : (P : Program) (gs : List Flat_goal) (k : ℕ) (d : Flat_goal) → AllKnown P (flats gs) → k < length gs → Known P (get_or gs k d)
 known-at P [] k d w h = absurd (omega arith)
 known-at P (g ∷ gs) zero d w h = w.0
 known-at P (g ∷ gs) (suc k) d w h = known-at P gs k d w.1 (omega arith)

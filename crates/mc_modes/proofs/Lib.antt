@@ -2,6 +2,7 @@ pub mod Counts
 pub mod Frames
 pub mod Locally
 pub mod Fits
+pub mod FreeInputs
 pub mod Picks
 pub mod Turns
 pub mod Ways
@@ -28,3 +29,6 @@ pub mod Free
 pub mod Halves
 pub mod MadeProcedures
 pub mod Refusals
+pub mod MildGoals
+pub mod Asleep
+pub mod Sleepers

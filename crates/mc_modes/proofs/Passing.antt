@@ -20,8 +20,9 @@ use Rattle.mc_mode_points.proofs.Steps.{stepped-trans}
 use Rattle.mc_modes.specs.Signatures.{declared_in}
 use Rattle.mc_modes.specs.Tries.{Suits, trying, Runs, Breaks}
 use Rattle.mc_modes.specs.code.Waiting.{nothing, variables_of_each, tells_around, Counted, all_waiting, waiting_at, picking, noted, IsReady, NoneIsReady}
+use Rattle.mc_modes.specs.code.Sleeping.{Waits}
 use Rattle.mc_modes.proofs.Counts.{around-one, below-at, times-at}
-use Rattle.mc_modes.proofs.Picks.{scanned, scanned-on, scanned-takes, scanned-none, pick-at}
+use Rattle.mc_modes.proofs.Picks.{scanned, scanned-on, scanned-waits, scanned-takes, scanned-none, pick-at}
 use Rattle.mc_modes.proofs.Ways.{suits-before, stepped-same}
 
 pub same-source : (q r : PlainProcs) (s t : State) → Moved q r s t → source_of r ≡ source_of q
@@ -78,6 +79,21 @@ module _ (sigs : List Sig) (gs : List Flat_goal) (k : ℕ) (h : k < length gs) (
       (sym (tried-one first O C T (breaks (plain_fault f)) w (λ P z. d.outcome first P C T z v)))
       ∙ (ap (scanned found) (sym (pick-at (of_nodes C) (source_of q) (declared_in sigs) T gs k O n b h))
       ∙ so first O C T w (suits-before first C p r u t T st d.moved v)))
+
+  -- it waits, whatever occurs outside it
+  pub passed-asleep : (found : Option ModeFault) → FoundSoFar sigs gs k found q p s u
+      → ((C : Chosen) (T : ℕ → TypeTerm) (O : List ℕ) → Waits (trial (of_nodes C) (source_of p) (declared_in sigs) T g O (length u.insts.items) (point_of u.insts.items)))
+      → FoundSoFar sigs gs (k + 1) found q p s u
+  passed-asleep found so asleep = λ first O C T w v.
+      let W = all_waiting (of_nodes C) (source_of q) (declared_in sigs) T gs in
+      let n = length s.insts.items in
+      let b = point_of s.insts.items in
+      let here = trial (of_nodes C) (source_of q) (declared_in sigs) T g (O ++ others) n b in
+      let same_try : trial (of_nodes C) (source_of p) (declared_in sigs) T g (O ++ others) (length u.insts.items) (point_of u.insts.items) ≡ here =
+      ap₂ (trial (of_nodes C) (source_of p) (declared_in sigs) T g (O ++ others)) same.count same.point
+      ∙ ap (λ P. trial (of_nodes C) P (declared_in sigs) T g (O ++ others) n b) (same-source q p s u m) in
+      sym (scanned-waits found (waiting_at (of_nodes C) (source_of q) (declared_in sigs) T g) (all_waiting (of_nodes C) (source_of q) (declared_in sigs) T (remove gs k)) here (pick (take (k + 1) W) (drop (k + 1) W) O n b) (subst Waits same_try (asleep C T (O ++ others))))
+      ∙ (ap (scanned found) (sym (pick-at (of_nodes C) (source_of q) (declared_in sigs) T gs k O n b h)) ∙ so first O C T w v)
 
   -- it runs
   pub passed-by : (found : Option ModeFault) (r : PlainProcs) (t : State) (part : Part) → Stands q s → Stands p u → FoundSoFar sigs gs k found q p s u

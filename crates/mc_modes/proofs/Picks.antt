@@ -5,12 +5,13 @@ use Rattle.std.proofs.lemmas.List.{get_or-map, take_more, take-map, drop-map, ma
 use Rattle.mc_program.specs.Programs.{TypeTerm, Source}
 use Rattle.mc_model.specs.Flat.{Flat_goal, variables_of}
 use Rattle.mc_model.specs.Scheduled.{Nodes}
-use Rattle.mc_accepted.specs.Arranged.{Operations, Point, Declared, waits, negated_binds, branches_differ, lacks, breaks, Waiting, Picked, takes, none_runs, or_first, picked, pick, variables_of_waiting, trial}
+use Rattle.mc_accepted.specs.Arranged.{Operations, Point, Declared, waits, negated_binds, branches_differ, lacks, Arranged, runs, breaks, Waiting, Picked, takes, none_runs, or_first, picked, pick, variables_of_waiting, trial}
 use Rattle.mc_mode_points.specs.Answers.{plain_fault}
 use Rattle.mc_mode_points.specs.declared.fault.ModeFault.{ModeFault}
 use Rattle.mc_mode_points.specs.declared.fault.ModeFault.TheVariants as F
 use Rattle.mc_mode_points.proofs.Numbers.{cons_at}
 use Rattle.mc_modes.specs.code.Waiting.{nothing, variables_of_each, waiting_at, all_waiting, noted, plain_found}
+use Rattle.mc_modes.specs.code.Sleeping.{Waits}
 
 -- what was found first, and what is found from a place on
 abbrev pub scanned : Option ModeFault → Picked ℕ → Picked ℕ
@@ -42,6 +43,14 @@ scanned-on None (F.BranchesDiffer v) w ws later = refl
 scanned-on (Some g) (F.Waits n vs) w ws later = refl
 scanned-on (Some g) (F.NegatedBinds v) w ws later = first-of g (F.NegatedBinds v) later
 scanned-on (Some g) (F.BranchesDiffer v) w ws later = first-of g (F.BranchesDiffer v) later
+
+-- one that waits
+pub scanned-waits : (found : Option ModeFault) (w : Waiting ℕ) (ws : List (Waiting ℕ)) (r : Arranged ℕ) (later : Picked ℕ) → Waits r → scanned found (picked w ws r later) ≡ scanned found later
+scanned-waits found w ws (runs gs o n zs) later h = absurd h
+scanned-waits found w ws (breaks (waits k vs)) later h = refl
+scanned-waits found w ws (breaks (negated_binds v)) later h = absurd h
+scanned-waits found w ws (breaks (branches_differ v)) later h = absurd h
+scanned-waits found w ws (breaks lacks) later h = absurd h
 
 -- one that runs
 pub scanned-takes : (found : Option ModeFault) (vs : List ℕ) (ws : List (Waiting ℕ)) (gs : Nodes) (o : Option (Point ℕ)) (n : ℕ) → scanned found (takes vs ws gs o n) ≡ takes vs ws gs o n

@@ -1,20 +1,26 @@
 -- A pass over the waiting goals of a conjunction, by their places.
-use Rattle.std.proofs.Common.{◌≡◌, ◌∙◌, ℕ, ◌<◌, ◌+◌, List, length, get_or, Option, sym, ap, subst, arith}
+use Rattle.std.proofs.Common.{◌≡◌, ◌∙◌, ℕ, ◌<◌, ◌+◌, List, [], length, get_or, Option, sym, ap, subst, arith}
 use Rattle.mc_model.specs.Flat.{Flat_goal, variables_of}
 use Rattle.mc_model.specs.PlainGoals.{plain_flat}
 use Rattle.mc_model.specs.declared.flat.Flat.{Flat}
 use Rattle.mc_model.specs.declared.inst.Sig.{Sig}
 use Rattle.mc_procs.specs.Named.{NumbersBelow}
-use Rattle.mc_procs.specs.Procedures.{PlainProcs}
-use Rattle.mc_mode_points.specs.States.{SameState}
+use Rattle.mc_accepted.specs.Arranged.{trial}
+use Rattle.mc_accepted.specs.Chosen.{of_nodes}
+use Rattle.mc_procs.specs.Procedures.{PlainProcs, source_of}
+use Rattle.mc_mode_points.specs.States.{point_of, SameState}
 use Rattle.mc_mode_points.specs.Agreeing.{Stands, Moved}
 use Rattle.mc_mode_points.specs.Answers.{FreshAlike}
 use Rattle.mc_mode_points.specs.declared.state.State.{State}
 use Rattle.mc_mode_points.specs.declared.part.Part.{Part}
 use Rattle.mc_mode_points.specs.declared.fault.ModeFault.{ModeFault}
+use Rattle.mc_modes.specs.Signatures.{declared_in}
 use Rattle.mc_modes.specs.Tries.{trying, Runs, Breaks}
 use Rattle.mc_modes.specs.code.Waiting.{nothing, goals_at, variables_of_each, tells_around, Counted, noted, IsReady}
-use Rattle.mc_modes.proofs.Passing.{FoundSoFar, passed-on, passed-by}
+use Rattle.mc_modes.specs.code.Sleeping.{Waits, Asleep, free_beside, free_now}
+use Rattle.mc_modes.proofs.Asleep.{asleep-waits}
+use Rattle.mc_modes.proofs.FreeInputs.{free-tells}
+use Rattle.mc_modes.proofs.Passing.{FoundSoFar, passed-on, passed-asleep, passed-by}
 use Rattle.mc_modes.proofs.Placing.{goal-in, goals-long, place-below}
 
 pub same-trans : (s t u : State) → SameState s t → SameState t u → SameState s u
@@ -26,6 +32,16 @@ same-trans s t u a b = record {
   outsides = b.outsides ∙ a.outsides;
   types = b.types ∙ a.types;
 }
+
+-- what a pass keeps, by other names
+abbrev pub PassedSo : List Sig → List Flat_goal → (k : ℕ) → Option ModeFault → (q r : PlainProcs) → (s t : State) → Type 0
+PassedSo sigs gs k found q r s t = record { same : SameState s t; moved : Moved q r s t; so : FoundSoFar sigs gs k found q r s t }
+
+pub passed-with : (sigs : List Sig) (gs : List Flat_goal) (k : ℕ) (q : PlainProcs) (s : State) (r p : PlainProcs) (t u : State) (found more : Option ModeFault) → p ≡ r → u ≡ t → more ≡ found
+    → PassedSo sigs gs k found q r s t → PassedSo sigs gs k more q p s u
+passed-with sigs gs k q s r p t u found more e f g h =
+    subst (λ (y : PlainProcs). PassedSo sigs gs k more q y s u) (sym e)
+    (subst (λ (v : State). PassedSo sigs gs k more q r s v) (sym f) (subst (λ (o : Option ModeFault). PassedSo sigs gs k o q r s t) (sym g) h))
 
 module _ (sigs : List Sig) (gs : List Flat) (ks : List ℕ) (k : ℕ) (x : Flat) (q p r : PlainProcs) (s u t : State) (h : k < length ks) (w : NumbersBelow (length gs) ks)
     (is : x ≡ get_or gs (get_or ks k 0) x) (same : SameState s u) (m : Moved q p s u) (counted : Counted (variables_of_each (goals_at gs ks)) s)
@@ -46,6 +62,14 @@ module _ (sigs : List Sig) (gs : List Flat) (ks : List ℕ) (k : ℕ) (x : Flat)
       subst (λ (o : Option ModeFault). FoundSoFar sigs waiting (k + 1) o q r s t) (sym e)
       (passed-on sigs waiting k short q p s u same m counted found r t f m.stands so
       (subst (λ (g : Flat_goal). Breaks (tells_around (variables_of g) u) (trying sigs g p u) p r u t f) (sym placed) b))
+
+  -- it is seen to wait
+  pub found-asleep : Asleep (source_of p) (declared_in sigs) (free_beside (free_now u) []) (plain_flat x) → FoundSoFar sigs waiting (k + 1) found q p s u
+  found-asleep a =
+      passed-asleep sigs waiting k short q p s u same m counted found so
+      (λ C T O.
+      subst (λ (g : Flat_goal). Waits (trial (of_nodes C) (source_of p) (declared_in sigs) T g O (length u.insts.items) (point_of u.insts.items))) (sym placed)
+      (asleep-waits C (source_of p) (declared_in sigs) T (length u.insts.items) (free_beside (free_now u) []) (plain_flat x) a (λ y e. (free-tells u [] y e).0) O (length u.insts.items) (point_of u.insts.items) (omega arith) (λ y e. (free-tells u [] y e).1)))
 
   -- it runs
   pub found-ready : (part : Part) → Stands q s → Runs (tells_around (variables_of (plain_flat x)) u) (trying sigs (plain_flat x) p u) p r u t part → IsReady sigs waiting q r s t k part

@@ -1,5 +1,6 @@
 pub mod Waiting
 pub mod Parts
+pub mod Sleeping
 pub mod Alike
 pub mod Judging
 pub mod Making

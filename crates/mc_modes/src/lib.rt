@@ -5,8 +5,10 @@
 mod arranging;
 mod atoms;
 mod ending;
+mod inputs;
 mod order;
 mod scheduling;
+mod sleeping;
 mod variables;
 mod waiting;
 

@@ -25,6 +25,7 @@ use crate::ending::{
     Begun, Condition, as_one, chosen, condition_of, ended, first_bound, merged, negated, nothing,
     quantified_over,
 };
+use crate::sleeping::sleeps;
 use crate::variables::{
     free_in, free_without, variables_of, variables_of_all, variables_of_parts, with_variables,
 };
@@ -180,7 +181,7 @@ fn in_turn(
     })
 }
 
-/// The first waiting goal that runs. Where none does, the state is as before.
+/// The first waiting goal that runs; those that are seen to wait aren't tried. Where none runs, the state is as before.
 #[cycle(order)]
 fn first_ready(
     alloc: Global,
@@ -202,10 +203,13 @@ fn first_ready(
 {
     let mut found = None;
     for place in 0..waiting.len() {
-        match try_among(alloc, procs, sigs, state, goal_at(goals, waiting[place])) {
-            Ok(part) => return Ok(Found::Ready(place, part)),
-            Err(Failed::Fault(fault)) => note(&mut found, fault),
-            Err(Failed::Memory) => return Err(Memory),
+        let goal = goal_at(goals, waiting[place]);
+        if !sleeps(alloc, procs, sigs, state, &[], goal)? {
+            match try_among(alloc, procs, sigs, state, goal) {
+                Ok(part) => return Ok(Found::Ready(place, part)),
+                Err(Failed::Fault(fault)) => note(&mut found, fault),
+                Err(Failed::Memory) => return Err(Memory),
+            }
         }
     }
     Ok(Found::NoneReady(found))

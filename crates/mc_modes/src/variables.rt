@@ -94,8 +94,9 @@ pub fn push_variables(list: &mut Vec<u32>, goal: &Flat) -> Result<(), Memory>
     }
 }
 
+/// Puts those of several goals there.
 #[cycle(variables)]
-fn push_all_variables(list: &mut Vec<u32>, goals: &[Flat]) -> Result<(), Memory>
+pub fn push_all_variables(list: &mut Vec<u32>, goals: &[Flat]) -> Result<(), Memory>
     ensures { OnOk result (list.new.items
         ≡ list.old.items ++ variables_of_all (flats (map plain_flat goals.now))) }
 {

@@ -29,7 +29,7 @@ use Rattle.mc_modes.proofs.Frames.{Entered, Left, entered-as, left-as, frame-sta
 use Rattle.mc_modes.proofs.Free.{free-below, without-below}
 use Rattle.mc_modes.proofs.Passing.{passed-all}
 use Rattle.mc_modes.proofs.Placing.{place-below, placed-fits, placed-counted, goals-long, goals-later}
-use Rattle.mc_modes.proofs.Scanning.{same-trans, found-on, found-ready, found-alike}
+use Rattle.mc_modes.proofs.Scanning.{same-trans, found-on, found-asleep, passed-with, found-ready, found-alike}
 use Rattle.mc_modes.proofs.Settling.{goes-settles, settled-does, goes-as}
 use Rattle.mc_modes.proofs.Taking.{some-wait, none-wait, Turned, turned-begins, turned-counted, turned-on, turned-breaks, turned-runs, turned-alike}
 use Rattle.mc_modes.proofs.Turning.{each-below}
@@ -51,7 +51,7 @@ use Rattle.mc_modes.proofs.Views.{flat-true, flat-some, flat-same, flat-made, fl
 use Rattle.mc_modes.specs.Signatures.{declared_in}
 use Rattle.mc_program.specs.Values.{plain_value}
 use Rattle.mc_modes.proofs.order.+order.Goals as goal
-use Rattle.mc_modes.proofs.order.+order.Goals.{in_turn-then-turns-test+else-not-is_empty, in_turn-else-turns-test}
+use Rattle.mc_modes.proofs.order.+order.Goals.{first_ready-then-not-branch+in-Err-Fault, first_ready-else-not-branch, in_turn-then-turns-test+else-not-is_empty, in_turn-else-turns-test}
 
 pub try_goal-settled-requires : goal.try_goal-settled-requires
 try_goal-settled-requires t c =
@@ -424,8 +424,8 @@ first_ready-loop-place-init t c = record {
   so = λ first O C T w v. refl;
 }
 
-pub first_ready-goal_at-requires : goal.first_ready-goal_at-requires
-first_ready-goal_at-requires t c =
+pub first_ready-goal_at-goal-requires : goal.first_ready-goal_at-goal-requires
+first_ready-goal_at-goal-requires t c =
     let q = c.args.procs.now in
     let s = c.args.state.now in
     let p = c.loop-place.procs in
@@ -454,8 +454,8 @@ first_ready-returns-in-Ok-clause-does t c =
     let ks = c.args.waiting.now in
     let k = c.loop-place.place in
     let h : k < length ks = omega (arith, c.loop-place-test.true) in
-    let x = c.goal_at.result.now in
-    let is = c.goal_at.ensures in
+    let x = c.goal_at-goal.result.now in
+    let is = c.goal_at-goal.ensures in
     found-ready c.args.sigs.now gs ks k x q p c.try_among.new.procs s u c.try_among.new.state h c.requires.waiting is i.same i.moved c.requires.counted c.loop-place.found i.so c.in-Ok.part c.requires.stands c.in-Ok.ensures.does
 
 pub first_ready-returns-in-Ok-clause-alike : goal.first_ready-returns-in-Ok-clause-alike
@@ -469,9 +469,24 @@ first_ready-returns-in-Ok-clause-alike t c =
     let ks = c.args.waiting.now in
     let k = c.loop-place.place in
     let h : k < length ks = omega (arith, c.loop-place-test.true) in
-    let x = c.goal_at.result.now in
-    let is = c.goal_at.ensures in
+    let x = c.goal_at-goal.result.now in
+    let is = c.goal_at-goal.ensures in
     found-alike c.args.sigs.now gs ks k x q p c.try_among.new.procs s u c.try_among.new.state h c.requires.waiting is i.same i.moved c.requires.counted c.loop-place.found i.so c.in-Ok.part c.in-Ok.ensures.alike
+
+pub first_ready-sleeps-requires : goal.first_ready-sleeps-requires
+first_ready-sleeps-requires t c =
+    let q = c.args.procs.now in
+    let s = c.args.state.now in
+    let p = c.loop-place.procs in
+    let u = c.loop-place.state in
+    let i = c.loop-place.invariant in
+    let gs = c.args.goals.now in
+    let ks = c.args.waiting.now in
+    let k = c.loop-place.place in
+    let h : k < length ks = omega (arith, c.loop-place-test.true) in
+    let x = c.goal_at-goal.result.now in
+    let is = c.goal_at-goal.ensures in
+    subst (λ (y : Flat). GoalFits p u (plain_flat y)) (sym is) (placed-fits q p s u gs ks k x c.requires.waiting h i.same i.moved c.requires.fits)
 
 pub first_ready-loop-place-preserved : goal.first_ready-loop-place-preserved
 first_ready-loop-place-preserved t c =
@@ -484,16 +499,25 @@ first_ready-loop-place-preserved t c =
     let ks = c.args.waiting.now in
     let k = c.loop-place.place in
     let h : k < length ks = omega (arith, c.loop-place-test.true) in
-    let x = c.goal_at.result.now in
-    let is = c.goal_at.ensures in
-    let r = c.try_among.new.procs in
-    let v = c.try_among.new.state in
-    let b = rw c.in-Err-Fault.field-0-is at c.in-Err-Fault.ensures.does in
-    record {
-      same = same-trans s u v i.same b.same;
-      moved = moved-trans q p r s u v i.moved b.moved;
-      so = found-on c.args.sigs.now gs ks k x q p c.try_among.new.procs s u c.try_among.new.state h c.requires.waiting is i.same i.moved c.requires.counted c.loop-place.found i.so c.note.new.first c.in-Err-Fault.fault b c.note.ensures;
-    }
+    let x = c.goal_at-goal.result.now in
+    let is = c.goal_at-goal.ensures in
+    elim c.if-not-branch.branch [
+      | first_ready-then-not-branch+in-Err-Fault w ↦
+          let b = rw w.in-Err-Fault.field-0-is at w.in-Err-Fault.ensures.does in
+          passed-with c.args.sigs.now (goals_at gs ks) (k + 1) q s w.try_among.new.procs c.if-not-branch.procs w.try_among.new.state c.if-not-branch.state w.note.new.first c.if-not-branch.found w.procs-is w.state-is w.found-is
+          (record {
+            same = same-trans s u w.try_among.new.state i.same b.same;
+            moved = moved-trans q p w.try_among.new.procs s u w.try_among.new.state i.moved b.moved;
+            so = found-on c.args.sigs.now gs ks k x q p w.try_among.new.procs s u w.try_among.new.state h c.requires.waiting is i.same i.moved c.requires.counted c.loop-place.found i.so w.note.new.first w.in-Err-Fault.fault b w.note.ensures;
+          })
+      | first_ready-else-not-branch w ↦
+          passed-with c.args.sigs.now (goals_at gs ks) (k + 1) q s p c.if-not-branch.procs u c.if-not-branch.state c.loop-place.found c.if-not-branch.found w.procs-is w.state-is w.found-is
+          (record {
+            same = i.same;
+            moved = i.moved;
+            so = found-asleep c.args.sigs.now gs ks k x q p p s u u h c.requires.waiting is i.same i.moved c.requires.counted c.loop-place.found i.so (c.in_ok-sleeps.ensures w.if-not-branch.false);
+          })
+    ]
 
 pub first_ready-returns-clause-does : goal.first_ready-returns-clause-does
 first_ready-returns-clause-does t c =
@@ -784,8 +808,8 @@ first_ready-try_among-requires t c =
     let ks = c.args.waiting.now in
     let k = c.loop-place.place in
     let h : k < length ks = omega (arith, c.loop-place-test.true) in
-    let x = c.goal_at.result.now in
-    let is = c.goal_at.ensures in
+    let x = c.goal_at-goal.result.now in
+    let is = c.goal_at-goal.ensures in
     let l = place-below (length gs) ks k c.requires.waiting h in
     let one = at_most size-Flat gs (get_or ks k 0) x l in
     let same = ap size-Flat is in

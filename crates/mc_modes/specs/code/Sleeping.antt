@@ -1,0 +1,97 @@
+-- Goals that are seen to wait: as long as some of their variables are free, whatever else is so, and
+-- however many goals ran. They needn't be tried.
+use Rattle.std.specs.Prelude.{◌≡◌, ◌<◌, ℕ, Bool, true, false, not, ◌&&◌, ◌||◌, nat_eq, nat_lt, List, [], ◌∷◌, map, length, get_or, Option, Some, None}
+use Rattle.std.specs.List.{list_any, list_all, remove}
+use Rattle.mc_source.specs.Determinism.{is_zero}
+use Rattle.mc_program.specs.Programs.{Source}
+use Rattle.mc_program.specs.declared.builtin.Builtin.{Builtin}
+use Rattle.mc_model.specs.Flat as F
+use Rattle.mc_model.specs.Flat.{Flat_goal, Flat_goals, flat_then, flats}
+use Rattle.mc_model.specs.Stream.{is_bound}
+use Rattle.mc_accepted.specs.Arranged.{Declared, Fault, waits, negated_binds, branches_differ, lacks, Arranged, runs, breaks}
+use Rattle.mc_accepted.specs.Ordered.{Mode, modes_of, builtin_most, times_in}
+use Rattle.mc_mode_points.specs.States.{point_of}
+use Rattle.mc_mode_points.specs.declared.state.State.{State}
+use Rattle.mc_modes.specs.code.Waiting.{nothing, variables_of_each}
+
+-- goals wait
+abbrev pub OfWaiting : Fault → Type 0
+OfWaiting (waits k vs) = Unit {0}
+OfWaiting (negated_binds v) = ⊥
+OfWaiting (branches_differ v) = ⊥
+OfWaiting lacks = ⊥
+
+abbrev pub Waits : Arranged ℕ → Type 0
+Waits (runs gs o n zs) = ⊥
+Waits (breaks f) = OfWaiting f
+
+-- which variables are free
+abbrev pub Free : Type 0
+Free = ℕ → Bool
+
+-- one of a mode's inputs is free
+abbrev pub input_is_free : Free → List Mode → List ℕ → Bool
+input_is_free free [] xs = false
+input_is_free free (m ∷ ms) [] = false
+input_is_free free (m ∷ ms) (x ∷ xs) = (is_bound m.0 && free x) || input_is_free free ms xs
+
+-- those that are free, and none of these
+abbrev pub free_beside : Free → List ℕ → Free
+free_beside free vs x = free x && nat_eq (times_in x vs) 0
+
+module _ (P : Source) (declared : ℕ → List Declared) where
+  -- a call waits where no mode has all its inputs
+  abbrev pub call_sleeps : Free → Option Builtin → (pred : ℕ) → List ℕ → Bool
+  call_sleeps free None p xs = list_all (λ (d : Declared). input_is_free free d.modes xs) (declared p)
+  call_sleeps free (Some op) p xs = input_is_free free (modes_of op) xs
+
+  abbrev pub atom_sleeps : Free → Flat_goal → Bool
+  atom_sleeps free (F.Same x y) = free x && free y
+  atom_sleeps free (F.Made x s ys) = free x && list_any free ys
+  atom_sleeps free (F.Call p xs) = call_sleeps free (P.preds p).builtin p xs
+  atom_sleeps free (F.Is x v) = false
+  atom_sleeps free (F.And gs) = false
+  atom_sleeps free (F.Or gs) = false
+  atom_sleeps free (F.If vs g h k) = false
+  atom_sleeps free (F.Not g) = false
+  atom_sleeps free (F.Exists vs g) = false
+
+  -- a call comes back
+  abbrev pub call_returns : Option Builtin → (pred : ℕ) → Bool
+  call_returns None p = list_all (λ (d : Declared). not d.never) (declared p)
+  call_returns (Some op) p = not (is_zero (builtin_most op))
+
+  -- a goal that waits, or runs to a reachable end
+  abbrev pub is_mild : Flat_goal → Bool
+  is_mild (F.Same x y) = true
+  is_mild (F.Call p xs) = call_returns (P.preds p).builtin p
+  is_mild (F.Made x s ys) = false
+  is_mild (F.Is x v) = false
+  is_mild (F.And gs) = false
+  is_mild (F.Or gs) = false
+  is_mild (F.If vs g h k) = false
+  is_mild (F.Not g) = false
+  is_mild (F.Exists vs g) = false
+
+  -- A goal sleeps where these variables are free: an atom; a goal around one that sleeps; a condition,
+  -- or a first branch, that does; and a conjunction of mild goals and one that sleeps whatever those bind.
+  pub data Asleep : Free → Flat_goal → Type 0 where
+    atom : {free : Free} {g : Flat_goal} → atom_sleeps free g ≡ true → Asleep free g
+    negated : {free : Free} {g : Flat_goal} → Asleep free g → Asleep free (F.Not g)
+    quantified :
+        {free : Free} {vs : List ℕ} {g : Flat_goal} → Asleep free g → Asleep free (F.Exists vs g)
+    in_condition :
+        {free : Free} {vs : List ℕ} {g h k : Flat_goal} → Asleep free g
+        → Asleep free (F.If vs g h k)
+    in_first :
+        {free : Free} {g : Flat_goal} {gs : Flat_goals} → Asleep free g
+        → Asleep free (F.Or (flat_then g gs))
+    among :
+        {free : Free} (gs : List Flat_goal) (k : ℕ) → k < length gs
+        → list_all is_mild (remove gs k) ≡ true
+        → Asleep (free_beside free (variables_of_each (remove gs k))) (get_or gs k nothing)
+        → Asleep free (F.And (flats gs))
+
+-- the variables of a state that are free
+abbrev pub free_now : State → Free
+free_now s x = nat_lt x (length s.insts.items) && not (is_bound (point_of s.insts.items x))
