@@ -205,3 +205,15 @@ part-returns-clause-part t c =
     (changes ∙ ap (λ (ps : List Opened). kept (map plain_opened ps)) c.as_slice.ensures.value) in
     parts
     ∙ sym (several_is kept again os (λ e. omega (arith, c.if-len-eq1.false, c.len.ensures, c.args.disjuncts.ok, e)))
+
+pub arms-returns-in_err-arm-clause-grew : goal.arms-returns-in_err-arm-clause-grew
+arms-returns-in_err-arm-clause-grew t c = search (grown_twice)
+
+pub arms-returns-in_err-push-clause-grew : goal.arms-returns-in_err-push-clause-grew
+arms-returns-in_err-push-clause-grew t c = search (grown_twice)
+
+pub part-returns-in_err-goal-clause-grew : goal.part-returns-in_err-goal-clause-grew
+part-returns-in_err-goal-clause-grew t c = search (grown_twice)
+
+pub part-returns-clause-grew : goal.part-returns-clause-grew
+part-returns-clause-grew t c = search (grown_twice)

@@ -27,3 +27,9 @@ loop-k-preserved c =
           (subst (λ (y : Proc). IsSwitched r y x) was did.switched)
           (λ j d less. switched_later l r (get_or q.added j d) (get_or now.switched.items j d) did.grew (now.invariant.each j d less));
     }
+
+pub returns-in_err-p-clause-grew : goal.returns-in_err-p-clause-grew
+returns-in_err-p-clause-grew c = search (grown_twice)
+
+pub returns-in_err-push-clause-grew : goal.returns-in_err-push-clause-grew
+returns-in_err-push-clause-grew c = search (grown_twice)

@@ -380,3 +380,39 @@ formed_goal-returns-in_ok-part-in-Some-clause-formed t c =
     if_ok_both c.some_part.result _ _ (λ (part : FormedGoal). IsGoal r M types b c.args.forms after (plain_sched c.args.goal.now) part)
     (λ part made never. some_is r M types b c.args.forms after vs n (plain_sched c.args.goal.now) c.in_ok-part-in-Some.part part is c.in_ok-part-in-Some.ensures.formed made never)
     c.some_part.ensures.goal c.some_part.ensures.never
+
+pub copied_arms-returns-in_err-part-clause-grew : goal.copied_arms-returns-in_err-part-clause-grew
+copied_arms-returns-in_err-part-clause-grew t c = search (grown_twice)
+
+pub copied_arms-returns-in_err-copy_on-clause-grew : goal.copied_arms-returns-in_err-copy_on-clause-grew
+copied_arms-returns-in_err-copy_on-clause-grew t c = search (grown_twice)
+
+pub copied_arms-returns-in_err-push-clause-grew : goal.copied_arms-returns-in_err-push-clause-grew
+copied_arms-returns-in_err-push-clause-grew t c = search (grown_twice)
+
+pub formed_conj-returns-in_err-part-clause-grew : goal.formed_conj-returns-in_err-part-clause-grew
+formed_conj-returns-in_err-part-clause-grew t c = search (grown_twice)
+
+pub formed_conj-returns-in_err-enter-clause-grew : goal.formed_conj-returns-in_err-enter-clause-grew
+formed_conj-returns-in_err-enter-clause-grew t c = search (grown_twice)
+
+pub formed_conj-returns-in_err-push-clause-grew : goal.formed_conj-returns-in_err-push-clause-grew
+formed_conj-returns-in_err-push-clause-grew t c = search (grown_twice)
+
+pub formed_disj-returns-in_err-part-clause-grew : goal.formed_disj-returns-in_err-part-clause-grew
+formed_disj-returns-in_err-part-clause-grew t c = search (grown_twice)
+
+pub formed_disj-returns-in_err-push-clause-grew : goal.formed_disj-returns-in_err-push-clause-grew
+formed_disj-returns-in_err-push-clause-grew t c = search (grown_twice)
+
+pub formed_goal-returns-in_err-second-in-Ite-clause-grew : goal.formed_goal-returns-in_err-second-in-Ite-clause-grew
+formed_goal-returns-in_err-second-in-Ite-clause-grew t c = search (grown_twice)
+
+pub formed_goal-returns-in_err-third-in-Ite-clause-grew : goal.formed_goal-returns-in_err-third-in-Ite-clause-grew
+formed_goal-returns-in_err-third-in-Ite-clause-grew t c = search (grown_twice)
+
+pub formed_goal-returns-then-forms-clause-grew : goal.formed_goal-returns-then-forms-clause-grew
+formed_goal-returns-then-forms-clause-grew t c = search (grown_twice)
+
+pub formed_goal-returns-in_ok-third-in-Ite-clause-grew : goal.formed_goal-returns-in_ok-third-in-Ite-clause-grew
+formed_goal-returns-in_ok-third-in-Ite-clause-grew t c = search (grown_twice)
