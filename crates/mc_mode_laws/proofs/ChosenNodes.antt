@@ -25,7 +25,7 @@ use Rattle.mc_insts.specs.declared.graph.Node.TheVariants as N
 use Rattle.mc_procs.specs.Named.{NumbersBelow}
 use Rattle.mc_procs.specs.Procedures.{PlainProcs, source_of, insts_of}
 use Rattle.mc_mode_points.specs.Tables.{Entry, node_in}
-use Rattle.mc_mode_points.specs.Nodes.{type_in, Once}
+use Rattle.mc_mode_points.specs.Nodes.{type_in, Once, StoodFor}
 use Rattle.mc_mode_points.specs.Agreeing.{Agrees, Stands, TypedAs}
 use Rattle.mc_mode_points.specs.declared.state.State.{State}
 use Rattle.mc_mode_points.proofs.Narrow.{Below, narrowed-below}
@@ -146,14 +146,14 @@ module _ (joins : List Entry) where
       ∙ (joined-at us (suc j) r is (rest-once u us h) less ∙ ap (λ n. node_in joins n is) (omega arith))
 
 module _ (q : PlainProcs) (s : State) (stands : Stands q s) where
-  insts-end : InstsEnd (insts_of q) (count_of q.insts)
+  pub insts-end : InstsEnd (insts_of q) (count_of q.insts)
   insts-end i le = ap (plain_node q.insts.graph.functors) (get_or-eq_default q.insts.graph.nodes (N.Bound []) le ∙ sym (get_or-eq_default q.insts.graph.nodes (N.Bound []) (le_refl (count_of q.insts))))
 
-  symbols-end : SymbolsEnd (source_of q) (length (map plain_symbol q.program.symbols))
+  pub symbols-end : SymbolsEnd (source_of q) (length (map plain_symbol q.program.symbols))
   symbols-end k le = get_or-eq_default (map plain_symbol q.program.symbols) no_symbol le ∙ sym (get_or-eq_default (map plain_symbol q.program.symbols) no_symbol (le_refl (length (map plain_symbol q.program.symbols))))
 
   module _ (fits : Form → ℕ → TypeTerm → Bool) (tells : Tells (source_of q) (insts_of q) fits) (told : NodesAreTold) where
-    abbrev choice : Chosen
+    abbrev pub choice : Chosen
     choice = record {
       is_dead = λ i. is_dead (insts_of q i);
       over = λ f is. node_in s.nodes.overs f is;
@@ -163,7 +163,7 @@ module _ (q : PlainProcs) (s : State) (stands : Stands q s) where
       fits = λ i j t. fits (at i) j t;
     }
 
-    choice-agrees : (T : ℕ → TypeTerm) → TypedAs s T → Agrees q s choice T
+    pub choice-agrees : (T : ℕ → TypeTerm) → TypedAs s T → Agrees q s choice T
     choice-agrees T typed = record {
       dies = λ i lt. refl;
       constants = λ i lt. refl;
@@ -175,7 +175,7 @@ module _ (q : PlainProcs) (s : State) (stands : Stands q s) where
       types = typed;
     }
 
-    choice-below : FindsBelow (count_of q.insts) choice
+    pub choice-below : FindsBelow (count_of q.insts) choice
     choice-below = record {
       some = stands.fit.program.insts_are.builtins.many;
       over = λ f k is e. (stands.nodes.overs f k is e).0;
@@ -198,12 +198,15 @@ module _ (q : PlainProcs) (s : State) (stands : Stands q s) where
     abbrev G : Graph
     G = insts_of q
 
-    choice-joined : (t : TypeTerm) (is : List ℕ) (k : ℕ) (all : Bool) → AllAre all is → EachIsTidy P G is t → choice.joined t is ≡ Some k → Merged P G is k t × Tidy P G k t
-    choice-joined t is k all are tidy e =
+    -- a joined node was found to stand for the insts at the type
+    pub choice-stood : (t : TypeTerm) (is : List ℕ) (k : ℕ) → choice.joined t is ≡ Some k → StoodFor P q.insts is k t
+    choice-stood t is k e =
         let found = joined-typed s.nodes.joins 0 s.nodes.types.items t is k e in
-        let stood = (stands.nodes.joins found.0 k is (ap (λ n. node_in s.nodes.joins n is) (omega arith) ∙ found.1)).1 in
-        subst (λ u. Merged P G is k u × Tidy P G k u) found.2
-        (stood-merged P q.insts stands.fit.program.insts_are.insts is k (type_in s.nodes.types.items found.0) all stood are (subst (λ u. EachIsTidy P G is u) (sym found.2) tidy))
+        subst (λ u. StoodFor P q.insts is k u) found.2
+        (stands.nodes.joins found.0 k is (ap (λ n. node_in s.nodes.joins n is) (omega arith) ∙ found.1)).1
+
+    choice-joined : (t : TypeTerm) (is : List ℕ) (k : ℕ) (all : Bool) → AllAre all is → EachIsTidy P G is t → choice.joined t is ≡ Some k → Merged P G is k t × Tidy P G k t
+    choice-joined t is k all are tidy e = stood-merged P q.insts stands.fit.program.insts_are.insts is k t all (choice-stood t is k e) are tidy
 
     module _ (S : System) (same-source : S.world.source ≡ P) (same-insts : S.insts ≡ G) (T : ℕ → TypeTerm) where
       abbrev Told : (Source → Graph → Type 0) → Type 0

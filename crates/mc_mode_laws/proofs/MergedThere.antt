@@ -60,16 +60,16 @@ module _ (P : Source) (I J : Insts) (grown : Grown P I J) where
   abbrev H : Graph
   H = graph_of J
 
-  abbrev Old : List ℕ → Type 0
+  abbrev pub Old : List ℕ → Type 0
   Old is = (n : ℕ) → n < length is → get_or is n 0 < count_of I
 
-  rest : (i : ℕ) (is : List ℕ) → Old (i ∷ is) → Old is
+  pub rest : (i : ℕ) (is : List ℕ) → Old (i ∷ is) → Old is
   rest i is o n lt = o (suc n) (omega (arith, lt))
 
-  head-old : (i : ℕ) (is : List ℕ) → Old (i ∷ is) → i < count_of I
+  pub head-old : (i : ℕ) (is : List ℕ) → Old (i ∷ is) → i < count_of I
   head-old i is o = o 0 (omega arith)
 
-  tidies-back : (is : List ℕ) (t : TypeTerm) → Old is → EachIsTidy P H is t → EachIsTidy P G is t
+  pub tidies-back : (is : List ℕ) (t : TypeTerm) → Old is → EachIsTidy P H is t → EachIsTidy P G is t
   tidies-back [] t o h = tt
   tidies-back (i ∷ is) t o h = ((grown.tidy i (head-old i is o) t).1 h.0, tidies-back is t (rest i is o) h.1)
 
@@ -85,7 +85,7 @@ module _ (P : Source) (I J : Insts) (grown : Grown P I J) where
   dead-on [] o h = h
   dead-on (i ∷ is) o h = ⊎_elim (λ a. inl (grown.same i (head-old i is o) ∙ a)) (λ b. inr (dead-on is (rest i is o) b)) h
 
-  above-on : (is : List ℕ) (k : ℕ) (t : TypeTerm) → Old is → k < count_of I → NoneMore P G is G k t → NoneMore P H is H k t
+  pub above-on : (is : List ℕ) (k : ℕ) (t : TypeTerm) → Old is → k < count_of I → NoneMore P G is G k t → NoneMore P H is H k t
   above-on [] k t o w h = tt
   above-on (i ∷ is) k t o w h = ((λ path e a. (grown.meaning k w path e t).0 (h.0 path e ((grown.meaning i (head-old i is o) path e t).1 a))), above-on is k t (rest i is o) w h.1)
 

@@ -1,5 +1,5 @@
 -- Over forms no inst is ever lacking.
-use Rattle.std.proofs.Common.{◌≡◌, ℕ, zero, suc, Bool, true, false, cond, not, ◌&&◌, ◌||◌, List, [], ◌∷◌, ◌++◌, map, Option, Some, None, refl, ap, ◌∙◌}
+use Rattle.std.proofs.Common.{◌≡◌, ◌≢◌, ℕ, zero, suc, Bool, true, false, cond, not, ◌&&◌, ◌||◌, List, [], ◌∷◌, ◌++◌, map, Option, Some, None, refl, ap, ◌∙◌}
 use Rattle.std.specs.List.{list_any, list_all}
 use Rattle.mc_program.specs.Values.{Val}
 use Rattle.mc_program.specs.Programs.{TypeTerm, Source}
@@ -10,7 +10,7 @@ use Rattle.mc_model.specs.Scheduled.{Node, Scheduled, Conj, Disj, Ite, Exists, N
 use Rattle.mc_accepted.specs.Ordered.{is_state, modes_of}
 use Rattle.mc_accepted.specs.Unmarked.{unmarked}
 use Rattle.mc_accepted.specs.Least.{least}
-use Rattle.mc_accepted.specs.Arranged.{Operations, Declared, Fault, waits, negated_binds, branches_differ, lacks, alone, two_goals, count_flat, is_there, those_in, Point, Arranged, runs, breaks, Trial, Waiting, Picked, takes, none_runs, Branches, all_run, one_breaks, variables_of_waiting, or_first, picked, pick, behind, goes_on, with_branch, and_branches, no_branch, each_branch, unless, wrapped, stuck, in_turn, atom, same, built, took, take, made, constant, best, called, applied_with, call_of, binds, differs, joined_at, merges, branched, conditional, negation, trial, trials, usable, implied_in, faulty, unless_unmet, first_unmet, judged, entry}
+use Rattle.mc_accepted.specs.Arranged.{Operations, Declared, Fault, waits, negated_binds, branches_differ, lacks, alone, two_goals, count_flat, is_there, those_in, Point, Arranged, runs, breaks, Trial, Waiting, Picked, takes, none_runs, Branches, all_run, one_breaks, variables_of_waiting, or_first, picked, pick, behind, goes_on, with_branch, and_branches, no_branch, each_branch, unless, wrapped, stuck, in_turn, atom, same, built, took, take, made, constant, best, called, applied_with, call_of, binds, differs, joined_at, merges, branched, conditional, negation, trial, trials, usable, implied_in, faulty, unless_unmet, first_unmet, judged, entry, arrange}
 use Rattle.mc_accepted.specs.Forms.{of_forms}
 use Rattle.mc_program.specs.declared.builtin.Builtin.{Builtin}
 use Rattle.mc_order_laws.specs.OrderLaws.{NothingLacks}
@@ -204,7 +204,11 @@ module _ {I : Type 0} (Op : Operations I) (P : Source) (declared : ℕ → List 
       at None q = cc
       at (Some k) q = cc
 
+  -- where each inst that is looked for is found
+  pub never-lacks : (next : ℕ) (head first last : List ℕ) (g : Flat_goal) → arrange Op P declared T next head first last g ≢ faulty lacks
+  never-lacks next head first last g e =
+      not-lacking head last (entry Op P declared T head first) (trial Op P declared T g head next (entry Op P declared T head first))
+      (fine g head next (entry Op P declared T head first)) e
+
 pub nothing-lacks : NothingLacks
-nothing-lacks P G declared T f next head first last g e =
-    not-lacking (of_forms P G f) P declared T (λ s is. refl) (λ t i is. refl) head last (entry (of_forms P G f) P declared T head first) (trial (of_forms P G f) P declared T g head next (entry (of_forms P G f) P declared T head first))
-    (fine (of_forms P G f) P declared T (λ s is. refl) (λ t i is. refl) g head next (entry (of_forms P G f) P declared T head first)) e
+nothing-lacks P G declared T f = never-lacks (of_forms P G f) P declared T (λ s is. refl) (λ t i is. refl)

@@ -1,0 +1,203 @@
+-- What comes of a program in two ways is one.
+use Rattle.std.proofs.Common.{◌≡◌, ◌⊎◌, inl, inr, ℕ, ◌<◌, Bool, List, Vec, [], ◌∷◌, length, map, refl, sym, ap, ◌∙◌, subst}
+use Rattle.std.specs.Global.{Global}
+use Rattle.std.specs.List.{All, AllZip}
+use Rattle.std.proofs.lemmas.List.Elements.{All-nil, All-cons}
+use Rattle.mc_source.specs.declared.rule.Broken.{Broken}
+use Rattle.mc_program.specs.Programs.{TypeTerm}
+use Rattle.mc_program.specs.PlainPrograms.{plain_program}
+use Rattle.mc_program.specs.Values.{Val}
+use Rattle.mc_program.specs.declared.builtin.Builtin.{Builtin}
+use Rattle.mc_program.specs.declared.program.Program.{Program}
+use Rattle.mc_model.specs.Builtins.{outcome}
+use Rattle.mc_model.specs.Outcomes.{Outcome}
+use Rattle.mc_model.specs.Worlds.{library_of}
+use Rattle.mc_model.specs.declared.flat.Normal.{Normal}
+use Rattle.mc_model.specs.PlainGoals.{plain_node}
+use Rattle.mc_model.specs.declared.inst.Sig.{Sig}
+use Rattle.mc_model.specs.declared.sched.Proc.{Proc}
+use Rattle.mc_accepted.specs.Arranged.{in_order}
+use Rattle.mc_accepted.specs.DeterminismFaults.{by_place}
+use Rattle.mc_accepted.specs.InstRules.{PlainInstDef}
+use Rattle.mc_insts.specs.declared.insts.Insts.{Insts}
+use Rattle.mc_insts.specs.Graphs.{graph_of}
+use Rattle.mc_order_laws.specs.NormalScopes.{EachNamedApart}
+use Rattle.mc_order_laws.specs.SomeTest.{TypesMet}
+use Rattle.mc_procs.specs.Fitting.{AllFit}
+use Rattle.mc_procs.specs.Procedures.{PlainProcs}
+use Rattle.mc_orders.specs.Numbering.{mode_ids}
+use Rattle.mc_orders.specs.Outcomes.{Tried, IsTried, broken_rules, AreBroken, IsOrdered}
+use Rattle.mc_orders.specs.declared.modes.ModeId.{ModeId}
+use Rattle.mc_orders.specs.declared.ordering.Orders.{Orders}
+use Rattle.mc_orders.specs.declared.ordering.Orders.TheVariants as O
+use Rattle.mc_whole.specs.Goals.{HasNormalGoals}
+use Rattle.mc_rules.specs.Premises.{HasInsts}
+use Rattle.mc_rules.specs.Rules.{Comes, Determined, FaultsAre, Ordered, break_no_rule, break_uniqueness, break_modes, break_determinism}
+use Rattle.mc_rules.specs.Untidy.{AreUntidy}
+use Rattle.mc_rules.specs.declared.rules.Ruled.{Ruled}
+use Rattle.mc_rules.specs.declared.rules.Ruled.TheVariants as R
+use Rattle.mc_rule_laws.proofs.OfModes.{last_program}
+use Rattle.mc_one_answer.specs.FoundNodes.{FoundNodes}
+use Rattle.mc_one_answer.specs.ModesMeanOne.{ArePlaced}
+use Rattle.mc_one_answer.specs.OneListOfRules.{AreTyped, OneListOfRules}
+use Rattle.mc_one_answer.specs.OneAnswer.{RunAlike, OneRuled, OneAnswer}
+use Rattle.mc_one_answer.proofs.OrderTypes.{types_are_one}
+use Rattle.mc_one_answer.proofs.TwoOrders.{orders_are_one}
+use Rattle.mc_one_answer.proofs.TwoRuns.{OrdersAreOne, one_list, one_run}
+use Rattle.mc_one_answer.proofs.Untidied.{untidy_alike}
+
+-- ---- goals in order break no rule
+module _ (sigs : List Sig) (goals : List Normal) (exported : List Bool) (first last : PlainProcs) where
+  abbrev AreInOrder : List ModeId → List Proc → Type 0
+  AreInOrder ids ps = AllZip (IsOrdered sigs goals exported first last) ids ps
+
+  abbrev tried_of : List ModeId → List Proc → List Tried
+  tried_of [] ps = []
+  tried_of (id ∷ ids) [] = []
+  tried_of (id ∷ ids) (p ∷ ps) = record { id = id; verdict = in_order (plain_node p.body) } ∷ tried_of ids ps
+
+  tried_ids : (ids : List ModeId) (ps : List Proc) → AreInOrder ids ps → map (λ (t : Tried). t.id) (tried_of ids ps) ≡ ids
+  tried_ids [] ps h = refl
+  tried_ids (id ∷ ids) [] h = absurd h
+  tried_ids (id ∷ ids) (p ∷ ps) h = ap (λ (is : List ModeId). id ∷ is) (tried_ids ids ps h.1)
+
+  each_tried : (ids : List ModeId) (ps : List Proc) → AreInOrder ids ps → All (IsTried sigs goals first last) (tried_of ids ps)
+  each_tried [] ps h = All-nil (IsTried sigs goals first last)
+  each_tried (id ∷ ids) [] h = absurd h
+  each_tried (id ∷ ids) (p ∷ ps) h =
+      All-cons (IsTried sigs goals first last) (record { id = id; verdict = in_order (plain_node p.body) }) (tried_of ids ps)
+      (record { before = h.0.before; after = h.0.after; end = h.0.scheduled.end; begun = h.0.begun; becomes = h.0.scheduled.becomes; ended = h.0.ended })
+      (each_tried ids ps h.1)
+
+  no_rules : (ids : List ModeId) (ps : List Proc) → [] ≡ broken_rules sigs goals (tried_of ids ps)
+  no_rules [] ps = refl
+  no_rules (id ∷ ids) [] = refl
+  no_rules (id ∷ ids) (p ∷ ps) = no_rules ids ps
+
+  none_broken : (ids : List ModeId) (ps : List Proc) → AreInOrder ids ps → AreBroken sigs goals first last ids []
+  none_broken ids ps h = record { tried = tried_of ids ps; ids_are = tried_ids ids ps h; each = each_tried ids ps h; rules = no_rules ids ps }
+
+module _ (P : Program) (defs : List PlainInstDef) (sigs : List Sig) (goals : List Normal) (exported : List Bool) (runs : Bool) where
+  abbrev InOrder : Orders → PlainProcs → Type 0
+  InOrder o q = Ordered P defs sigs goals exported o q
+
+  abbrev Coming : Ruled → Type 0
+  Coming r = Comes P defs sigs goals exported runs r
+
+  -- ---- how an answer came
+  -- procedures that fit, and the rules of determinism that they break
+  record Judged (last : PlainProcs) (faults : List Broken) : Type 0 where
+    pub ordered : PlainProcs
+    pub came : InOrder O.All ordered
+    pub determined : Determined ordered last
+    pub faults_are : FaultsAre runs last faults
+    pub fit : AllFit last
+
+  record BreaksUniqueness (list : Vec Broken Global) : Type 0 where
+    pub insts : Insts
+    pub has : HasInsts P defs insts
+    pub untidy : List Broken
+    pub says : AreUntidy (plain_program P) (graph_of insts) sigs untidy
+    pub same : list.items ≡ by_place untidy
+    pub some : untidy ≡ [] → ⊥
+
+  record BreaksModes (list : Vec Broken Global) : Type 0 where
+    pub last : PlainProcs
+    pub came : InOrder (O.Broken list) last
+
+  record BreaksDeterminism (list : Vec Broken Global) : Type 0 where
+    pub last : PlainProcs
+    pub judged : Judged last list.items
+    pub some : list.items ≡ [] → ⊥
+
+  abbrev Breaks : Vec Broken Global → Type 0
+  Breaks list = BreaksUniqueness list ⊎ (BreaksModes list ⊎ BreaksDeterminism list)
+
+  kept : (last : PlainProcs) → Coming (R.Procs last) → Judged last []
+  kept last (break_no_rule {ordered = o} came determined none fit) = record { ordered = o; came = came; determined = determined; faults_are = none; fit = fit }
+
+  broken : (list : Vec Broken Global) → Coming (R.Broken list) → Breaks list
+  broken list (break_uniqueness {insts = i} {untidy = u} has says same some) = inl (record { insts = i; has = has; untidy = u; says = says; same = same; some = some })
+  broken list (break_modes {last = l} came) = inr (inl (record { last = l; came = came }))
+  broken list (break_determinism {ordered = o} {last = l} came determined faults fit some) =
+      inr (inr (record { last = l; judged = record { ordered = o; came = came; determined = determined; faults_are = faults; fit = fit }; some = some }))
+
+  -- ---- modes that break no rule of uniqueness in one graph break none in another
+  not_untidy : (list : Vec Broken Global) (o : Orders) (q : PlainProcs) → BreaksUniqueness list → InOrder o q → ⊥
+  not_untidy list o q b came = b.some (untidy_alike P defs b.insts came.first.insts b.has came.begins.insts sigs b.untidy [] b.says came.begins.tidy)
+
+  both_untidy : (v w : Vec Broken Global) → BreaksUniqueness v → BreaksUniqueness w → v.items ≡ w.items
+  both_untidy v w a b = a.same ∙ (ap by_place (untidy_alike P defs a.insts b.insts a.has b.has sigs a.untidy b.untidy a.says b.says) ∙ sym b.same)
+
+  -- ---- goals in order break no rule, and those that break one break one list
+  module _ (rules : OneListOfRules) (placed : ArePlaced 0 sigs) (typed : AreTyped P goals) (met : (t : TypeTerm) → TypesMet (plain_program P) t) where
+    one_list_told : (o p : Orders) (q r : PlainProcs) (came : InOrder o q) (also : InOrder p r) (xs ys : List Broken) → AreBroken sigs goals came.first q (mode_ids came.first.program sigs) xs → AreBroken sigs goals also.first r (mode_ids also.first.program sigs) ys → xs ≡ ys
+    one_list_told o p q r came also xs ys f g =
+        rules P defs sigs goals exported came.first also.first q r xs ys placed typed met came.begins also.begins came.asked
+        (subst (λ (X : Program). AreBroken sigs goals came.first q (mode_ids X sigs) xs) came.begins.program f)
+        (subst (λ (X : Program). AreBroken sigs goals also.first r (mode_ids X sigs) ys) also.begins.program g)
+
+    one_mode_list : (v w : Vec Broken Global) (q r : PlainProcs) → InOrder (O.Broken v) q → InOrder (O.Broken w) r → v.items ≡ w.items
+    one_mode_list v w q r came also =
+        let f = came.became in
+        let g = also.became in
+        f.2 ∙ (ap by_place (one_list_told (O.Broken v) (O.Broken w) q r came also f.0 g.0 f.1 g.1) ∙ sym g.2)
+
+    not_both : (v : Vec Broken Global) (q r : PlainProcs) → InOrder O.All q → InOrder (O.Broken v) r → ⊥
+    not_both v q r came also =
+        let g = also.became in
+        g.3 (g.2 ∙ ap by_place (sym (one_list_told O.All (O.Broken v) q r came also [] g.0 (none_broken sigs goals exported came.first q (mode_ids came.first.program sigs) q.added came.became) g.1)))
+
+  module _ (found : FoundNodes) (rules : OneListOfRules) (placed : ArePlaced 0 sigs) (typed : AreTyped P goals) (normal : HasNormalGoals P goals) (apart : (p : ℕ) → p < length P.preds → EachNamedApart ((plain_program P).preds p).clauses)
+      (met : (t : TypeTerm) → TypesMet (plain_program P) t) where
+    abbrev does : Builtin → List Val → Outcome
+    does = outcome (library_of P) []
+
+    -- the orders of goals are one
+    orders : (l1 l2 : PlainProcs) (xs ys : List Broken) (a : Judged l1 xs) (b : Judged l2 ys)
+        → OrdersAreOne does P defs sigs goals exported normal apart met a.ordered l1 a.came a.determined a.fit b.ordered l2 b.came b.determined b.fit
+    orders l1 l2 xs ys a b =
+        orders_are_one found does P defs sigs goals exported normal apart met placed a.ordered l1 a.came a.determined a.fit b.ordered l2 b.came b.determined b.fit
+        (types_are_one found does P defs sigs goals exported normal apart met placed a.ordered l1 a.came a.determined a.fit b.ordered l2 b.came b.determined b.fit)
+
+    one_fault_list : (l1 l2 : PlainProcs) (xs ys : List Broken) → Judged l1 xs → Judged l2 ys → xs ≡ ys
+    one_fault_list l1 l2 xs ys a b =
+        one_list does P defs sigs goals exported normal apart met a.ordered l1 a.came a.determined a.fit b.ordered l2 b.came b.determined b.fit (orders l1 l2 xs ys a b) runs xs ys a.faults_are b.faults_are
+
+    not_kept : (l : PlainProcs) (v : Vec Broken Global) → Judged l [] → Breaks v → ⊥
+    not_kept l v a (inl b) = not_untidy v O.All a.ordered b a.came
+    not_kept l v a (inr (inl b)) = not_both rules placed typed met v a.ordered b.last a.came b.came
+    not_kept l v a (inr (inr b)) = b.some (sym (one_fault_list l b.last [] v.items a b.judged))
+
+    both_broken : (v w : Vec Broken Global) → Breaks v → Breaks w → v.items ≡ w.items
+    both_broken v w (inl a) (inl b) = both_untidy v w a b
+    both_broken v w (inl a) (inr (inl b)) = absurd (not_untidy v (O.Broken w) b.last a b.came)
+    both_broken v w (inl a) (inr (inr b)) = absurd (not_untidy v O.All b.judged.ordered a b.judged.came)
+    both_broken v w (inr (inl a)) (inl b) = absurd (not_untidy w (O.Broken v) a.last b a.came)
+    both_broken v w (inr (inl a)) (inr (inl b)) = one_mode_list rules placed typed met v w a.last b.last a.came b.came
+    both_broken v w (inr (inl a)) (inr (inr b)) = absurd (not_both rules placed typed met v b.judged.ordered a.last b.judged.came a.came)
+    both_broken v w (inr (inr a)) (inl b) = absurd (not_untidy w O.All a.judged.ordered b a.judged.came)
+    both_broken v w (inr (inr a)) (inr (inl b)) = absurd (not_both rules placed typed met w a.judged.ordered b.last a.judged.came b.came)
+    both_broken v w (inr (inr a)) (inr (inr b)) = one_fault_list a.last b.last v.items w.items a.judged b.judged
+
+    both_kept : (q r : PlainProcs) → Judged q [] → Judged r [] → RunAlike q r
+    both_kept q r a b =
+        let one = one_run does P defs sigs goals exported normal apart met a.ordered q a.came a.determined a.fit b.ordered r b.came b.determined b.fit (orders q r [] [] a b) in
+        record {
+          program = last_program P defs sigs goals exported b.ordered r b.came b.determined ∙ sym (last_program P defs sigs goals exported a.ordered q a.came a.determined);
+          calls = λ does budget height k. (one does budget height k).0;
+          queries = λ does budget height k. (one does budget height k).1;
+        }
+
+    both_come : (r s : Ruled) → Coming r → Coming s → OneRuled r s
+    both_come (R.Procs q) (R.Procs r) a b = both_kept q r (kept q a) (kept r b)
+    both_come (R.Procs q) (R.Broken v) a b = not_kept q v (kept q a) (broken v b)
+    both_come (R.Procs q) (R.Unseen u) a b = tt
+    both_come (R.Broken v) (R.Procs q) a b = not_kept q v (kept q b) (broken v a)
+    both_come (R.Broken v) (R.Broken w) a b = both_broken v w (broken v a) (broken w b)
+    both_come (R.Broken v) (R.Unseen u) a b = tt
+    both_come (R.Unseen u) s a b = tt
+
+-- two answers are one
+pub one-answer : FoundNodes → OneListOfRules → OneAnswer
+one-answer found rules P defs sigs goals exported runs normal apart met placed typed r s a b = both_come P defs sigs goals exported runs found rules placed typed normal apart met r s a b

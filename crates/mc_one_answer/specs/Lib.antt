@@ -1,0 +1,6 @@
+pub mod FoundNodes
+pub mod ModesMeanOne
+pub mod OneListOfRules
+pub mod WholePrograms
+pub mod MeantNodes
+pub mod OneAnswer

@@ -1,0 +1,61 @@
+-- What comes of a program in two ways is one: one list of broken rules, or procedures that run
+-- alike. (Mercury Language Reference Manual: Modes; Determinism; this project's rules and event
+-- lists.)
+use Rattle.std.specs.Prelude.{◌≡◌, ◌<◌, ℕ, Bool, List, Option, length}
+use Rattle.mc_program.specs.Programs.{TypeTerm}
+use Rattle.mc_program.specs.PlainPrograms.{plain_program}
+use Rattle.mc_program.specs.Values.{Val}
+use Rattle.mc_program.specs.declared.builtin.Builtin.{Builtin}
+use Rattle.mc_program.specs.declared.program.Program.{Program}
+use Rattle.mc_model.specs.Outcomes.{Outcome}
+use Rattle.mc_model.specs.Stream.{run_call, run_query}
+use Rattle.mc_model.specs.declared.flat.Normal.{Normal}
+use Rattle.mc_model.specs.declared.inst.Sig.{Sig}
+use Rattle.mc_accepted.specs.InstRules.{PlainInstDef}
+use Rattle.mc_order_laws.specs.NormalScopes.{EachNamedApart}
+use Rattle.mc_order_laws.specs.SomeTest.{TypesMet}
+use Rattle.mc_procs.specs.Procedures.{PlainProcs, procedure_at}
+use Rattle.mc_whole.specs.Goals.{HasNormalGoals}
+use Rattle.mc_rules.specs.Rules.{Comes}
+use Rattle.mc_rules.specs.declared.rules.Ruled.{Ruled}
+use Rattle.mc_rules.specs.declared.rules.Ruled.TheVariants as R
+use Rattle.mc_one_answer.specs.ModesMeanOne.{ArePlaced}
+use Rattle.mc_one_answer.specs.OneListOfRules.{AreTyped}
+
+-- Procedures of one program run alike: under each number, at each budget and height, whatever
+-- builtins do.
+pub record RunAlike (q r : PlainProcs) : Type 0 where
+  pub program : r.program ≡ q.program
+  pub calls :
+      (does : Builtin → List Val → Outcome) (budget height k : ℕ) (vs : List (Option Val))
+      → run_call does (procedure_at q.added) budget height k vs
+      ≡ run_call does (procedure_at r.added) budget height k vs
+  pub queries :
+      (does : Builtin → List Val → Outcome) (budget height k : ℕ)
+      → run_query does (procedure_at q.added) budget height (procedure_at q.added k)
+      ≡ run_query does (procedure_at r.added) budget height (procedure_at r.added k)
+
+-- Two answers are one. That something isn't seen to hold is no answer.
+abbrev pub OneRuled : Ruled → Ruled → Type 0
+OneRuled (R.Procs q) (R.Procs r) = RunAlike q r
+OneRuled (R.Procs q) (R.Broken v) = ⊥
+OneRuled (R.Procs q) (R.Unseen u) = Unit {0}
+OneRuled (R.Broken v) (R.Procs q) = ⊥
+OneRuled (R.Broken v) (R.Broken w) = v.items ≡ w.items
+OneRuled (R.Broken v) (R.Unseen u) = Unit {0}
+OneRuled (R.Unseen u) r = Unit {0}
+
+-- Whatever comes of a program's goals in its declared modes, it is one. The goals are those of its
+-- clauses, of which each names its quantified variables apart, and they are typed; below each type
+-- there are finitely many; and signatures stand in the order of their predicates.
+abbrev pub OneAnswer : Type 0
+OneAnswer =
+    (P : Program) (ds : List PlainInstDef) (sigs : List Sig) (goals : List Normal)
+    (exported : List Bool) (runs : Bool)
+    → HasNormalGoals P goals
+    → ((p : ℕ) → p < length P.preds → EachNamedApart ((plain_program P).preds p).clauses)
+    → ((t : TypeTerm) → TypesMet (plain_program P) t)
+    → ArePlaced 0 sigs → AreTyped P goals
+    → (r s : Ruled)
+    → Comes P ds sigs goals exported runs r → Comes P ds sigs goals exported runs s
+    → OneRuled r s

@@ -1,0 +1,43 @@
+-- The rules of modes that a program breaks are one list, whatever nodes are made as goals are put in
+-- order. (Mercury Language Reference Manual: Modes; this project's rules.)
+use Rattle.std.specs.Prelude.{◌≡◌, ◌<◌, ℕ, Bool, List, map, length, None}
+use Rattle.mc_source.specs.declared.rule.Broken.{Broken}
+use Rattle.mc_program.specs.Programs.{TypeTerm, Source}
+use Rattle.mc_program.specs.PlainPrograms.{plain_program}
+use Rattle.mc_program.specs.declared.program.Program.{Program}
+use Rattle.mc_model.specs.PlainGoals.{plain_flat}
+use Rattle.mc_model.specs.declared.flat.Normal.{Normal}
+use Rattle.mc_model.specs.declared.inst.Sig.{Sig}
+use Rattle.mc_accepted.specs.InstRules.{PlainInstDef}
+use Rattle.mc_accepted.specs.Typing.{TypedGoal}
+use Rattle.mc_order_laws.specs.SomeTest.{TypesMet}
+use Rattle.mc_procs.specs.Procedures.{PlainProcs}
+use Rattle.mc_orders.specs.NormalGoals.{goal_at}
+use Rattle.mc_orders.specs.Numbering.{mode_ids}
+use Rattle.mc_orders.specs.Outcomes.{AreBroken}
+use Rattle.mc_switch.specs.Types.{type_in}
+use Rattle.mc_rules.specs.Premises.{Begins, AskedOf}
+use Rattle.mc_one_answer.specs.ModesMeanOne.{ArePlaced}
+
+-- a predicate's goal is typed, and its head variables have the predicate's types
+pub record IsTyped (P : Source) (p : ℕ) (g : Normal) : Type 0 where
+  pub head : map (type_in g.var_types) g.head ≡ (P.preds p).types
+  pub body : TypedGoal P (type_in g.var_types) (plain_flat g.body)
+
+-- so are those of all predicates that are no builtins
+abbrev pub AreTyped : Program → List Normal → Type 0
+AreTyped P goals =
+    (p : ℕ) → p < length P.preds → ((plain_program P).preds p).builtin ≡ None
+    → IsTyped (plain_program P) p (goal_at goals p)
+
+-- Where goals are put in order in two ways, from the beginning on, they break one list of rules; and
+-- where they break none in one, they break none in the other.
+abbrev pub OneListOfRules : Type 0
+OneListOfRules =
+    (P : Program) (ds : List PlainInstDef) (sigs : List Sig) (goals : List Normal)
+    (exported : List Bool) (first other here there : PlainProcs) (faults others : List Broken)
+    → ArePlaced 0 sigs → AreTyped P goals → ((t : TypeTerm) → TypesMet (plain_program P) t)
+    → Begins P ds sigs first → Begins P ds sigs other → AskedOf first sigs goals exported
+    → AreBroken sigs goals first here (mode_ids P sigs) faults
+    → AreBroken sigs goals other there (mode_ids P sigs) others
+    → faults ≡ others

@@ -1,0 +1,56 @@
+//! The laws of one answer. Each is the contract of a function that does nothing but call others of the kind.
+ghost use Rattle.mc_one_answer.specs.FoundNodes.{FoundNodes};
+ghost use Rattle.mc_one_answer.specs.MeantNodes.{MeantNodesMeanOne};
+ghost use Rattle.mc_one_answer.specs.ModesMeanOne.{DefinedMeanOne, ModesMeanOne};
+ghost use Rattle.mc_one_answer.specs.OneAnswer.{OneAnswer};
+ghost use Rattle.mc_one_answer.specs.OneListOfRules.{OneListOfRules};
+ghost use Rattle.mc_one_answer.specs.WholePrograms.{SignaturesArePlaced, WholeGoalsAreTyped};
+
+use mc_order_laws::laws::some_test_tells;
+
+/// Some functions agree with what is there, and find nothing else.
+pub fn found_nodes()
+    ensures { FoundNodes }
+{
+    some_test_tells()
+}
+
+/// Insts that definitions define mean one thing in two graphs.
+pub fn defined_insts_mean_one()
+    ensures { DefinedMeanOne }
+{}
+
+/// So do those of declared modes.
+pub fn modes_mean_one()
+    ensures { ModesMeanOne }
+{}
+
+/// Goals that are put in order in two ways break one list of rules.
+pub fn one_list_of_rules()
+    ensures { OneListOfRules }
+{
+    found_nodes()
+}
+
+/// What comes of a program in two ways is one answer.
+pub fn one_answer()
+    ensures { OneAnswer }
+{
+    found_nodes();
+    one_list_of_rules()
+}
+
+/// Where a whole program fits as far as types go, its goals are typed, as these laws ask.
+pub fn whole_goals_are_typed()
+    ensures { WholeGoalsAreTyped }
+{}
+
+/// Signatures of declared modes stand in the order of their predicates, as these laws ask.
+pub fn signatures_are_placed()
+    ensures { SignaturesArePlaced }
+{}
+
+/// An inst that is a node by two lists of definitions means one thing by both.
+pub fn meant_nodes_mean_one()
+    ensures { MeantNodesMeanOne }
+{}
