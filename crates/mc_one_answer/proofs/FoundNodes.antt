@@ -1,13 +1,12 @@
 -- Functions that look for nodes of a graph, and tell the truth of them.
-use Rattle.std.proofs.Common.{◌≡◌, ◌≢◌, ℕ, zero, suc, ◌<◌, Bool, List, [], ◌∷◌, length, get_or, map, Option, Some, None, refl, sym, ◌∙◌, subst, ⊎_elim, inl, inr, arith}
+use Rattle.std.proofs.Common.{◌≡◌, ◌≢◌, ℕ, ◌<◌, Bool, List, [], ◌∷◌, length, map, Some, refl, sym, ◌∙◌, subst, ⊎_elim, inl, inr, arith}
 use Rattle.mc_program.specs.Programs.{TypeTerm, Source}
 use Rattle.mc_program.specs.PlainPrograms.{plain_symbol}
 use Rattle.mc_model.specs.Insts.{InstNode, free, ground, unique, dead, bound, Graph}
-use Rattle.mc_model.specs.Lists.{In}
 use Rattle.mc_accepted.specs.Chosen.{Chosen}
 use Rattle.mc_accepted.specs.Forms.{Form}
 use Rattle.mc_accepted.specs.InOrder.{Tells}
-use Rattle.mc_accepted.specs.Inclusion.{Path, Tip, Allows, AllFree, NoneIs, LeastAbove, MergedNodes, Merged}
+use Rattle.mc_accepted.specs.Inclusion.{Path, Tip, AllFree, NoneIs, LeastAbove, MergedNodes}
 use Rattle.mc_accepted.specs.Tidy.{EachIsTidy}
 use Rattle.mc_insts.specs.declared.insts.Insts.{Insts}
 use Rattle.mc_insts.specs.Graphs.{graph_of, count_of}

@@ -6,18 +6,16 @@ use Rattle.std.proofs.Math.ListN.{get_or-eq_default}
 use Rattle.std.proofs.lemmas.Bool.{cases_lt}
 use Rattle.std.proofs.lemmas.List.Sorted.{IsPermutation-sym, Contains-permutation}
 use Rattle.mc_program.specs.Programs.{TypeTerm, variable_type, Source}
-use Rattle.mc_program.specs.PlainPrograms.{plain_program}
 use Rattle.mc_program.specs.declared.program.Program.{Program}
-use Rattle.mc_model.specs.Types.{takes, argument_types}
-use Rattle.mc_model.specs.Insts.{Listed, InstNode, free, ground, unique, dead, bound, Graph, Lists, AllowsSymbol, AllowsConstants}
+use Rattle.mc_model.specs.Types.{argument_types}
+use Rattle.mc_model.specs.Insts.{Listed, InstNode, unique, dead, bound, Graph, Lists, AllowsSymbol, AllowsConstants}
 use Rattle.mc_model.specs.declared.inst.InstRef.{InstRef}
-use Rattle.mc_model.specs.declared.inst.InstRef.TheVariants.{Old, New}
-use Rattle.mc_accepted.specs.Inclusion.{Mark, Tip, symbol_tip, constant_tip, state_tip, Path, AllowsMark, OnTypes, AllowsTip, Allows}
+use Rattle.mc_accepted.specs.Inclusion.{Mark, Tip, symbol_tip, constant_tip, state_tip, Path, AllowsMark, AllowsTip, Allows}
 use Rattle.mc_accepted.specs.Tidy.{Leads, Tidy}
 use Rattle.mc_accepted.specs.InstRules.{PlainChoice, PlainInstDef, same_inst, bound_inst, definition_at}
 use Rattle.mc_insts.specs.declared.insts.Insts.{Insts}
 use Rattle.mc_insts.specs.declared.graph.Node.TheVariants as N
-use Rattle.mc_insts.specs.Defining.{bounds_of, node_made, IsNode, there, made, another_name, AreNodes, IsListed, AreListed, ListsThese, Defined}
+use Rattle.mc_insts.specs.Defining.{bounds_of, node_made, IsNode, there, made, another_name, AreNodes, IsListed, AreListed, ListsThese}
 use Rattle.mc_insts.specs.Graphs.{graph_of, count_of}
 use Rattle.mc_insts.specs.code.Shown.{plain_node}
 use Rattle.mc_insts.proofs.Overs.{on_types, allows_over, over_allows}

@@ -1,20 +1,19 @@
 -- An inst that is a node of two graphs means one thing in both.
-use Rattle.std.proofs.Common.{◌≡◌, ◌≢◌, ◌⊎◌, inl, inr, ℕ, zero, suc, ◌+◌, ◌<◌, Bool, true, false, not, nat_eq, List, [], ◌∷◌, length, get_or, replicate, Option, Some, None, refl, sym, ap, ◌∙◌, subst, ⊎_elim, arith}
+use Rattle.std.proofs.Common.{◌≡◌, ◌⊎◌, inl, inr, ℕ, zero, suc, ◌<◌, Bool, true, false, not, nat_eq, List, [], ◌∷◌, length, get_or, replicate, Option, Some, None, refl, sym, ap, ◌∙◌, subst, ⊎_elim, arith}
 use Rattle.std.specs.Prelude.{Contains}
 use Rattle.std.proofs.Math.Nat.{lt_of_lt_of_le}
 use Rattle.std.proofs.lemmas.Bool.{eqb-true}
 use Rattle.std.proofs.lemmas.List.Sorted.{IsPermutation-sym, Contains-permutation}
 use Rattle.mc_program.specs.Programs.{TypeTerm, state_type, variable_type, Source}
 use Rattle.mc_program.specs.PlainPrograms.{plain_program}
-use Rattle.mc_program.specs.declared.program.Program.{Program}
 use Rattle.mc_model.specs.Types.{argument_types}
-use Rattle.mc_model.specs.Insts.{Listed, InstNode, free, ground, unique, dead, bound, Graph, Lists, AllowsSymbol, AllowsConstants}
+use Rattle.mc_model.specs.Insts.{Listed, InstNode, free, unique, dead, bound, Graph, Lists, AllowsSymbol, AllowsConstants}
 use Rattle.mc_model.specs.Stream.{is_bound}
 use Rattle.mc_accepted.specs.Fits.{FitsInsts}
-use Rattle.mc_accepted.specs.Inclusion.{Mark, Tip, symbol_tip, constant_tip, state_tip, Path, AllowsMark, OnTypes, AllowsTip, Allows}
+use Rattle.mc_accepted.specs.Inclusion.{Tip, symbol_tip, constant_tip, state_tip, Path, AllowsMark, OnTypes, AllowsTip, Allows}
 use Rattle.mc_accepted.specs.InstRules.{Functor, InstTerm, parameter, inst_node, defined, bound_over, InstTerms, no_insts, inst_then, inst_at, over, each_over, Bodies, ComesTo, at_that, by_definition}
 use Rattle.mc_accepted.specs.Tidy.{Leads, Tidy}
-use Rattle.mc_insts.specs.Graphs.{graph_of, count_of}
+use Rattle.mc_insts.specs.Graphs.{graph_of}
 use Rattle.mc_insts.proofs.Overs.{on_types, allows_over, over_allows}
 use Rattle.mc_signatures.specs.MeantInsts.{first_insts, insts_behind, EachIs, AreListed, ListsThese, IsUpto, HasBuiltins}
 use Rattle.mc_graph_laws.proofs.NodesMeanOne.{to-types}

@@ -1,5 +1,5 @@
 -- Insts that definitions define mean one thing in two graphs, and so do the insts of declared modes.
-use Rattle.std.proofs.Common.{◌≡◌, ℕ, zero, suc, ◌+◌, ◌<◌, Bool, List, [], ◌∷◌, ◌++◌, map, get_or, Option, Some, None, refl, sym, ap, ◌∙◌, subst, arith}
+use Rattle.std.proofs.Common.{◌≡◌, ℕ, zero, suc, ◌+◌, ◌<◌, List, [], ◌∷◌, ◌++◌, map, get_or, Option, refl, sym, ◌∙◌, subst, arith}
 use Rattle.std.proofs.Math.Nat.{lt_of_lt_of_le}
 use Rattle.mc_source.specs.Rules.{Fault, broken_at}
 use Rattle.mc_source.specs.declared.rule.Broken.{Broken}
@@ -12,7 +12,7 @@ use Rattle.mc_model.specs.Insts.{Graph}
 use Rattle.mc_model.specs.Types.{instance_of}
 use Rattle.mc_model.specs.declared.inst.ModeDecl.{ModeDecl}
 use Rattle.mc_model.specs.declared.inst.Sig.{Sig}
-use Rattle.mc_accepted.specs.BuiltinTypes.{Library_types, HasBuiltins, builtin_types}
+use Rattle.mc_accepted.specs.BuiltinTypes.{Library_types, builtin_types}
 use Rattle.mc_accepted.specs.Chosen.{Chosen, of_nodes}
 use Rattle.mc_accepted.specs.Fits.{FitsInsts}
 use Rattle.mc_accepted.specs.InstRules.{PlainInstDef}
@@ -24,12 +24,11 @@ use Rattle.mc_insts.specs.Growing.{Grown}
 use Rattle.mc_procs.specs.Named.{NumbersBelow}
 use Rattle.mc_procs.specs.Procedures.{PlainProcs}
 use Rattle.mc_mode_points.specs.Modes.{declared_mode, ModesFit}
-use Rattle.mc_modes.specs.Signatures.{modes_at, no_mode, mode_in, declared_in, SigsFit}
+use Rattle.mc_modes.specs.Signatures.{modes_at, no_mode, SigsFit}
 use Rattle.mc_order_laws.proofs.TidyInsts.{tidy-at-instances}
-use Rattle.mc_graph_laws.specs.Related.{NodesRelated, ModesRelated, EachModeRelated, DeclaredRelated}
-use Rattle.mc_graph_laws.specs.Nodes.{MeanOne}
+use Rattle.mc_graph_laws.specs.Related.{NodesRelated, ModesRelated, EachModeRelated}
 use Rattle.mc_graph_laws.proofs.NodesMeanOne.{free-one, ground-one, unique-one, gone-one}
-use Rattle.mc_rules.specs.Premises.{HasInsts, Begins}
+use Rattle.mc_rules.specs.Premises.{Begins}
 use Rattle.mc_rules.specs.Untidy.{ModeIsTidy, TidySays, is_tidy, is_untidy, ModesSay, no_mode as no_mode_says, mode_then, AreUntidy, no_predicate, predicate_then}
 use Rattle.mc_one_answer.specs.ModesMeanOne.{AreOne, DefinedMeanOne, ArePlaced, ModesAreOne, ModesMeanOne}
 use Rattle.mc_one_answer.proofs.GraphsAlike.{allows-on, tidy-back, graphs-alike}

@@ -1,22 +1,21 @@
 -- A goal that is put in order in two ways breaks one rule, so all goals break one list of rules.
-use Rattle.std.proofs.Common.{◌≡◌, ◌≢◌, ℕ, zero, suc, ◌<◌, Bool, true, false, cond, nat_lt, List, [], ◌∷◌, ◌++◌, map, length, get_or, take, Option, Some, None, refl, sym, ap, ap₂, ◌∙◌, subst, arith}
+use Rattle.std.proofs.Common.{◌≡◌, ◌≢◌, ℕ, zero, suc, ◌<◌, Bool, true, false, cond, nat_lt, List, [], ◌∷◌, ◌++◌, map, length, take, Option, Some, None, refl, sym, ap, ap₂, ◌∙◌, subst, arith}
 use Rattle.std.specs.List.{All}
 use Rattle.std.proofs.Math.Nat.{le_refl}
 use Rattle.std.proofs.lemmas.Bool.{ltb-true}
 use Rattle.std.proofs.lemmas.List.Elements.{All-head, All-tail}
-use Rattle.mc_source.specs.Rules.{Fault as RuleFault, broken_at}
+use Rattle.mc_source.specs.Rules.{broken_at}
 use Rattle.mc_source.specs.declared.rule.Broken.{Broken}
-use Rattle.mc_program.specs.Programs.{TypeTerm, variable_type, Source}
-use Rattle.mc_program.specs.PlainPrograms.{plain_type, plain_program}
+use Rattle.mc_program.specs.Programs.{TypeTerm, Source}
+use Rattle.mc_program.specs.PlainPrograms.{plain_program}
 use Rattle.mc_program.specs.declared.program.Program.{Program}
 use Rattle.mc_program.specs.declared.ty.Ty.{Ty}
-use Rattle.mc_model.specs.Flat.{Flat_goal, variables_of}
-use Rattle.mc_model.specs.Lists.{In}
+use Rattle.mc_model.specs.Flat.{variables_of}
 use Rattle.mc_model.specs.PlainGoals.{plain_flat}
 use Rattle.mc_model.specs.declared.flat.Normal.{Normal}
 use Rattle.mc_model.specs.declared.inst.ModeDecl.{ModeDecl}
 use Rattle.mc_model.specs.declared.inst.Sig.{Sig}
-use Rattle.mc_accepted.specs.Arranged.{Verdict, in_order, faulty, unmet, waits, negated_binds, branches_differ, lacks, arrange}
+use Rattle.mc_accepted.specs.Arranged.{Verdict, in_order, faulty, unmet, lacks, arrange}
 use Rattle.mc_accepted.specs.Chosen.{Chosen, of_nodes}
 use Rattle.mc_accepted.specs.Fits.{FitsTypes}
 use Rattle.mc_accepted.specs.InstRules.{PlainInstDef}
@@ -34,14 +33,13 @@ use Rattle.mc_modes.specs.Signatures.{mode_in, declared_in}
 use Rattle.mc_modes.specs.Tries.{with_types}
 use Rattle.mc_orders.specs.ModeFaults.{rule_of}
 use Rattle.mc_orders.specs.NormalGoals.{goal_at}
-use Rattle.mc_orders.specs.Numbering.{mode_ids}
-use Rattle.mc_orders.specs.Outcomes.{Tried, IsTried, broken_rules, AreBroken, GrownFrom}
+use Rattle.mc_orders.specs.Outcomes.{Tried, IsTried, broken_rules}
 use Rattle.mc_orders.specs.declared.modes.ModeId.{ModeId}
 use Rattle.mc_orders.proofs.Ids.{IsMode, are_modes}
 use Rattle.mc_order_laws.specs.SomeTest.{TypesMet}
 use Rattle.mc_order_laws.proofs.NothingLacks.{never-lacks}
-use Rattle.mc_graph_laws.specs.Related.{Below, OneVerdict, Related, NodesRelated}
-use Rattle.mc_graph_laws.specs.Nodes.{NamedApart, Finds}
+use Rattle.mc_graph_laws.specs.Related.{OneVerdict, Related, NodesRelated}
+use Rattle.mc_graph_laws.specs.Nodes.{Finds}
 use Rattle.mc_graph_laws.proofs.NodesMeanOne.{nodes-related}
 use Rattle.mc_graph_laws.proofs.OneVerdicts.{one-verdict}
 use Rattle.mc_switch.specs.Types as W

@@ -1,10 +1,10 @@
 -- Two runs of one program whose orders follow: their procedures follow at each stage, so they break one
--- list of rules of determinism, and have one run.
+-- list of rules of determinism, have one run, and one `main`.
 use Rattle.std.proofs.Common.{◌≡◌, ◌⊎◌, inl, inr, ℕ, zero, suc, ◌<◌, ◌≤◌, Bool, List, [], ◌∷◌, length, map, get_or, Option, refl, sym, ap, ap₂, ◌∙◌, subst, arith}
 use Rattle.std.proofs.Math.Path.{fun_ext}
 use Rattle.std.proofs.lemmas.Bool.{cases_lt}
 use Rattle.std.proofs.lemmas.List.{get_or-map}
-use Rattle.std.specs.List.{list_any}
+use Rattle.std.specs.List.{find, list_any}
 use Rattle.mc_source.specs.Determinism.{inferred, det}
 use Rattle.mc_source.specs.declared.det.Det.{Det}
 use Rattle.mc_source.specs.declared.rule.Broken.{Broken}
@@ -15,7 +15,8 @@ use Rattle.mc_program.specs.declared.builtin.Builtin.{Builtin}
 use Rattle.mc_program.specs.declared.program.Program.{Program}
 use Rattle.mc_model.specs.Good.{System}
 use Rattle.mc_model.specs.Insts.{Graph}
-use Rattle.mc_model.specs.Outcomes.{Outcome}
+use Rattle.mc_model.specs.Lists.{from}
+use Rattle.mc_model.specs.Outcomes.{Outcome, fails}
 use Rattle.mc_model.specs.PlainGoals.{plain_node, plain_proc}
 use Rattle.mc_model.specs.Scheduled.{Node, Procedure}
 use Rattle.mc_model.specs.Stream.{run_call, run_query}
@@ -24,7 +25,7 @@ use Rattle.mc_model.specs.declared.inst.Sig.{Sig}
 use Rattle.mc_model.specs.declared.sched.Proc.{Proc}
 use Rattle.mc_accepted.specs.Accepted.{entered}
 use Rattle.mc_accepted.specs.Determined.{is_dead, nothing_known}
-use Rattle.mc_accepted.specs.DeterminismFaults.{determinism_faults}
+use Rattle.mc_accepted.specs.DeterminismFaults.{determinism_faults, is_main}
 use Rattle.mc_accepted.specs.Inferred.{DeclaredProcedure, DeclaredSystem, with_determinisms}
 use Rattle.mc_accepted.specs.InstRules.{PlainInstDef}
 use Rattle.mc_accepted.specs.Ordered.{Insts}
@@ -40,6 +41,7 @@ use Rattle.mc_det.specs.Determinisms.{as_declared, declared_procedure, declared_
 use Rattle.mc_det.specs.Marked.{marked}
 use Rattle.mc_det.specs.MarkedProcedures.{determinisms_of}
 use Rattle.mc_det.specs.Pruned.{pruned_node}
+use Rattle.mc_det_rules.specs.Main.{main_number}
 use Rattle.mc_graph_laws.specs.DeterminismLaws.{ListedOf, SystemsAlike}
 use Rattle.mc_graph_laws.specs.FaultLaws.{ProgramsFollow}
 use Rattle.mc_graph_laws.specs.Follows.{InstsFollow, Follows, follows, conj, no_more}
@@ -48,6 +50,7 @@ use Rattle.mc_graph_laws.specs.RunLaws.{BodyFollows}
 use Rattle.mc_graph_laws.proofs.Faults.{one-list-of-faults, one-least}
 use Rattle.mc_graph_laws.proofs.Marking.{pruned-goals-follow, marked-goals-follow}
 use Rattle.mc_graph_laws.proofs.Running.{one-run}
+use Rattle.mc_graph_laws.proofs.Telling.{over_source}
 use Rattle.mc_switch.specs.Types.{type_in}
 use Rattle.mc_whole.specs.Goals.{HasNormalGoals}
 use Rattle.mc_rules.specs.Rules.{Determined, FaultsAre, Ordered}
@@ -310,6 +313,22 @@ module _ (outcome : Builtin → List Val → Outcome) (P : Program) (defs : List
         f outcome
         ∙ (one-list-of-faults (declared_system outcome l1) (declared_system outcome l2) (count_of l1.insts) (count_of l2.insts) last_follow runs dets1
         ∙ (ap (determinism_faults runs (declared_system outcome l2)) (fun_ext one_dets) ∙ sym (g outcome)))
+
+    -- ---- one `main`
+    abbrev nothing_done : Builtin → List Val → Outcome
+    nothing_done op vs = fails
+
+    abbrev is_main_in : Source → DeclaredProcedure → Bool
+    is_main_in X d = is_main (over_source (as_system nothing_done l2) X) d
+
+    -- bodies have no part in that
+    main_alike : (k : ℕ) → is_main_in Q (declared_procedure l1.added k) ≡ is_main_in (source_of l2) (declared_procedure l2.added k)
+    main_alike k =
+        ap (λ (X : Source). is_main_in X (declared_procedure l1.added k)) (sym same_source)
+        ∙ sym (ap (is_main_in (source_of l2)) (last_follow.others k))
+
+    pub one_main : main_number l1 ≡ main_number l2
+    one_main = ap₂ (λ (f : ℕ → Bool) (n : ℕ). find f (from 0 n)) (fun_ext main_alike) (sym last_follow.count)
 
     -- ---- one run
     abbrev Follow : Procedure → Procedure → Type 0

@@ -43,7 +43,7 @@ use Rattle.mc_one_answer.specs.OneListOfRules.{AreTyped, OneListOfRules}
 use Rattle.mc_one_answer.specs.OneAnswer.{RunAlike, OneRuled, OneAnswer}
 use Rattle.mc_one_answer.proofs.OrderTypes.{types_are_one}
 use Rattle.mc_one_answer.proofs.TwoOrders.{orders_are_one}
-use Rattle.mc_one_answer.proofs.TwoRuns.{OrdersAreOne, one_list, one_run}
+use Rattle.mc_one_answer.proofs.TwoRuns.{OrdersAreOne, one_list, one_main, one_run}
 use Rattle.mc_one_answer.proofs.Untidied.{untidy_alike}
 
 -- ---- goals in order break no rule
@@ -182,9 +182,11 @@ module _ (P : Program) (defs : List PlainInstDef) (sigs : List Sig) (goals : Lis
 
     both_kept : (q r : PlainProcs) → Judged q [] → Judged r [] → RunAlike q r
     both_kept q r a b =
-        let one = one_run does P defs sigs goals exported normal apart met a.ordered q a.came a.determined a.fit b.ordered r b.came b.determined b.fit (orders q r [] [] a b) in
+        let follow = orders q r [] [] a b in
+        let one = one_run does P defs sigs goals exported normal apart met a.ordered q a.came a.determined a.fit b.ordered r b.came b.determined b.fit follow in
         record {
           program = last_program P defs sigs goals exported b.ordered r b.came b.determined ∙ sym (last_program P defs sigs goals exported a.ordered q a.came a.determined);
+          main = one_main does P defs sigs goals exported normal apart met a.ordered q a.came a.determined a.fit b.ordered r b.came b.determined b.fit follow;
           calls = λ does budget height k. (one does budget height k).0;
           queries = λ does budget height k. (one does budget height k).1;
         }

@@ -1,14 +1,13 @@
 -- Goals of a program that runs are typed, and signatures are placed.
-use Rattle.std.proofs.Common.{◌≡◌, ℕ, suc, ◌+◌, ◌<◌, List, [], ◌∷◌, ◌++◌, map, length, Option, refl, sym, ap, ◌∙◌, subst, arith}
+use Rattle.std.proofs.Common.{◌≡◌, ℕ, suc, ◌+◌, List, [], ◌∷◌, ◌++◌, map, length, Option, refl, sym, subst, arith}
 use Rattle.std.proofs.lemmas.List.{append-nil}
 use Rattle.mc_program.specs.PlainPrograms.{plain_program, plain_type}
-use Rattle.mc_program.specs.Programs.{TypeTerm, Source}
+use Rattle.mc_program.specs.Programs.{Source}
 use Rattle.mc_program.specs.Values.{Val}
 use Rattle.mc_program.specs.declared.builtin.Builtin.{Builtin}
-use Rattle.mc_program.specs.declared.program.Program.{Program}
 use Rattle.mc_model.specs.Good.{System}
 use Rattle.mc_model.specs.Insts.{free}
-use Rattle.mc_model.specs.Outcomes.{Outcome, fails}
+use Rattle.mc_model.specs.Outcomes.{fails}
 use Rattle.mc_model.specs.Scheduled.{Procedure}
 use Rattle.mc_model.specs.declared.flat.Normal.{Normal}
 use Rattle.mc_model.specs.declared.inst.Sig.{Sig}
@@ -20,11 +19,7 @@ use Rattle.mc_signatures.specs.Signatures.{AreSignatures, next_behind}
 use Rattle.mc_procs.specs.Procedures.{no_procedure}
 use Rattle.mc_switch.specs.Types.{type_in}
 use Rattle.mc_orders.specs.NormalGoals.{goal_at}
-use Rattle.mc_whole.specs.Goals.{IsNormalGoal}
-use Rattle.mc_whole_laws.specs.WholeTypes.{TypesFitIn}
-use Rattle.mc_whole_program.specs.declared.program.WholeProgram.{WholeProgram}
 use Rattle.mc_one_answer.specs.ModesMeanOne.{ArePlaced}
-use Rattle.mc_one_answer.specs.OneListOfRules.{IsTyped}
 use Rattle.mc_one_answer.specs.WholePrograms.{WholeGoalsAreTyped, SignaturesArePlaced}
 
 -- ---- goals

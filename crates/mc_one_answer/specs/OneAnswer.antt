@@ -15,6 +15,7 @@ use Rattle.mc_accepted.specs.InstRules.{PlainInstDef}
 use Rattle.mc_order_laws.specs.NormalScopes.{EachNamedApart}
 use Rattle.mc_order_laws.specs.SomeTest.{TypesMet}
 use Rattle.mc_procs.specs.Procedures.{PlainProcs, procedure_at}
+use Rattle.mc_det_rules.specs.Main.{main_number}
 use Rattle.mc_whole.specs.Goals.{HasNormalGoals}
 use Rattle.mc_rules.specs.Rules.{Comes}
 use Rattle.mc_rules.specs.declared.rules.Ruled.{Ruled}
@@ -23,9 +24,10 @@ use Rattle.mc_one_answer.specs.ModesMeanOne.{ArePlaced}
 use Rattle.mc_one_answer.specs.OneListOfRules.{AreTyped}
 
 -- Procedures of one program run alike: under each number, at each budget and height, whatever
--- builtins do.
+-- builtins do; and the same one is `main`, where there is one.
 pub record RunAlike (q r : PlainProcs) : Type 0 where
   pub program : r.program ≡ q.program
+  pub main : main_number q ≡ main_number r
   pub calls :
       (does : Builtin → List Val → Outcome) (budget height k : ℕ) (vs : List (Option Val))
       → run_call does (procedure_at q.added) budget height k vs
