@@ -1,5 +1,5 @@
 -- Programs whose bodies follow one another break the same rules of determinism.
-use Rattle.std.proofs.Common.{◌≡◌, inl, inr, ℕ, zero, suc, ◌+◌, ◌<◌, ◌≤◌, Bool, true, false, cond, nat_lt, List, [], ◌∷◌, ◌++◌, Option, Some, None, refl, ap, ap₂, sym, ◌∙◌, subst, ⊎_elim, arith, codes, IsTrue}
+use Rattle.std.proofs.Common.{◌≡◌, inl, inr, ℕ, zero, suc, ◌+◌, ◌<◌, ◌≤◌, Bool, true, false, cond, nat_eq, nat_lt, ◌&&◌, List, [], ◌∷◌, ◌++◌, Option, Some, None, refl, ap, ap₂, sym, ◌∙◌, subst, ⊎_elim, arith, codes, IsTrue}
 use Rattle.std.specs.List.{list_any}
 use Rattle.std.specs.Option.{option_or}
 use Rattle.std.proofs.lemmas.Bool.{ltb-true, ltb-false}
@@ -12,15 +12,17 @@ use Rattle.mc_source.specs.declared.det.Most.TheVariants.{Zero, One, Many}
 use Rattle.mc_source.specs.declared.place.Place.{Place}
 use Rattle.mc_source.specs.declared.rule.Broken.{Broken}
 use Rattle.mc_source.specs.declared.rule.Rule.TheVariants as R
+use Rattle.mc_model.specs.Good.{System}
 use Rattle.mc_model.specs.Lists.{In, from}
 use Rattle.mc_model.specs.Scheduled.{Procedure}
 use Rattle.mc_accepted.specs.Accepted.{entered}
-use Rattle.mc_accepted.specs.Determined.{nothing_known, is_dead}
-use Rattle.mc_accepted.specs.DeterminismFaults.{not_allowed, undeclared, shown_procedure, call_fault, misplaced_call, procedure_fault, is_main, main_fault, by_place, determinism_faults}
+use Rattle.mc_accepted.specs.Determined.{nothing_known}
+use Rattle.mc_accepted.specs.DeterminismFaults.{not_allowed, undeclared, shown_procedure, call_fault, misplaced_call, procedure_fault, is_main_name, are_states, is_det_or_cc_multi, is_main, main_fault, by_place, determinism_faults}
 use Rattle.mc_accepted.specs.Fits.{type_of}
 use Rattle.mc_accepted.specs.Inferred.{DeclaredProcedure, DeclaredSystem, system_of, body_determinism, Closed, LeastClosed}
 use Rattle.mc_graph_laws.specs.DeterminismLaws.{SystemsAlike, DeterminedAlike}
 use Rattle.mc_graph_laws.specs.FaultLaws.{ProgramsFollow, OneListOfFaults, OneLeast}
+use Rattle.mc_graph_laws.proofs.AlikeInsts.{same-states}
 use Rattle.mc_graph_laws.proofs.Lists.{any-agree}
 use Rattle.mc_graph_laws.proofs.Telling.{over_source, one-determinism}
 
@@ -62,21 +64,28 @@ one-det a b p q c d =
     most-le : (x y : Det) → x.committed ≡ false → y.committed ≡ false → rank (row_of x).most ≤ rank (row_of y).most → rank x.most ≤ rank y.most
     most-le x y e f l = subst (λ (t : Bool). rank x.most ≤ rank (cond t Many y.most)) f (subst (λ (t : Bool). rank (cond t Many x.most) ≤ rank (cond y.committed Many y.most)) e l)
 
+-- a procedure is `main`, where it takes states of io so
+abbrev main-so : System → DeclaredProcedure → Bool → Bool
+main-so S d t =
+    d.exported
+    && (nat_eq d.at.file 0
+    && (is_main_name (S.world.source.preds d.procedure.pred).name && (are_states (S.world.source.preds d.procedure.pred).types && (t && is_det_or_cc_multi d.declared))))
+
 module _ (D E : DeclaredSystem) (m n : ℕ) (pf : ProgramsFollow D E m n) where
-  -- a procedure with the body that it has in the second program
+  -- a procedure with the body that it has in the second program, and the insts of its mode there
   abbrev other : ℕ → DeclaredProcedure
-  other k = record (D.procs k) { procedure = record (D.procs k).procedure { body = (E.procs k).procedure.body } }
+  other k = record (D.procs k) { procedure = record (D.procs k).procedure { first = (E.procs k).procedure.first; last = (E.procs k).procedure.last; body = (E.procs k).procedure.body } }
 
   alike : (ds : ℕ → Det) (T : ℕ → TypeTerm) → SystemsAlike T (system_of D ds) (system_of E ds)
   alike ds T =
       record {
         source = pf.source;
         dets = λ k. refl;
-        dead = λ k. pf.dead k ∙ sym (ap (λ (d : DeclaredProcedure). list_any (λ i. is_dead (E.insts i)) d.procedure.last) (pf.others k));
+        dead = pf.dead;
       }
 
   determined-alike : (ds : ℕ → Det) (k : ℕ) → k < D.count →
-      DeterminedAlike (type_of (system_of D ds) (D.procs k).procedure) (system_of D ds) (system_of E ds) (entered (D.procs k).procedure.head (D.procs k).procedure.first) (entered (D.procs k).procedure.head (D.procs k).procedure.first) (D.procs k).procedure.body (E.procs k).procedure.body
+      DeterminedAlike (type_of (system_of D ds) (D.procs k).procedure) (system_of D ds) (system_of E ds) (entered (D.procs k).procedure.head (D.procs k).procedure.first) (entered (D.procs k).procedure.head (E.procs k).procedure.first) (D.procs k).procedure.body (E.procs k).procedure.body
   determined-alike ds k lt =
       let f = pf.bodies k lt in
       one-determinism (system_of D ds) (system_of E ds) (type_of (system_of D ds) (D.procs k).procedure) f.variables m n (alike ds (type_of (system_of D ds) (D.procs k).procedure)) pf.listed _ _ _ _ f.entry f.body
@@ -107,13 +116,14 @@ module _ (D E : DeclaredSystem) (m n : ℕ) (pf : ProgramsFollow D E m n) where
       (ap (λ (t : Bool). cond t (Some (R.U1, codes "io goal is misplaced")) None) (a.io nothing_known (ds k).committed))))
       ∙ sym (ap (λ (d : DeclaredProcedure). procedure_fault (system_of E ds) d (record d.procedure { det = ds k })) (pf.others k))
     where
-      a : DeterminedAlike (type_of (system_of D ds) (D.procs k).procedure) (system_of D ds) (system_of E ds) (entered (D.procs k).procedure.head (D.procs k).procedure.first) (entered (D.procs k).procedure.head (D.procs k).procedure.first) (D.procs k).procedure.body (E.procs k).procedure.body
+      a : DeterminedAlike (type_of (system_of D ds) (D.procs k).procedure) (system_of D ds) (system_of E ds) (entered (D.procs k).procedure.head (D.procs k).procedure.first) (entered (D.procs k).procedure.head (E.procs k).procedure.first) (D.procs k).procedure.body (E.procs k).procedure.body
       a = determined-alike ds k lt
 
-  main-same : (ds : ℕ → Det) (k : ℕ) → is_main (system_of D ds) (D.procs k) ≡ is_main (system_of E ds) (E.procs k)
+  pub main-same : (ds : ℕ → Det) (k : ℕ) → is_main (system_of D ds) (D.procs k) ≡ is_main (system_of E ds) (E.procs k)
   main-same ds k =
-      sym (ap (λ (P : Source). is_main (over_source (system_of E ds) P) (other k)) pf.source)
-      ∙ sym (ap (λ (d : DeclaredProcedure). is_main (system_of E ds) d) (pf.others k))
+      sym (ap (λ (P : Source). is_main (over_source (system_of E ds) P) (D.procs k)) pf.source)
+      ∙ (ap (main-so (system_of E ds) (D.procs k)) (same-states (D.procs k).procedure.first (E.procs k).procedure.first (D.procs k).procedure.last (E.procs k).procedure.last (pf.first k) (pf.last k))
+      ∙ sym (ap (λ (d : DeclaredProcedure). is_main (system_of E ds) d) (pf.others k)))
 
   abbrev faults_up_to : Bool → (ℕ → Det) → ℕ → List Broken
   faults_up_to runs ds c =

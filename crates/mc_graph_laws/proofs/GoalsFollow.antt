@@ -182,45 +182,47 @@ entry-is C P declared T [] is = refl
 entry-is C P declared T (y ∷ ys) [] = refl
 entry-is C P declared T (y ∷ ys) (i ∷ is) = ap (entering y i) (entry-is C P declared T ys is)
 
-module _ (P : Source) (declared : ℕ → List Declared) (T : ℕ → TypeTerm) (first : ℕ) (R : TypeTerm → ℕ → ℕ → Type 0) (C E : Chosen) (rel : Related (of_nodes C) (of_nodes E) R P) (dec : DeclaredRelated (of_nodes C) (of_nodes E) R P declared) where
+module _ (P : Source) (declared other : ℕ → List Declared) (T : ℕ → TypeTerm) (first : ℕ) (R : TypeTerm → ℕ → ℕ → Type 0) (C E : Chosen) (rel : Related (of_nodes C) (of_nodes E) R P) (dec : DeclaredRelated (of_nodes C) (of_nodes E) R P declared other) where
   unless-goal : (g x : Node) (o : Option ℕ) → unless_unmet g o ≡ in_order x → g ≡ x
   unless-goal g x None e = ap goal_in e
   unless-goal g x (Some k) e = absurd (cc e)
 
-  judged-follow : (m : ℕ) (xs ls : List ℕ) (b c : Insts) (r s : Arranged ℕ) (x y : Node) → first ≤ m → PointsRelated (of_nodes C) (of_nodes E) R P T first m b c →
+  judged-follow : (m : ℕ) (xs ls ms : List ℕ) (b c : Insts) (r s : Arranged ℕ) (x y : Node) → first ≤ m → PointsRelated (of_nodes C) (of_nodes E) R P T first m b c →
       Matched (of_nodes C) (of_nodes E) R P T first (AllRun P T first R C E rel) (OneRuns P T first R C E rel) m b c r s →
-      judged (of_nodes C) P declared T xs ls b r ≡ in_order x → judged (of_nodes E) P declared T xs ls c s ≡ in_order y → Follows P T first R b c x y
-  judged-follow m xs ls b c r s x y lm h lacks_here p q = absurd (cc p)
-  judged-follow m xs ls b c r s x y lm h lacks_there p q = absurd (cc q)
-  judged-follow m xs ls b c r s x y lm h (both_break f) p q = absurd (cc p)
-  judged-follow m xs ls b c r s x y lm h (both_run None (Some e) a k ln) p q = absurd k
-  judged-follow m xs ls b c r s x y lm h (both_run (Some d) None a k ln) p q = absurd k
-  judged-follow m xs ls b c r s x y lm h (both_run {gs = gs} {hs = hs} None None {n = n} a k ln) p q =
+      judged (of_nodes C) P declared T xs ls b r ≡ in_order x → judged (of_nodes E) P other T xs ms c s ≡ in_order y → Follows P T first R b c x y
+  judged-follow m xs ls ms b c r s x y lm h lacks_here p q = absurd (cc p)
+  judged-follow m xs ls ms b c r s x y lm h lacks_there p q = absurd (cc q)
+  judged-follow m xs ls ms b c r s x y lm h (both_break f) p q = absurd (cc p)
+  judged-follow m xs ls ms b c r s x y lm h (both_run None (Some e) a k ln) p q = absurd k
+  judged-follow m xs ls ms b c r s x y lm h (both_run (Some d) None a k ln) p q = absurd k
+  judged-follow m xs ls ms b c r s x y lm h (both_run {gs = gs} {hs = hs} None None {n = n} a k ln) p q =
       subst (λ z. Follows P T first R b c z y) (ap goal_in p)
       (subst (λ z. Follows P T first R b c (alone (of_nodes C) n b None gs) z) (ap goal_in q)
       (by-one P T first R C E rel b c gs hs None None n (record { before = m; first_is = lm; on = ln; begins = h; ends = tt }) a.0 tt tt).0)
-  judged-follow m xs ls b c r s x y lm h (both_run {gs = gs} {hs = hs} (Some d) (Some e) {n = n} a k ln) p q =
+  judged-follow m xs ls ms b c r s x y lm h (both_run {gs = gs} {hs = hs} (Some d) (Some e) {n = n} a k ln) p q =
       subst (λ z. Follows P T first R b c z y) (unless-goal (alone (of_nodes C) n b (Some d) gs) x (first_unmet (of_nodes C) P declared T 0 xs ls d) p)
-      (subst (λ z. Follows P T first R b c (alone (of_nodes C) n b (Some d) gs) z) (unless-goal (alone (of_nodes E) n c (Some e) hs) y (first_unmet (of_nodes E) P declared T 0 xs ls e) q)
+      (subst (λ z. Follows P T first R b c (alone (of_nodes C) n b (Some d) gs) z) (unless-goal (alone (of_nodes E) n c (Some e) hs) y (first_unmet (of_nodes E) P other T 0 xs ms e) q)
       (by-one P T first R C E rel b c gs hs (Some d) (Some e) n (record { before = m; first_is = lm; on = ln; begins = h; ends = k }) a.0 a.1 a.2).0)
 
-  pub entry-follows : (next : ℕ) (xs is : List ℕ) → Below first xs → first ≤ next → NodesRelated (of_nodes C) (of_nodes E) R is (map T xs) → InstsFollow P T first R (entered xs is) (entered xs is)
-  entry-follows next xs is v le ri =
-      subst (λ a. InstsFollow P T first R a (entered xs is)) (entry-is C P declared T xs is)
-      (subst (λ a. InstsFollow P T first R (entry (of_nodes C) P declared T xs is) a) (entry-is E P declared T xs is)
-      (insts-follow P T first R C E rel next (entry (of_nodes C) P declared T xs is) (entry (of_nodes E) P declared T xs is) (entry-related (of_nodes C) (of_nodes E) R P declared T first rel dec next xs is le v ri)))
+  pub entry-follows : (next : ℕ) (xs is js : List ℕ) → Below first xs → first ≤ next → NodesRelated (of_nodes C) (of_nodes E) R is js (map T xs) → InstsFollow P T first R (entered xs is) (entered xs js)
+  entry-follows next xs is js v le ri =
+      subst (λ a. InstsFollow P T first R a (entered xs js)) (entry-is C P declared T xs is)
+      (subst (λ a. InstsFollow P T first R (entry (of_nodes C) P declared T xs is) a) (entry-is E P other T xs js)
+      (insts-follow P T first R C E rel next (entry (of_nodes C) P declared T xs is) (entry (of_nodes E) P other T xs js) (entry-related (of_nodes C) (of_nodes E) R P declared other T first rel dec next xs is js le v ri)))
 
-  pub order-follows : (next : ℕ) (xs is ls : List ℕ) (g : Flat_goal) (x y : Node) → TypedGoal P T g → Below first (variables_of g) → Below first xs → first ≤ next → NodesRelated (of_nodes C) (of_nodes E) R is (map T xs) →
-      arrange (of_nodes C) P declared T next xs is ls g ≡ in_order x → arrange (of_nodes E) P declared T next xs is ls g ≡ in_order y → Follows P T first R (entered xs is) (entered xs is) x y
-  order-follows next xs is ls g x y t w v le ri p q =
-      subst (λ a. Follows P T first R a (entered xs is) x y) (entry-is C P declared T xs is)
-      (subst (λ a. Follows P T first R (entry (of_nodes C) P declared T xs is) a x y) (entry-is E P declared T xs is)
-      (judged-follow next xs ls (entry (of_nodes C) P declared T xs is) (entry (of_nodes E) P declared T xs is) (trial (of_nodes C) P declared T g xs next (entry (of_nodes C) P declared T xs is)) (trial (of_nodes E) P declared T g xs next (entry (of_nodes E) P declared T xs is)) x y le
-      (entry-related (of_nodes C) (of_nodes E) R P declared T first rel dec next xs is le v ri)
-      (goal-match (of_nodes C) (of_nodes E) R P declared T first rel dec (AllRun P T first R C E rel) (OneRuns P T first R C E rel) (follow-closed P T first R C E rel) g t w xs next (entry (of_nodes C) P declared T xs is) (entry (of_nodes E) P declared T xs is) le
-      (entry-related (of_nodes C) (of_nodes E) R P declared T first rel dec next xs is le v ri)) p q))
+  pub order-follows : (next : ℕ) (xs is ls js ms : List ℕ) (g : Flat_goal) (x y : Node) → TypedGoal P T g → Below first (variables_of g) → Below first xs → first ≤ next → NodesRelated (of_nodes C) (of_nodes E) R is js (map T xs) →
+      arrange (of_nodes C) P declared T next xs is ls g ≡ in_order x → arrange (of_nodes E) P other T next xs js ms g ≡ in_order y → Follows P T first R (entered xs is) (entered xs js) x y
+  order-follows next xs is ls js ms g x y t w v le ri p q =
+      subst (λ a. Follows P T first R a (entered xs js) x y) (entry-is C P declared T xs is)
+      (subst (λ a. Follows P T first R (entry (of_nodes C) P declared T xs is) a x y) (entry-is E P other T xs js)
+      (judged-follow next xs ls ms (entry (of_nodes C) P declared T xs is) (entry (of_nodes E) P other T xs js) (trial (of_nodes C) P declared T g xs next (entry (of_nodes C) P declared T xs is)) (trial (of_nodes E) P other T g xs next (entry (of_nodes E) P other T xs js)) x y le
+      (entry-related (of_nodes C) (of_nodes E) R P declared other T first rel dec next xs is js le v ri)
+      (goal-match (of_nodes C) (of_nodes E) R P declared other T first rel dec (AllRun P T first R C E rel) (OneRuns P T first R C E rel) (follow-closed P T first R C E rel) g t w xs next (entry (of_nodes C) P declared T xs is) (entry (of_nodes E) P other T xs js) le
+      (entry-related (of_nodes C) (of_nodes E) R P declared other T first rel dec next xs is js le v ri)) p q))
 
 pub orders-follow : OrdersFollow
-orders-follow P D m n G H C E declared T types apart here there dec next xs is ls g t w v ri x y p q =
-    let rel = nodes-related P D m n G H C E types apart here there in
-    (entry-follows P declared T next (MeanOne P m G n H) C E rel dec next xs is v (le_refl next) ri, order-follows P declared T next (MeanOne P m G n H) C E rel dec next xs is ls g x y t w v (le_refl next) ri p q)
+orders-follow P D m n G H C E declared other T types apart here there dec next xs is ls js ms g t w v ri x y p q =
+    let rel = nodes-related P D m n G H C E types apart here there in (
+      entry-follows P declared other T next (MeanOne P m G n H) C E rel dec next xs is js v (le_refl next) ri,
+      order-follows P declared other T next (MeanOne P m G n H) C E rel dec next xs is ls js ms g x y t w v (le_refl next) ri p q,
+    )

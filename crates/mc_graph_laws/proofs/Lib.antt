@@ -10,3 +10,4 @@ pub mod Switching
 pub mod Marking
 pub mod Faults
 pub mod Running
+pub mod AlikeInsts

@@ -659,15 +659,15 @@ module _ (P : Source) (D : Parameters) (m n : ℕ) (G H : Graph) (C E : Chosen) 
   free-same : (t : TypeTerm) (i j : ℕ) → Rel t i j → is_free (G i) ≡ is_free (H j)
   free-same t i j r = same-bits (is_free (G i)) (is_free (H j)) (λ e. ap is_free (free-there t i j r (is-free (G i) e))) (λ e. ap is_free (free-here t i j r (is-free (H j) e)))
 
-  fits-same : (t : TypeTerm) (i j k : ℕ) → Rel t i j → Rel t k k → C.fits i k t ≡ E.fits j k t
-  fits-same t i j k r q =
-      same-bits (C.fits i k t) (E.fits j k t)
-      (λ e. (there.fits j k t r.there q.there).1
-      (included-over (G i) (G k) (H j) (H k) (NoMore P G i k t) (NoMore P H j k t) (free-same t i j r) (dead-same t i j r) (free-same t k k q) (dead-same t k k q)
+  fits-same : (t : TypeTerm) (i j k l : ℕ) → Rel t i j → Rel t k l → C.fits i k t ≡ E.fits j l t
+  fits-same t i j k l r q =
+      same-bits (C.fits i k t) (E.fits j l t)
+      (λ e. (there.fits j l t r.there q.there).1
+      (included-over (G i) (G k) (H j) (H l) (NoMore P G i k t) (NoMore P H j l t) (free-same t i j r) (dead-same t i j r) (free-same t k l q) (dead-same t k l q)
       (λ more path d a. (q.same path d).0 (more path d ((r.same path d).1 a))) ((here.fits i k t r.here q.here).0 e)))
       (λ e. (here.fits i k t r.here q.here).1
-      (included-over (H j) (H k) (G i) (G k) (NoMore P H j k t) (NoMore P G i k t) (sym (free-same t i j r)) (sym (dead-same t i j r)) (sym (free-same t k k q)) (sym (dead-same t k k q))
-      (λ more path d a. (q.same path d).1 (more path d ((r.same path d).0 a))) ((there.fits j k t r.there q.there).0 e)))
+      (included-over (H j) (H l) (G i) (G k) (NoMore P H j l t) (NoMore P G i k t) (sym (free-same t i j r)) (sym (dead-same t i j r)) (sym (free-same t k l q)) (sym (dead-same t k l q))
+      (λ more path d a. (q.same path d).1 (more path d ((r.same path d).0 a))) ((there.fits j l t r.there q.there).0 e)))
 
   pub nodes-related : Related (of_nodes C) (of_nodes E) Rel P
   nodes-related =
@@ -685,5 +685,5 @@ module _ (P : Source) (D : Parameters) (m n : ℕ) (G H : Graph) (C E : Chosen) 
       }
 
 pub one-order-over-nodes : OneOrderOverNodes
-one-order-over-nodes P D m n G H C E declared T types apart here there dec next xs is ls g t w v ri rl p q =
-    one-verdict (of_nodes C) (of_nodes E) (MeanOne P m G n H) P declared T next (nodes-related P D m n G H C E types apart here there) dec next xs is ls g t w v (le_refl next) ri rl p q
+one-order-over-nodes P D m n G H C E declared other T types apart here there dec next xs is ls js ms g t w v ri rl p q =
+    one-verdict (of_nodes C) (of_nodes E) (MeanOne P m G n H) P declared other T next (nodes-related P D m n G H C E types apart here there) dec next xs is ls js ms g t w v (le_refl next) ri rl p q

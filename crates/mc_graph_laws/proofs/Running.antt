@@ -1,5 +1,5 @@
 -- Procedures whose bodies follow one another run as one bare form.
-use Rattle.std.proofs.Common.{◌≡◌, ℕ, [], refl, ap, ap₂, sym, ◌∙◌}
+use Rattle.std.proofs.Common.{◌≡◌, ℕ, List, [], refl, ap, ap₂, sym, ◌∙◌}
 use Rattle.std.proofs.Math.Path.{fun_ext}
 use Rattle.mc_program.specs.Programs.{TypeTerm, Source}
 use Rattle.mc_source.specs.Determinism.{inferred, det}
@@ -12,6 +12,7 @@ use Rattle.mc_laws.proofs.BareRuns.{calls_run_bare, queries_run_bare}
 use Rattle.mc_graph_laws.specs.Nodes.{MeanOne}
 use Rattle.mc_graph_laws.specs.Follows.{Follows, follows, FollowsIn, atom, conj, disj, switch, ite, negated, some, AllFollow, no_more, and_then, EachFollows, no_other, either, ArmsFollow, no_arm, arm}
 use Rattle.mc_graph_laws.specs.RunLaws.{OneRun}
+use Rattle.mc_graph_laws.proofs.AlikeInsts.{each-bare}
 
 module _ (P : Source) (T : ℕ → TypeTerm) (first : ℕ) (R : TypeTerm → ℕ → ℕ → Type 0) where
   mutual
@@ -50,8 +51,10 @@ one-run P m n G H procs others f outcome budget height k = (
     each-one : (j : ℕ) → bare_procedure (procs j) ≡ bare_procedure (others j)
     each-one j =
         let x = f j in
-        ap (λ (b : Node). record (bare_procedure (procs j)) { body = b }) (bare-same P x.types x.variables (MeanOne P m G n H) _ _ (procs j).body (others j).body x.body)
-        ∙ sym (ap bare_procedure x.others)
+        let q = others j in
+        ap (λ (b : Node). record (bare_procedure (procs j)) { body = b }) (bare-same P x.types x.variables (MeanOne P m G n H) _ _ (procs j).body q.body x.body)
+        ∙ (ap₂ (λ (is ls : List ℕ). record (bare_procedure (procs j)) { first = is; last = ls; body = bare_node q.body }) (each-bare (procs j).first q.first x.first) (each-bare (procs j).last q.last x.last)
+        ∙ sym (ap bare_procedure x.others))
 
     all-bare : each_bare procs ≡ each_bare others
     all-bare = fun_ext each-one

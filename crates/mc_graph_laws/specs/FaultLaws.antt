@@ -1,7 +1,7 @@
 -- Two programs whose procedures' bodies follow one another break the same rules of determinism, and
 -- their procedures have the same determinisms. (Mercury Language Reference Manual: Determinism;
 -- this project's profile of io, its rules and texts.)
-use Rattle.std.specs.Prelude.{◌≡◌, ℕ, ◌<◌, Bool}
+use Rattle.std.specs.Prelude.{◌≡◌, ◌⊎◌, ℕ, ◌<◌, Bool, List, [], ◌∷◌}
 use Rattle.std.specs.List.{list_any}
 use Rattle.mc_program.specs.Programs.{TypeTerm}
 use Rattle.mc_source.specs.declared.det.Det.{Det}
@@ -15,12 +15,25 @@ use Rattle.mc_graph_laws.specs.Nodes.{MeanOne}
 use Rattle.mc_graph_laws.specs.Follows.{InstsFollow, Follows}
 use Rattle.mc_graph_laws.specs.DeterminismLaws.{ListedOf}
 
--- the types of a procedure's variables, and the insts at a call
+-- Insts of modes have one number, or neither is a builtin one; so both are bound, or both are free.
+abbrev pub InstAlike : (i j : ℕ) → Type 0
+InstAlike i j = (i ≡ j) ⊎ ((3 < i) × (3 < j))
+
+abbrev pub EachAlike : (here there : List ℕ) → Type 0
+EachAlike [] [] = Unit {0}
+EachAlike (i ∷ is) (j ∷ js) = InstAlike i j × EachAlike is js
+EachAlike _ _ = ⊥
+
+-- the types of a procedure's variables, and the insts at a call of it, and of that which has its number
+-- in another program
 abbrev pub types_in : DeclaredSystem → (procedure : ℕ) → ℕ → TypeTerm
 types_in D k = type_of (system_of D (λ j. (D.procs j).procedure.det)) (D.procs k).procedure
 
 abbrev pub entry_of : DeclaredSystem → (procedure : ℕ) → Insts
 entry_of D k = entered (D.procs k).procedure.head (D.procs k).procedure.first
+
+abbrev pub entry_there : DeclaredSystem → DeclaredSystem → (procedure : ℕ) → Insts
+entry_there D E k = entered (D.procs k).procedure.head (E.procs k).procedure.first
 
 -- Procedures under one number, over nodes of two graphs: the body of the second follows that of the
 -- first.
@@ -28,13 +41,14 @@ pub record ProcedureFollows (D E : DeclaredSystem) (m n k : ℕ) : Type 0 where
   pub variables : ℕ
   pub entry :
       InstsFollow D.world.source (types_in D k) variables
-      (MeanOne D.world.source m D.insts n E.insts) (entry_of D k) (entry_of D k)
+      (MeanOne D.world.source m D.insts n E.insts) (entry_of D k) (entry_there D E k)
   pub body :
       Follows D.world.source (types_in D k) variables
-      (MeanOne D.world.source m D.insts n E.insts) (entry_of D k) (entry_of D k)
+      (MeanOne D.world.source m D.insts n E.insts) (entry_of D k) (entry_there D E k)
       (D.procs k).procedure.body (E.procs k).procedure.body
 
--- Two programs with the same procedures but for their bodies, which follow one another.
+-- Two programs with the same procedures but for their bodies, which follow one another, and for the
+-- insts of their modes, which are alike.
 pub record ProgramsFollow (D E : DeclaredSystem) (m n : ℕ) : Type 0 where
   pub source : E.world.source ≡ D.world.source
   pub listed : ListedOf D.world.source
@@ -43,12 +57,18 @@ pub record ProgramsFollow (D E : DeclaredSystem) (m n : ℕ) : Type 0 where
       (k : ℕ)
       → E.procs k
       ≡ record (D.procs k) {
-        procedure = record (D.procs k).procedure { body = (E.procs k).procedure.body };
+        procedure = record (D.procs k).procedure {
+          first = (E.procs k).procedure.first;
+          last = (E.procs k).procedure.last;
+          body = (E.procs k).procedure.body;
+        };
       }
+  pub first : (k : ℕ) → EachAlike (D.procs k).procedure.first (E.procs k).procedure.first
+  pub last : (k : ℕ) → EachAlike (D.procs k).procedure.last (E.procs k).procedure.last
   pub dead :
       (k : ℕ)
       → list_any (λ i. is_dead (D.insts i)) (D.procs k).procedure.last
-      ≡ list_any (λ i. is_dead (E.insts i)) (D.procs k).procedure.last
+      ≡ list_any (λ i. is_dead (E.insts i)) (E.procs k).procedure.last
   pub bodies : (k : ℕ) → k < D.count → ProcedureFollows D E m n k
 
 abbrev pub OneListOfFaults : Type 0

@@ -109,13 +109,13 @@ module _ (P : Source) (T : ℕ → TypeTerm) (first : ℕ) where
 abbrev pub OrdersFollow : Type 0
 OrdersFollow =
     (P : Source) (D : Parameters) (m n : ℕ) (G H : Graph) (C E : Chosen)
-    (declared : ℕ → List Declared) (T : ℕ → TypeTerm)
+    (declared other : ℕ → List Declared) (T : ℕ → TypeTerm)
     → FitsTypes P D → NamedApart P → Finds P m G C → Finds P n H E
-    → DeclaredRelated (of_nodes C) (of_nodes E) (MeanOne P m G n H) P declared
-    → (next : ℕ) (head first last : List ℕ) (g : Flat_goal)
+    → DeclaredRelated (of_nodes C) (of_nodes E) (MeanOne P m G n H) P declared other
+    → (next : ℕ) (head first last starts ends : List ℕ) (g : Flat_goal)
     → TypedGoal P T g → Below next (variables_of g) → Below next head
-    → NodesRelated (of_nodes C) (of_nodes E) (MeanOne P m G n H) first (map T head)
+    → NodesRelated (of_nodes C) (of_nodes E) (MeanOne P m G n H) first starts (map T head)
     → (x y : Node) → arrange (of_nodes C) P declared T next head first last g ≡ in_order x
-    → arrange (of_nodes E) P declared T next head first last g ≡ in_order y
-    → InstsFollow P T next (MeanOne P m G n H) (entered head first) (entered head first)
-    × Follows P T next (MeanOne P m G n H) (entered head first) (entered head first) x y
+    → arrange (of_nodes E) P other T next head starts ends g ≡ in_order y
+    → InstsFollow P T next (MeanOne P m G n H) (entered head first) (entered head starts)
+    × Follows P T next (MeanOne P m G n H) (entered head first) (entered head starts) x y

@@ -79,22 +79,22 @@ pub record MeanOne (P : Source) (m : ℕ) (G : Graph) (n : ℕ) (H : Graph) (t :
   pub same : (path : Path) (e : Tip) → Allows P G path e i t ↔ Allows P H path e j t
 
 -- One order whatever the graph: where no node is lacking, a goal has one order over the nodes of
--- two graphs, but for changes and marks, or one fault. The insts of the modes, under one number in
--- both graphs, mean one thing.
+-- two graphs, but for changes and marks, or one fault. The insts of the modes mean one thing in both
+-- graphs, whatever their numbers.
 abbrev pub OneOrderOverNodes : Type 0
 OneOrderOverNodes =
     (P : Source) (D : Parameters) (m n : ℕ) (G H : Graph) (C E : Chosen)
-    (declared : ℕ → List Declared) (T : ℕ → TypeTerm)
+    (declared other : ℕ → List Declared) (T : ℕ → TypeTerm)
     → FitsTypes P D → NamedApart P → Finds P m G C → Finds P n H E
-    → DeclaredRelated (of_nodes C) (of_nodes E) (MeanOne P m G n H) P declared
-    → (next : ℕ) (head first last : List ℕ) (g : Flat_goal)
+    → DeclaredRelated (of_nodes C) (of_nodes E) (MeanOne P m G n H) P declared other
+    → (next : ℕ) (head first last starts ends : List ℕ) (g : Flat_goal)
     → TypedGoal P T g → Below next (variables_of g) → Below next head
-    → NodesRelated (of_nodes C) (of_nodes E) (MeanOne P m G n H) first (map T head)
-    → NodesRelated (of_nodes C) (of_nodes E) (MeanOne P m G n H) last (map T head)
+    → NodesRelated (of_nodes C) (of_nodes E) (MeanOne P m G n H) first starts (map T head)
+    → NodesRelated (of_nodes C) (of_nodes E) (MeanOne P m G n H) last ends (map T head)
     → arrange (of_nodes C) P declared T next head first last g ≢ faulty lacks
-    → arrange (of_nodes E) P declared T next head first last g ≢ faulty lacks
+    → arrange (of_nodes E) P other T next head starts ends g ≢ faulty lacks
     → OneVerdict (arrange (of_nodes C) P declared T next head first last g)
-    (arrange (of_nodes E) P declared T next head first last g)
+    (arrange (of_nodes E) P other T next head starts ends g)
 
 -- The builtin insts have one number in all graphs. They mean one thing, `unique` and `dead` at io's
 -- state.

@@ -6,6 +6,7 @@ use Rattle.mc_program.specs.Values.{Val}
 use Rattle.mc_program.specs.Programs.{TypeTerm, state_type, Source}
 use Rattle.mc_program.specs.declared.builtin.Builtin.{Builtin}
 use Rattle.mc_model.specs.Lists.{In}
+use Rattle.mc_model.specs.Stream.{is_bound}
 use Rattle.mc_model.specs.Types.{instance_of}
 use Rattle.mc_accepted.specs.Ordered.{Mode, modes_of}
 use Rattle.mc_accepted.specs.Typing.{constructor_types, ConstantOf}
@@ -22,6 +23,10 @@ OneVerdict (in_order g) (in_order h) = unmarked_node g ≡ unmarked_node h
 OneVerdict (faulty f) (faulty e) = f ≡ e
 OneVerdict (unmet k) (unmet l) = k ≡ l
 OneVerdict _ _ = ⊥
+
+-- two modes of an argument are both bound or both free, before a call and after it
+abbrev pub BoundAlike : Mode → Mode → Type 0
+BoundAlike m n = (is_bound m.0 ≡ is_bound n.0) × (is_bound m.1 ≡ is_bound n.1)
 
 module _ {I J : Type 0} (Op : Operations I) (Other : Operations J)
     (R : TypeTerm → I → J → Type 0) where
@@ -76,30 +81,42 @@ module _ {I J : Type 0} (Op : Operations I) (Other : Operations J)
         (t : TypeTerm) (v : Val) (i : I) (j : J)
         → ConstantOf v t → R t i j → Op.takes_constants i ≡ Other.takes_constants j
     pub fits :
-        (t : TypeTerm) (i : I) (j : J) (k : ℕ)
-        → R t i j → R t (Op.node k) (Other.node k) → Op.fits i k t ≡ Other.fits j k t
+        (t : TypeTerm) (i : I) (j : J) (k l : ℕ)
+        → R t i j → R t (Op.node k) (Other.node l) → Op.fits i k t ≡ Other.fits j l t
 
   -- insts of modes, at the types of the arguments
-  abbrev pub NodesRelated : List ℕ → List TypeTerm → Type 0
-  NodesRelated (k ∷ ks) (t ∷ ts) = R t (Op.node k) (Other.node k) × NodesRelated ks ts
-  NodesRelated _ _ = Unit {0}
+  abbrev pub NodesRelated : (here there : List ℕ) → List TypeTerm → Type 0
+  NodesRelated [] [] ts = Unit {0}
+  NodesRelated (k ∷ ks) (l ∷ ls) [] = Unit {0}
+  NodesRelated (k ∷ ks) (l ∷ ls) (t ∷ ts) = R t (Op.node k) (Other.node l) × NodesRelated ks ls ts
+  NodesRelated _ _ _ = ⊥
 
-  abbrev pub ModesRelated : List Mode → List TypeTerm → Type 0
-  ModesRelated (m ∷ ms) (t ∷ ts) =
-      R t (Op.node m.0) (Other.node m.0) × R t (Op.node m.1) (Other.node m.1) × ModesRelated ms ts
-  ModesRelated _ _ = Unit {0}
+  abbrev pub ModesRelated : (here there : List Mode) → List TypeTerm → Type 0
+  ModesRelated [] [] ts = Unit {0}
+  ModesRelated (m ∷ ms) (n ∷ ns) [] = Unit {0}
+  ModesRelated (m ∷ ms) (n ∷ ns) (t ∷ ts) =
+      BoundAlike m n
+      × R t (Op.node m.0) (Other.node n.0)
+      × R t (Op.node m.1) (Other.node n.1)
+      × ModesRelated ms ns ts
+  ModesRelated _ _ _ = ⊥
 
-  abbrev pub EachModeRelated : List Declared → List TypeTerm → Type 0
-  EachModeRelated [] ts = Unit {0}
-  EachModeRelated (d ∷ ds) ts = ModesRelated d.modes ts × EachModeRelated ds ts
+  -- two modes are of one procedure, which answers or doesn't, and their insts mean one thing
+  abbrev pub DeclaredAlike : Declared → Declared → List TypeTerm → Type 0
+  DeclaredAlike d e ts = (d.proc ≡ e.proc) × (d.never ≡ e.never) × ModesRelated d.modes e.modes ts
+
+  abbrev pub EachModeRelated : (here there : List Declared) → List TypeTerm → Type 0
+  EachModeRelated [] [] ts = Unit {0}
+  EachModeRelated (d ∷ ds) (e ∷ es) ts = DeclaredAlike d e ts × EachModeRelated ds es ts
+  EachModeRelated _ _ _ = ⊥
 
   -- the insts of modes mean one thing at each instance of the predicates' types
-  pub record DeclaredRelated (P : Source) (declared : ℕ → List Declared) : Type 0 where
+  pub record DeclaredRelated (P : Source) (declared other : ℕ → List Declared) : Type 0 where
     pub modes :
         (p : ℕ) (σ : ℕ → TypeTerm)
         → (P.preds p).builtin ≡ None
-        → EachModeRelated (declared p) (map (instance_of σ) (P.preds p).types)
+        → EachModeRelated (declared p) (other p) (map (instance_of σ) (P.preds p).types)
     pub builtins :
         (p : ℕ) (op : Builtin) (σ : ℕ → TypeTerm)
         → (P.preds p).builtin ≡ Some op
-        → ModesRelated (modes_of op) (map (instance_of σ) (P.preds p).types)
+        → ModesRelated (modes_of op) (modes_of op) (map (instance_of σ) (P.preds p).types)

@@ -11,15 +11,19 @@ use Rattle.mc_model.specs.Stream.{run_call, run_query}
 use Rattle.mc_accepted.specs.Accepted.{entered}
 use Rattle.mc_graph_laws.specs.Nodes.{MeanOne}
 use Rattle.mc_graph_laws.specs.Follows.{Follows}
+use Rattle.mc_graph_laws.specs.FaultLaws.{EachAlike}
 
--- Two procedures are one but for their bodies, of which one follows the other.
+-- Two procedures are one but for their bodies, of which one follows the other, and for the insts of
+-- their modes, which are alike.
 pub record BodyFollows (P : Source) (m n : ℕ) (G H : Graph) (p q : Procedure) : Type 0 where
   pub types : ℕ → TypeTerm
   pub variables : ℕ
-  pub others : q ≡ record p { body = q.body }
+  pub others : q ≡ record p { first = q.first; last = q.last; body = q.body }
+  pub first : EachAlike p.first q.first
+  pub last : EachAlike p.last q.last
   pub body :
       Follows P types variables (MeanOne P m G n H) (entered p.head p.first)
-      (entered p.head p.first) p.body q.body
+      (entered p.head q.first) p.body q.body
 
 -- at every budget and height
 abbrev pub OneRun : Type 0

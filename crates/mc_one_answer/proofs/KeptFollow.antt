@@ -129,7 +129,7 @@ module _ (S U : System) (T : ℕ → TypeTerm) (first m n : ℕ) (alike : System
   group_follows b c b' c' h i (e ∷ es) (f ∷ fs) each cs cs' here there = some_follow b c b' c' h i e f es fs each cs cs' here there
 
 -- ---- bodies
--- Two procedures with one head and one list of types over two tables of procedures: where the order that
+-- Two procedures with one list of types over two tables of procedures: where the order that
 -- is the body of the second follows that of the first, so do their switch forms.
 module _ (q r : PlainProcs) (p o : Proc) (x y : GoalNode) (S U : System) (fit : AllFit q) (fit_other : AllFit r) (suits : Suits q S) (suits_other : Suits r U)
     (same_insts : S.insts ≡ insts_of q) (same_others : U.insts ≡ insts_of r) (form : IsForm q p x) (form_other : IsForm r o y) (order : IsTidyOrder S p) (order_other : IsTidyOrder U o)
@@ -176,9 +176,9 @@ module _ (q r : PlainProcs) (p o : Proc) (x y : GoalNode) (S U : System) (fit : 
   groups_there : (n : ℕ) → n ≡ length (map plain_type o.var_types) → GroupsThere n → FormThere n → SameGroups (map plain_type o.var_types) (entered o.head o.first)
   groups_there n e g f = subst (λ (m : ℕ). GroupsThere m → FormThere m → SameGroups (map plain_type o.var_types) (entered o.head o.first)) (sym e) (λ h k. record { groups = h; same = k }) g f
 
-  same_groups : map plain_type o.var_types ≡ own_types → entered o.head o.first ≡ start → SameGroups own_types start
-  same_groups types heads =
-      subst (λ (ts : List TypeTerm). SameGroups ts start) types
+  same_groups : map plain_type o.var_types ≡ own_types → (begin : Insts) → entered o.head o.first ≡ begin → SameGroups own_types begin
+  same_groups types begin heads =
+      subst (λ (ts : List TypeTerm). SameGroups ts begin) types
       (subst (λ (b : Insts). SameGroups (map plain_type o.var_types) b) heads
       (groups_there (length o.var_types) (sym (length-map o.var_types plain_type)) (groups_kept r o y U fit_other suits_other same_others form_other order_other)
       (form_here r o y U fit_other suits_other same_others form_other order_other)))
@@ -192,12 +192,12 @@ module _ (q r : PlainProcs) (p o : Proc) (x y : GoalNode) (S U : System) (fit : 
       (kept_here q p x S fit suits same_insts form order b c ds) (kept_there own_types b' c' es) here
       (subst (λ (Q : Source). KeptOf Q (count_of r.insts) U.insts typing b' c' (ends U typing b' (goals_of es)) (kept_there own_types b' c' es)) alike.source there)
 
-  pub switched_follow : map plain_type o.var_types ≡ map plain_type p.var_types → entered o.head o.first ≡ start → InstsFollow S.world.source typing first Mean start start
-      → Follows S.world.source typing first Mean start start (plain_node p.body) (plain_node o.body) → Follows S.world.source typing first Mean start start (plain_node x) (plain_node y)
-  switched_follow types heads enters follow =
-      let other : SameGroups own_types start = same_groups types heads in
-      subst (λ (z : Node). Follows S.world.source typing first Mean start start z (plain_node y)) (sym (form_here q p x S fit suits same_insts form order))
-      (subst (λ (z : Node). Follows S.world.source typing first Mean start start (formed S typing (kept_here q p x S fit suits same_insts form order) start (plain_node p.body)) z) (sym other.same)
+  pub switched_follow : map plain_type o.var_types ≡ map plain_type p.var_types → (begin : Insts) → entered o.head o.first ≡ begin → InstsFollow S.world.source typing first Mean start begin
+      → Follows S.world.source typing first Mean start begin (plain_node p.body) (plain_node o.body) → Follows S.world.source typing first Mean start begin (plain_node x) (plain_node y)
+  switched_follow types begin heads enters follow =
+      let other : SameGroups own_types begin = same_groups types begin heads in
+      subst (λ (z : Node). Follows S.world.source typing first Mean start begin z (plain_node y)) (sym (form_here q p x S fit suits same_insts form order))
+      (subst (λ (z : Node). Follows S.world.source typing first Mean start begin (formed S typing (kept_here q p x S fit suits same_insts form order) start (plain_node p.body)) z) (sym other.same)
       (forms-follow S.world.source typing first Mean S U (nodes-told S U typing (count_of q.insts) (count_of r.insts) alike listed first) (kept_here q p x S fit suits same_insts form order) (kept_there own_types)
-      (KeptWell q p x S fit suits same_insts form order) (WellThere own_types) keeps start start (plain_node p.body) (plain_node o.body) enters follow
+      (KeptWell q p x S fit suits same_insts form order) (WellThere own_types) keeps start begin (plain_node p.body) (plain_node o.body) enters follow
       (groups_kept q p x S fit suits same_insts form order) other.groups))

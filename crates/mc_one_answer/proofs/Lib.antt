@@ -1,10 +1,13 @@
 pub mod FoundNodes
 pub mod GraphsAlike
 pub mod ModesMeanOne
+pub mod SigsAreOne
 pub mod NamedApart
 pub mod OneRule
 pub mod WholePrograms
 pub mod MeantNodes
+pub mod WrittenInsts
+pub mod MeantSigs
 pub mod KeptForms
 pub mod KeptNodes
 pub mod KeptGroups

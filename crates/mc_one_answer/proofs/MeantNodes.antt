@@ -6,17 +6,23 @@ use Rattle.std.proofs.lemmas.Bool.{eqb-true}
 use Rattle.std.proofs.lemmas.List.Sorted.{IsPermutation-sym, Contains-permutation}
 use Rattle.mc_program.specs.Programs.{TypeTerm, state_type, variable_type, Source}
 use Rattle.mc_program.specs.PlainPrograms.{plain_program}
+use Rattle.mc_program.specs.declared.program.Program.{Program}
 use Rattle.mc_model.specs.Types.{argument_types}
-use Rattle.mc_model.specs.Insts.{Listed, InstNode, free, unique, dead, bound, Graph, Lists, AllowsSymbol, AllowsConstants}
+use Rattle.mc_model.specs.Insts.{Listed, InstNode, free, ground, unique, dead, bound, Graph, Lists, AllowsSymbol, AllowsConstants}
 use Rattle.mc_model.specs.Stream.{is_bound}
 use Rattle.mc_accepted.specs.Fits.{FitsInsts}
 use Rattle.mc_accepted.specs.Inclusion.{Tip, symbol_tip, constant_tip, state_tip, Path, AllowsMark, OnTypes, AllowsTip, Allows}
-use Rattle.mc_accepted.specs.InstRules.{Functor, InstTerm, parameter, inst_node, defined, bound_over, InstTerms, no_insts, inst_then, inst_at, over, each_over, Bodies, ComesTo, at_that, by_definition}
+use Rattle.mc_accepted.specs.InstRules.{PlainInstDef, Functor, InstTerm, parameter, inst_node, defined, bound_over, InstTerms, no_insts, inst_then, inst_at, over, each_over, Bodies, ComesTo, at_that, by_definition}
 use Rattle.mc_accepted.specs.Tidy.{Leads, Tidy}
-use Rattle.mc_insts.specs.Graphs.{graph_of}
+use Rattle.mc_insts.specs.declared.insts.Insts.{Insts}
+use Rattle.mc_insts.specs.Graphs.{graph_of, count_of}
+use Rattle.mc_insts.specs.Growing.{Grown}
 use Rattle.mc_insts.proofs.Overs.{on_types, allows_over, over_allows}
-use Rattle.mc_signatures.specs.MeantInsts.{first_insts, insts_behind, EachIs, AreListed, ListsThese, IsUpto, HasBuiltins}
+use Rattle.mc_signatures.specs.MeantInsts.{first_insts, insts_behind, EachIs, AreListed, ListsThese, IsUpto, HasBuiltins, IsMeant}
+use Rattle.mc_graph_laws.specs.FaultLaws.{InstAlike}
 use Rattle.mc_graph_laws.proofs.NodesMeanOne.{to-types}
+use Rattle.mc_rules.specs.Premises.{HasInsts}
+use Rattle.mc_one_answer.specs.ModesMeanOne.{AreOne}
 use Rattle.mc_one_answer.specs.MeantNodes.{NamesBuiltin, EachNamesBuiltin, MeantNodesMeanOne}
 use Rattle.mc_one_answer.proofs.GraphsAlike.{one-listed, listed-one}
 
@@ -27,13 +33,13 @@ named-at (inst_then i is) zero h = h.0
 named-at (inst_then i is) (suc k) h = named-at is k h.1
 
 mutual
-  named-over : (ts : InstTerms) (i : InstTerm) → EachNamesBuiltin ts → NamesBuiltin i → NamesBuiltin (over ts i)
+  pub named-over : (ts : InstTerms) (i : InstTerm) → EachNamesBuiltin ts → NamesBuiltin i → NamesBuiltin (over ts i)
   named-over ts (parameter k) h n = named-at ts k h
   named-over ts (inst_node j) h n = n
   named-over ts (defined d is) h n = each-named-over ts is h n
   named-over ts (bound_over fs is) h n = each-named-over ts is h n
 
-  each-named-over : (ts is : InstTerms) → EachNamesBuiltin ts → EachNamesBuiltin is → EachNamesBuiltin (each_over ts is)
+  pub each-named-over : (ts is : InstTerms) → EachNamesBuiltin ts → EachNamesBuiltin is → EachNamesBuiltin (each_over ts is)
   each-named-over ts no_insts h n = tt
   each-named-over ts (inst_then i is) h n = (named-over ts i h n.0, each-named-over ts is h n.1)
 
@@ -237,37 +243,68 @@ module _ (body : Bodies) (bodies : (d : ℕ) → NamesBuiltin (body d)) where
 has-builtins : (G : Graph) → FitsInsts G → HasBuiltins G
 has-builtins G fits = record { is_free = fits.is_free; is_ground = fits.is_ground; is_unique = fits.is_unique; is_dead = fits.is_dead }
 
+-- a node that lists constructors is no builtin one
+no-builtin : (G : Graph) → HasBuiltins G → (n : ℕ) (ls : List Listed) → G n ≡ bound ls → 3 < n
+no-builtin G h zero ls e = (let z : free ≡ bound ls = sym h.is_free ∙ e in cc)
+no-builtin G h (suc zero) ls e = (let z : ground ≡ bound ls = sym h.is_ground ∙ e in cc)
+no-builtin G h (suc (suc zero)) ls e = (let z : unique ≡ bound ls = sym h.is_unique ∙ e in cc)
+no-builtin G h (suc (suc (suc zero))) ls e = (let z : dead ≡ bound ls = sym h.is_dead ∙ e in cc)
+no-builtin G h (suc (suc (suc (suc n)))) ls e = omega arith
+
+module _ (body : Bodies) (bodies : (d : ℕ) → NamesBuiltin (body d)) (P : Program) (ds es : List PlainInstDef) (i : InstTerm) (n m : ℕ) (named : NamesBuiltin i) (x : IsMeant body ds i n) (y : IsMeant body es i m)
+    (I J : Insts) (here : HasInsts P ds I) (other : HasInsts P es J) where
+  abbrev S : Source
+  S = plain_program P
+
+  abbrev G : Graph
+  G = graph_of I
+
+  abbrev H : Graph
+  H = graph_of J
+
+  hg : HasBuiltins G
+  hg = has-builtins G here.are_of.insts
+
+  hh : HasBuiltins H
+  hh = has-builtins H other.are_of.insts
+
+  both : (d : ℕ) → IsBoth body bodies G H hg hh d n m
+  both d = record { inst = i; named = named; is_here = x G here.nodes hg here.defined d; is_there = y H other.nodes hh other.defined d }
+
+  back : (d : ℕ) → IsBoth body bodies H G hh hg d m n
+  back d = record { inst = i; named = named; is_here = y H other.nodes hh other.defined d; is_there = x G here.nodes hg here.defined d }
+
+  nodes-alike : InstAlike n m
+  nodes-alike = at (matched body bodies G H hg hh 0 n m (both 1))
+    where
+      at : Matched body bodies G H hg hh 0 n m → InstAlike n m
+      at (builtin e lt) = inl e
+      at (lists w l k) = inr (no-builtin G hg n l.listed l.is, no-builtin H hh m k.listed k.is)
+
+  tidy-there : (t : TypeTerm) → Tidy S G n t → Tidy S H m t
+  tidy-there t tidy path j u l w = tidy-too body bodies H G hh hg S path j u m n t (back (suc (length path))) tidy l w
+
+  tidy-here : (t : TypeTerm) → Tidy S H m t → Tidy S G n t
+  tidy-here t tidy path j u l w = tidy-too body bodies G H hg hh S path j u n m t (both (suc (length path))) tidy l w
+
+  meant-one : (K L : Insts) → Grown S I K → Grown S J L → n < count_of I → m < count_of J → (t : TypeTerm) → Tidy S G n t → AreOne P K L t n m
+  meant-one K L on also ln lm t tidy =
+      record {
+        here = lt_of_lt_of_le ln on.more;
+        there = lt_of_lt_of_le lm also.more;
+        bound = bound-alike body bodies G H hg hh 0 n m (bound-set body bodies H G hh hg) (both 1);
+        tidy_here = (on.tidy n ln t).0 tidy;
+        tidy_there = (also.tidy m lm t).0 (tidy-there t tidy);
+        same = λ path e. (
+          (λ a. (also.meaning m lm path e t).0 (allows-too body bodies G H hg hh S path e n m t (both (suc (length path))) ((on.meaning n ln path e t).1 a))),
+          (λ a. (on.meaning n ln path e t).0 (allows-too body bodies H G hh hg S path e m n t (back (suc (length path))) ((also.meaning m lm path e t).1 a))),
+        );
+      }
+
 pub meant-nodes-mean-one : MeantNodesMeanOne
-meant-nodes-mean-one body bodies P ds es I J K L here other on also i n m t named x y ln lm tidy =
+meant-nodes-mean-one body bodies P ds es i n m named x y =
     record {
-      here = lt_of_lt_of_le ln on.more;
-      there = lt_of_lt_of_le lm also.more;
-      bound = bound-alike body bodies G H hg hh 0 n m (bound-set body bodies H G hh hg) (both 1);
-      tidy_here = (on.tidy n ln t).0 tidy;
-      tidy_there = (also.tidy m lm t).0 (λ path j u l w. tidy-too body bodies H G hh hg S path j u m n t (back (suc (length path))) tidy l w);
-      same = λ path e. (
-        (λ a. (also.meaning m lm path e t).0 (allows-too body bodies G H hg hh S path e n m t (both (suc (length path))) ((on.meaning n ln path e t).1 a))),
-        (λ a. (on.meaning n ln path e t).0 (allows-too body bodies H G hh hg S path e m n t (back (suc (length path))) ((also.meaning m lm path e t).1 a))),
-      );
+      alike = λ I J here other. nodes-alike body bodies P ds es i n m named x y I J here other;
+      tidy = λ I J here other t. (tidy-there body bodies P ds es i n m named x y I J here other t, tidy-here body bodies P ds es i n m named x y I J here other t);
+      one = λ I J K L here other on also ln lm t tidy. meant-one body bodies P ds es i n m named x y I J here other K L on also ln lm t tidy;
     }
-  where
-    S : Source
-    S = plain_program P
-
-    G : Graph
-    G = graph_of I
-
-    H : Graph
-    H = graph_of J
-
-    hg : HasBuiltins G
-    hg = has-builtins G here.are_of.insts
-
-    hh : HasBuiltins H
-    hh = has-builtins H other.are_of.insts
-
-    both : (d : ℕ) → IsBoth body bodies G H hg hh d n m
-    both d = record { inst = i; named = named; is_here = x G here.nodes hg here.defined d; is_there = y H other.nodes hh other.defined d }
-
-    back : (d : ℕ) → IsBoth body bodies H G hh hg d m n
-    back d = record { inst = i; named = named; is_here = y H other.nodes hh other.defined d; is_there = x G here.nodes hg here.defined d }

@@ -1,5 +1,5 @@
 -- Insts that definitions define mean one thing in two graphs, and so do the insts of declared modes.
-use Rattle.std.proofs.Common.{◌≡◌, ℕ, zero, suc, ◌+◌, ◌<◌, List, [], ◌∷◌, ◌++◌, map, get_or, Option, refl, sym, ◌∙◌, subst, arith}
+use Rattle.std.proofs.Common.{◌≡◌, inl, ℕ, zero, suc, ◌+◌, ◌<◌, List, [], ◌∷◌, ◌++◌, map, get_or, Option, refl, sym, ap, ◌∙◌, subst, arith}
 use Rattle.std.proofs.Math.Nat.{lt_of_lt_of_le}
 use Rattle.mc_source.specs.Rules.{Fault, broken_at}
 use Rattle.mc_source.specs.declared.rule.Broken.{Broken}
@@ -14,42 +14,56 @@ use Rattle.mc_model.specs.declared.inst.ModeDecl.{ModeDecl}
 use Rattle.mc_model.specs.declared.inst.Sig.{Sig}
 use Rattle.mc_accepted.specs.BuiltinTypes.{Library_types, builtin_types}
 use Rattle.mc_accepted.specs.Chosen.{Chosen, of_nodes}
-use Rattle.mc_accepted.specs.Fits.{FitsInsts}
 use Rattle.mc_accepted.specs.InstRules.{PlainInstDef}
-use Rattle.mc_accepted.specs.Ordered.{modes_of, zipped}
+use Rattle.mc_accepted.specs.Ordered.{Mode, modes_of, zipped}
 use Rattle.mc_accepted.specs.Tidy.{Tidy, EachTidy}
 use Rattle.mc_insts.specs.declared.insts.Insts.{Insts}
 use Rattle.mc_insts.specs.Graphs.{graph_of, count_of}
 use Rattle.mc_insts.specs.Growing.{Grown}
 use Rattle.mc_procs.specs.Named.{NumbersBelow}
 use Rattle.mc_procs.specs.Procedures.{PlainProcs}
-use Rattle.mc_mode_points.specs.Modes.{declared_mode, ModesFit}
+use Rattle.mc_mode_points.specs.Modes.{never_answers, declared_mode, ModesFit}
 use Rattle.mc_modes.specs.Signatures.{modes_at, no_mode, SigsFit}
 use Rattle.mc_order_laws.proofs.TidyInsts.{tidy-at-instances}
-use Rattle.mc_graph_laws.specs.Related.{NodesRelated, ModesRelated, EachModeRelated}
+use Rattle.mc_graph_laws.specs.FaultLaws.{InstAlike}
+use Rattle.mc_graph_laws.specs.Nodes.{MeanOne}
+use Rattle.mc_graph_laws.specs.Related.{BoundAlike, NodesRelated, ModesRelated, EachModeRelated}
+use Rattle.mc_graph_laws.proofs.AlikeInsts.{same-bound}
 use Rattle.mc_graph_laws.proofs.NodesMeanOne.{free-one, ground-one, unique-one, gone-one}
-use Rattle.mc_rules.specs.Premises.{Begins}
+use Rattle.mc_rules.specs.Premises.{HasInsts, Begins}
 use Rattle.mc_rules.specs.Untidy.{ModeIsTidy, TidySays, is_tidy, is_untidy, ModesSay, no_mode as no_mode_says, mode_then, AreUntidy, no_predicate, predicate_then}
-use Rattle.mc_one_answer.specs.ModesMeanOne.{AreOne, DefinedMeanOne, ArePlaced, ModesAreOne, ModesMeanOne}
+use Rattle.mc_one_answer.specs.ModesMeanOne.{AreOne, NodesAreOne, DefinedMeanOne, EachIsOne, EachModeIsOne, SigsAreOne, ArePlaced, ModesAreOne, ModesMeanOne}
+use Rattle.mc_one_answer.proofs.SigsAreOne.{modes_one}
 use Rattle.mc_one_answer.proofs.GraphsAlike.{allows-on, tidy-back, graphs-alike}
 
 -- ---- insts that definitions define
+module _ (P : Program) (ds : List PlainInstDef) (I J : Insts) (here : HasInsts P ds I) (other : HasInsts P ds J) where
+  to_there : (i : ℕ) (t : TypeTerm) → Tidy (plain_program P) (graph_of I) i t → Tidy (plain_program P) (graph_of J) i t
+  to_there = tidy-back (plain_program P) (graph_of J) (graph_of I) (graphs-alike P ds J I other here)
+
+  defined-one : (i : ℕ) (K L : Insts) → Grown (plain_program P) I K → Grown (plain_program P) J L → i < count_of I → (t : TypeTerm) → Tidy (plain_program P) (graph_of I) i t → AreOne P K L t i i
+  defined-one i K L on also lt t tidy =
+      let there : i < count_of J = subst (λ n. i < n) (here.count ∙ sym other.count) lt in
+      let to = graphs-alike P ds I J here other in
+      let from = graphs-alike P ds J I other here in
+      record {
+        here = lt_of_lt_of_le lt on.more;
+        there = lt_of_lt_of_le there also.more;
+        bound = refl;
+        tidy_here = (on.tidy i lt t).0 tidy;
+        tidy_there = (also.tidy i there t).0 (to_there i t tidy);
+        same = λ path e. (
+          (λ a. (also.meaning i there path e t).0 (allows-on (plain_program P) (graph_of I) (graph_of J) to path e i t ((on.meaning i lt path e t).1 a))),
+          (λ a. (on.meaning i lt path e t).0 (allows-on (plain_program P) (graph_of J) (graph_of I) from path e i t ((also.meaning i there path e t).1 a))),
+        );
+      }
+
 pub defined-mean-one : DefinedMeanOne
-defined-mean-one P ds I J K L here other on also i t lt tidy =
-    let there : i < count_of J = subst (λ n. i < n) (here.count ∙ sym other.count) lt in
-    let to = graphs-alike P ds I J here other in
-    let from = graphs-alike P ds J I other here in
-    let tidy_too : Tidy (plain_program P) (graph_of J) i t = tidy-back (plain_program P) (graph_of J) (graph_of I) from i t tidy in
+defined-mean-one P ds n =
     record {
-      here = lt_of_lt_of_le lt on.more;
-      there = lt_of_lt_of_le there also.more;
-      bound = refl;
-      tidy_here = (on.tidy i lt t).0 tidy;
-      tidy_there = (also.tidy i there t).0 tidy_too;
-      same = λ path e. (
-        (λ a. (also.meaning i there path e t).0 (allows-on (plain_program P) (graph_of I) (graph_of J) to path e i t ((on.meaning i lt path e t).1 a))),
-        (λ a. (on.meaning i lt path e t).0 (allows-on (plain_program P) (graph_of J) (graph_of I) from path e i t ((also.meaning i there path e t).1 a))),
-      );
+      alike = λ I J here other. inl refl;
+      tidy = λ I J here other t. (to_there P ds I J here other n t, to_there P ds J I other here n t);
+      one = λ I J K L here other on also lt also_lt t tidy. defined-one P ds I J here other n K L on also lt t tidy;
     }
 
 -- ---- where no declared mode breaks the rule of unique modes
@@ -90,25 +104,31 @@ module _ (P : Program) (K L : Insts) (C E : Chosen) where
   abbrev R : TypeTerm → ℕ → ℕ → Type 0
   R = AreOne P K L
 
-  abbrev Nodes : List ℕ → List TypeTerm → Type 0
-  Nodes is ts = NodesRelated (of_nodes C) (of_nodes E) R is ts
+  abbrev Nodes : List ℕ → List ℕ → List TypeTerm → Type 0
+  Nodes is js ts = NodesRelated (of_nodes C) (of_nodes E) R is js ts
+
+  abbrev ItsModes : List Mode → List TypeTerm → Type 0
+  ItsModes ms ts = ModesRelated (of_nodes C) (of_nodes E) R ms ms ts
+
+  one_bound : (m : Mode) → BoundAlike m m
+  one_bound m = (refl, refl)
 
   -- ---- those of builtins
   module _ (free : (t : TypeTerm) → R t 0 0) (ground : (t : TypeTerm) → R t 1 1) (unique : R state_type 2 2) (gone : R state_type 3 3) (T : Library_types) (σ : ℕ → TypeTerm) where
     abbrev Given : Builtin → Type 0
-    Given op = ModesRelated (of_nodes C) (of_nodes E) R (modes_of op) (map (instance_of σ) (builtin_types T op))
+    Given op = ItsModes (modes_of op) (map (instance_of σ) (builtin_types T op))
 
-    two-inputs : (a b c : TypeTerm) → ModesRelated (of_nodes C) (of_nodes E) R ((1, 1) ∷ (1, 1) ∷ (0, 1) ∷ []) (a ∷ b ∷ c ∷ [])
-    two-inputs a b c = (ground a, ground a, (ground b, ground b, (free c, ground c, tt)))
+    two-inputs : (a b c : TypeTerm) → ItsModes ((1, 1) ∷ (1, 1) ∷ (0, 1) ∷ []) (a ∷ b ∷ c ∷ [])
+    two-inputs a b c = (one_bound (1, 1), ground a, ground a, (one_bound (1, 1), ground b, ground b, (one_bound (0, 1), free c, ground c, tt)))
 
-    one-input : (a b : TypeTerm) → ModesRelated (of_nodes C) (of_nodes E) R ((1, 1) ∷ (0, 1) ∷ []) (a ∷ b ∷ [])
-    one-input a b = (ground a, ground a, (free b, ground b, tt))
+    one-input : (a b : TypeTerm) → ItsModes ((1, 1) ∷ (0, 1) ∷ []) (a ∷ b ∷ [])
+    one-input a b = (one_bound (1, 1), ground a, ground a, (one_bound (0, 1), free b, ground b, tt))
 
-    test : (a b : TypeTerm) → ModesRelated (of_nodes C) (of_nodes E) R ((1, 1) ∷ (1, 1) ∷ []) (a ∷ b ∷ [])
-    test a b = (ground a, ground a, (ground b, ground b, tt))
+    test : (a b : TypeTerm) → ItsModes ((1, 1) ∷ (1, 1) ∷ []) (a ∷ b ∷ [])
+    test a b = (one_bound (1, 1), ground a, ground a, (one_bound (1, 1), ground b, ground b, tt))
 
-    writing : (a : TypeTerm) → ModesRelated (of_nodes C) (of_nodes E) R ((1, 1) ∷ (2, 3) ∷ (0, 2) ∷ []) (a ∷ state_type ∷ state_type ∷ [])
-    writing a = (ground a, ground a, (unique, gone, (free state_type, unique, tt)))
+    writing : (a : TypeTerm) → ItsModes ((1, 1) ∷ (2, 3) ∷ (0, 2) ∷ []) (a ∷ state_type ∷ state_type ∷ [])
+    writing a = (one_bound (1, 1), ground a, ground a, (one_bound (2, 3), unique, gone, (one_bound (0, 2), free state_type, unique, tt)))
 
     given : (op : Builtin) → Given op
     given B.IntPlus = two-inputs _ _ _
@@ -132,40 +152,59 @@ module _ (P : Program) (K L : Insts) (C E : Chosen) where
     given B.StringToInt = one-input _ _
     given B.CharToInt = one-input _ _
     given B.CharFromInt = one-input _ _
-    given B.CharIsDigit = (ground _, ground _, tt)
+    given B.CharIsDigit = (one_bound (1, 1), ground _, ground _, tt)
     given B.WriteString = writing _
     given B.WriteChar = writing _
     given B.WriteInt = writing _
     given B.Write = writing _
-    given B.Nl = (unique, gone, (free state_type, unique, tt))
-    given B.ReadLine = (free _, ground _, (unique, gone, (free state_type, unique, tt)))
-    given B.Error = (ground _, ground _, tt)
+    given B.Nl = (one_bound (2, 3), unique, gone, (one_bound (0, 2), free state_type, unique, tt))
+    given B.ReadLine = (one_bound (0, 1), free _, ground _, (one_bound (2, 3), unique, gone, (one_bound (0, 2), free state_type, unique, tt)))
+    given B.Error = (one_bound (1, 1), ground _, ground _, tt)
 
   -- ---- those of modes that are declared
-  module _ (G : Graph) (count : ℕ) (one : (i : ℕ) (t : TypeTerm) → i < count → Tidy S G i t → R t i i) where
-    nodes-one : (is : List ℕ) (ts : List TypeTerm) → NumbersBelow count is → EachTidy S G is ts → Nodes is ts
-    nodes-one [] ts below tidy = tt
-    nodes-one (i ∷ is) [] below tidy = tt
-    nodes-one (i ∷ is) (t ∷ ts) below tidy = (one i t below.0 tidy.0, nodes-one is ts below.1 tidy.1)
+  module _ (One : ℕ → ℕ → Type 0) (alike : (i j : ℕ) → One i j → InstAlike i j) (G : Graph) (count many : ℕ) (one : (i j : ℕ) (t : TypeTerm) → One i j → i < count → j < many → Tidy S G i t → R t i j) where
+    nodes-one : (is js : List ℕ) (ts : List TypeTerm) → EachIsOne One is js → NumbersBelow count is → NumbersBelow many js → EachTidy S G is ts → Nodes is js ts
+    nodes-one [] [] ts h below there tidy = tt
+    nodes-one [] (j ∷ js) ts h below there tidy = absurd h
+    nodes-one (i ∷ is) [] ts h below there tidy = absurd h
+    nodes-one (i ∷ is) (j ∷ js) [] h below there tidy = tt
+    nodes-one (i ∷ is) (j ∷ js) (t ∷ ts) h below there tidy = (one i j t h.0 below.0 there.0 tidy.0, nodes-one is js ts h.1 below.1 there.1 tidy.1)
 
-    instances-one : (σ : ℕ → TypeTerm) (is ls : List ℕ) (ts : List TypeTerm) → NumbersBelow count is → NumbersBelow count ls → EachTidy S G is ts → EachTidy S G ls ts → ModesRelated (of_nodes C) (of_nodes E) R (zipped is ls) (map (instance_of σ) ts)
-    instances-one σ [] ls ts w v x y = tt
-    instances-one σ (i ∷ is) [] ts w v x y = tt
-    instances-one σ (i ∷ is) (l ∷ ls) [] w v x y = tt
-    instances-one σ (i ∷ is) (l ∷ ls) (t ∷ ts) w v x y =
-        (one i (instance_of σ t) w.0 (tidy-at-instances S G σ i t x.0), one l (instance_of σ t) v.0 (tidy-at-instances S G σ l t y.0), instances-one σ is ls ts w.1 v.1 x.1 y.1)
+    instances-one : (σ : ℕ → TypeTerm) (is ls js ms : List ℕ) (ts : List TypeTerm) → EachIsOne One is js → EachIsOne One ls ms → NumbersBelow count is → NumbersBelow count ls → NumbersBelow many js → NumbersBelow many ms → EachTidy S G is ts → EachTidy S G ls ts
+        → ModesRelated (of_nodes C) (of_nodes E) R (zipped is ls) (zipped js ms) (map (instance_of σ) ts)
+    instances-one σ [] ls [] ms ts h k w v p q x y = tt
+    instances-one σ [] ls (j ∷ js) ms ts h k w v p q x y = absurd h
+    instances-one σ (i ∷ is) ls [] ms ts h k w v p q x y = absurd h
+    instances-one σ (i ∷ is) [] (j ∷ js) [] ts h k w v p q x y = tt
+    instances-one σ (i ∷ is) [] (j ∷ js) (m ∷ ms) ts h k w v p q x y = absurd k
+    instances-one σ (i ∷ is) (l ∷ ls) (j ∷ js) [] ts h k w v p q x y = absurd k
+    instances-one σ (i ∷ is) (l ∷ ls) (j ∷ js) (m ∷ ms) [] h k w v p q x y = tt
+    instances-one σ (i ∷ is) (l ∷ ls) (j ∷ js) (m ∷ ms) (t ∷ ts) h k w v p q x y = (
+      (same-bound i j (alike i j h.0), same-bound l m (alike l m k.0)),
+      one i j (instance_of σ t) h.0 w.0 p.0 (tidy-at-instances S G σ i t x.0),
+      one l m (instance_of σ t) k.0 v.0 q.0 (tidy-at-instances S G σ l t y.0),
+      instances-one σ is ls js ms ts h.1 k.1 w.1 v.1 p.1 q.1 x.1 y.1,
+    )
 
-    each-one : (σ : ℕ → TypeTerm) (ms : List ModeDecl) (ts : List TypeTerm) → ModesFit count ms → AllTidy S G ts ms → EachModeRelated (of_nodes C) (of_nodes E) R (map declared_mode ms) (map (instance_of σ) ts)
-    each-one σ [] ts fit tidy = tt
-    each-one σ (m ∷ ms) ts fit tidy = (instances-one σ m.first m.last ts fit.0.first fit.0.last tidy.0.0 tidy.0.1, each-one σ ms ts fit.1 tidy.1)
+    each-one : (σ : ℕ → TypeTerm) (ms ns : List ModeDecl) (ts : List TypeTerm) → EachModeIsOne One ms ns → ModesFit count ms → ModesFit many ns → AllTidy S G ts ms → EachModeRelated (of_nodes C) (of_nodes E) R (map declared_mode ms) (map declared_mode ns) (map (instance_of σ) ts)
+    each-one σ [] [] ts h fit there tidy = tt
+    each-one σ [] (n ∷ ns) ts h fit there tidy = absurd h
+    each-one σ (m ∷ ms) [] ts h fit there tidy = absurd h
+    each-one σ (m ∷ ms) (n ∷ ns) ts h fit there tidy = (
+      (sym h.0.proc, ap never_answers (sym h.0.det), instances-one σ m.first m.last n.first n.last ts h.0.first h.0.last fit.0.first fit.0.last there.0.first there.0.last tidy.0.0 tidy.0.1),
+      each-one σ ms ns ts h.1 fit.1 there.1 tidy.1,
+    )
 
-    initial-one : (ms : List ModeDecl) (ts : List TypeTerm) (k : ℕ) → ModesFit count ms → AllTidy S G ts ms → Nodes (get_or ms k no_mode).first ts × Nodes (get_or ms k no_mode).last ts
-    initial-one [] ts k fit tidy = (tt, tt)
-    initial-one (m ∷ ms) ts zero fit tidy = (nodes-one m.first ts fit.0.first tidy.0.0, nodes-one m.last ts fit.0.last tidy.0.1)
-    initial-one (m ∷ ms) ts (suc k) fit tidy = initial-one ms ts k fit.1 tidy.1
+    initial-one : (ms ns : List ModeDecl) (ts : List TypeTerm) (k : ℕ) → EachModeIsOne One ms ns → ModesFit count ms → ModesFit many ns → AllTidy S G ts ms
+        → Nodes (get_or ms k no_mode).first (get_or ns k no_mode).first ts × Nodes (get_or ms k no_mode).last (get_or ns k no_mode).last ts
+    initial-one [] [] ts k h fit there tidy = (tt, tt)
+    initial-one [] (n ∷ ns) ts k h fit there tidy = absurd h
+    initial-one (m ∷ ms) [] ts k h fit there tidy = absurd h
+    initial-one (m ∷ ms) (n ∷ ns) ts zero h fit there tidy = (nodes-one m.first n.first ts h.0.first fit.0.first there.0.first tidy.0.0, nodes-one m.last n.last ts h.0.last fit.0.last there.0.last tidy.0.1)
+    initial-one (m ∷ ms) (n ∷ ns) ts (suc k) h fit there tidy = initial-one ms ns ts k h.1 fit.1 there.1 tidy.1
 
-module _ (P : Program) (ds : List PlainInstDef) (sigs : List Sig) (first other : PlainProcs) (K L : Insts) (placed : ArePlaced 0 sigs) (here : Begins P ds sigs first) (there : Begins P ds sigs other) (fit : SigsFit (count_of first.insts) sigs)
-    (on : Grown (plain_program P) first.insts K) (also : Grown (plain_program P) other.insts L) (C E : Chosen) where
+module _ (P : Program) (ds es : List PlainInstDef) (sigs others : List Sig) (first other : PlainProcs) (K L : Insts) (same : SigsAreOne (NodesAreOne P ds es) sigs others) (placed : ArePlaced 0 sigs) (here : Begins P ds sigs first) (there : Begins P es others other)
+    (fit : SigsFit (count_of first.insts) sigs) (fit_there : SigsFit (count_of other.insts) others) (on : Grown (plain_program P) first.insts K) (also : Grown (plain_program P) other.insts L) (C E : Chosen) where
   abbrev Q : Source
   Q = plain_program P
 
@@ -175,35 +214,62 @@ module _ (P : Program) (ds : List PlainInstDef) (sigs : List Sig) (first other :
   abbrev c : ℕ
   c = count_of first.insts
 
-  fits : FitsInsts G
-  fits = here.insts.are_of.insts
+  abbrev e : ℕ
+  e = count_of other.insts
 
-  many : 3 < c
-  many = here.insts.are_of.builtins.many
+  abbrev Nodes-one : ℕ → ℕ → Type 0
+  Nodes-one = NodesAreOne P ds es
 
-  one : (i : ℕ) (t : TypeTerm) → i < c → Tidy Q G i t → AreOne P K L t i i
-  one i t lt tidy = defined-mean-one P ds first.insts other.insts K L here.insts there.insts on also i t lt tidy
+  alike : (i j : ℕ) → Nodes-one i j → InstAlike i j
+  alike i j h = h.alike first.insts other.insts here.insts there.insts
+
+  one : (i j : ℕ) (t : TypeTerm) → Nodes-one i j → i < c → j < e → Tidy Q G i t → AreOne P K L t i j
+  one i j t h lt less tidy = h.one first.insts other.insts K L here.insts there.insts on also lt less t tidy
 
   tidy : (p : ℕ) → AllTidy Q G (Q.preds p).types (modes_at sigs p)
   tidy p = subst (λ q. AllTidy Q G (Q.preds q).types (modes_at sigs p)) (let e : 0 + p ≡ p = omega arith in e) (all-tidy Q G 0 sigs [] placed here.tidy refl p)
 
-  given-one : (T : Library_types) (σ : ℕ → TypeTerm) (op : Builtin) → ModesRelated (of_nodes C) (of_nodes E) (AreOne P K L) (modes_of op) (map (instance_of σ) (builtin_types T op))
-  given-one T σ op =
-      given P K L C E (λ t. one 0 t (omega (arith, many)) (free-one Q c c G G many many fits fits t).tidy_here) (λ t. one 1 t (omega (arith, many)) (ground-one Q c c G G many many fits fits t).tidy_here)
-      (one 2 state_type (omega (arith, many)) (unique-one Q c c G G many many fits fits).tidy_here) (one 3 state_type many (gone-one Q c c G G many many fits fits).tidy_here) T σ op
+  -- builtin nodes grow as others do
+  abbrev H : Graph
+  H = graph_of other.insts
 
-  modes-are-one : ModesAreOne P sigs K L C E
+  many : 3 < c
+  many = here.insts.are_of.builtins.many
+
+  many_there : 3 < e
+  many_there = there.insts.are_of.builtins.many
+
+  grown-one : (i j : ℕ) (t : TypeTerm) → MeanOne Q c G e H t i j → AreOne P K L t i j
+  grown-one i j t h =
+      record {
+        here = lt_of_lt_of_le h.here on.more;
+        there = lt_of_lt_of_le h.there also.more;
+        bound = h.bound;
+        tidy_here = (on.tidy i h.here t).0 h.tidy_here;
+        tidy_there = (also.tidy j h.there t).0 h.tidy_there;
+        same = λ path e. (
+          (λ a. (also.meaning j h.there path e t).0 ((h.same path e).0 ((on.meaning i h.here path e t).1 a))),
+          (λ a. (on.meaning i h.here path e t).0 ((h.same path e).1 ((also.meaning j h.there path e t).1 a))),
+        );
+      }
+
+  given-one : (T : Library_types) (σ : ℕ → TypeTerm) (op : Builtin) → ModesRelated (of_nodes C) (of_nodes E) (AreOne P K L) (modes_of op) (modes_of op) (map (instance_of σ) (builtin_types T op))
+  given-one T σ op =
+      given P K L C E (λ t. grown-one 0 0 t (free-one Q c e G H many many_there here.insts.are_of.insts there.insts.are_of.insts t)) (λ t. grown-one 1 1 t (ground-one Q c e G H many many_there here.insts.are_of.insts there.insts.are_of.insts t))
+      (grown-one 2 2 state_type (unique-one Q c e G H many many_there here.insts.are_of.insts there.insts.are_of.insts)) (grown-one 3 3 state_type (gone-one Q c e G H many many_there here.insts.are_of.insts there.insts.are_of.insts)) T σ op
+
+  modes-are-one : ModesAreOne P sigs others K L C E
   modes-are-one =
       record {
         declared = record {
-          modes = λ p σ e. each-one P K L C E G c one σ (modes_at sigs p) (Q.preds p).types (fit p) (tidy p);
+          modes = λ p σ none. each-one P K L C E Nodes-one alike G c e one σ (modes_at sigs p) (modes_at others p) (Q.preds p).types (modes_one Nodes-one sigs others p same) (fit p) (fit_there p) (tidy p);
           builtins = λ p op σ e.
-              subst (λ ts. ModesRelated (of_nodes C) (of_nodes E) (AreOne P K L) (modes_of op) (map (instance_of σ) ts)) (sym (here.library.1 p op e).1)
+              subst (λ ts. ModesRelated (of_nodes C) (of_nodes E) (AreOne P K L) (modes_of op) (modes_of op) (map (instance_of σ) ts)) (sym (here.library.1 p op e).1)
               (given-one here.library.0 σ op);
         };
-        initial = λ p k. (initial-one P K L C E G c one (modes_at sigs p) (Q.preds p).types k (fit p) (tidy p)).0;
-        final = λ p k. (initial-one P K L C E G c one (modes_at sigs p) (Q.preds p).types k (fit p) (tidy p)).1;
+        initial = λ p k. (initial-one P K L C E Nodes-one alike G c e one (modes_at sigs p) (modes_at others p) (Q.preds p).types k (modes_one Nodes-one sigs others p same) (fit p) (fit_there p) (tidy p)).0;
+        final = λ p k. (initial-one P K L C E Nodes-one alike G c e one (modes_at sigs p) (modes_at others p) (Q.preds p).types k (modes_one Nodes-one sigs others p same) (fit p) (fit_there p) (tidy p)).1;
       }
 
 pub modes-mean-one : ModesMeanOne
-modes-mean-one P ds sigs first other K L placed here there fit on also C E = modes-are-one P ds sigs first other K L placed here there fit on also C E
+modes-mean-one P ds es sigs others first other K L same placed here there fit fit_there on also C E = modes-are-one P ds es sigs others first other K L same placed here there fit fit_there on also C E

@@ -5,6 +5,7 @@ use Rattle.std.proofs.Math.Nat.{le_refl}
 use Rattle.std.proofs.lemmas.Bool.{ltb-true}
 use Rattle.std.proofs.lemmas.List.Elements.{All-head, All-tail}
 use Rattle.mc_source.specs.Rules.{broken_at}
+use Rattle.mc_source.specs.declared.place.Place.{Place}
 use Rattle.mc_source.specs.declared.rule.Broken.{Broken}
 use Rattle.mc_program.specs.Programs.{TypeTerm, Source}
 use Rattle.mc_program.specs.PlainPrograms.{plain_program}
@@ -46,11 +47,12 @@ use Rattle.mc_switch.specs.Types as W
 use Rattle.mc_rules.specs.Premises.{Begins, AskedOf}
 use Rattle.mc_rule_laws.proofs.BodyOrders.{same_types}
 use Rattle.mc_one_answer.specs.FoundNodes.{joins_some, FoundNodes}
-use Rattle.mc_one_answer.specs.ModesMeanOne.{AreOne, ArePlaced, ModesAreOne}
+use Rattle.mc_one_answer.specs.ModesMeanOne.{AreOne, NodesAreOne, SigsAreOne, ArePlaced, ModesAreOne}
 use Rattle.mc_one_answer.specs.OneListOfRules.{IsTyped, AreTyped, OneListOfRules}
 use Rattle.mc_one_answer.proofs.FoundNodes.{in-numbers}
 use Rattle.mc_one_answer.proofs.ModesMeanOne.{modes-mean-one}
 use Rattle.mc_one_answer.proofs.NamedApart.{named-apart}
+use Rattle.mc_one_answer.proofs.SigsAreOne.{mode_one, ids_one}
 
 -- ---- one verdict breaks one rule
 pub one-rule : (n : ℕ) (names : List (List ℕ)) (v w : Verdict) → OneVerdict v w → rule_of n names v ≡ rule_of n names w
@@ -179,23 +181,26 @@ related-some P K L C E r =
       fits = r.fits;
     }
 
-module _ (found : FoundNodes) (P : Program) (ds : List PlainInstDef) (sigs : List Sig) (goals : List Normal) (exported : List Bool) (first other : PlainProcs) (placed : ArePlaced 0 sigs) (typed : AreTyped P goals)
-    (met : (t : TypeTerm) → TypesMet (plain_program P) t) (here : Begins P ds sigs first) (there : Begins P ds sigs other) (asked : AskedOf first sigs goals exported) where
-  one-verdict-told : (id : ModeId) → IsMode P sigs id → (v w : Verdict) → IsTold found P sigs goals met id first.insts v → IsTold found P sigs goals met id other.insts w → OneVerdict v w
+module _ (found : FoundNodes) (P : Program) (ds es : List PlainInstDef) (sigs modes : List Sig) (goals : List Normal) (exported : List Bool) (first other : PlainProcs) (same : SigsAreOne (NodesAreOne P ds es) sigs modes) (placed : ArePlaced 0 sigs) (typed : AreTyped P goals)
+    (met : (t : TypeTerm) → TypesMet (plain_program P) t) (here : Begins P ds sigs first) (there : Begins P es modes other) (asked : AskedOf first sigs goals exported) (asked_too : AskedOf other modes goals exported) where
+  one-verdict-told : (id : ModeId) → IsMode P sigs id → (v w : Verdict) → IsTold found P sigs goals met id first.insts v → IsTold found P modes goals met id other.insts w → OneVerdict v w
   one-verdict-told id is v w x y =
       subst (λ z. OneVerdict z w) x.verdict
       (subst (λ z. OneVerdict (arranged found P sigs goals met id x.choice) z) y.verdict
-      (one-verdict (of_nodes x.choice) (of_nodes y.choice) (AreOne P x.insts y.insts) (plain_program P) (declared_in sigs) (W.type_in g.var_types) n
+      (one-verdict (of_nodes x.choice) (of_nodes y.choice) (AreOne P x.insts y.insts) (plain_program P) (declared_in sigs) (declared_in modes) (W.type_in g.var_types) n
       (related-some P x.insts y.insts x.choice y.choice
       (nodes-related (plain_program P) (parameters_in P) (count_of x.insts) (count_of y.insts) (graph_of x.insts) (graph_of y.insts) (joins_some x.choice) (joins_some y.choice) x.types (named-apart (plain_program P) here.insts.are_of.fits) x.finds y.finds))
-      modes.declared n g.head m.first m.last (plain_flat g.body) types.body (in-numbers n (variables_of (plain_flat g.body)) fits.variables) (in-numbers n g.head fits.head) (le_refl n)
-      (at_head m.first (modes.initial id.pred id.mode)) (at_head m.last (modes.final id.pred id.mode)) (λ e. x.enough (sym x.verdict ∙ e)) (λ e. y.enough (sym y.verdict ∙ e))))
+      are.declared n g.head m.first m.last l.first l.last (plain_flat g.body) types.body (in-numbers n (variables_of (plain_flat g.body)) fits.variables) (in-numbers n g.head fits.head) (le_refl n)
+      (at_head m.first l.first (are.initial id.pred id.mode)) (at_head m.last l.last (are.final id.pred id.mode)) (λ e. x.enough (sym x.verdict ∙ e)) (λ e. y.enough (sym y.verdict ∙ e))))
     where
       g : Normal
       g = goal_at goals id.pred
 
       m : ModeDecl
       m = mode_in sigs id.pred id.mode
+
+      l : ModeDecl
+      l = mode_in modes id.pred id.mode
 
       n : ℕ
       n = length g.var_types
@@ -208,38 +213,41 @@ module _ (found : FoundNodes) (P : Program) (ds : List PlainInstDef) (sigs : Lis
       types : IsTyped (plain_program P) id.pred g
       types = typed id.pred is.pred is.no_builtin
 
-      modes : ModesAreOne P sigs x.insts y.insts x.choice y.choice
-      modes = modes-mean-one P ds sigs first other x.insts y.insts placed here there asked.insts_there x.grown y.grown x.choice y.choice
+      are : ModesAreOne P sigs modes x.insts y.insts x.choice y.choice
+      are = modes-mean-one P ds es sigs modes first other x.insts y.insts same placed here there asked.insts_there asked_too.insts_there x.grown y.grown x.choice y.choice
 
-      at_head : (is : List ℕ) → NodesRelated (of_nodes x.choice) (of_nodes y.choice) (AreOne P x.insts y.insts) is ((plain_program P).preds id.pred).types → NodesRelated (of_nodes x.choice) (of_nodes y.choice) (AreOne P x.insts y.insts) is (map (W.type_in g.var_types) g.head)
-      at_head is r = subst (λ ts. NodesRelated (of_nodes x.choice) (of_nodes y.choice) (AreOne P x.insts y.insts) is ts) (sym types.head) r
+      at_head : (is js : List ℕ) → NodesRelated (of_nodes x.choice) (of_nodes y.choice) (AreOne P x.insts y.insts) is js ((plain_program P).preds id.pred).types
+          → NodesRelated (of_nodes x.choice) (of_nodes y.choice) (AreOne P x.insts y.insts) is js (map (W.type_in g.var_types) g.head)
+      at_head is js r = subst (λ ts. NodesRelated (of_nodes x.choice) (of_nodes y.choice) (AreOne P x.insts y.insts) is js ts) (sym types.head) r
 
   -- ---- lists of rules
-  told-in : (from last : PlainProcs) (t : Tried) → Begins P ds sigs from → IsTried sigs goals from last t → IsTold found P sigs goals met t.id from.insts t.verdict
-  told-in from last t begins is =
-      told-of found P sigs goals met t.id is.before is.after from.insts is.end t.verdict (is.begun.program ∙ begins.program)
+  told-in : (all : List Sig) (defs : List PlainInstDef) (from last : PlainProcs) (t : Tried) → Begins P defs all from → IsTried all goals from last t → IsTold found P all goals met t.id from.insts t.verdict
+  told-in all defs from last t begins is =
+      told-of found P all goals met t.id is.before is.after from.insts is.end t.verdict (is.begun.program ∙ begins.program)
       (subst (λ (X : Program). Grown (plain_program X) from.insts is.before.insts) begins.program is.begun.grown) is.becomes
 
   same-rules : (last also : PlainProcs) (ts us : List Tried) → map (λ (t : Tried). t.id) ts ≡ map (λ (t : Tried). t.id) us → All (IsMode P sigs) (map (λ (t : Tried). t.id) ts)
-      → All (IsTried sigs goals first last) ts → All (IsTried sigs goals other also) us → broken_rules sigs goals ts ≡ broken_rules sigs goals us
+      → All (IsTried sigs goals first last) ts → All (IsTried modes goals other also) us → broken_rules sigs goals ts ≡ broken_rules modes goals us
   same-rules last also [] [] e are x y = refl
   same-rules last also [] (u ∷ us) e are x y = cc
   same-rules last also (t ∷ ts) [] e are x y = cc
   same-rules last also (t ∷ ts) (u ∷ us) e are x y =
       let ids : List Tried → List ModeId = map (λ (t : Tried). t.id) in
-      let same : t.id ≡ u.id = cc in
+      let eq : t.id ≡ u.id = cc in
       let rest : ids ts ≡ ids us = cc in
       let is : IsMode P sigs t.id = All-head (IsMode P sigs) t.id (ids ts) are in
-      let one : OneVerdict t.verdict u.verdict = one-verdict-told t.id is t.verdict u.verdict (told-in first last t here (All-head (IsTried sigs goals first last) t ts x))
-      (subst (λ i. IsTold found P sigs goals met i other.insts u.verdict) (sym same) (told-in other also u there (All-head (IsTried sigs goals other also) u us y))) in
-      let broken : ModeId → Verdict → List Broken = λ i v. broken_at (mode_in sigs i.pred i.mode).at (rule_of (length (goal_at goals i.pred).head) (goal_at goals i.pred).var_names v) in
+      let one : OneVerdict t.verdict u.verdict = one-verdict-told t.id is t.verdict u.verdict (told-in sigs ds first last t here (All-head (IsTried sigs goals first last) t ts x))
+      (subst (λ i. IsTold found P modes goals met i other.insts u.verdict) (sym eq) (told-in modes es other also u there (All-head (IsTried modes goals other also) u us y))) in
+      let broken : ModeId → Verdict → List Broken = λ i v. broken_at (mode_in modes i.pred i.mode).at (rule_of (length (goal_at goals i.pred).head) (goal_at goals i.pred).var_names v) in
       ap₂ (λ (bs cs : List Broken). bs ++ cs)
-      (ap (broken_at (mode_in sigs t.id.pred t.id.mode).at) (one-rule (length (goal_at goals t.id.pred).head) (goal_at goals t.id.pred).var_names t.verdict u.verdict one) ∙ ap (λ i. broken i u.verdict) same)
-      (same-rules last also ts us rest (All-tail (IsMode P sigs) t.id (ids ts) are) (All-tail (IsTried sigs goals first last) t ts x) (All-tail (IsTried sigs goals other also) u us y))
+      (ap (broken_at (mode_in sigs t.id.pred t.id.mode).at) (one-rule (length (goal_at goals t.id.pred).head) (goal_at goals t.id.pred).var_names t.verdict u.verdict one)
+      ∙ (ap (λ (at : Place). broken_at at (rule_of (length (goal_at goals t.id.pred).head) (goal_at goals t.id.pred).var_names u.verdict)) (sym (mode_one (NodesAreOne P ds es) sigs modes t.id.pred t.id.mode same).at)
+      ∙ ap (λ i. broken i u.verdict) eq))
+      (same-rules last also ts us rest (All-tail (IsMode P sigs) t.id (ids ts) are) (All-tail (IsTried sigs goals first last) t ts x) (All-tail (IsTried modes goals other also) u us y))
 
 pub one-list-of-rules : FoundNodes → OneListOfRules
-one-list-of-rules found P ds sigs goals exported first other last also faults others placed typed met here there asked x y =
+one-list-of-rules found P ds es sigs modes goals exported first other last also faults others same placed typed met here there asked asked_too x y =
     x.rules
-    ∙ same-rules found P ds sigs goals exported first other placed typed met here there asked last also x.tried y.tried (x.ids_are ∙ sym y.ids_are)
+    ∙ same-rules found P ds es sigs modes goals exported first other same placed typed met here there asked asked_too last also x.tried y.tried (x.ids_are ∙ (sym (ids_one (NodesAreOne P ds es) P sigs modes same) ∙ sym y.ids_are))
     (subst (λ is. All (IsMode P sigs) is) (sym x.ids_are) (are_modes P sigs)) x.each y.each
     ∙ sym y.rules

@@ -55,9 +55,10 @@ use Rattle.mc_rules.specs.Rules.{Determined, Ordered}
 use Rattle.mc_rule_laws.proofs.BodyOrders.{same_types, alike_moves}
 use Rattle.mc_rule_laws.proofs.OfModes.{no_id, ordered_of}
 use Rattle.mc_one_answer.specs.FoundNodes.{FoundNodes}
-use Rattle.mc_one_answer.specs.ModesMeanOne.{ArePlaced}
+use Rattle.mc_one_answer.specs.ModesMeanOne.{NodesAreOne, SigsAreOne, ArePlaced}
 use Rattle.mc_one_answer.proofs.FoundNodes.{in-numbers}
 use Rattle.mc_one_answer.proofs.FreshTypes.{test_follows, test_leads, types_alike}
+use Rattle.mc_one_answer.proofs.SigsAreOne.{ids_one}
 use Rattle.mc_one_answer.proofs.TidyRuns.{begun, below, declared, ends, normal, normal_fits, procedure_fits, same_program}
 use Rattle.mc_one_answer.proofs.TwoOrders.{GrowsTo, grows_to, stands, suits, program_stays, typed_with, own_there, own_type_in, bodies_one}
 use Rattle.mc_order_laws.specs.Tidying.{EndsTidily, TidyPoint}
@@ -112,9 +113,9 @@ module _ (S : System) (T : ℕ → TypeTerm) (C : Chosen) (modes : ℕ → List 
       counted (trial (of_nodes C) P modes T goal head own start) refl (subst (λ (b : Insts). NumbersTo count (trial (of_nodes C) P modes T goal head own b)) same numbers)
       (subst (λ (b : Insts). judged (of_nodes C) P modes T head last b (trial (of_nodes C) P modes T goal head own b) ≡ in_order x) same order)
 
--- ---- the orders of a mode's goal in two ways
+-- ---- the order of a mode's goal in one way
 module _ (found : FoundNodes) (outcome : Builtin → List Val → Outcome) (P : Program) (defs : List PlainInstDef) (sigs : List Sig) (goals : List Normal) (exported : List Bool) (normal_goals : HasNormalGoals P goals)
-    (named_apart : (p : ℕ) → p < length P.preds → EachNamedApart ((plain_program P).preds p).clauses) (types_met : (t : TypeTerm) → TypesMet (plain_program P) t) (placed : ArePlaced 0 sigs) where
+    (named_apart : (p : ℕ) → p < length P.preds → EachNamedApart ((plain_program P).preds p).clauses) (types_met : (t : TypeTerm) → TypesMet (plain_program P) t) where
   module _ (o l : PlainProcs) (came : Ordered P defs sigs goals exported O.All o) (is : Determined o l) (fit : AllFit l) (k : ℕ) (e : Proc) (lt : k < length (mode_ids P sigs)) where
     abbrev id : ModeId
     id = get_or (mode_ids P sigs) k no_id
@@ -135,7 +136,7 @@ module _ (found : FoundNodes) (outcome : Builtin → List Val → Outcome) (P : 
     plain = record p { exported = false }
 
     grown : GrowsTo in_way.after l
-    grown = grows_to found outcome P defs sigs goals exported normal_goals named_apart types_met placed o l came is fit o l came is fit o l came is fit k e lt
+    grown = grows_to found P defs sigs goals exported types_met o l came is fit k e lt
 
     abbrev T : ℕ → TypeTerm
     T = W.type_in p.var_types
@@ -191,44 +192,88 @@ module _ (found : FoundNodes) (outcome : Builtin → List Val → Outcome) (P : 
         (in_way.scheduled.numbered agree.0 T suits_here)) in
         (r.after, r.order)
 
-  -- So in two ways orders make variables of one type.
-  module _ (o1 l1 : PlainProcs) (came1 : Ordered P defs sigs goals exported O.All o1) (is1 : Determined o1 l1) (fit1 : AllFit l1)
-      (o2 l2 : PlainProcs) (came2 : Ordered P defs sigs goals exported O.All o2) (is2 : Determined o2 l2) (fit2 : AllFit l2) (k : ℕ) (e : Proc) (lt : k < length (mode_ids P sigs)) where
-    abbrev goal : Normal
-    goal = goal_at goals (get_or (mode_ids P sigs) k no_id).pred
+-- So in two ways orders make variables of one type.
+module _ (found : FoundNodes) (outcome : Builtin → List Val → Outcome) (P : Program) (defs defs2 : List PlainInstDef) (sigs sigs2 : List Sig) (goals : List Normal) (exported : List Bool) (one_sigs : SigsAreOne (NodesAreOne P defs defs2) sigs sigs2) (normal_goals : HasNormalGoals P goals)
+    (named_apart : (p : ℕ) → p < length P.preds → EachNamedApart ((plain_program P).preds p).clauses) (types_met : (t : TypeTerm) → TypesMet (plain_program P) t) (placed : ArePlaced 0 sigs)
+    (o1 l1 : PlainProcs) (came1 : Ordered P defs sigs goals exported O.All o1) (is1 : Determined o1 l1) (fit1 : AllFit l1) (o2 l2 : PlainProcs) (came2 : Ordered P defs2 sigs2 goals exported O.All o2) (is2 : Determined o2 l2) (fit2 : AllFit l2)
+    (k : ℕ) (e : Proc) (lt : k < length (mode_ids P sigs)) where
+  abbrev ids : List ModeId
+  ids = mode_ids P sigs
 
-    abbrev p1 : Proc
-    p1 = get_or o1.added k e
+  abbrev goal : Normal
+  goal = goal_at goals (get_or ids k no_id).pred
 
-    abbrev p2 : Proc
-    p2 = get_or o2.added k e
+  abbrev p1 : Proc
+  p1 = get_or o1.added k e
 
-    same_own : (w : ℕ) → w < length goal.var_types → W.type_in p1.var_types w ≡ W.type_in p2.var_types w
-    same_own w less =
-        typed_here o1 l1 came1 is1 fit1 k e lt w less
-        ∙ (own_type_in found outcome P defs sigs goals exported normal_goals named_apart types_met placed o1 l1 came1 is1 fit1 o2 l2 came2 is2 fit2 k e lt o1 l1 came1 is1 fit1 w less
-        ∙ (sym (own_type_in found outcome P defs sigs goals exported normal_goals named_apart types_met placed o1 l1 came1 is1 fit1 o2 l2 came2 is2 fit2 k e lt o2 l2 came2 is2 fit2 w less)
-        ∙ sym (typed_here o2 l2 came2 is2 fit2 k e lt w less)))
+  abbrev p2 : Proc
+  p2 = get_or o2.added k e
 
-    follow : Follows (source_of l1) (W.type_in p1.var_types) (length goal.var_types) (λ t i j. MeanOne (source_of l1) (count_of l1.insts) (insts_of l1) (count_of l2.insts) (insts_of l2) t i j) (entered p1.head p1.first) (entered p1.head p1.first) (plain_node p1.body) (plain_node p2.body)
-    follow = bodies_one found outcome P defs sigs goals exported normal_goals named_apart types_met placed o1 l1 came1 is1 fit1 o2 l2 came2 is2 fit2 k e lt
+  abbrev m1 : ModeDecl
+  m1 = mode_in sigs (get_or ids k no_id).pred (get_or ids k no_id).mode
 
-    pub types_are_one : map plain_type p2.var_types ≡ map plain_type p1.var_types
-    types_are_one =
-        let a = standing o1 l1 came1 is1 fit1 k e lt in
-        let b = standing o2 l2 came2 is2 fit2 k e lt in
-        let many1 : length p1.var_types ≡ length (map plain_type p1.var_types) = sym (length-map p1.var_types plain_type) in
-        let many2 : length p2.var_types ≡ length (map plain_type p2.var_types) = sym (length-map p2.var_types plain_type) in
-        let fits : NormalFits came1.first (m o1 l1 came1 is1 fit1 k e lt) goal = names o1 l1 came1 is1 fit1 k e lt in
-        let means : TypeTerm → ℕ → ℕ → Type 0 = λ t i j. MeanOne (source_of l1) (count_of l1.insts) (insts_of l1) (count_of l2.insts) (insts_of l2) t i j in
-        sym
-        (types_alike (S o1 l1 came1 is1 fit1 k e lt) (S o2 l2 came2 is2 fit2 k e lt) (map plain_type p1.var_types) (map plain_type p2.var_types) goal.head goal.head (length goal.var_types)
-        (entered goal.head (m o1 l1 came1 is1 fit1 k e lt).first) (entered goal.head (m o2 l2 came2 is2 fit2 k e lt).first) (plain_flat goal.body) (plain_node p1.body) (plain_node p2.body) a.0 b.0
-        (subst (λ (n : ℕ). Standing (S o1 l1 came1 is1 fit1 k e lt) (W.type_in p1.var_types) goal.head (length goal.var_types) (entered goal.head (m o1 l1 came1 is1 fit1 k e lt).first) (plain_flat goal.body) (plain_node p1.body) a.0 n) many1 a.1)
-        (subst (λ (n : ℕ). Standing (S o2 l2 came2 is2 fit2 k e lt) (W.type_in p2.var_types) goal.head (length goal.var_types) (entered goal.head (m o2 l2 came2 is2 fit2 k e lt).first) (plain_flat goal.body) (plain_node p2.body) b.0 n) many2 b.1)
-        (in-numbers (length goal.var_types) (variables_of (plain_flat goal.body)) fits.variables)
-        (subst (λ (n : ℕ). Below n (variables_of_node (plain_node p1.body))) many1 (there o1 l1 came1 is1 fit1 k e lt))
-        (subst (λ (n : ℕ). Below n (variables_of_node (plain_node p2.body))) many2 (there o2 l2 came2 is2 fit2 k e lt))
-        same_own (test_types o1 l1 came1 is1 fit1 k e lt) (test_types o2 l2 came2 is2 fit2 k e lt)
-        (λ v w h. test_follows (source_of l1) (W.type_in p1.var_types) (length goal.var_types) means v w (entered p1.head p1.first) (entered p1.head p1.first) (plain_node p1.body) (plain_node p2.body) follow h)
-        (λ v w h. test_leads (source_of l1) (W.type_in p1.var_types) (length goal.var_types) means v w (entered p1.head p1.first) (entered p1.head p1.first) (plain_node p1.body) (plain_node p2.body) follow h))
+  abbrev m2 : ModeDecl
+  m2 = mode_in sigs2 (get_or ids k no_id).pred (get_or ids k no_id).mode
+
+  ids_two : mode_ids P sigs2 ≡ ids
+  ids_two = ids_one (NodesAreOne P defs defs2) P sigs sigs2 one_sigs
+
+  abbrev too_lt : k < length (mode_ids P sigs2)
+  too_lt = subst (λ (is : List ModeId). k < length is) (sym ids_two) lt
+
+  abbrev S1 : System
+  S1 = S found outcome P defs sigs goals exported normal_goals named_apart types_met o1 l1 came1 is1 fit1 k e lt
+
+  abbrev S2 : System
+  S2 = S found outcome P defs2 sigs2 goals exported normal_goals named_apart types_met o2 l2 came2 is2 fit2 k e too_lt
+
+  abbrev goal_in : List ModeId → Normal
+  goal_in is = goal_at goals (get_or is k no_id).pred
+
+  abbrev mode2_in : List ModeId → ModeDecl
+  mode2_in is = mode_in sigs2 (get_or is k no_id).pred (get_or is k no_id).mode
+
+  standing1 : (d : Option Insts) × Standing S1 (W.type_in p1.var_types) goal.head (length goal.var_types) (entered goal.head m1.first) (plain_flat goal.body) (plain_node p1.body) d (length p1.var_types)
+  standing1 = standing found outcome P defs sigs goals exported normal_goals named_apart types_met o1 l1 came1 is1 fit1 k e lt
+
+  standing2 : (d : Option Insts) × Standing S2 (W.type_in p2.var_types) goal.head (length goal.var_types) (entered goal.head m2.first) (plain_flat goal.body) (plain_node p2.body) d (length p2.var_types)
+  standing2 =
+      subst (λ (is : List ModeId). (d : Option Insts) × Standing S2 (W.type_in p2.var_types) (goal_in is).head (length (goal_in is).var_types) (entered (goal_in is).head (mode2_in is).first) (plain_flat (goal_in is).body) (plain_node p2.body) d (length p2.var_types)) ids_two
+      (standing found outcome P defs2 sigs2 goals exported normal_goals named_apart types_met o2 l2 came2 is2 fit2 k e too_lt)
+
+  tests2 : TestsAlike (W.type_in p2.var_types) (length goal.var_types) (plain_node p2.body)
+  tests2 = subst (λ (is : List ModeId). TestsAlike (W.type_in p2.var_types) (length (goal_in is).var_types) (plain_node p2.body)) ids_two (test_types found outcome P defs2 sigs2 goals exported normal_goals named_apart types_met o2 l2 came2 is2 fit2 k e too_lt)
+
+  typed1 : (w : ℕ) → w < length goal.var_types → W.type_in p1.var_types w ≡ type_in goal.var_types w
+  typed1 w less = typed_here found outcome P defs sigs goals exported normal_goals named_apart types_met o1 l1 came1 is1 fit1 k e lt w less ∙ own_type_in found P defs sigs goals exported types_met o1 l1 came1 is1 fit1 k e lt w less
+
+  typed2 : (w : ℕ) → w < length goal.var_types → W.type_in p2.var_types w ≡ type_in goal.var_types w
+  typed2 =
+      subst (λ (is : List ModeId). (w : ℕ) → w < length (goal_in is).var_types → W.type_in p2.var_types w ≡ type_in (goal_in is).var_types w) ids_two
+      (λ w less. typed_here found outcome P defs2 sigs2 goals exported normal_goals named_apart types_met o2 l2 came2 is2 fit2 k e too_lt w less ∙ own_type_in found P defs2 sigs2 goals exported types_met o2 l2 came2 is2 fit2 k e too_lt w less)
+
+  same_own : (w : ℕ) → w < length goal.var_types → W.type_in p1.var_types w ≡ W.type_in p2.var_types w
+  same_own w less = typed1 w less ∙ sym (typed2 w less)
+
+  follow : Follows (source_of l1) (W.type_in p1.var_types) (length goal.var_types) (λ t i j. MeanOne (source_of l1) (count_of l1.insts) (insts_of l1) (count_of l2.insts) (insts_of l2) t i j) (entered p1.head p1.first) (entered p1.head p2.first) (plain_node p1.body) (plain_node p2.body)
+  follow = bodies_one found outcome P defs defs2 sigs sigs2 goals exported one_sigs normal_goals named_apart types_met placed o1 l1 came1 is1 fit1 o2 l2 came2 is2 fit2 k e lt
+
+  pub types_are_one : map plain_type p2.var_types ≡ map plain_type p1.var_types
+  types_are_one =
+      let a = standing1 in
+      let b = standing2 in
+      let many1 : length p1.var_types ≡ length (map plain_type p1.var_types) = sym (length-map p1.var_types plain_type) in
+      let many2 : length p2.var_types ≡ length (map plain_type p2.var_types) = sym (length-map p2.var_types plain_type) in
+      let fits : NormalFits came1.first m1 goal = names found outcome P defs sigs goals exported normal_goals named_apart types_met o1 l1 came1 is1 fit1 k e lt in
+      let means : TypeTerm → ℕ → ℕ → Type 0 = λ t i j. MeanOne (source_of l1) (count_of l1.insts) (insts_of l1) (count_of l2.insts) (insts_of l2) t i j in
+      sym
+      (types_alike S1 S2 (map plain_type p1.var_types) (map plain_type p2.var_types) goal.head goal.head (length goal.var_types)
+      (entered goal.head m1.first) (entered goal.head m2.first) (plain_flat goal.body) (plain_node p1.body) (plain_node p2.body) a.0 b.0
+      (subst (λ (n : ℕ). Standing S1 (W.type_in p1.var_types) goal.head (length goal.var_types) (entered goal.head m1.first) (plain_flat goal.body) (plain_node p1.body) a.0 n) many1 a.1)
+      (subst (λ (n : ℕ). Standing S2 (W.type_in p2.var_types) goal.head (length goal.var_types) (entered goal.head m2.first) (plain_flat goal.body) (plain_node p2.body) b.0 n) many2 b.1)
+      (in-numbers (length goal.var_types) (variables_of (plain_flat goal.body)) fits.variables)
+      (subst (λ (n : ℕ). Below n (variables_of_node (plain_node p1.body))) many1 (there found outcome P defs sigs goals exported normal_goals named_apart types_met o1 l1 came1 is1 fit1 k e lt))
+      (subst (λ (n : ℕ). Below n (variables_of_node (plain_node p2.body))) many2 (there found outcome P defs2 sigs2 goals exported normal_goals named_apart types_met o2 l2 came2 is2 fit2 k e too_lt))
+      same_own (test_types found outcome P defs sigs goals exported normal_goals named_apart types_met o1 l1 came1 is1 fit1 k e lt) tests2
+      (λ v w h. test_follows (source_of l1) (W.type_in p1.var_types) (length goal.var_types) means v w (entered p1.head p1.first) (entered p1.head p2.first) (plain_node p1.body) (plain_node p2.body) follow h)
+      (λ v w h. test_leads (source_of l1) (W.type_in p1.var_types) (length goal.var_types) means v w (entered p1.head p1.first) (entered p1.head p2.first) (plain_node p1.body) (plain_node p2.body) follow h))

@@ -25,6 +25,7 @@ use Rattle.mc_orders.specs.declared.ordering.Orders.TheVariants as O
 use Rattle.mc_det.specs.Determinisms.{as_declared, declared_procedure, none_declared, AreDeterminisms}
 use Rattle.mc_det.specs.MarkedProcedures.{IsMarked, determinisms_of}
 use Rattle.mc_det.specs.PrunedProcedures.{FollowDeclared, IsPruned}
+use Rattle.mc_graph_laws.specs.FaultLaws.{EachAlike}
 use Rattle.mc_rules.specs.Rules.{Determined, Ordered}
 use Rattle.mc_rule_laws.proofs.OfModes.{IsAs, as_many, declared_is, no_id, ordered_of}
 
@@ -169,16 +170,16 @@ built pred head first last body det types declared exported at =
       at = at;
     }
 
--- they are one but for their bodies
+-- they are one but for their bodies, and the insts of their modes
 abbrev pub ButForBodies : DeclaredProcedure → DeclaredProcedure → Type 0
-ButForBodies p q = q ≡ record p { procedure = record p.procedure { body = q.procedure.body } }
+ButForBodies p q = q ≡ record p { procedure = record p.procedure { first = q.procedure.first; last = q.procedure.last; body = q.procedure.body } }
 
 -- in fields
 pub record SameProc (p q : Proc) : Type 0 where
   pub pred : q.pred ≡ p.pred
   pub head : q.head ≡ p.head
-  pub first : q.first ≡ p.first
-  pub last : q.last ≡ p.last
+  pub first : EachAlike p.first q.first
+  pub last : EachAlike p.last q.last
   pub types : map plain_type q.var_types ≡ map plain_type p.var_types
   pub declared : q.declared ≡ p.declared
   pub exported : q.exported ≡ p.exported
@@ -189,13 +190,11 @@ but_for_bodies p q s d =
     let n : Node = plain_node q.body in
     ap (λ (x : ℕ). built x q.head q.first q.last n q.det (map plain_type q.var_types) q.declared q.exported q.at) s.pred
     ∙ (ap (λ (x : List ℕ). built p.pred x q.first q.last n q.det (map plain_type q.var_types) q.declared q.exported q.at) s.head
-    ∙ (ap (λ (x : List ℕ). built p.pred p.head x q.last n q.det (map plain_type q.var_types) q.declared q.exported q.at) s.first
-    ∙ (ap (λ (x : List ℕ). built p.pred p.head p.first x n q.det (map plain_type q.var_types) q.declared q.exported q.at) s.last
-    ∙ (ap (λ (x : Det). built p.pred p.head p.first p.last n x (map plain_type q.var_types) q.declared q.exported q.at) d
-    ∙ (ap (λ (x : List TypeTerm). built p.pred p.head p.first p.last n p.det x q.declared q.exported q.at) s.types
-    ∙ (ap (λ (x : Option Det). built p.pred p.head p.first p.last n p.det (map plain_type p.var_types) x q.exported q.at) s.declared
-    ∙ (ap (λ (x : Bool). built p.pred p.head p.first p.last n p.det (map plain_type p.var_types) p.declared x q.at) s.exported
-    ∙ ap (λ (x : Place). built p.pred p.head p.first p.last n p.det (map plain_type p.var_types) p.declared p.exported x) s.at)))))))
+    ∙ (ap (λ (x : Det). built p.pred p.head q.first q.last n x (map plain_type q.var_types) q.declared q.exported q.at) d
+    ∙ (ap (λ (x : List TypeTerm). built p.pred p.head q.first q.last n p.det x q.declared q.exported q.at) s.types
+    ∙ (ap (λ (x : Option Det). built p.pred p.head q.first q.last n p.det (map plain_type p.var_types) x q.exported q.at) s.declared
+    ∙ (ap (λ (x : Bool). built p.pred p.head q.first q.last n p.det (map plain_type p.var_types) p.declared x q.at) s.exported
+    ∙ ap (λ (x : Place). built p.pred p.head q.first q.last n p.det (map plain_type p.var_types) p.declared p.exported x) s.at)))))
 
 -- what stays as these were is the same too
 pub same_later : (p q r s : Proc) → IsAs p r → IsAs q s → SameProc p q → SameProc r s
@@ -203,8 +202,8 @@ same_later p q r s e f h =
     record {
       pred = ap (λ (x : Proc). x.pred) f ∙ (h.pred ∙ sym (ap (λ (x : Proc). x.pred) e));
       head = ap (λ (x : Proc). x.head) f ∙ (h.head ∙ sym (ap (λ (x : Proc). x.head) e));
-      first = ap (λ (x : Proc). x.first) f ∙ (h.first ∙ sym (ap (λ (x : Proc). x.first) e));
-      last = ap (λ (x : Proc). x.last) f ∙ (h.last ∙ sym (ap (λ (x : Proc). x.last) e));
+      first = subst (λ (is : List ℕ). EachAlike is s.first) (sym (ap (λ (x : Proc). x.first) e)) (subst (EachAlike p.first) (sym (ap (λ (x : Proc). x.first) f)) h.first);
+      last = subst (λ (is : List ℕ). EachAlike is s.last) (sym (ap (λ (x : Proc). x.last) e)) (subst (EachAlike p.last) (sym (ap (λ (x : Proc). x.last) f)) h.last);
       types = ap (λ (x : Proc). map plain_type x.var_types) f ∙ (h.types ∙ sym (ap (λ (x : Proc). map plain_type x.var_types) e));
       declared = ap (λ (x : Proc). x.declared) f ∙ (h.declared ∙ sym (ap (λ (x : Proc). x.declared) e));
       exported = ap (λ (x : Proc). x.exported) f ∙ (h.exported ∙ sym (ap (λ (x : Proc). x.exported) e));

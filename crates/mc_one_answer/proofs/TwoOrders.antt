@@ -57,11 +57,12 @@ use Rattle.mc_rule_laws.proofs.LastGraph.{stands_later, agrees_earlier, program_
 use Rattle.mc_rule_laws.proofs.Listed.{from_many}
 use Rattle.mc_rule_laws.proofs.OfModes.{as_many, id_at, last_program, no_id, ordered_of}
 use Rattle.mc_one_answer.specs.FoundNodes.{joins_some, FoundNodes}
-use Rattle.mc_one_answer.specs.ModesMeanOne.{AreOne, ArePlaced, ModesAreOne}
+use Rattle.mc_one_answer.specs.ModesMeanOne.{AreOne, NodesAreOne, SigsAreOne, ArePlaced, ModesAreOne}
 use Rattle.mc_one_answer.proofs.FoundNodes.{in-numbers}
 use Rattle.mc_one_answer.proofs.ModesMeanOne.{modes-mean-one}
 use Rattle.mc_one_answer.proofs.NamedApart.{named-apart}
 use Rattle.mc_one_answer.proofs.OneRule.{types-kept, related-some}
+use Rattle.mc_one_answer.proofs.SigsAreOne.{ids_one}
 use Rattle.mc_one_answer.proofs.Stages.{some_at, finals_of}
 use Rattle.mc_one_answer.proofs.TidyRuns.{begun, its_pred, normal, normal_fits, procedure_fits}
 use Rattle.mc_one_answer.proofs.TwoRuns.{OrdersAreOne}
@@ -127,38 +128,58 @@ modes_fit_at n [] k h lt = absurd (omega (arith, lt))
 modes_fit_at n (m ∷ ms) zero h lt = h.0
 modes_fit_at n (m ∷ ms) (suc k) h lt = modes_fit_at n ms k h.1 (omega (arith, lt))
 
-module _ (found : FoundNodes) (outcome : Builtin → List Val → Outcome) (P : Program) (defs : List PlainInstDef) (sigs : List Sig) (goals : List Normal) (exported : List Bool) (normal_goals : HasNormalGoals P goals)
+-- ---- a mode's order in one of the ways
+module _ (found : FoundNodes) (P : Program) (defs : List PlainInstDef) (sigs : List Sig) (goals : List Normal) (exported : List Bool) (types_met : (t : TypeTerm) → TypesMet (plain_program P) t)
+    (o l : PlainProcs) (came : Ordered P defs sigs goals exported O.All o) (is : Determined o l) (fit : AllFit l) where
+  its_program : l.program ≡ P
+  its_program = last_program P defs sigs goals exported o l came is
+
+  its_growth : Grown (plain_program P) came.first.insts l.insts
+  its_growth =
+      let same : came.first.program ≡ P = came.begins.program in
+      grown-trans (plain_program P) came.first.insts o.insts l.insts (subst (λ (X : Program). Grown (plain_program X) came.first.insts o.insts) same came.grown.grown)
+      (subst (λ (X : Program). Grown (plain_program X) o.insts l.insts) (came.grown.program ∙ same) (graph_grown o l is))
+
+  -- the last graph grew from that over which a mode's goal was put in order
+  pub grows_to : (k : ℕ) (e : Proc) (lt : k < length (mode_ids P sigs)) → GrowsTo (ordered_of P defs sigs goals exported o l came is k e lt).after l
+  grows_to k e lt =
+      let a = ordered_of P defs sigs goals exported o l came is k e lt in (
+        program_kept o l is ∙ a.ended.program,
+        grown-trans (source_of a.after) a.after.insts o.insts l.insts a.ended.grown (subst (λ (X : Program). Grown (plain_program X) o.insts l.insts) a.ended.program (graph_grown o l is)),
+      )
+
+  told : (k : ℕ) (e : Proc) → k < length (mode_ids P sigs) →
+      ToldLast sigs (goal_at goals (get_or (mode_ids P sigs) k no_id).pred) (mode_in sigs (get_or (mode_ids P sigs) k no_id).pred (get_or (mode_ids P sigs) k no_id).mode) l (get_or o.added k e)
+  told k e lt =
+      let id : ModeId = get_or (mode_ids P sigs) k no_id in
+      let a = ordered_of P defs sigs goals exported o l came is k e lt in
+      let r = told_last found sigs (goal_at goals id.pred) id.mode (mode_in sigs id.pred id.mode) a.before a.after l (record (get_or o.added k e) { exported = false }) a.scheduled fit
+      (grows_to k e lt).0 (grows_to k e lt).1 (λ t. subst (λ (X : Program). TypesMet (plain_program X) t) (sym its_program) (types_met t)) in
+      record { choice = r.choice; finds = r.finds; order = r.order }
+
+  -- the goal's own variables have its types
+  module _ (k : ℕ) (e : Proc) (lt : k < length (mode_ids P sigs)) where
+    abbrev own_goal : Normal
+    own_goal = goal_at goals (get_or (mode_ids P sigs) k no_id).pred
+
+    abbrev in_order_here : IsOrdered sigs goals exported came.first o (get_or (mode_ids P sigs) k no_id) (get_or o.added k e)
+    in_order_here = ordered_of P defs sigs goals exported o l came is k e lt
+
+    pub own_type_in : (x : ℕ) → x < length own_goal.var_types → type_in (get_or o.added k e).var_types x ≡ type_in own_goal.var_types x
+    own_type_in x less =
+        own_type found sigs own_goal (get_or (mode_ids P sigs) k no_id).mode (mode_in sigs (get_or (mode_ids P sigs) k no_id).pred (get_or (mode_ids P sigs) k no_id).mode) in_order_here.before in_order_here.after l (record (get_or o.added k e) { exported = false }) in_order_here.scheduled fit
+        (grows_to k e lt).0 (grows_to k e lt).1 x less
+
+    pub own_there_in : length own_goal.var_types ≤ length (get_or o.added k e).var_types
+    own_there_in =
+        own_there found sigs own_goal (get_or (mode_ids P sigs) k no_id).mode (mode_in sigs (get_or (mode_ids P sigs) k no_id).pred (get_or (mode_ids P sigs) k no_id).mode) in_order_here.before in_order_here.after l (record (get_or o.added k e) { exported = false }) in_order_here.scheduled fit
+        (grows_to k e lt).0 (grows_to k e lt).1
+
+-- ---- and in two
+module _ (found : FoundNodes) (outcome : Builtin → List Val → Outcome) (P : Program) (defs defs2 : List PlainInstDef) (sigs sigs2 : List Sig) (goals : List Normal) (exported : List Bool) (one_sigs : SigsAreOne (NodesAreOne P defs defs2) sigs sigs2) (normal_goals : HasNormalGoals P goals)
     (named_apart : (p : ℕ) → p < length P.preds → EachNamedApart ((plain_program P).preds p).clauses) (types_met : (t : TypeTerm) → TypesMet (plain_program P) t) (placed : ArePlaced 0 sigs)
     (o1 l1 : PlainProcs) (came1 : Ordered P defs sigs goals exported O.All o1) (is1 : Determined o1 l1) (fit1 : AllFit l1)
-    (o2 l2 : PlainProcs) (came2 : Ordered P defs sigs goals exported O.All o2) (is2 : Determined o2 l2) (fit2 : AllFit l2) where
-  -- a mode's order in one of the ways
-  module _ (o l : PlainProcs) (came : Ordered P defs sigs goals exported O.All o) (is : Determined o l) (fit : AllFit l) where
-    its_program : l.program ≡ P
-    its_program = last_program P defs sigs goals exported o l came is
-
-    its_growth : Grown (plain_program P) came.first.insts l.insts
-    its_growth =
-        let same : came.first.program ≡ P = came.begins.program in
-        grown-trans (plain_program P) came.first.insts o.insts l.insts (subst (λ (X : Program). Grown (plain_program X) came.first.insts o.insts) same came.grown.grown)
-        (subst (λ (X : Program). Grown (plain_program X) o.insts l.insts) (came.grown.program ∙ same) (graph_grown o l is))
-
-    -- the last graph grew from that over which a mode's goal was put in order
-    pub grows_to : (k : ℕ) (e : Proc) (lt : k < length (mode_ids P sigs)) → GrowsTo (ordered_of P defs sigs goals exported o l came is k e lt).after l
-    grows_to k e lt =
-        let a = ordered_of P defs sigs goals exported o l came is k e lt in (
-          program_kept o l is ∙ a.ended.program,
-          grown-trans (source_of a.after) a.after.insts o.insts l.insts a.ended.grown (subst (λ (X : Program). Grown (plain_program X) o.insts l.insts) a.ended.program (graph_grown o l is)),
-        )
-
-    told : (k : ℕ) (e : Proc) → k < length (mode_ids P sigs) →
-        ToldLast sigs (goal_at goals (get_or (mode_ids P sigs) k no_id).pred) (mode_in sigs (get_or (mode_ids P sigs) k no_id).pred (get_or (mode_ids P sigs) k no_id).mode) l (get_or o.added k e)
-    told k e lt =
-        let id : ModeId = get_or (mode_ids P sigs) k no_id in
-        let a = ordered_of P defs sigs goals exported o l came is k e lt in
-        let r = told_last found sigs (goal_at goals id.pred) id.mode (mode_in sigs id.pred id.mode) a.before a.after l (record (get_or o.added k e) { exported = false }) a.scheduled fit
-        (grows_to k e lt).0 (grows_to k e lt).1 (λ t. subst (λ (X : Program). TypesMet (plain_program X) t) (sym its_program) (types_met t)) in
-        record { choice = r.choice; finds = r.finds; order = r.order }
-
+    (o2 l2 : PlainProcs) (came2 : Ordered P defs2 sigs2 goals exported O.All o2) (is2 : Determined o2 l2) (fit2 : AllFit l2) where
   abbrev p1 : ℕ → Proc → Proc
   p1 k e = get_or o1.added k e
 
@@ -167,6 +188,18 @@ module _ (found : FoundNodes) (outcome : Builtin → List Val → Outcome) (P : 
 
   abbrev typing : ℕ → Proc → ℕ → TypeTerm
   typing k e = W.type_in (p1 k e).var_types
+
+  program1 : l1.program ≡ P
+  program1 = its_program found P defs sigs goals exported types_met o1 l1 came1 is1 fit1
+
+  program2 : l2.program ≡ P
+  program2 = its_program found P defs2 sigs2 goals exported types_met o2 l2 came2 is2 fit2
+
+  pub ids_same : mode_ids P sigs2 ≡ mode_ids P sigs
+  ids_same = ids_one (NodesAreOne P defs defs2) P sigs sigs2 one_sigs
+
+  pub too : (k : ℕ) → k < length (mode_ids P sigs) → k < length (mode_ids P sigs2)
+  too k lt = subst (λ (is : List ModeId). k < length is) (sym ids_same) lt
 
   module _ (k : ℕ) (e : Proc) (lt : k < length (mode_ids P sigs)) where
     abbrev id : ModeId
@@ -178,29 +211,36 @@ module _ (found : FoundNodes) (outcome : Builtin → List Val → Outcome) (P : 
     abbrev m : ModeDecl
     m = mode_in sigs id.pred id.mode
 
+    abbrev m2 : ModeDecl
+    m2 = mode_in sigs2 id.pred id.mode
+
     is_mode : IsMode P sigs id
     is_mode = id_at P sigs k lt
 
     here : ToldLast sigs g m l1 (p1 k e)
-    here = told o1 l1 came1 is1 fit1 k e lt
+    here = told found P defs sigs goals exported types_met o1 l1 came1 is1 fit1 k e lt
 
-    there : ToldLast sigs g m l2 (p2 k e)
-    there = told o2 l2 came2 is2 fit2 k e lt
+    there : ToldLast sigs2 g m2 l2 (p2 k e)
+    there =
+        subst (λ (is : List ModeId). ToldLast sigs2 (goal_at goals (get_or is k no_id).pred) (mode_in sigs2 (get_or is k no_id).pred (get_or is k no_id).mode) l2 (p2 k e)) ids_same
+        (told found P defs2 sigs2 goals exported types_met o2 l2 came2 is2 fit2 k e (too k lt))
 
     finds_here : Finds (plain_program P) (count_of l1.insts) (insts_of l1) (joins_some here.choice)
-    finds_here = subst (λ (X : Program). Finds (plain_program X) (count_of l1.insts) (insts_of l1) (joins_some here.choice)) (its_program o1 l1 came1 is1 fit1) here.finds
+    finds_here = subst (λ (X : Program). Finds (plain_program X) (count_of l1.insts) (insts_of l1) (joins_some here.choice)) program1 here.finds
 
     finds_there : Finds (plain_program P) (count_of l2.insts) (insts_of l2) (joins_some there.choice)
-    finds_there = subst (λ (X : Program). Finds (plain_program X) (count_of l2.insts) (insts_of l2) (joins_some there.choice)) (its_program o2 l2 came2 is2 fit2) there.finds
+    finds_there = subst (λ (X : Program). Finds (plain_program X) (count_of l2.insts) (insts_of l2) (joins_some there.choice)) program2 there.finds
 
-    modes : ModesAreOne P sigs l1.insts l2.insts here.choice there.choice
-    modes = modes-mean-one P defs sigs came1.first came2.first l1.insts l2.insts placed came1.begins came2.begins came1.asked.insts_there (its_growth o1 l1 came1 is1 fit1) (its_growth o2 l2 came2 is2 fit2) here.choice there.choice
+    modes : ModesAreOne P sigs sigs2 l1.insts l2.insts here.choice there.choice
+    modes =
+        modes-mean-one P defs defs2 sigs sigs2 came1.first came2.first l1.insts l2.insts one_sigs placed came1.begins came2.begins came1.asked.insts_there came2.asked.insts_there
+        (its_growth found P defs sigs goals exported types_met o1 l1 came1 is1 fit1) (its_growth found P defs2 sigs2 goals exported types_met o2 l2 came2 is2 fit2) here.choice there.choice
 
     related : Related (of_nodes here.choice) (of_nodes there.choice) (AreOne P l1.insts l2.insts) (plain_program P)
     related =
         related-some P l1.insts l2.insts here.choice there.choice
         (nodes-related (plain_program P) (parameters_in P) (count_of l1.insts) (count_of l2.insts) (insts_of l1) (insts_of l2) (joins_some here.choice) (joins_some there.choice)
-        (subst (λ (X : Program). FitsTypes (plain_program X) (parameters_in X)) (its_program o1 l1 came1 is1 fit1) fit1.program.types)
+        (subst (λ (X : Program). FitsTypes (plain_program X) (parameters_in X)) program1 fit1.program.types)
         (named-apart (plain_program P) came1.begins.insts.are_of.fits) finds_here finds_there)
 
     -- ---- final insts leave the same dead
@@ -211,15 +251,17 @@ module _ (found : FoundNodes) (outcome : Builtin → List Val → Outcome) (P : 
         ∙ ((came1.asked.goals_fit id.pred first_mode.pred first_mode.no_builtin id.mode first_mode.mode).as_many
         ∙ (ap length (normal_goals.each id.pred is_mode.pred).head ∙ from_many 0 (length ((plain_program P).preds id.pred).types)))
 
-    dead_alike : (is : List ℕ) (ts : List TypeTerm) → length is ≡ length ts → NodesRelated (of_nodes here.choice) (of_nodes there.choice) (AreOne P l1.insts l2.insts) is ts
-        → list_any (λ i. is_dead (insts_of l1 i)) is ≡ list_any (λ i. is_dead (insts_of l2 i)) is
-    dead_alike [] ts l r = refl
-    dead_alike (i ∷ is) [] l r = absurd (omega (arith, l))
-    dead_alike (i ∷ is) (t ∷ ts) l r =
-        ap₂ (λ (a b : Bool). a || b) (sym (finds_here.dies i r.0.here) ∙ (related.dead t i i r.0 ∙ finds_there.dies i r.0.there)) (dead_alike is ts (omega (arith, l)) r.1)
+    dead_alike : (is js : List ℕ) (ts : List TypeTerm) → length is ≡ length ts → NodesRelated (of_nodes here.choice) (of_nodes there.choice) (AreOne P l1.insts l2.insts) is js ts
+        → list_any (λ i. is_dead (insts_of l1 i)) is ≡ list_any (λ i. is_dead (insts_of l2 i)) js
+    dead_alike [] [] ts l r = refl
+    dead_alike [] (j ∷ js) ts l r = absurd r
+    dead_alike (i ∷ is) [] ts l r = absurd r
+    dead_alike (i ∷ is) (j ∷ js) [] l r = absurd (omega (arith, l))
+    dead_alike (i ∷ is) (j ∷ js) (t ∷ ts) l r =
+        ap₂ (λ (a b : Bool). a || b) (sym (finds_here.dies i r.0.here) ∙ (related.dead t i j r.0 ∙ finds_there.dies j r.0.there)) (dead_alike is js ts (omega (arith, l)) r.1)
 
-    finals_alike : list_any (λ i. is_dead (insts_of l1 i)) m.last ≡ list_any (λ i. is_dead (insts_of l2 i)) m.last
-    finals_alike = dead_alike m.last ((plain_program P).preds id.pred).types as_many_finals (modes.final id.pred id.mode)
+    finals_alike : list_any (λ i. is_dead (insts_of l1 i)) m.last ≡ list_any (λ i. is_dead (insts_of l2 i)) m2.last
+    finals_alike = dead_alike m.last m2.last ((plain_program P).preds id.pred).types as_many_finals (modes.final id.pred id.mode)
 
     -- ---- the orders follow
     fits_here : FitsProcedure (begun outcome P defs sigs goals exported normal_goals named_apart types_met o1 l1 came1 is1 fit1) (parameters_of l1) (plain_proc (p1 k e))
@@ -234,20 +276,25 @@ module _ (found : FoundNodes) (outcome : Builtin → List Val → Outcome) (P : 
     firsts : (p1 k e).first ≡ m.first
     firsts = (ordered_of P defs sigs goals exported o1 l1 came1 is1 k e lt).scheduled.first
 
+    firsts2 : (p2 k e).first ≡ m2.first
+    firsts2 =
+        subst (λ (is : List ModeId). (p2 k e).first ≡ (mode_in sigs2 (get_or is k no_id).pred (get_or is k no_id).mode).first) ids_same
+        (ordered_of P defs2 sigs2 goals exported o2 l2 came2 is2 k e (too k lt)).scheduled.first
+
     typed_goal : TypedGoal (plain_program P) (typing k e) (plain_flat g.body)
     typed_goal =
-        subst (λ (X : Program). TypedGoal (plain_program X) (typing k e) (plain_flat g.body)) (its_program o1 l1 came1 is1 fit1)
+        subst (λ (X : Program). TypedGoal (plain_program X) (typing k e) (plain_flat g.body)) program1
         (subst (TypedGoal (source_of l1) (typing k e)) (sym (normal outcome P defs sigs goals exported normal_goals named_apart types_met o1 l1 came1 is1 fit1 k e lt).body) fits_here.typed)
 
     head_types : map (typing k e) g.head ≡ ((plain_program P).preds id.pred).types
     head_types =
         ap (map (typing k e)) (sym heads)
         ∙ (fits_here.head_types
-        ∙ (ap (λ (X : Program). ((plain_program X).preds (p1 k e).pred).types) (its_program o1 l1 came1 is1 fit1)
+        ∙ (ap (λ (X : Program). ((plain_program X).preds (p1 k e).pred).types) program1
         ∙ ap (λ (p : ℕ). ((plain_program P).preds p).types) (its_pred outcome P defs sigs goals exported normal_goals named_apart types_met o1 l1 came1 is1 fit1 k e lt)))
 
-    initials : NodesRelated (of_nodes here.choice) (of_nodes there.choice) (AreOne P l1.insts l2.insts) m.first (map (typing k e) g.head)
-    initials = subst (NodesRelated (of_nodes here.choice) (of_nodes there.choice) (AreOne P l1.insts l2.insts) m.first) (sym head_types) (modes.initial id.pred id.mode)
+    initials : NodesRelated (of_nodes here.choice) (of_nodes there.choice) (AreOne P l1.insts l2.insts) m.first m2.first (map (typing k e) g.head)
+    initials = subst (NodesRelated (of_nodes here.choice) (of_nodes there.choice) (AreOne P l1.insts l2.insts) m.first m2.first) (sym head_types) (modes.initial id.pred id.mode)
 
     abbrev Q : Source
     Q = source_of l1
@@ -258,66 +305,73 @@ module _ (found : FoundNodes) (outcome : Builtin → List Val → Outcome) (P : 
     abbrev start : Insts
     start = entered (p1 k e).head (p1 k e).first
 
+    abbrev begin : Insts
+    begin = entered (p1 k e).head (p2 k e).first
+
     starts : entered g.head m.first ≡ start
     starts = sym (ap₂ entered heads firsts)
 
-    pub enters_one : InstsFollow Q (typing k e) (length g.var_types) (Mean l1.program) start start
+    begins : entered g.head m2.first ≡ begin
+    begins = sym (ap₂ entered heads firsts2)
+
+    pub enters_one : InstsFollow Q (typing k e) (length g.var_types) (Mean l1.program) start begin
     enters_one =
-        subst (λ (X : Program). InstsFollow (plain_program X) (typing k e) (length g.var_types) (Mean X) start start) (sym (its_program o1 l1 came1 is1 fit1))
-        (subst (λ (b : Insts). InstsFollow (plain_program P) (typing k e) (length g.var_types) (Mean P) b b) starts
-        (entry-follows (plain_program P) (declared_in sigs) (typing k e) (length g.var_types) (Mean P) here.choice there.choice related modes.declared (length g.var_types) g.head m.first (in-numbers (length g.var_types) g.head in_first.head) (le_refl (length g.var_types)) initials))
+        subst (λ (X : Program). InstsFollow (plain_program X) (typing k e) (length g.var_types) (Mean X) start begin) (sym program1)
+        (subst (λ (b : Insts). InstsFollow (plain_program P) (typing k e) (length g.var_types) (Mean P) b begin) starts
+        (subst (λ (c : Insts). InstsFollow (plain_program P) (typing k e) (length g.var_types) (Mean P) (entered g.head m.first) c) begins
+        (entry-follows (plain_program P) (declared_in sigs) (declared_in sigs2) (typing k e) (length g.var_types) (Mean P) here.choice there.choice related modes.declared (length g.var_types) g.head m.first m2.first (in-numbers (length g.var_types) g.head in_first.head) (le_refl (length g.var_types)) initials)))
 
-    abbrev Arranged : Chosen → Source → GoalNode → Type 0
-    Arranged C X body = arrange (of_nodes C) X (declared_in sigs) (typing k e) (length g.var_types) g.head m.first m.last (plain_flat g.body) ≡ in_order (plain_node body)
-
-    -- the goal's own variables have its types in both
-    module _ (o l : PlainProcs) (came : Ordered P defs sigs goals exported O.All o) (is : Determined o l) (fit : AllFit l) where
-      abbrev here_too : IsOrdered sigs goals exported came.first o id (get_or o.added k e)
-      here_too = ordered_of P defs sigs goals exported o l came is k e lt
-
-      pub own_type_in : (x : ℕ) → x < length g.var_types → type_in (get_or o.added k e).var_types x ≡ type_in g.var_types x
-      own_type_in x less = own_type found sigs g id.mode m here_too.before here_too.after l (record (get_or o.added k e) { exported = false }) here_too.scheduled fit (grows_to o l came is fit k e lt).0 (grows_to o l came is fit k e lt).1 x less
-
-      pub own_there_in : length g.var_types ≤ length (get_or o.added k e).var_types
-      own_there_in = own_there found sigs g id.mode m here_too.before here_too.after l (record (get_or o.added k e) { exported = false }) here_too.scheduled fit (grows_to o l came is fit k e lt).0 (grows_to o l came is fit k e lt).1
+    abbrev Arranged : List Sig → ModeDecl → Chosen → Source → GoalNode → Type 0
+    Arranged ss mode C X body = arrange (of_nodes C) X (declared_in ss) (typing k e) (length g.var_types) g.head mode.first mode.last (plain_flat g.body) ≡ in_order (plain_node body)
 
     first_typed : (x : ℕ) → x < length g.var_types → typing k e x ≡ type_in (p1 k e).var_types x
-    first_typed x less = (let l = own_there_in o1 l1 came1 is1 fit1 in same_types (p1 k e).var_types x (omega (arith, less, l)))
+    first_typed x less = (let l = own_there_in found P defs sigs goals exported types_met o1 l1 came1 is1 fit1 k e lt in same_types (p1 k e).var_types x (omega (arith, less, l)))
+
+    own_type_too : (x : ℕ) → x < length g.var_types → type_in (p2 k e).var_types x ≡ type_in g.var_types x
+    own_type_too =
+        subst (λ (is : List ModeId). (x : ℕ) → x < length (goal_at goals (get_or is k no_id).pred).var_types → type_in (p2 k e).var_types x ≡ type_in (goal_at goals (get_or is k no_id).pred).var_types x) ids_same
+        (own_type_in found P defs2 sigs2 goals exported types_met o2 l2 came2 is2 fit2 k e (too k lt))
 
     second_typed : (x : ℕ) → x < length g.var_types → typing k e x ≡ type_in (p2 k e).var_types x
-    second_typed x less = first_typed x less ∙ (own_type_in o1 l1 came1 is1 fit1 x less ∙ sym (own_type_in o2 l2 came2 is2 fit2 x less))
+    second_typed x less = first_typed x less ∙ (own_type_in found P defs sigs goals exported types_met o1 l1 came1 is1 fit1 k e lt x less ∙ sym (own_type_too x less))
 
-    order_here : Arranged here.choice (plain_program P) (p1 k e).body
-    order_here = subst (λ (X : Program). Arranged here.choice (plain_program X) (p1 k e).body) (its_program o1 l1 came1 is1 fit1) (here.order (typing k e) first_typed)
+    order_here : Arranged sigs m here.choice (plain_program P) (p1 k e).body
+    order_here = subst (λ (X : Program). Arranged sigs m here.choice (plain_program X) (p1 k e).body) program1 (here.order (typing k e) first_typed)
 
-    order_there : Arranged there.choice (plain_program P) (p2 k e).body
-    order_there = subst (λ (X : Program). Arranged there.choice (plain_program X) (p2 k e).body) (its_program o2 l2 came2 is2 fit2) (there.order (typing k e) second_typed)
+    order_there : Arranged sigs2 m2 there.choice (plain_program P) (p2 k e).body
+    order_there = subst (λ (X : Program). Arranged sigs2 m2 there.choice (plain_program X) (p2 k e).body) program2 (there.order (typing k e) second_typed)
 
-    pub bodies_one : Follows Q (typing k e) (length g.var_types) (Mean l1.program) start start (plain_node (p1 k e).body) (plain_node (p2 k e).body)
+    pub bodies_one : Follows Q (typing k e) (length g.var_types) (Mean l1.program) start begin (plain_node (p1 k e).body) (plain_node (p2 k e).body)
     bodies_one =
-        subst (λ (X : Program). Follows (plain_program X) (typing k e) (length g.var_types) (Mean X) start start (plain_node (p1 k e).body) (plain_node (p2 k e).body)) (sym (its_program o1 l1 came1 is1 fit1))
-        (subst (λ (b : Insts). Follows (plain_program P) (typing k e) (length g.var_types) (Mean P) b b (plain_node (p1 k e).body) (plain_node (p2 k e).body)) starts
-        (order-follows (plain_program P) (declared_in sigs) (typing k e) (length g.var_types) (Mean P) here.choice there.choice related modes.declared (length g.var_types) g.head m.first m.last (plain_flat g.body) (plain_node (p1 k e).body) (plain_node (p2 k e).body)
-        typed_goal (in-numbers (length g.var_types) (variables_of (plain_flat g.body)) in_first.variables) (in-numbers (length g.var_types) g.head in_first.head) (le_refl (length g.var_types)) initials order_here order_there))
+        subst (λ (X : Program). Follows (plain_program X) (typing k e) (length g.var_types) (Mean X) start begin (plain_node (p1 k e).body) (plain_node (p2 k e).body)) (sym program1)
+        (subst (λ (b : Insts). Follows (plain_program P) (typing k e) (length g.var_types) (Mean P) b begin (plain_node (p1 k e).body) (plain_node (p2 k e).body)) starts
+        (subst (λ (c : Insts). Follows (plain_program P) (typing k e) (length g.var_types) (Mean P) (entered g.head m.first) c (plain_node (p1 k e).body) (plain_node (p2 k e).body)) begins
+        (order-follows (plain_program P) (declared_in sigs) (declared_in sigs2) (typing k e) (length g.var_types) (Mean P) here.choice there.choice related modes.declared (length g.var_types) g.head m.first m.last m2.first m2.last (plain_flat g.body) (plain_node (p1 k e).body) (plain_node (p2 k e).body)
+        typed_goal (in-numbers (length g.var_types) (variables_of (plain_flat g.body)) in_first.variables) (in-numbers (length g.var_types) g.head in_first.head) (le_refl (length g.var_types)) initials order_here order_there)))
 
-  abbrev DeadAlike : List ℕ → Type 0
-  DeadAlike is = list_any (λ i. is_dead (insts_of l1 i)) is ≡ list_any (λ i. is_dead (insts_of l2 i)) is
+  abbrev last_in : List Sig → ModeId → List ℕ
+  last_in ss i = (mode_in ss i.pred i.mode).last
+
+  abbrev DeadAlike : List ℕ → List ℕ → Type 0
+  DeadAlike is js = list_any (λ i. is_dead (insts_of l1 i)) is ≡ list_any (λ i. is_dead (insts_of l2 i)) js
 
   -- whatever the types of other variables are, where they are the same in both ways
   pub orders_are_one : ((k : ℕ) (e : Proc) → k < length (mode_ids P sigs) → map plain_type (p2 k e).var_types ≡ map plain_type (p1 k e).var_types)
-      → OrdersAreOne outcome P defs sigs goals exported normal_goals named_apart types_met o1 l1 came1 is1 fit1 o2 l2 came2 is2 fit2
+      → OrdersAreOne outcome P defs defs2 sigs sigs2 goals exported one_sigs normal_goals named_apart types_met o1 l1 came1 is1 fit1 o2 l2 came2 is2 fit2
   orders_are_one types =
       record {
         own = λ k. length (goal_at goals (get_or (mode_ids P sigs) k no_id).pred).var_types;
         types = types;
-        dead = λ k. dead_at k (cases_lt k (length (mode_ids P sigs)));
+        dead = λ k. subst (DeadAlike (finals_of P sigs k)) (ap (λ (is : List ModeId). get_or (map (last_in sigs2) is) k []) (sym ids_same)) (dead_at k (cases_lt k (length (mode_ids P sigs))));
         enters = λ k e lt. enters_one k e lt;
         bodies = λ k e lt. bodies_one k e lt;
       }
     where
-      dead_at : (k : ℕ) → (k < length (mode_ids P sigs)) ⊎ (length (mode_ids P sigs) ≤ k) → DeadAlike (finals_of P sigs k)
+      dead_at : (k : ℕ) → (k < length (mode_ids P sigs)) ⊎ (length (mode_ids P sigs) ≤ k) → DeadAlike (finals_of P sigs k) (get_or (map (last_in sigs2) (mode_ids P sigs)) k [])
       dead_at k (inl lt) =
-          subst DeadAlike (sym (get_or-map (λ (i : ModeId). (mode_in sigs i.pred i.mode).last) (mode_ids P sigs) k no_id [] lt))
-          (finals_alike k (some_at o1.added k (subst (λ (n : ℕ). k < n) (sym (as_many P defs sigs goals exported o1 l1 came1 is1)) lt)) lt)
+          subst (λ (is : List ℕ). DeadAlike is (get_or (map (last_in sigs2) (mode_ids P sigs)) k [])) (sym (get_or-map (last_in sigs) (mode_ids P sigs) k no_id [] lt))
+          (subst (DeadAlike (last_in sigs (get_or (mode_ids P sigs) k no_id))) (sym (get_or-map (last_in sigs2) (mode_ids P sigs) k no_id [] lt))
+          (finals_alike k (some_at o1.added k (subst (λ (n : ℕ). k < n) (sym (as_many P defs sigs goals exported o1 l1 came1 is1)) lt)) lt))
       dead_at k (inr le) =
-          subst DeadAlike (sym (get_or_past (map (λ (i : ModeId). (mode_in sigs i.pred i.mode).last) (mode_ids P sigs)) k [] (omega (arith, le, length-map (mode_ids P sigs) (λ (i : ModeId). (mode_in sigs i.pred i.mode).last))))) refl
+          subst (λ (is : List ℕ). DeadAlike is (get_or (map (last_in sigs2) (mode_ids P sigs)) k [])) (sym (get_or_past (map (last_in sigs) (mode_ids P sigs)) k [] (omega (arith, le, length-map (mode_ids P sigs) (last_in sigs)))))
+          (subst (DeadAlike []) (sym (get_or_past (map (last_in sigs2) (mode_ids P sigs)) k [] (omega (arith, le, length-map (mode_ids P sigs) (last_in sigs2))))) refl)

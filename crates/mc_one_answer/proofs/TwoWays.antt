@@ -38,7 +38,7 @@ use Rattle.mc_rules.specs.declared.rules.Ruled.{Ruled}
 use Rattle.mc_rules.specs.declared.rules.Ruled.TheVariants as R
 use Rattle.mc_rule_laws.proofs.OfModes.{last_program}
 use Rattle.mc_one_answer.specs.FoundNodes.{FoundNodes}
-use Rattle.mc_one_answer.specs.ModesMeanOne.{ArePlaced}
+use Rattle.mc_one_answer.specs.ModesMeanOne.{NodesAreOne, SigsAreOne, ArePlaced}
 use Rattle.mc_one_answer.specs.OneListOfRules.{AreTyped, OneListOfRules}
 use Rattle.mc_one_answer.specs.OneAnswer.{RunAlike, OneRuled, OneAnswer}
 use Rattle.mc_one_answer.proofs.OrderTypes.{types_are_one}
@@ -77,18 +77,15 @@ module _ (sigs : List Sig) (goals : List Normal) (exported : List Bool) (first l
   none_broken : (ids : List ModeId) (ps : List Proc) → AreInOrder ids ps → AreBroken sigs goals first last ids []
   none_broken ids ps h = record { tried = tried_of ids ps; ids_are = tried_ids ids ps h; each = each_tried ids ps h; rules = no_rules ids ps }
 
+-- ---- how an answer came
 module _ (P : Program) (defs : List PlainInstDef) (sigs : List Sig) (goals : List Normal) (exported : List Bool) (runs : Bool) where
-  abbrev InOrder : Orders → PlainProcs → Type 0
-  InOrder o q = Ordered P defs sigs goals exported o q
-
   abbrev Coming : Ruled → Type 0
   Coming r = Comes P defs sigs goals exported runs r
 
-  -- ---- how an answer came
   -- procedures that fit, and the rules of determinism that they break
   record Judged (last : PlainProcs) (faults : List Broken) : Type 0 where
     pub ordered : PlainProcs
-    pub came : InOrder O.All ordered
+    pub came : Ordered P defs sigs goals exported O.All ordered
     pub determined : Determined ordered last
     pub faults_are : FaultsAre runs last faults
     pub fit : AllFit last
@@ -103,7 +100,7 @@ module _ (P : Program) (defs : List PlainInstDef) (sigs : List Sig) (goals : Lis
 
   record BreaksModes (list : Vec Broken Global) : Type 0 where
     pub last : PlainProcs
-    pub came : InOrder (O.Broken list) last
+    pub came : Ordered P defs sigs goals exported (O.Broken list) last
 
   record BreaksDeterminism (list : Vec Broken Global) : Type 0 where
     pub last : PlainProcs
@@ -122,31 +119,68 @@ module _ (P : Program) (defs : List PlainInstDef) (sigs : List Sig) (goals : Lis
   broken list (break_determinism {ordered = o} {last = l} came determined faults fit some) =
       inr (inr (record { last = l; judged = record { ordered = o; came = came; determined = determined; faults_are = faults; fit = fit }; some = some }))
 
-  -- ---- modes that break no rule of uniqueness in one graph break none in another
-  not_untidy : (list : Vec Broken Global) (o : Orders) (q : PlainProcs) → BreaksUniqueness list → InOrder o q → ⊥
-  not_untidy list o q b came = b.some (untidy_alike P defs b.insts came.first.insts b.has came.begins.insts sigs b.untidy [] b.says came.begins.tidy)
+-- ---- two answers, by two lists of definitions
+module _ (P : Program) (defs defs2 : List PlainInstDef) (sigs sigs2 : List Sig) (goals : List Normal) (exported : List Bool) (runs : Bool) (one_sigs : SigsAreOne (NodesAreOne P defs defs2) sigs sigs2) where
+  abbrev Here : Orders → PlainProcs → Type 0
+  Here o q = Ordered P defs sigs goals exported o q
 
-  both_untidy : (v w : Vec Broken Global) → BreaksUniqueness v → BreaksUniqueness w → v.items ≡ w.items
-  both_untidy v w a b = a.same ∙ (ap by_place (untidy_alike P defs a.insts b.insts a.has b.has sigs a.untidy b.untidy a.says b.says) ∙ sym b.same)
+  abbrev There : Orders → PlainProcs → Type 0
+  There o q = Ordered P defs2 sigs2 goals exported o q
+
+  abbrev JudgedHere : PlainProcs → List Broken → Type 0
+  JudgedHere last faults = Judged P defs sigs goals exported runs last faults
+
+  abbrev JudgedThere : PlainProcs → List Broken → Type 0
+  JudgedThere last faults = Judged P defs2 sigs2 goals exported runs last faults
+
+  abbrev BreaksHere : Vec Broken Global → Type 0
+  BreaksHere list = Breaks P defs sigs goals exported runs list
+
+  abbrev BreaksThere : Vec Broken Global → Type 0
+  BreaksThere list = Breaks P defs2 sigs2 goals exported runs list
+
+  abbrev UntidyHere : Vec Broken Global → Type 0
+  UntidyHere list = BreaksUniqueness P defs sigs goals exported runs list
+
+  abbrev UntidyThere : Vec Broken Global → Type 0
+  UntidyThere list = BreaksUniqueness P defs2 sigs2 goals exported runs list
+
+  -- ---- modes that break no rule of uniqueness in one graph break none in another
+  one_untidy : (I J : Insts) (xs ys : List Broken) → HasInsts P defs I → HasInsts P defs2 J → AreUntidy (plain_program P) (graph_of I) sigs xs → AreUntidy (plain_program P) (graph_of J) sigs2 ys → xs ≡ ys
+  one_untidy I J xs ys here there a b = untidy_alike P defs defs2 I J here there sigs sigs2 xs ys one_sigs a b
+
+  not_untidy : (list : Vec Broken Global) (o : Orders) (q : PlainProcs) → UntidyHere list → There o q → ⊥
+  not_untidy list o q b came = b.some (one_untidy b.insts came.first.insts b.untidy [] b.has came.begins.insts b.says came.begins.tidy)
+
+  nor_untidy : (list : Vec Broken Global) (o : Orders) (q : PlainProcs) → UntidyThere list → Here o q → ⊥
+  nor_untidy list o q b came = b.some (sym (one_untidy came.first.insts b.insts [] b.untidy came.begins.insts b.has came.begins.tidy b.says))
+
+  both_untidy : (v w : Vec Broken Global) → UntidyHere v → UntidyThere w → v.items ≡ w.items
+  both_untidy v w a b = a.same ∙ (ap by_place (one_untidy a.insts b.insts a.untidy b.untidy a.has b.has a.says b.says) ∙ sym b.same)
 
   -- ---- goals in order break no rule, and those that break one break one list
   module _ (rules : OneListOfRules) (placed : ArePlaced 0 sigs) (typed : AreTyped P goals) (met : (t : TypeTerm) → TypesMet (plain_program P) t) where
-    one_list_told : (o p : Orders) (q r : PlainProcs) (came : InOrder o q) (also : InOrder p r) (xs ys : List Broken) → AreBroken sigs goals came.first q (mode_ids came.first.program sigs) xs → AreBroken sigs goals also.first r (mode_ids also.first.program sigs) ys → xs ≡ ys
+    one_list_told : (o p : Orders) (q r : PlainProcs) (came : Here o q) (also : There p r) (xs ys : List Broken) → AreBroken sigs goals came.first q (mode_ids came.first.program sigs) xs → AreBroken sigs2 goals also.first r (mode_ids also.first.program sigs2) ys → xs ≡ ys
     one_list_told o p q r came also xs ys f g =
-        rules P defs sigs goals exported came.first also.first q r xs ys placed typed met came.begins also.begins came.asked
+        rules P defs defs2 sigs sigs2 goals exported came.first also.first q r xs ys one_sigs placed typed met came.begins also.begins came.asked also.asked
         (subst (λ (X : Program). AreBroken sigs goals came.first q (mode_ids X sigs) xs) came.begins.program f)
-        (subst (λ (X : Program). AreBroken sigs goals also.first r (mode_ids X sigs) ys) also.begins.program g)
+        (subst (λ (X : Program). AreBroken sigs2 goals also.first r (mode_ids X sigs2) ys) also.begins.program g)
 
-    one_mode_list : (v w : Vec Broken Global) (q r : PlainProcs) → InOrder (O.Broken v) q → InOrder (O.Broken w) r → v.items ≡ w.items
+    one_mode_list : (v w : Vec Broken Global) (q r : PlainProcs) → Here (O.Broken v) q → There (O.Broken w) r → v.items ≡ w.items
     one_mode_list v w q r came also =
         let f = came.became in
         let g = also.became in
         f.2 ∙ (ap by_place (one_list_told (O.Broken v) (O.Broken w) q r came also f.0 g.0 f.1 g.1) ∙ sym g.2)
 
-    not_both : (v : Vec Broken Global) (q r : PlainProcs) → InOrder O.All q → InOrder (O.Broken v) r → ⊥
+    not_both : (v : Vec Broken Global) (q r : PlainProcs) → Here O.All q → There (O.Broken v) r → ⊥
     not_both v q r came also =
         let g = also.became in
         g.3 (g.2 ∙ ap by_place (sym (one_list_told O.All (O.Broken v) q r came also [] g.0 (none_broken sigs goals exported came.first q (mode_ids came.first.program sigs) q.added came.became) g.1)))
+
+    nor_both : (v : Vec Broken Global) (q r : PlainProcs) → Here (O.Broken v) q → There O.All r → ⊥
+    nor_both v q r came also =
+        let f = came.became in
+        f.3 (f.2 ∙ ap by_place (one_list_told (O.Broken v) O.All q r came also f.0 [] f.1 (none_broken sigs2 goals exported also.first r (mode_ids also.first.program sigs2) r.added also.became)))
 
   module _ (found : FoundNodes) (rules : OneListOfRules) (placed : ArePlaced 0 sigs) (typed : AreTyped P goals) (normal : HasNormalGoals P goals) (apart : (p : ℕ) → p < length P.preds → EachNamedApart ((plain_program P).preds p).clauses)
       (met : (t : TypeTerm) → TypesMet (plain_program P) t) where
@@ -154,52 +188,57 @@ module _ (P : Program) (defs : List PlainInstDef) (sigs : List Sig) (goals : Lis
     does = outcome (library_of P) []
 
     -- the orders of goals are one
-    orders : (l1 l2 : PlainProcs) (xs ys : List Broken) (a : Judged l1 xs) (b : Judged l2 ys)
-        → OrdersAreOne does P defs sigs goals exported normal apart met a.ordered l1 a.came a.determined a.fit b.ordered l2 b.came b.determined b.fit
+    orders : (l1 l2 : PlainProcs) (xs ys : List Broken) (a : JudgedHere l1 xs) (b : JudgedThere l2 ys)
+        → OrdersAreOne does P defs defs2 sigs sigs2 goals exported one_sigs normal apart met a.ordered l1 a.came a.determined a.fit b.ordered l2 b.came b.determined b.fit
     orders l1 l2 xs ys a b =
-        orders_are_one found does P defs sigs goals exported normal apart met placed a.ordered l1 a.came a.determined a.fit b.ordered l2 b.came b.determined b.fit
-        (types_are_one found does P defs sigs goals exported normal apart met placed a.ordered l1 a.came a.determined a.fit b.ordered l2 b.came b.determined b.fit)
+        orders_are_one found does P defs defs2 sigs sigs2 goals exported one_sigs normal apart met placed a.ordered l1 a.came a.determined a.fit b.ordered l2 b.came b.determined b.fit
+        (types_are_one found does P defs defs2 sigs sigs2 goals exported one_sigs normal apart met placed a.ordered l1 a.came a.determined a.fit b.ordered l2 b.came b.determined b.fit)
 
-    one_fault_list : (l1 l2 : PlainProcs) (xs ys : List Broken) → Judged l1 xs → Judged l2 ys → xs ≡ ys
+    one_fault_list : (l1 l2 : PlainProcs) (xs ys : List Broken) → JudgedHere l1 xs → JudgedThere l2 ys → xs ≡ ys
     one_fault_list l1 l2 xs ys a b =
-        one_list does P defs sigs goals exported normal apart met a.ordered l1 a.came a.determined a.fit b.ordered l2 b.came b.determined b.fit (orders l1 l2 xs ys a b) runs xs ys a.faults_are b.faults_are
+        one_list does P defs defs2 sigs sigs2 goals exported one_sigs normal apart met a.ordered l1 a.came a.determined a.fit b.ordered l2 b.came b.determined b.fit (orders l1 l2 xs ys a b) runs xs ys a.faults_are b.faults_are
 
-    not_kept : (l : PlainProcs) (v : Vec Broken Global) → Judged l [] → Breaks v → ⊥
-    not_kept l v a (inl b) = not_untidy v O.All a.ordered b a.came
+    not_kept : (l : PlainProcs) (v : Vec Broken Global) → JudgedHere l [] → BreaksThere v → ⊥
+    not_kept l v a (inl b) = nor_untidy v O.All a.ordered b a.came
     not_kept l v a (inr (inl b)) = not_both rules placed typed met v a.ordered b.last a.came b.came
     not_kept l v a (inr (inr b)) = b.some (sym (one_fault_list l b.last [] v.items a b.judged))
 
-    both_broken : (v w : Vec Broken Global) → Breaks v → Breaks w → v.items ≡ w.items
+    nor_kept : (l : PlainProcs) (v : Vec Broken Global) → BreaksHere v → JudgedThere l [] → ⊥
+    nor_kept l v (inl a) b = not_untidy v O.All b.ordered a b.came
+    nor_kept l v (inr (inl a)) b = nor_both rules placed typed met v a.last b.ordered a.came b.came
+    nor_kept l v (inr (inr a)) b = a.some (one_fault_list a.last l v.items [] a.judged b)
+
+    both_broken : (v w : Vec Broken Global) → BreaksHere v → BreaksThere w → v.items ≡ w.items
     both_broken v w (inl a) (inl b) = both_untidy v w a b
     both_broken v w (inl a) (inr (inl b)) = absurd (not_untidy v (O.Broken w) b.last a b.came)
     both_broken v w (inl a) (inr (inr b)) = absurd (not_untidy v O.All b.judged.ordered a b.judged.came)
-    both_broken v w (inr (inl a)) (inl b) = absurd (not_untidy w (O.Broken v) a.last b a.came)
+    both_broken v w (inr (inl a)) (inl b) = absurd (nor_untidy w (O.Broken v) a.last b a.came)
     both_broken v w (inr (inl a)) (inr (inl b)) = one_mode_list rules placed typed met v w a.last b.last a.came b.came
-    both_broken v w (inr (inl a)) (inr (inr b)) = absurd (not_both rules placed typed met v b.judged.ordered a.last b.judged.came a.came)
-    both_broken v w (inr (inr a)) (inl b) = absurd (not_untidy w O.All a.judged.ordered b a.judged.came)
+    both_broken v w (inr (inl a)) (inr (inr b)) = absurd (nor_both rules placed typed met v a.last b.judged.ordered a.came b.judged.came)
+    both_broken v w (inr (inr a)) (inl b) = absurd (nor_untidy w O.All a.judged.ordered b a.judged.came)
     both_broken v w (inr (inr a)) (inr (inl b)) = absurd (not_both rules placed typed met w a.judged.ordered b.last a.judged.came b.came)
     both_broken v w (inr (inr a)) (inr (inr b)) = one_fault_list a.last b.last v.items w.items a.judged b.judged
 
-    both_kept : (q r : PlainProcs) → Judged q [] → Judged r [] → RunAlike q r
+    both_kept : (q r : PlainProcs) → JudgedHere q [] → JudgedThere r [] → RunAlike q r
     both_kept q r a b =
         let follow = orders q r [] [] a b in
-        let one = one_run does P defs sigs goals exported normal apart met a.ordered q a.came a.determined a.fit b.ordered r b.came b.determined b.fit follow in
+        let one = one_run does P defs defs2 sigs sigs2 goals exported one_sigs normal apart met a.ordered q a.came a.determined a.fit b.ordered r b.came b.determined b.fit follow in
         record {
-          program = last_program P defs sigs goals exported b.ordered r b.came b.determined ∙ sym (last_program P defs sigs goals exported a.ordered q a.came a.determined);
-          main = one_main does P defs sigs goals exported normal apart met a.ordered q a.came a.determined a.fit b.ordered r b.came b.determined b.fit follow;
+          program = last_program P defs2 sigs2 goals exported b.ordered r b.came b.determined ∙ sym (last_program P defs sigs goals exported a.ordered q a.came a.determined);
+          main = one_main does P defs defs2 sigs sigs2 goals exported one_sigs normal apart met a.ordered q a.came a.determined a.fit b.ordered r b.came b.determined b.fit follow;
           calls = λ does budget height k. (one does budget height k).0;
           queries = λ does budget height k. (one does budget height k).1;
         }
 
-    both_come : (r s : Ruled) → Coming r → Coming s → OneRuled r s
-    both_come (R.Procs q) (R.Procs r) a b = both_kept q r (kept q a) (kept r b)
-    both_come (R.Procs q) (R.Broken v) a b = not_kept q v (kept q a) (broken v b)
+    both_come : (r s : Ruled) → Comes P defs sigs goals exported runs r → Comes P defs2 sigs2 goals exported runs s → OneRuled r s
+    both_come (R.Procs q) (R.Procs r) a b = both_kept q r (kept P defs sigs goals exported runs q a) (kept P defs2 sigs2 goals exported runs r b)
+    both_come (R.Procs q) (R.Broken v) a b = not_kept q v (kept P defs sigs goals exported runs q a) (broken P defs2 sigs2 goals exported runs v b)
     both_come (R.Procs q) (R.Unseen u) a b = tt
-    both_come (R.Broken v) (R.Procs q) a b = not_kept q v (kept q b) (broken v a)
-    both_come (R.Broken v) (R.Broken w) a b = both_broken v w (broken v a) (broken w b)
+    both_come (R.Broken v) (R.Procs q) a b = nor_kept q v (broken P defs sigs goals exported runs v a) (kept P defs2 sigs2 goals exported runs q b)
+    both_come (R.Broken v) (R.Broken w) a b = both_broken v w (broken P defs sigs goals exported runs v a) (broken P defs2 sigs2 goals exported runs w b)
     both_come (R.Broken v) (R.Unseen u) a b = tt
     both_come (R.Unseen u) s a b = tt
 
 -- two answers are one
 pub one-answer : FoundNodes → OneListOfRules → OneAnswer
-one-answer found rules P defs sigs goals exported runs normal apart met placed typed r s a b = both_come P defs sigs goals exported runs found rules placed typed normal apart met r s a b
+one-answer found rules P ds es sigs others goals exported runs same normal apart met placed typed r s a b = both_come P ds es sigs others goals exported runs same found rules placed typed normal apart met r s a b

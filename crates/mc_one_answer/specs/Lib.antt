@@ -3,4 +3,5 @@ pub mod ModesMeanOne
 pub mod OneListOfRules
 pub mod WholePrograms
 pub mod MeantNodes
+pub mod MeantSigs
 pub mod OneAnswer

@@ -1,17 +1,10 @@
 -- Nodes that an inst is, in graphs of two lists of definitions, mean one thing. (Mercury Language
 -- Reference Manual: Modes, insts.)
 use Rattle.std.specs.Prelude.{ℕ, ◌<◌, List}
-use Rattle.mc_program.specs.Programs.{TypeTerm}
-use Rattle.mc_program.specs.PlainPrograms.{plain_program}
 use Rattle.mc_program.specs.declared.program.Program.{Program}
 use Rattle.mc_accepted.specs.InstRules.{PlainInstDef, InstTerm, parameter, inst_node, defined, bound_over, InstTerms, no_insts, inst_then, Bodies}
-use Rattle.mc_accepted.specs.Tidy.{Tidy}
-use Rattle.mc_insts.specs.declared.insts.Insts.{Insts}
-use Rattle.mc_insts.specs.Graphs.{graph_of, count_of}
-use Rattle.mc_insts.specs.Growing.{Grown}
 use Rattle.mc_signatures.specs.MeantInsts.{IsMeant}
-use Rattle.mc_rules.specs.Premises.{HasInsts}
-use Rattle.mc_one_answer.specs.ModesMeanOne.{AreOne}
+use Rattle.mc_one_answer.specs.ModesMeanOne.{NodesAreOne}
 
 -- an inst names builtin nodes alone, as those do that are written
 abbrev mutual
@@ -26,14 +19,9 @@ abbrev mutual
   EachNamesBuiltin (inst_then i is) = NamesBuiltin i × EachNamesBuiltin is
 
 -- Two compilers may make other definitions for the insts that are written, and number them otherwise.
--- Where an inst is a node by each, these mean one thing at each type at which the first is tidy, and go
--- on to do so as the graphs grow.
+-- Where an inst is a node by each, these are one.
 abbrev pub MeantNodesMeanOne : Type 0
 MeantNodesMeanOne =
     (body : Bodies) → ((d : ℕ) → NamesBuiltin (body d))
-    → (P : Program) (ds es : List PlainInstDef) (I J K L : Insts) → HasInsts P ds I → HasInsts P es J
-    → Grown (plain_program P) I K → Grown (plain_program P) J L
-    → (i : InstTerm) (n m : ℕ) (t : TypeTerm) → NamesBuiltin i
-    → IsMeant body ds i n → IsMeant body es i m
-    → n < count_of I → m < count_of J → Tidy (plain_program P) (graph_of I) n t
-    → AreOne P K L t n m
+    → (P : Program) (ds es : List PlainInstDef) (i : InstTerm) (n m : ℕ) → NamesBuiltin i
+    → IsMeant body ds i n → IsMeant body es i m → NodesAreOne P ds es n m

@@ -20,7 +20,7 @@ use Rattle.mc_whole.specs.Goals.{HasNormalGoals}
 use Rattle.mc_rules.specs.Rules.{Comes}
 use Rattle.mc_rules.specs.declared.rules.Ruled.{Ruled}
 use Rattle.mc_rules.specs.declared.rules.Ruled.TheVariants as R
-use Rattle.mc_one_answer.specs.ModesMeanOne.{ArePlaced}
+use Rattle.mc_one_answer.specs.ModesMeanOne.{NodesAreOne, SigsAreOne, ArePlaced}
 use Rattle.mc_one_answer.specs.OneListOfRules.{AreTyped}
 
 -- Procedures of one program run alike: under each number, at each budget and height, whatever
@@ -47,17 +47,24 @@ OneRuled (R.Broken v) (R.Broken w) = v.items ≡ w.items
 OneRuled (R.Broken v) (R.Unseen u) = Unit {0}
 OneRuled (R.Unseen u) r = Unit {0}
 
--- Whatever comes of a program's goals in its declared modes, it is one. The goals are those of its
--- clauses, of which each names its quantified variables apart, and they are typed; below each type
--- there are finitely many; and signatures stand in the order of their predicates.
+-- Whatever comes of a program's goals in its declared modes, it is one, by whatever definitions of
+-- insts, where the nodes of modes are one. The goals are those of its clauses, of which each names its
+-- quantified variables apart, and they are typed; below each type there are finitely many; and
+-- signatures stand in the order of their predicates.
 abbrev pub OneAnswer : Type 0
 OneAnswer =
-    (P : Program) (ds : List PlainInstDef) (sigs : List Sig) (goals : List Normal)
+    (P : Program) (ds es : List PlainInstDef) (sigs others : List Sig) (goals : List Normal)
     (exported : List Bool) (runs : Bool)
+    → SigsAreOne (NodesAreOne P ds es) sigs others
     → HasNormalGoals P goals
     → ((p : ℕ) → p < length P.preds → EachNamedApart ((plain_program P).preds p).clauses)
     → ((t : TypeTerm) → TypesMet (plain_program P) t)
     → ArePlaced 0 sigs → AreTyped P goals
     → (r s : Ruled)
-    → Comes P ds sigs goals exported runs r → Comes P ds sigs goals exported runs s
+    → Comes P ds sigs goals exported runs r → Comes P es others goals exported runs s
     → OneRuled r s
+
+-- A list of signatures is one with itself.
+abbrev pub SigsAreThemselves : Type 0
+SigsAreThemselves =
+    (P : Program) (ds : List PlainInstDef) (sigs : List Sig) → SigsAreOne (NodesAreOne P ds ds) sigs sigs

@@ -17,7 +17,7 @@ use Rattle.mc_orders.specs.Numbering.{mode_ids}
 use Rattle.mc_orders.specs.Outcomes.{AreBroken}
 use Rattle.mc_switch.specs.Types.{type_in}
 use Rattle.mc_rules.specs.Premises.{Begins, AskedOf}
-use Rattle.mc_one_answer.specs.ModesMeanOne.{ArePlaced}
+use Rattle.mc_one_answer.specs.ModesMeanOne.{NodesAreOne, SigsAreOne, ArePlaced}
 
 -- a predicate's goal is typed, and its head variables have the predicate's types
 pub record IsTyped (P : Source) (p : ℕ) (g : Normal) : Type 0 where
@@ -34,10 +34,12 @@ AreTyped P goals =
 -- where they break none in one, they break none in the other.
 abbrev pub OneListOfRules : Type 0
 OneListOfRules =
-    (P : Program) (ds : List PlainInstDef) (sigs : List Sig) (goals : List Normal)
+    (P : Program) (ds es : List PlainInstDef) (sigs modes : List Sig) (goals : List Normal)
     (exported : List Bool) (first other here there : PlainProcs) (faults others : List Broken)
+    → SigsAreOne (NodesAreOne P ds es) sigs modes
     → ArePlaced 0 sigs → AreTyped P goals → ((t : TypeTerm) → TypesMet (plain_program P) t)
-    → Begins P ds sigs first → Begins P ds sigs other → AskedOf first sigs goals exported
+    → Begins P ds sigs first → Begins P es modes other
+    → AskedOf first sigs goals exported → AskedOf other modes goals exported
     → AreBroken sigs goals first here (mode_ids P sigs) faults
-    → AreBroken sigs goals other there (mode_ids P sigs) others
+    → AreBroken modes goals other there (mode_ids P modes) others
     → faults ≡ others

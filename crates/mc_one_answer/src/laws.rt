@@ -1,8 +1,9 @@
 //! The laws of one answer. Each is the contract of a function that does nothing but call others of the kind.
 ghost use Rattle.mc_one_answer.specs.FoundNodes.{FoundNodes};
 ghost use Rattle.mc_one_answer.specs.MeantNodes.{MeantNodesMeanOne};
+ghost use Rattle.mc_one_answer.specs.MeantSigs.{MeantSigsAreOne};
 ghost use Rattle.mc_one_answer.specs.ModesMeanOne.{DefinedMeanOne, ModesMeanOne};
-ghost use Rattle.mc_one_answer.specs.OneAnswer.{OneAnswer};
+ghost use Rattle.mc_one_answer.specs.OneAnswer.{OneAnswer, SigsAreThemselves};
 ghost use Rattle.mc_one_answer.specs.OneListOfRules.{OneListOfRules};
 ghost use Rattle.mc_one_answer.specs.WholePrograms.{SignaturesArePlaced, WholeGoalsAreTyped};
 
@@ -32,12 +33,19 @@ pub fn one_list_of_rules()
     found_nodes()
 }
 
-/// What comes of a program in two ways is one answer.
+/// What comes of a program in two ways is one answer, by two lists of definitions too.
 pub fn one_answer()
     ensures { OneAnswer }
 {
     found_nodes();
     one_list_of_rules()
+}
+
+/// Signatures are one with themselves, by one list of definitions.
+pub fn signatures_are_themselves()
+    ensures { SigsAreThemselves }
+{
+    defined_insts_mean_one()
 }
 
 /// Where a whole program fits as far as types go, its goals are typed, as these laws ask.
@@ -50,7 +58,14 @@ pub fn signatures_are_placed()
     ensures { SignaturesArePlaced }
 {}
 
-/// An inst that is a node by two lists of definitions means one thing by both.
+/// The nodes that an inst is by two lists of definitions are one.
 pub fn meant_nodes_mean_one()
     ensures { MeantNodesMeanOne }
 {}
+
+/// So are the signatures of the modes that are written.
+pub fn written_signatures_are_one()
+    ensures { MeantSigsAreOne }
+{
+    meant_nodes_mean_one()
+}
