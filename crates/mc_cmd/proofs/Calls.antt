@@ -24,7 +24,7 @@ use Rattle.mc_program_laws.specs.ProgramTruth.{ExecutablesAreTrue}
 use Rattle.mc_cmd.specs.Messages.{usage_line, unreadable_line, broken_lines}
 use Rattle.mc_cmd.specs.Ends.{Outcome, said, stop_of, end_status, written_run}
 use Rattle.mc_cmd.specs.Outcome.{files_of, bounds_of, sources_of, run_of_goal, written_of, written, Answers, refused, ran, Texts, These, Missing, texts_in, AnswersOver, DefinedFor, Defined}
-use Rattle.mc_cmd.specs.Call.{Told, NoneRose, AnswersWhole, Wrote, LacksOne, CannotRead, OfFiles, OfSources, BreaksRules, IsUnbuilt, RunsToEnd, StopsBy, IsThrown, IsTrueProgram, IsTrue, SaidUnreadable, SaysUnreadable, PutsDefined, HoldTexts}
+use Rattle.mc_cmd.specs.Call.{Told, NoneRose, AnswersWhole, Wrote, LacksOne, CannotRead, OfFiles, OfSources, BreaksRules, IsUnbuilt, RunsToEnd, StopsBy, IsThrown, IsTrueProgram, RunsTrue, SaidUnreadable, SaysUnreadable, PutsDefined, HoldTexts}
 use Rattle.mc_cmd.specs.Laws.{AtMostOneAnswer, IsSettled}
 use Rattle.mc_cmd.specs.declared.status.Status.{Status}
 use Rattle.mc_cmd.specs.declared.status.Status.TheVariants as S
@@ -526,6 +526,6 @@ true_program fit ask facts queries s x j =
         (queries x.database q (fit s x k) (ask s x q k e))
 
 -- what sources are built to runs true
-pub true_built : CompiledFits → CompiledAsks → FactsAreGood → QueriesAreGood → ExecutablesAreTrue → (s : Sources) (b : Built) → Builds s (Ok b) → IsTrue b
+pub true_built : CompiledFits → CompiledAsks → FactsAreGood → QueriesAreGood → ExecutablesAreTrue → (s : Sources) (b : Built) → Builds s (Ok b) → RunsTrue b
 true_built fit ask facts queries executables s (of_facts x) j = true_program fit ask facts queries s x j
 true_built fit ask facts queries executables s (of_procedures e) j = executables s e j

@@ -152,6 +152,6 @@ pub record IsTrueProgram (x : Formed) : Type 0 where
       IfSome x.question (λ q. (n h : ℕ) → GoodQuery system n h (query_procedure x.database q))
 
 -- What sources are built to runs true: every run of its procedures, of the query and of `main` is good.
-abbrev pub IsTrue : Built → Type 0
-IsTrue (of_facts x) = IsTrueProgram x
-IsTrue (of_procedures e) = IsTrueExecutable e
+abbrev pub RunsTrue : Built → Type 0
+RunsTrue (of_facts x) = IsTrueProgram x
+RunsTrue (of_procedures e) = IsTrueExecutable e

@@ -8,7 +8,7 @@ ghost use Rattle.mc_compile.specs.Building.{Built, Builds};
 ghost use Rattle.mc_cmd.specs.Ends.{Outcome};
 ghost use Rattle.mc_cmd.specs.Outcome.{Defined, files_of};
 ghost use Rattle.mc_cmd.specs.Laws.{IsSettled};
-ghost use Rattle.mc_cmd.specs.Call.{AnswersWhole, BreaksRules, IsThrown, IsTrue, IsUnbuilt, LacksOne, NoneRose, OfFiles, OfSources, PutsDefined, RunsToEnd, SaidUnreadable, SaysUnreadable, StopsBy, Told, Wrote};
+ghost use Rattle.mc_cmd.specs.Call.{AnswersWhole, BreaksRules, IsThrown, IsUnbuilt, LacksOne, NoneRose, OfFiles, OfSources, PutsDefined, RunsToEnd, RunsTrue, SaidUnreadable, SaysUnreadable, StopsBy, Told, Wrote};
 ghost use Rattle.mc_cmd.specs.code.Decisions.{CountPuts, EndsRun, Happened, Quiet, Writes, ended, told_of};
 
 use crate::decide::decide;
@@ -76,7 +76,7 @@ pub fn merc<F: Files, I: Source, O: Sink, E: Sink>(
     // What any sources are built to runs true: no unbound variable is read, each answer binds what its modes declare
     // and is true in the completion, success counts obey determinism, where a run ends each assignment that isn't
     // answered is false, and what `main` writes is what its last state has gained.
-    ensures truth { (s : Sources) (b : Built) → Builds s (Ok b) → IsTrue b }
+    ensures truth { (s : Sources) (b : Built) → Builds s (Ok b) → RunsTrue b }
     // Done comes only where the sources compile, and the run of the query, or of `main`, ends.
     ensures done { result ≡ Status.Done
         → OfSources (map string_bytes words.now.items) (F.held files.old) RunsToEnd }
