@@ -69,8 +69,9 @@ pub record IsntAtFirst (P : Program) (ds : List PlainInstDef) (sigs : List Sig) 
   pub isnt : Holds first → ⊥
 
 -- Procedures come where no rule is broken; they fit one another, as they do where a rule of determinism
--- is broken. What isn't seen is told first; then the rule of unique modes, in the order of places; then
--- the other rules of modes, or the first procedure that doesn't fit; and then rules of determinism.
+-- is broken. The rule of unique modes is told alone, in the order of places; where it is kept the other
+-- rules of modes are, or the first procedure that doesn't fit; and where these are kept rules of
+-- determinism. Whatever else is broken, what doesn't hold of the program may be told in their place.
 pub data Comes (P : Program) (ds : List PlainInstDef) (sigs : List Sig) (goals : List Normal) (exported : List Bool)
     (runs : Bool) : Ruled → Type 0 where
   break_no_rule :
