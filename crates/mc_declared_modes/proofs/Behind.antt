@@ -1,13 +1,10 @@
 -- Modes one behind another.
-use Rattle.std.proofs.Common.{◌≡◌, ℕ, zero, suc, ◌+◌, ◌-◌, ◌<◌, ◌≤◌, List, [], ◌∷◌, ◌++◌, map, replicate, length, get_or, drop, take, append_assoc, append-nil, refl, sym, ap, ◌∙◌, arith, codes}
-use Rattle.std.specs.Prelude.{Option, Some, None}
-use Rattle.std.specs.Option.{option_map, option_to_list}
+use Rattle.std.proofs.Common.{◌≡◌, ℕ, zero, suc, ◌+◌, ◌-◌, ◌<◌, ◌≤◌, List, [], ◌∷◌, ◌++◌, map, replicate, length, get_or, drop, take, append_assoc, refl, sym, ap, ◌∙◌, arith, codes, Bor}
 use Rattle.std.proofs.lemmas.List.{at_drop_more, take_more}
 use Rattle.mc_term_data.specs.Plain.{plain_term, tms}
 use Rattle.mc_term_data.specs.Shapes.{operands}
 use Rattle.mc_term_data.specs.declared.term.Term.{Term}
 use Rattle.mc_items.specs.declared.entry.Entry.{Entry}
-use Rattle.mc_items.specs.Files.{plain_entry}
 use Rattle.mc_modules.specs.declared.names.Named.{Named}
 use Rattle.mc_modules.specs.Linked.{Defined, Linked, plain_named}
 use Rattle.mc_inst_table.specs.declared.inst.Mode.{Mode}
@@ -15,8 +12,9 @@ use Rattle.mc_inst_table.specs.Plain.{plain_mode}
 use Rattle.mc_inst_table.specs.Written.{ModeTerm, written_mode}
 use Rattle.mc_declared_modes.specs.declared.written.WrittenMode.{WrittenMode}
 use Rattle.mc_declared_modes.specs.WrittenModes.{PlainMode, plain_written, Callable, moded, modes_of_arguments, written_modes, modes_by, modes_among}
+use Rattle.mc_declared_modes.specs.code.ByName.{entry_behind}
 
-map_more : {A B : Type 0} (f : A → B) (xs ys : List A) → map f (xs ++ ys) ≡ map f xs ++ map f ys
+pub map_more : {A B : Type 0} (f : A → B) (xs ys : List A) → map f (xs ++ ys) ≡ map f xs ++ map f ys
 map_more f [] ys = refl
 map_more f (x ∷ xs) ys = ap (λ zs. f x ∷ zs) (map_more f xs ys)
 
@@ -52,15 +50,15 @@ written_more l own xs ts k t below at =
     ∙ sym (append_assoc xs (written_mode l own [] (plain_term t) ∷ []) rest)
 
 pub among_more :
-    (l : Linked) (own : ℕ) (x : Callable) (ms : List PlainMode) (es : List Entry) (k : ℕ) (e : Entry)
+    (l : Linked) (own : ℕ) (x : Callable) (ms : List PlainMode) (es : List (Bor Entry)) (k : ℕ) (e : Bor Entry)
     → k < length es → e ≡ get_or es k e
-    → ms ++ modes_among l own x (map plain_entry (drop k es))
-    ≡ (ms ++ modes_by l own x (plain_entry e)) ++ modes_among l own x (map plain_entry (drop (k + 1) es))
+    → ms ++ modes_among l own x (map entry_behind (drop k es))
+    ≡ (ms ++ modes_by l own x (entry_behind e)) ++ modes_among l own x (map entry_behind (drop (k + 1) es))
 among_more l own x ms es k e below at =
-    let rest = modes_among l own x (map plain_entry (drop (k + 1) es)) in
-    at_drop_more (λ us. ms ++ modes_among l own x (map plain_entry us)) es k e below
-    ∙ ap (λ (u : Entry). ms ++ (modes_by l own x (plain_entry u) ++ rest)) (sym at)
-    ∙ sym (append_assoc ms (modes_by l own x (plain_entry e)) rest)
+    let rest = modes_among l own x (map entry_behind (drop (k + 1) es)) in
+    at_drop_more (λ us. ms ++ modes_among l own x (map entry_behind us)) es k e below
+    ∙ ap (λ (u : Bor Entry). ms ++ (modes_by l own x (entry_behind u) ++ rest)) (sym at)
+    ∙ sym (append_assoc ms (modes_by l own x (entry_behind e)) rest)
 
 pub defaults_more :
     (xs ys : List ModeTerm) (n k : ℕ) (x : ModeTerm)

@@ -1,14 +1,17 @@
-ghost use Rattle.std.specs.Prelude.{◌≡◌, ◌++◌, ◌∷◌, [], map, replicate, IfOk, OnOk, slice_index_or};
+ghost use Rattle.std.specs.Prelude.{◌≡◌, ◌++◌, ◌∷◌, [], List, map, replicate, IfOk, OnOk, slice_index_or};
 ghost use Rattle.std.specs.Option.{option_map, option_to_list};
 ghost use Rattle.mc_items.specs.Files.{plain_entry};
-ghost use Rattle.mc_linking.specs.Files.{plain_files};
+ghost use Rattle.mc_linking.specs.Files.{File, plain_files};
 ghost use Rattle.mc_accepted.specs.InstRules.{inst_node};
 ghost use Rattle.mc_modules.specs.Linked.{plain_named, plain_names};
+ghost use Rattle.mc_modules.specs.code.Index.{listed};
 ghost use Rattle.mc_inst_table.specs.Plain.{plain_mode};
 ghost use Rattle.mc_inst_table.specs.Written.{from_to};
 ghost use Rattle.mc_declared_modes.specs.WrittenModes.{plain_written, is_function, modes_by, modes_among, default_mode, or_default, modes_of, declared_modes};
+ghost use Rattle.mc_declared_modes.specs.code.ByName.{entry_behind, items_kept, AreIndices};
 ghost use Rattle.mc_declared_modes.specs.code.Callables.{plain_callable};
 
+use crate::by_name::{ItemsByName, indices};
 use crate::callable::{Callable, callable_of, is_of};
 use crate::written::{WrittenMode, mode_by};
 use mc_base::{Memory, Row};
@@ -35,40 +38,71 @@ pub fn declared_modes(
         (λ rows.
         map (map plain_written) rows ≡ declared_modes (plain_names names.now) (plain_files files.now)) }
 {
+    let indices = indices(alloc, files)?;
     let mut rows = Vec::new(alloc);
     for named in names.preds.as_slice() {
-        rows.push(modes_of(alloc, names, files, named)?)?;
+        rows.push(modes_of(alloc, names, indices.as_slice(), named)?)?;
     }
     let rows = Row::of(rows)?;
     Ok(rows)
 }
 
-// The modes of a predicate or a function.
+// The modes of a predicate or a function, by the indices of the files.
 fn modes_of(
     alloc: Global,
     names: &Names,
-    files: &[Row<Entry>],
+    indices: &[ItemsByName<'_>],
     named: &Named,
 ) -> Result<Row<WrittenMode>, Memory>
     ensures { IfOk result
-        (λ modes.
-        map plain_written modes
-        ≡ modes_of (plain_names names.now) (plain_files files.now) (plain_named named.now)) }
+        (λ modes. (files : List File) → AreIndices indices.now files
+        → map plain_written modes ≡ modes_of (plain_names names.now) files (plain_named named.now)) }
 {
     let own = home(names, named);
     let wanted = callable_of(named);
-    let modes = modes_among(alloc, names, own, wanted, file_at(files, own))?;
+    let modes = modes_in(alloc, names, own, wanted, indices)?;
     let all = or_default(alloc, named, wanted.is_function, modes)?;
-    Row::of(all)
+    let row = Row::of(all)?;
+    Ok(row)
 }
 
-// The items of a module.
-fn file_at(files: &[Row<Entry>], number: u32) -> &[Entry]
-    ensures { map plain_entry result.now ≡ slice_index_or (plain_files files.now) number [] }
+// The modes of one that the items of its module declare.
+fn modes_in(
+    alloc: Global,
+    names: &Names,
+    own: u32,
+    wanted: Callable<'_>,
+    indices: &[ItemsByName<'_>],
+) -> Result<Vec<WrittenMode>, Memory>
+    ensures { IfOk result
+        (λ modes.
+        map plain_written modes.items
+        ≡ modes_among (plain_names names.now) own (plain_callable wanted.entry)
+        (listed (slice_index_or (map items_kept indices.now) own []) wanted.entry.id.name.now)) }
 {
-    match files.get(number as usize) {
-        Some(file) => file.as_slice(),
-        None => &[],
+    match indices.get(own as usize) {
+        Some(index) => modes_listed(alloc, names, own, wanted, index),
+        None => Ok(Vec::new(alloc)),
+    }
+}
+
+// The modes of one that the items of its name declare.
+fn modes_listed(
+    alloc: Global,
+    names: &Names,
+    own: u32,
+    wanted: Callable<'_>,
+    index: &ItemsByName<'_>,
+) -> Result<Vec<WrittenMode>, Memory>
+    ensures { IfOk result
+        (λ modes.
+        map plain_written modes.items
+        ≡ modes_among (plain_names names.now) own (plain_callable wanted.entry)
+        (listed (items_kept index.now) wanted.entry.id.name.now)) }
+{
+    match index.named.get(wanted.id.name) {
+        Some(entries) => modes_among(alloc, names, own, wanted, entries.as_slice()),
+        None => Ok(Vec::new(alloc)),
     }
 }
 
@@ -79,15 +113,15 @@ fn modes_among(
     names: &Names,
     own: u32,
     wanted: Callable<'_>,
-    entries: &[Entry],
+    entries: &[&Entry],
 ) -> Result<Vec<WrittenMode>, Memory>
     ensures { IfOk result
         (λ modes.
         map plain_written modes.items
-        ≡ modes_among (plain_names names.now) own (plain_callable wanted.entry) (map plain_entry entries.now)) }
+        ≡ modes_among (plain_names names.now) own (plain_callable wanted.entry) (map entry_behind entries.now)) }
 {
     let mut modes = Vec::new(alloc);
-    for entry in entries {
+    for &entry in entries {
         put_mode(alloc, names, own, wanted, entry, &mut modes)?;
     }
     Ok(modes)

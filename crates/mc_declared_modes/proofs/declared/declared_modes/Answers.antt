@@ -1,8 +1,9 @@
-use Rattle.std.proofs.Common.{◌≡◌, ◌+◌, List, map, take, sym, ap, ◌∙◌}
+use Rattle.std.proofs.Common.{◌+◌, List, map, take, subst, sym, ap, ◌∙◌}
 use Rattle.mc_linking.specs.Files.{plain_files}
 use Rattle.mc_modules.specs.declared.names.Named.{Named}
 use Rattle.mc_modules.specs.Linked.{plain_named, plain_names}
 use Rattle.mc_declared_modes.specs.WrittenModes.{PlainMode, plain_written, modes_of}
+use Rattle.mc_declared_modes.specs.code.ByName.{AreIndices}
 use Rattle.mc_declared_modes.proofs.Behind.{rows_more, rows_all}
 use Rattle.mc_declared_modes.proofs.declared.declared_modes.Goals as goal
 
@@ -14,8 +15,10 @@ loop-named-preserved c =
     let preds = c.as_slice-named-items.result.now in
     let items = c.as_slice-named-items.ensures.items in
     let k = c.loop-named.named-index in
+    let files = plain_files c.args.files.now in
+    let are = subst (λ indices. AreIndices indices files) (sym c.as_slice.ensures.value) c.in_ok-indices.ensures in
     rows_more named c.loop-named.rows.items c.push.new.self.items c.in_ok-modes_of.field-0 preds k c.named-item.result
-    c.loop-named-test.true c.named-item.is c.in_ok-push.ensures.items c.in_ok-modes_of.ensures
+    c.loop-named-test.true c.named-item.is c.in_ok-push.ensures.items (c.in_ok-modes_of.ensures files are)
     (c.loop-named.invariant ∙ ap (λ (ns : List Named). map named (take k ns)) (sym items))
     ∙ ap (λ (ns : List Named). map named (take (k + 1) ns)) items
 
