@@ -1,4 +1,4 @@
-use Rattle.std.proofs.Common.{◌≡◌, ◌++◌, ◌∷◌, [], ap, sym, ◌∙◌, map, take, length, arith, List, length-append}
+use Rattle.std.proofs.Common.{◌++◌, ◌∷◌, [], ap, sym, ◌∙◌, map, take, length, arith, List, length-append}
 use Rattle.std.proofs.lemmas.List.{length-map, length-take-le, take_more}
 use Rattle.mc_items.specs.declared.entry.Entry.{Entry}
 use Rattle.mc_items.specs.Files.{plain_entry}
