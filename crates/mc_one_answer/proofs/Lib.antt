@@ -20,3 +20,6 @@ pub mod TwoOrders
 pub mod OrderTypes
 pub mod Untidied
 pub mod TwoWays
+pub mod TypesOnce
+pub mod OneWhole
+pub mod OneModed

@@ -5,3 +5,5 @@ pub mod WholePrograms
 pub mod MeantNodes
 pub mod MeantSigs
 pub mod OneAnswer
+pub mod OneWhole
+pub mod OneModed

@@ -5,6 +5,8 @@ ghost use Rattle.mc_one_answer.specs.MeantSigs.{MeantSigsAreOne};
 ghost use Rattle.mc_one_answer.specs.ModesMeanOne.{DefinedMeanOne, ModesMeanOne};
 ghost use Rattle.mc_one_answer.specs.OneAnswer.{OneAnswer, SigsAreThemselves};
 ghost use Rattle.mc_one_answer.specs.OneListOfRules.{OneListOfRules};
+ghost use Rattle.mc_one_answer.specs.OneModed.{ModedAreOne};
+ghost use Rattle.mc_one_answer.specs.OneWhole.{TypedAreOne, WholesAreOne};
 ghost use Rattle.mc_one_answer.specs.WholePrograms.{SignaturesArePlaced, WholeGoalsAreTyped};
 
 use mc_order_laws::laws::some_test_tells;
@@ -68,4 +70,25 @@ pub fn written_signatures_are_one()
     ensures { MeantSigsAreOne }
 {
     meant_nodes_mean_one()
+}
+
+/// What a program's items are resolved to, in two ways, is one list of clauses.
+pub fn typed_are_one()
+    ensures { TypedAreOne }
+{}
+
+/// So what runs of them is one program, with one list of normal goals.
+pub fn wholes_are_one()
+    ensures { WholesAreOne }
+{
+    typed_are_one()
+}
+
+/// What is put in order of what is linked, in two ways, is one program in one list of modes.
+pub fn moded_are_one()
+    ensures { ModedAreOne }
+{
+    wholes_are_one();
+    written_signatures_are_one();
+    signatures_are_placed()
 }
