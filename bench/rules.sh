@@ -37,6 +37,14 @@ def nested(n, around):
             ":- pred gen(int::out) is det.\ngen(1).\n:- pred need(%s) is semidet.\nneed(%s).\np(Y) :- gen(Y), %s.\n"
             % (", ".join(["int::in"] * n), ", ".join(["1"] * n), goal))
 
+def bare(n):
+    """Negations without other goals in them, around one that waits for variables that goals behind them give."""
+    names = ["X%d" % k for k in range(n)]
+    goals = ", ".join("gen(%s)" % x for x in names)
+    return (heading() + ":- pred p(int::out) is semidet.\n:- implementation.\n"
+            ":- pred gen(int::out) is det.\ngen(1).\n:- pred need(%s) is semidet.\nneed(%s).\np(Y) :- gen(Y), %s need(%s), %s.\n"
+            % (", ".join(["int::in"] * n), ", ".join(["1"] * n), "\\+ " * n, ", ".join(names), goals))
+
 def undeclared(n, last):
     """Predicates without a determinism, of which each calls the next one."""
     text = heading("int") + ":- pred top(int::in) is semidet.\n:- implementation.\ntop(X) :- p0(X).\n"
@@ -104,22 +112,24 @@ def measure(title, text, limit, wanted=0):
     clock, status = time.time() - start, os.waitstatus_to_exitcode(code)
     good = usage.ru_utime <= limit and status == wanted
     ok = ok and good
-    print("%-58s %8d bytes %7.2f s of processor, %7.2f s by the clock, %6.1f MB, status %d%s"
+    print("%-62s %8d bytes %7.2f s of processor, %7.2f s by the clock, %6.1f MB, status %d%s"
           % (title, len(text), usage.ru_utime, clock, usage.ru_maxrss / 1e3, status, "" if good else "   WANTED: %g s, status %d" % (limit, wanted)))
     sys.stdout.flush()
 
 for n in (1000, 2000, 4000):
     measure("%d goals written backwards" % n, backwards(n), 1)
 measure("4000 sums written backwards", sums_backwards(4000), 1)
-for kind, around in (("negations", "\\+ ( %s, gen(X%d) )"), ("quantified goals", "some [] ( %s, gen(X%d) )"), ("conditions", "( %s, gen(X%d) -> true ; true )")):
-    for n in (50, 100, 200):
-        measure("%d %s around one that waits" % (n, kind), nested(n, around), 1)
-measure("10000 undeclared predicates in a chain", undeclared(10000, "X > 0"), 3)
-measure("10000 undeclared predicates in a ring", undeclared(10000, "X > 0, p0(X)"), 3)
+# A term may be nested 256 deep, and each of these goals adds three or four levels.
+for kind, around, most in (("negations", "\\+ ( %s, gen(X%d) )", 80), ("quantified goals", "some [] ( %s, gen(X%d) )", 80), ("conditions", "( %s, gen(X%d) -> true ; true )", 60)):
+    for n in (most // 4, most // 2, most):
+        measure("%d %s, one in another, around one that waits" % (n, kind), nested(n, around), 1)
+measure("200 negations around one that waits for 200 variables", bare(200), 1)
+measure("10000 undeclared predicates in a chain", undeclared(10000, "X > 0"), 1)
+measure("10000 undeclared predicates in a ring", undeclared(10000, "X > 0, p0(X)"), 1)
 measure("1000 undeclared predicates that call one another", mutual(1000), 1)
 measure("100000 facts over 1000 constants, switched", grouped(1000, 100000), 3)
 measure("200000 disjuncts, the last not opened", unopened(200000), 6)
-measure("120 switches one in another", switched(120), 1)
+measure("60 switches one in another", switched(60), 1)
 measure("4096 candidate variables", candidates(4096), 2)
 measure("200000 facts", rows(200000), 4)
 measure("10000 predicates with rules", predicates(10000), 2)
