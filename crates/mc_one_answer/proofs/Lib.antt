@@ -23,3 +23,6 @@ pub mod TwoWays
 pub mod TypesOnce
 pub mod OneWhole
 pub mod OneModed
+pub mod SamePrograms
+pub mod OneProgram
+pub mod PlainAnswer

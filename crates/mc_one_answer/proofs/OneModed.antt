@@ -25,9 +25,11 @@ use Rattle.mc_compile.specs.declared.moded.Moded.{Moded}
 use Rattle.mc_compile.specs.Linking.{PlainNamed}
 use Rattle.mc_compile.specs.Checking.{items_of}
 use Rattle.mc_compile.specs.Ruling.{query_determinism, query_number, query_sigs, IsModed}
+use Rattle.mc_rules.specs.Rules.{Comes}
+use Rattle.mc_one_answer.specs.OneAnswer.{OnePlainAnswer}
 use Rattle.mc_one_answer.specs.MeantSigs.{MeantSigsAreOne}
 use Rattle.mc_one_answer.specs.ModesMeanOne.{NodesAreOne, SigsAreOne, ArePlaced}
-use Rattle.mc_one_answer.specs.OneModed.{ModedIsOne, ModedAreOne}
+use Rattle.mc_one_answer.specs.OneModed.{ModedIsOne, ModedAreOne, OneModedAnswer}
 use Rattle.mc_one_answer.specs.OneWhole.{WholeIsOne, WholesAreOne}
 use Rattle.mc_one_answer.specs.WholePrograms.{SignaturesArePlaced}
 use Rattle.mc_one_answer.proofs.SigsAreOne.{ids_one}
@@ -56,7 +58,7 @@ module _ (wholes : WholesAreOne) (written : MeantSigsAreOne) (placed : Signature
   signed-too : AreSignatures (MeansMode named.files.names (plain_definitions n.defs)) (builtin_of m.whole.program.preds) 0 0 (declared_modes named.files.names named.files.all) b.declared
   signed-too =
       let Q : (ℕ → Option Builtin) → Type 0 = λ op. AreSignatures (MeansMode named.files.names (plain_definitions n.defs)) op 0 0 (declared_modes named.files.names named.files.all) b.declared in
-      subst Q (builtins-are-one m.whole.program.preds n.whole.program.preds one.preds) b.signed
+      subst Q (builtins-are-one m.whole.program.preds n.whole.program.preds one.program.preds) b.signed
 
   declared-are-one : Ones a.declared b.declared
   declared-are-one =
@@ -68,7 +70,7 @@ module _ (wholes : WholesAreOne) (written : MeantSigsAreOne) (placed : Signature
 
   same-ids : mode_ids n.whole.program b.declared ≡ mode_ids m.whole.program a.declared
   same-ids =
-      ids-of-one m.whole.program n.whole.program b.declared one.source one.preds
+      ids-of-one m.whole.program n.whole.program b.declared one.program.source one.program.preds
       ∙ ids_one (NodesAreOne m.whole.program (plain_definitions m.defs) (plain_definitions n.defs)) m.whole.program a.declared b.declared declared-are-one
 
   -- the query's
@@ -102,3 +104,11 @@ module _ (wholes : WholesAreOne) (written : MeantSigsAreOne) (placed : Signature
 
 pub moded-are-one : WholesAreOne → MeantSigsAreOne → SignaturesArePlaced → ModedAreOne
 moded-are-one wholes written placed first named m n a b = one-moded wholes written placed first named m n a b
+
+-- ---- what comes of what is put in order
+pub one-moded-answer : ModedAreOne → OnePlainAnswer → OneModedAnswer
+one-moded-answer one answer runs first named m n a b apart met typed r s here there =
+    let both : ModedIsOne m n = one first named m n a b in
+    let A : List Bool → Type 0 = λ exported. Comes n.whole.program (plain_definitions n.defs) n.sigs.items n.whole.goals.items exported runs s in
+    answer m.whole.program n.whole.program (plain_definitions m.defs) (plain_definitions n.defs) m.sigs.items n.sigs.items m.whole.goals.items n.whole.goals.items m.whole.exported.items runs
+    both.whole.program both.whole.goals both.sigs a.whole.goals apart met both.placed typed r s here (subst A both.whole.exported there)

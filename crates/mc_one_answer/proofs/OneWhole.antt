@@ -172,10 +172,7 @@ module _ (l : Linked) (clauses : List (ℕ × N.TypedClause)) (query : Option N.
 
   one-whole : WholeIsOne whole other
   one-whole = record {
-    source = one-source;
-    preds = one-preds;
-    symbols = b.symbols ∙ sym a.symbols;
-    types = b.types ∙ sym a.types;
+    program = record { source = one-source; preds = one-preds; symbols = b.symbols ∙ sym a.symbols; types = b.types ∙ sym a.types };
     as_many = as-many-goals;
     goals = one-goal;
     exported = b.exported ∙ sym a.exported;

@@ -41,6 +41,7 @@ use Rattle.mc_one_answer.specs.FoundNodes.{FoundNodes}
 use Rattle.mc_one_answer.specs.ModesMeanOne.{NodesAreOne, SigsAreOne, ArePlaced}
 use Rattle.mc_one_answer.specs.OneListOfRules.{AreTyped, OneListOfRules}
 use Rattle.mc_one_answer.specs.OneAnswer.{RunAlike, OneRuled, OneAnswer}
+use Rattle.mc_one_answer.proofs.SamePrograms.{one-value}
 use Rattle.mc_one_answer.proofs.OrderTypes.{types_are_one}
 use Rattle.mc_one_answer.proofs.TwoOrders.{orders_are_one}
 use Rattle.mc_one_answer.proofs.TwoRuns.{OrdersAreOne, one_list, one_main, one_run}
@@ -224,7 +225,7 @@ module _ (P : Program) (defs defs2 : List PlainInstDef) (sigs sigs2 : List Sig) 
         let follow = orders q r [] [] a b in
         let one = one_run does P defs defs2 sigs sigs2 goals exported one_sigs normal apart met a.ordered q a.came a.determined a.fit b.ordered r b.came b.determined b.fit follow in
         record {
-          program = last_program P defs2 sigs2 goals exported b.ordered r b.came b.determined ∙ sym (last_program P defs sigs goals exported a.ordered q a.came a.determined);
+          program = one-value q.program r.program (last_program P defs2 sigs2 goals exported b.ordered r b.came b.determined ∙ sym (last_program P defs sigs goals exported a.ordered q a.came a.determined));
           main = one_main does P defs defs2 sigs sigs2 goals exported one_sigs normal apart met a.ordered q a.came a.determined a.fit b.ordered r b.came b.determined b.fit follow;
           calls = λ does budget height k. (one does budget height k).0;
           queries = λ does budget height k. (one does budget height k).1;

@@ -7,3 +7,4 @@ pub mod MeantSigs
 pub mod OneAnswer
 pub mod OneWhole
 pub mod OneModed
+pub mod OneProgram

@@ -22,11 +22,12 @@ use Rattle.mc_rules.specs.declared.rules.Ruled.{Ruled}
 use Rattle.mc_rules.specs.declared.rules.Ruled.TheVariants as R
 use Rattle.mc_one_answer.specs.ModesMeanOne.{NodesAreOne, SigsAreOne, ArePlaced}
 use Rattle.mc_one_answer.specs.OneListOfRules.{AreTyped}
+use Rattle.mc_one_answer.specs.OneWhole.{GoalsAreOne, OneProgram}
 
--- Procedures of one program run alike: under each number, at each budget and height, whatever
+-- Procedures of programs that are one as plain data run alike: under each number, at each budget and height, whatever
 -- builtins do; and the same one is `main`, where there is one.
 pub record RunAlike (q r : PlainProcs) : Type 0 where
-  pub program : r.program ≡ q.program
+  pub program : OneProgram q.program r.program
   pub main : main_number q ≡ main_number r
   pub calls :
       (does : Builtin → List Val → Outcome) (budget height k : ℕ) (vs : List (Option Val))
@@ -68,3 +69,18 @@ OneAnswer =
 abbrev pub SigsAreThemselves : Type 0
 SigsAreThemselves =
     (P : Program) (ds : List PlainInstDef) (sigs : List Sig) → SigsAreOne (NodesAreOne P ds ds) sigs sigs
+
+-- So it is of two programs that are one as plain data, with goals that are one, each in its own modes.
+abbrev pub OnePlainAnswer : Type 0
+OnePlainAnswer =
+    (P Q : Program) (ds es : List PlainInstDef) (sigs modes : List Sig) (goals others : List Normal)
+    (exported : List Bool) (runs : Bool)
+    → OneProgram P Q → GoalsAreOne goals others
+    → SigsAreOne (NodesAreOne P ds es) sigs modes
+    → HasNormalGoals P goals
+    → ((p : ℕ) → p < length P.preds → EachNamedApart ((plain_program P).preds p).clauses)
+    → ((t : TypeTerm) → TypesMet (plain_program P) t)
+    → ArePlaced 0 sigs → AreTyped P goals
+    → (r s : Ruled)
+    → Comes P ds sigs goals exported runs r → Comes Q es modes others exported runs s
+    → OneRuled r s

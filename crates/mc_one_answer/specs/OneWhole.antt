@@ -5,6 +5,7 @@ use Rattle.std.specs.Prelude.{◌≡◌, ℕ, List, ◌++◌, map, length, Optio
 use Rattle.std.specs.Option.{is_some, option_map, option_to_list}
 use Rattle.mc_program.specs.Programs.{TypeTerm}
 use Rattle.mc_program.specs.PlainPrograms.{plain_type, plain_symbol, plain_pred, plain_program}
+use Rattle.mc_program.specs.declared.program.Program.{Program}
 use Rattle.mc_model.specs.PlainGoals.{plain_flat}
 use Rattle.mc_model.specs.declared.flat.Normal.{Normal}
 use Rattle.mc_accepted.specs.NormalTypes as N
@@ -42,16 +43,23 @@ pub record GoalIsOne (g h : Normal) : Type 0 where
   pub types : map plain_type h.var_types ≡ map plain_type g.var_types
   pub names : h.var_names ≡ g.var_names
 
--- Two programs that run are one, as plain data, with one normal goal of each predicate. (They may differ in
--- what plain data leaves out, as the place of a clause, or whether a body is `true` or the conjunction of none.)
+-- so are two lists of goals, each with that of the same number
+abbrev pub GoalsAreOne : (goals others : List Normal) → Type 0
+GoalsAreOne goals others = (p : ℕ) → GoalIsOne (goal_at goals p) (goal_at others p)
+
+-- Two programs are one, as plain data. (They may differ in what plain data leaves out, as the place of a
+-- clause, or whether a body is `true` or the conjunction of none.)
+pub record OneProgram (P Q : Program) : Type 0 where
+  pub source : plain_program Q ≡ plain_program P
+  pub preds : map plain_pred Q.preds ≡ map plain_pred P.preds
+  pub symbols : map plain_symbol Q.symbols ≡ map plain_symbol P.symbols
+  pub types : Q.types ≡ P.types
+
+-- two programs that run are one, with one normal goal of each predicate
 pub record WholeIsOne (whole other : WholeProgram) : Type 0 where
-  pub source : plain_program other.program ≡ plain_program whole.program
-  pub preds : map plain_pred other.program.preds ≡ map plain_pred whole.program.preds
-  pub symbols : map plain_symbol other.program.symbols ≡ map plain_symbol whole.program.symbols
-  pub types : other.program.types ≡ whole.program.types
+  pub program : OneProgram whole.program other.program
   pub as_many : length other.goals.items ≡ length whole.goals.items
-  pub goals :
-      (p : ℕ) → GoalIsOne (goal_at whole.goals.items p) (goal_at other.goals.items p)
+  pub goals : GoalsAreOne whole.goals.items other.goals.items
   pub exported : other.exported.items ≡ whole.exported.items
   pub variables : other.variables ≡ whole.variables
 

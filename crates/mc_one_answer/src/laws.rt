@@ -3,9 +3,10 @@ ghost use Rattle.mc_one_answer.specs.FoundNodes.{FoundNodes};
 ghost use Rattle.mc_one_answer.specs.MeantNodes.{MeantNodesMeanOne};
 ghost use Rattle.mc_one_answer.specs.MeantSigs.{MeantSigsAreOne};
 ghost use Rattle.mc_one_answer.specs.ModesMeanOne.{DefinedMeanOne, ModesMeanOne};
-ghost use Rattle.mc_one_answer.specs.OneAnswer.{OneAnswer, SigsAreThemselves};
+ghost use Rattle.mc_one_answer.specs.OneAnswer.{OneAnswer, OnePlainAnswer, SigsAreThemselves};
 ghost use Rattle.mc_one_answer.specs.OneListOfRules.{OneListOfRules};
-ghost use Rattle.mc_one_answer.specs.OneModed.{ModedAreOne};
+ghost use Rattle.mc_one_answer.specs.OneModed.{ModedAreOne, OneModedAnswer};
+ghost use Rattle.mc_one_answer.specs.OneProgram.{OneComes};
 ghost use Rattle.mc_one_answer.specs.OneWhole.{TypedAreOne, WholesAreOne};
 ghost use Rattle.mc_one_answer.specs.WholePrograms.{SignaturesArePlaced, WholeGoalsAreTyped};
 
@@ -41,6 +42,19 @@ pub fn one_answer()
 {
     found_nodes();
     one_list_of_rules()
+}
+
+/// What comes of a program comes of each that is one with it as plain data, over it.
+pub fn one_comes()
+    ensures { OneComes }
+{}
+
+/// What comes of two programs that are one as plain data is one answer.
+pub fn one_plain_answer()
+    ensures { OnePlainAnswer }
+{
+    one_comes();
+    one_answer()
 }
 
 /// Signatures are one with themselves, by one list of definitions.
@@ -91,4 +105,12 @@ pub fn moded_are_one()
     wholes_are_one();
     written_signatures_are_one();
     signatures_are_placed()
+}
+
+/// So what comes of it is one answer.
+pub fn one_moded_answer()
+    ensures { OneModedAnswer }
+{
+    moded_are_one();
+    one_plain_answer()
 }
