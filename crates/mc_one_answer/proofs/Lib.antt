@@ -19,6 +19,7 @@ pub mod FreshTypes
 pub mod TwoOrders
 pub mod OrderTypes
 pub mod Untidied
+pub mod FitTyped
 pub mod TwoWays
 pub mod TypesOnce
 pub mod OneWhole
@@ -26,3 +27,4 @@ pub mod OneModed
 pub mod SamePrograms
 pub mod OneProgram
 pub mod PlainAnswer
+pub mod OneCompiled

@@ -1,5 +1,5 @@
 -- What comes of a program in two ways is one.
-use Rattle.std.proofs.Common.{◌≡◌, ◌⊎◌, inl, inr, ℕ, ◌<◌, Bool, List, Vec, [], ◌∷◌, length, map, refl, sym, ap, ◌∙◌, subst}
+use Rattle.std.proofs.Common.{◌≡◌, ◌⊎◌, inl, inr, ℕ, Bool, List, Vec, [], ◌∷◌, length, map, refl, sym, ap, ◌∙◌, subst}
 use Rattle.std.specs.Global.{Global}
 use Rattle.std.specs.List.{All, AllZip}
 use Rattle.std.proofs.lemmas.List.Elements.{All-nil, All-cons}
@@ -21,7 +21,6 @@ use Rattle.mc_accepted.specs.DeterminismFaults.{by_place}
 use Rattle.mc_accepted.specs.InstRules.{PlainInstDef}
 use Rattle.mc_insts.specs.declared.insts.Insts.{Insts}
 use Rattle.mc_insts.specs.Graphs.{graph_of}
-use Rattle.mc_order_laws.specs.NormalScopes.{EachNamedApart}
 use Rattle.mc_order_laws.specs.SomeTest.{TypesMet}
 use Rattle.mc_procs.specs.Fitting.{AllFit}
 use Rattle.mc_procs.specs.Procedures.{PlainProcs}
@@ -39,8 +38,9 @@ use Rattle.mc_rules.specs.declared.rules.Ruled.TheVariants as R
 use Rattle.mc_rule_laws.proofs.OfModes.{last_program}
 use Rattle.mc_one_answer.specs.FoundNodes.{FoundNodes}
 use Rattle.mc_one_answer.specs.ModesMeanOne.{NodesAreOne, SigsAreOne, ArePlaced}
-use Rattle.mc_one_answer.specs.OneListOfRules.{AreTyped, OneListOfRules}
-use Rattle.mc_one_answer.specs.OneAnswer.{RunAlike, OneRuled, OneAnswer}
+use Rattle.mc_one_answer.specs.OneListOfRules.{AreTyped, ModesAreTyped, OneListOfRules}
+use Rattle.mc_one_answer.specs.OneAnswer.{RunAlike, OneRuled, ComeToFit, AreNamedApart, IsBroken, OneAnswer}
+use Rattle.mc_one_answer.proofs.FitTyped.{fit_typed}
 use Rattle.mc_one_answer.proofs.SamePrograms.{one-value}
 use Rattle.mc_one_answer.proofs.OrderTypes.{types_are_one}
 use Rattle.mc_one_answer.proofs.TwoOrders.{orders_are_one}
@@ -160,7 +160,7 @@ module _ (P : Program) (defs defs2 : List PlainInstDef) (sigs sigs2 : List Sig) 
   both_untidy v w a b = a.same ∙ (ap by_place (one_untidy a.insts b.insts a.untidy b.untidy a.has b.has a.says b.says) ∙ sym b.same)
 
   -- ---- goals in order break no rule, and those that break one break one list
-  module _ (rules : OneListOfRules) (placed : ArePlaced 0 sigs) (typed : AreTyped P goals) (met : (t : TypeTerm) → TypesMet (plain_program P) t) where
+  module _ (rules : OneListOfRules) (placed : ArePlaced 0 sigs) (typed : ModesAreTyped P sigs goals) (met : (t : TypeTerm) → TypesMet (plain_program P) t) where
     one_list_told : (o p : Orders) (q r : PlainProcs) (came : Here o q) (also : There p r) (xs ys : List Broken) → AreBroken sigs goals came.first q (mode_ids came.first.program sigs) xs → AreBroken sigs2 goals also.first r (mode_ids also.first.program sigs2) ys → xs ≡ ys
     one_list_told o p q r came also xs ys f g =
         rules P defs defs2 sigs sigs2 goals exported came.first also.first q r xs ys one_sigs placed typed met came.begins also.begins came.asked also.asked
@@ -183,63 +183,77 @@ module _ (P : Program) (defs defs2 : List PlainInstDef) (sigs sigs2 : List Sig) 
         let f = came.became in
         f.3 (f.2 ∙ ap by_place (one_list_told (O.Broken v) O.All q r came also f.0 [] f.1 (none_broken sigs2 goals exported also.first r (mode_ids also.first.program sigs2) r.added also.became)))
 
-  module _ (found : FoundNodes) (rules : OneListOfRules) (placed : ArePlaced 0 sigs) (typed : AreTyped P goals) (normal : HasNormalGoals P goals) (apart : (p : ℕ) → p < length P.preds → EachNamedApart ((plain_program P).preds p).clauses)
+  module _ (found : FoundNodes) (rules : OneListOfRules) (placed : ArePlaced 0 sigs) (normal : HasNormalGoals P goals) (apart_if : ComeToFit P defs sigs goals exported → AreNamedApart P)
       (met : (t : TypeTerm) → TypesMet (plain_program P) t) where
     abbrev does : Builtin → List Val → Outcome
     does = outcome (library_of P) []
 
+    -- where procedures come that fit, clauses name their variables apart, and goals are typed
+    fitting : (l : PlainProcs) (xs : List Broken) → JudgedHere l xs → ComeToFit P defs sigs goals exported
+    fitting l xs a = record { ordered = a.ordered; last = l; came = a.came; determined = a.determined; fit = a.fit }
+
+    apart : (l : PlainProcs) (xs : List Broken) → JudgedHere l xs → AreNamedApart P
+    apart l xs a = apart_if (fitting l xs a)
+
+    typed_here : (l : PlainProcs) (xs : List Broken) → JudgedHere l xs → ModesAreTyped P sigs goals
+    typed_here l xs a = fit_typed found does P defs sigs goals exported normal (apart l xs a) met a.ordered l a.came a.determined a.fit
+
     -- the orders of goals are one
     orders : (l1 l2 : PlainProcs) (xs ys : List Broken) (a : JudgedHere l1 xs) (b : JudgedThere l2 ys)
-        → OrdersAreOne does P defs defs2 sigs sigs2 goals exported one_sigs normal apart met a.ordered l1 a.came a.determined a.fit b.ordered l2 b.came b.determined b.fit
+        → OrdersAreOne does P defs defs2 sigs sigs2 goals exported one_sigs normal (apart l1 xs a) met a.ordered l1 a.came a.determined a.fit b.ordered l2 b.came b.determined b.fit
     orders l1 l2 xs ys a b =
-        orders_are_one found does P defs defs2 sigs sigs2 goals exported one_sigs normal apart met placed a.ordered l1 a.came a.determined a.fit b.ordered l2 b.came b.determined b.fit
-        (types_are_one found does P defs defs2 sigs sigs2 goals exported one_sigs normal apart met placed a.ordered l1 a.came a.determined a.fit b.ordered l2 b.came b.determined b.fit)
+        orders_are_one found does P defs defs2 sigs sigs2 goals exported one_sigs normal (apart l1 xs a) met placed a.ordered l1 a.came a.determined a.fit b.ordered l2 b.came b.determined b.fit
+        (types_are_one found does P defs defs2 sigs sigs2 goals exported one_sigs normal (apart l1 xs a) met placed a.ordered l1 a.came a.determined a.fit b.ordered l2 b.came b.determined b.fit)
 
     one_fault_list : (l1 l2 : PlainProcs) (xs ys : List Broken) → JudgedHere l1 xs → JudgedThere l2 ys → xs ≡ ys
     one_fault_list l1 l2 xs ys a b =
-        one_list does P defs defs2 sigs sigs2 goals exported one_sigs normal apart met a.ordered l1 a.came a.determined a.fit b.ordered l2 b.came b.determined b.fit (orders l1 l2 xs ys a b) runs xs ys a.faults_are b.faults_are
+        one_list does P defs defs2 sigs sigs2 goals exported one_sigs normal (apart l1 xs a) met a.ordered l1 a.came a.determined a.fit b.ordered l2 b.came b.determined b.fit (orders l1 l2 xs ys a b) runs xs ys a.faults_are b.faults_are
 
     not_kept : (l : PlainProcs) (v : Vec Broken Global) → JudgedHere l [] → BreaksThere v → ⊥
     not_kept l v a (inl b) = nor_untidy v O.All a.ordered b a.came
-    not_kept l v a (inr (inl b)) = not_both rules placed typed met v a.ordered b.last a.came b.came
+    not_kept l v a (inr (inl b)) = not_both rules placed (typed_here l [] a) met v a.ordered b.last a.came b.came
     not_kept l v a (inr (inr b)) = b.some (sym (one_fault_list l b.last [] v.items a b.judged))
-
-    nor_kept : (l : PlainProcs) (v : Vec Broken Global) → BreaksHere v → JudgedThere l [] → ⊥
-    nor_kept l v (inl a) b = not_untidy v O.All b.ordered a b.came
-    nor_kept l v (inr (inl a)) b = nor_both rules placed typed met v a.last b.ordered a.came b.came
-    nor_kept l v (inr (inr a)) b = a.some (one_fault_list a.last l v.items [] a.judged b)
-
-    both_broken : (v w : Vec Broken Global) → BreaksHere v → BreaksThere w → v.items ≡ w.items
-    both_broken v w (inl a) (inl b) = both_untidy v w a b
-    both_broken v w (inl a) (inr (inl b)) = absurd (not_untidy v (O.Broken w) b.last a b.came)
-    both_broken v w (inl a) (inr (inr b)) = absurd (not_untidy v O.All b.judged.ordered a b.judged.came)
-    both_broken v w (inr (inl a)) (inl b) = absurd (nor_untidy w (O.Broken v) a.last b a.came)
-    both_broken v w (inr (inl a)) (inr (inl b)) = one_mode_list rules placed typed met v w a.last b.last a.came b.came
-    both_broken v w (inr (inl a)) (inr (inr b)) = absurd (nor_both rules placed typed met v a.last b.judged.ordered a.came b.judged.came)
-    both_broken v w (inr (inr a)) (inl b) = absurd (nor_untidy w O.All a.judged.ordered b a.judged.came)
-    both_broken v w (inr (inr a)) (inr (inl b)) = absurd (not_both rules placed typed met w a.judged.ordered b.last a.judged.came b.came)
-    both_broken v w (inr (inr a)) (inr (inr b)) = one_fault_list a.last b.last v.items w.items a.judged b.judged
 
     both_kept : (q r : PlainProcs) → JudgedHere q [] → JudgedThere r [] → RunAlike q r
     both_kept q r a b =
         let follow = orders q r [] [] a b in
-        let one = one_run does P defs defs2 sigs sigs2 goals exported one_sigs normal apart met a.ordered q a.came a.determined a.fit b.ordered r b.came b.determined b.fit follow in
+        let one = one_run does P defs defs2 sigs sigs2 goals exported one_sigs normal (apart q [] a) met a.ordered q a.came a.determined a.fit b.ordered r b.came b.determined b.fit follow in
         record {
           program = one-value q.program r.program (last_program P defs2 sigs2 goals exported b.ordered r b.came b.determined ∙ sym (last_program P defs sigs goals exported a.ordered q a.came a.determined));
-          main = one_main does P defs defs2 sigs sigs2 goals exported one_sigs normal apart met a.ordered q a.came a.determined a.fit b.ordered r b.came b.determined b.fit follow;
+          main = one_main does P defs defs2 sigs sigs2 goals exported one_sigs normal (apart q [] a) met a.ordered q a.came a.determined a.fit b.ordered r b.came b.determined b.fit follow;
           calls = λ does budget height k. (one does budget height k).0;
           queries = λ does budget height k. (one does budget height k).1;
         }
 
-    both_come : (r s : Ruled) → Comes P defs sigs goals exported runs r → Comes P defs2 sigs2 goals exported runs s → OneRuled r s
-    both_come (R.Procs q) (R.Procs r) a b = both_kept q r (kept P defs sigs goals exported runs q a) (kept P defs2 sigs2 goals exported runs r b)
-    both_come (R.Procs q) (R.Broken v) a b = not_kept q v (kept P defs sigs goals exported runs q a) (broken P defs2 sigs2 goals exported runs v b)
-    both_come (R.Procs q) (R.Unseen u) a b = tt
-    both_come (R.Broken v) (R.Procs q) a b = nor_kept q v (broken P defs sigs goals exported runs v a) (kept P defs2 sigs2 goals exported runs q b)
-    both_come (R.Broken v) (R.Broken w) a b = both_broken v w (broken P defs sigs goals exported runs v a) (broken P defs2 sigs2 goals exported runs w b)
-    both_come (R.Broken v) (R.Unseen u) a b = tt
-    both_come (R.Unseen u) s a b = tt
+    module _ (typed : AreTyped P goals) where
+      modes_typed : ModesAreTyped P sigs goals
+      modes_typed p lt none k there = typed p lt none
+
+      nor_kept : (l : PlainProcs) (v : Vec Broken Global) → BreaksHere v → JudgedThere l [] → ⊥
+      nor_kept l v (inl a) b = not_untidy v O.All b.ordered a b.came
+      nor_kept l v (inr (inl a)) b = nor_both rules placed modes_typed met v a.last b.ordered a.came b.came
+      nor_kept l v (inr (inr a)) b = a.some (one_fault_list a.last l v.items [] a.judged b)
+
+      both_broken : (v w : Vec Broken Global) → BreaksHere v → BreaksThere w → v.items ≡ w.items
+      both_broken v w (inl a) (inl b) = both_untidy v w a b
+      both_broken v w (inl a) (inr (inl b)) = absurd (not_untidy v (O.Broken w) b.last a b.came)
+      both_broken v w (inl a) (inr (inr b)) = absurd (not_untidy v O.All b.judged.ordered a b.judged.came)
+      both_broken v w (inr (inl a)) (inl b) = absurd (nor_untidy w (O.Broken v) a.last b a.came)
+      both_broken v w (inr (inl a)) (inr (inl b)) = one_mode_list rules placed modes_typed met v w a.last b.last a.came b.came
+      both_broken v w (inr (inl a)) (inr (inr b)) = absurd (nor_both rules placed modes_typed met v a.last b.judged.ordered a.came b.judged.came)
+      both_broken v w (inr (inr a)) (inl b) = absurd (nor_untidy w O.All a.judged.ordered b a.judged.came)
+      both_broken v w (inr (inr a)) (inr (inl b)) = absurd (not_both rules placed modes_typed met w a.judged.ordered b.last a.judged.came b.came)
+      both_broken v w (inr (inr a)) (inr (inr b)) = one_fault_list a.last b.last v.items w.items a.judged b.judged
+
+    both_come : (r s : Ruled) → (IsBroken r → AreTyped P goals) → Comes P defs sigs goals exported runs r → Comes P defs2 sigs2 goals exported runs s → OneRuled r s
+    both_come (R.Procs q) (R.Procs r) typed a b = both_kept q r (kept P defs sigs goals exported runs q a) (kept P defs2 sigs2 goals exported runs r b)
+    both_come (R.Procs q) (R.Broken v) typed a b = not_kept q v (kept P defs sigs goals exported runs q a) (broken P defs2 sigs2 goals exported runs v b)
+    both_come (R.Procs q) (R.Unseen u) typed a b = tt
+    both_come (R.Broken v) (R.Procs q) typed a b = nor_kept (typed tt) q v (broken P defs sigs goals exported runs v a) (kept P defs2 sigs2 goals exported runs q b)
+    both_come (R.Broken v) (R.Broken w) typed a b = both_broken (typed tt) v w (broken P defs sigs goals exported runs v a) (broken P defs2 sigs2 goals exported runs w b)
+    both_come (R.Broken v) (R.Unseen u) typed a b = tt
+    both_come (R.Unseen u) s typed a b = tt
 
 -- two answers are one
 pub one-answer : FoundNodes → OneListOfRules → OneAnswer
-one-answer found rules P ds es sigs others goals exported runs same normal apart met placed typed r s a b = both_come P ds es sigs others goals exported runs same found rules placed typed normal apart met r s a b
+one-answer found rules P ds es sigs others goals exported runs same normal apart met placed r s typed a b = both_come P ds es sigs others goals exported runs same found rules placed normal apart met r s typed a b

@@ -7,4 +7,5 @@ pub mod MeantSigs
 pub mod OneAnswer
 pub mod OneWhole
 pub mod OneModed
+pub mod OneCompiled
 pub mod OneProgram

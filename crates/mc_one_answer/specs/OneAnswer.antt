@@ -14,10 +14,12 @@ use Rattle.mc_model.specs.declared.inst.Sig.{Sig}
 use Rattle.mc_accepted.specs.InstRules.{PlainInstDef}
 use Rattle.mc_order_laws.specs.NormalScopes.{EachNamedApart}
 use Rattle.mc_order_laws.specs.SomeTest.{TypesMet}
+use Rattle.mc_procs.specs.Fitting.{AllFit}
 use Rattle.mc_procs.specs.Procedures.{PlainProcs, procedure_at}
+use Rattle.mc_orders.specs.declared.ordering.Orders.TheVariants as O
 use Rattle.mc_det_rules.specs.Main.{main_number}
 use Rattle.mc_whole.specs.Goals.{HasNormalGoals}
-use Rattle.mc_rules.specs.Rules.{Comes}
+use Rattle.mc_rules.specs.Rules.{Comes, Determined, Ordered}
 use Rattle.mc_rules.specs.declared.rules.Ruled.{Ruled}
 use Rattle.mc_rules.specs.declared.rules.Ruled.TheVariants as R
 use Rattle.mc_one_answer.specs.ModesMeanOne.{NodesAreOne, SigsAreOne, ArePlaced}
@@ -48,20 +50,41 @@ OneRuled (R.Broken v) (R.Broken w) = v.items ≡ w.items
 OneRuled (R.Broken v) (R.Unseen u) = Unit {0}
 OneRuled (R.Unseen u) r = Unit {0}
 
+-- Procedures that fit come of a program's goals, whatever rules of determinism they break.
+pub record ComeToFit (P : Program) (ds : List PlainInstDef) (sigs : List Sig) (goals : List Normal)
+    (exported : List Bool) : Type 0 where
+  pub ordered : PlainProcs
+  pub last : PlainProcs
+  pub came : Ordered P ds sigs goals exported O.All ordered
+  pub determined : Determined ordered last
+  pub fit : AllFit last
+
+-- each clause of a program names its quantified variables apart
+abbrev pub AreNamedApart : Program → Type 0
+AreNamedApart P =
+    (p : ℕ) → p < length P.preds → EachNamedApart ((plain_program P).preds p).clauses
+
+-- an answer is a list of broken rules
+abbrev pub IsBroken : Ruled → Type 0
+IsBroken (R.Broken v) = Unit {0}
+IsBroken _ = ⊥
+
 -- Whatever comes of a program's goals in its declared modes, it is one, by whatever definitions of
--- insts, where the nodes of modes are one. The goals are those of its clauses, of which each names its
--- quantified variables apart, and they are typed; below each type there are finitely many; and
--- signatures stand in the order of their predicates.
+-- insts, where the nodes of modes are one. The goals are those of its clauses; below each type there
+-- are finitely many; and signatures stand in the order of their predicates. Where procedures come
+-- that fit, each clause names its quantified variables apart, and where rules are broken, goals are
+-- typed. (That procedures fit tells that their goals are typed.)
 abbrev pub OneAnswer : Type 0
 OneAnswer =
     (P : Program) (ds es : List PlainInstDef) (sigs others : List Sig) (goals : List Normal)
     (exported : List Bool) (runs : Bool)
     → SigsAreOne (NodesAreOne P ds es) sigs others
     → HasNormalGoals P goals
-    → ((p : ℕ) → p < length P.preds → EachNamedApart ((plain_program P).preds p).clauses)
+    → (ComeToFit P ds sigs goals exported → AreNamedApart P)
     → ((t : TypeTerm) → TypesMet (plain_program P) t)
-    → ArePlaced 0 sigs → AreTyped P goals
+    → ArePlaced 0 sigs
     → (r s : Ruled)
+    → (IsBroken r → AreTyped P goals)
     → Comes P ds sigs goals exported runs r → Comes P es others goals exported runs s
     → OneRuled r s
 
@@ -78,9 +101,10 @@ OnePlainAnswer =
     → OneProgram P Q → GoalsAreOne goals others
     → SigsAreOne (NodesAreOne P ds es) sigs modes
     → HasNormalGoals P goals
-    → ((p : ℕ) → p < length P.preds → EachNamedApart ((plain_program P).preds p).clauses)
+    → (ComeToFit P ds sigs goals exported → AreNamedApart P)
     → ((t : TypeTerm) → TypesMet (plain_program P) t)
-    → ArePlaced 0 sigs → AreTyped P goals
+    → ArePlaced 0 sigs
     → (r s : Ruled)
+    → (IsBroken r → AreTyped P goals)
     → Comes P ds sigs goals exported runs r → Comes Q es modes others exported runs s
     → OneRuled r s

@@ -12,6 +12,7 @@ use Rattle.mc_accepted.specs.InstRules.{PlainInstDef}
 use Rattle.mc_accepted.specs.Typing.{TypedGoal}
 use Rattle.mc_order_laws.specs.SomeTest.{TypesMet}
 use Rattle.mc_procs.specs.Procedures.{PlainProcs}
+use Rattle.mc_modes.specs.Signatures.{modes_at}
 use Rattle.mc_orders.specs.NormalGoals.{goal_at}
 use Rattle.mc_orders.specs.Numbering.{mode_ids}
 use Rattle.mc_orders.specs.Outcomes.{AreBroken}
@@ -30,6 +31,12 @@ AreTyped P goals =
     (p : ℕ) → p < length P.preds → ((plain_program P).preds p).builtin ≡ None
     → IsTyped (plain_program P) p (goal_at goals p)
 
+-- so are those of the predicates that have modes
+abbrev pub ModesAreTyped : Program → List Sig → List Normal → Type 0
+ModesAreTyped P sigs goals =
+    (p : ℕ) → p < length P.preds → ((plain_program P).preds p).builtin ≡ None
+    → (k : ℕ) → k < length (modes_at sigs p) → IsTyped (plain_program P) p (goal_at goals p)
+
 -- Where goals are put in order in two ways, from the beginning on, they break one list of rules; and
 -- where they break none in one, they break none in the other.
 abbrev pub OneListOfRules : Type 0
@@ -37,7 +44,7 @@ OneListOfRules =
     (P : Program) (ds es : List PlainInstDef) (sigs modes : List Sig) (goals : List Normal)
     (exported : List Bool) (first other here there : PlainProcs) (faults others : List Broken)
     → SigsAreOne (NodesAreOne P ds es) sigs modes
-    → ArePlaced 0 sigs → AreTyped P goals → ((t : TypeTerm) → TypesMet (plain_program P) t)
+    → ArePlaced 0 sigs → ModesAreTyped P sigs goals → ((t : TypeTerm) → TypesMet (plain_program P) t)
     → Begins P ds sigs first → Begins P es modes other
     → AskedOf first sigs goals exported → AskedOf other modes goals exported
     → AreBroken sigs goals first here (mode_ids P sigs) faults

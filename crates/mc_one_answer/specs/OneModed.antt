@@ -1,9 +1,8 @@
 -- What the phase of declared modes answers in two ways is one program in one list of modes, but for the
 -- numbers of insts. (Mercury Language Reference Manual: Modes; the query is this project's.)
-use Rattle.std.specs.Prelude.{◌≡◌, ◌<◌, ℕ, Bool, length}
+use Rattle.std.specs.Prelude.{◌≡◌, Bool}
 use Rattle.mc_program.specs.Programs.{TypeTerm}
 use Rattle.mc_program.specs.PlainPrograms.{plain_program}
-use Rattle.mc_order_laws.specs.NormalScopes.{EachNamedApart}
 use Rattle.mc_order_laws.specs.SomeTest.{TypesMet}
 use Rattle.mc_insts.specs.Defining.{plain_definitions}
 use Rattle.mc_compile.specs.declared.moded.Moded.{Moded}
@@ -12,7 +11,7 @@ use Rattle.mc_compile.specs.Ruling.{IsModed}
 use Rattle.mc_rules.specs.Rules.{Comes}
 use Rattle.mc_rules.specs.declared.rules.Ruled.{Ruled}
 use Rattle.mc_one_answer.specs.ModesMeanOne.{NodesAreOne, SigsAreOne, ArePlaced}
-use Rattle.mc_one_answer.specs.OneAnswer.{OneRuled}
+use Rattle.mc_one_answer.specs.OneAnswer.{OneRuled, ComeToFit, AreNamedApart, IsBroken}
 use Rattle.mc_one_answer.specs.OneListOfRules.{AreTyped}
 use Rattle.mc_one_answer.specs.OneWhole.{WholeIsOne}
 
@@ -34,16 +33,17 @@ ModedAreOne =
     → IsModed first named m → IsModed first named n → ModedIsOne m n
 
 -- So what comes of it is one answer. What is asked of its goals besides is asked of the first way alone: each
--- clause names its quantified variables apart, goals are typed, and below each type there are finitely many.
+-- clause names its quantified variables apart, where procedures come that fit; goals are typed, where rules are
+-- broken; and below each type there are finitely many.
 abbrev pub OneModedAnswer : Type 0
 OneModedAnswer =
     (runs first : Bool) (named : PlainNamed) (m n : Moded)
     → IsModed first named m → IsModed first named n
-    → ((p : ℕ) → p < length m.whole.program.preds
-    → EachNamedApart ((plain_program m.whole.program).preds p).clauses)
+    → (ComeToFit m.whole.program (plain_definitions m.defs) m.sigs.items m.whole.goals.items
+    m.whole.exported.items → AreNamedApart m.whole.program)
     → ((t : TypeTerm) → TypesMet (plain_program m.whole.program) t)
-    → AreTyped m.whole.program m.whole.goals.items
     → (r s : Ruled)
+    → (IsBroken r → AreTyped m.whole.program m.whole.goals.items)
     → Comes m.whole.program (plain_definitions m.defs) m.sigs.items m.whole.goals.items
     m.whole.exported.items runs r
     → Comes n.whole.program (plain_definitions n.defs) n.sigs.items n.whole.goals.items

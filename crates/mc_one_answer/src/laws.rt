@@ -4,12 +4,14 @@ ghost use Rattle.mc_one_answer.specs.MeantNodes.{MeantNodesMeanOne};
 ghost use Rattle.mc_one_answer.specs.MeantSigs.{MeantSigsAreOne};
 ghost use Rattle.mc_one_answer.specs.ModesMeanOne.{DefinedMeanOne, ModesMeanOne};
 ghost use Rattle.mc_one_answer.specs.OneAnswer.{OneAnswer, OnePlainAnswer, SigsAreThemselves};
+ghost use Rattle.mc_one_answer.specs.OneCompiled.{CompiledAreOne, OneInstList, OneOrderedAnswer, OneToBeRun, WellLinkedAreTyped};
 ghost use Rattle.mc_one_answer.specs.OneListOfRules.{OneListOfRules};
 ghost use Rattle.mc_one_answer.specs.OneModed.{ModedAreOne, OneModedAnswer};
 ghost use Rattle.mc_one_answer.specs.OneProgram.{OneComes};
 ghost use Rattle.mc_one_answer.specs.OneWhole.{TypedAreOne, WholesAreOne};
 ghost use Rattle.mc_one_answer.specs.WholePrograms.{SignaturesArePlaced, WholeGoalsAreTyped};
 
+use mc_compile::at_most_one_phase;
 use mc_order_laws::laws::some_test_tells;
 
 /// Some functions agree with what is there, and find nothing else.
@@ -114,3 +116,37 @@ pub fn one_moded_answer()
     moded_are_one();
     one_plain_answer()
 }
+
+/// So it is where no definition of a type breaks a rule: what else is asked is so of what is put in order.
+pub fn one_ordered_answer()
+    ensures { OneOrderedAnswer }
+{
+    one_moded_answer()
+}
+
+/// Items break one list of rules of insts.
+pub fn one_inst_list()
+    ensures { OneInstList }
+{}
+
+/// Where what is linked is well written, the goals of what is put in order are typed.
+pub fn well_linked_are_typed()
+    ensures { WellLinkedAreTyped }
+{
+    whole_goals_are_typed()
+}
+
+/// Whatever sources with rules are compiled to, it is one.
+pub fn compiled_are_one()
+    ensures { CompiledAreOne }
+{
+    at_most_one_phase();
+    one_inst_list();
+    moded_are_one();
+    one_ordered_answer()
+}
+
+/// Procedures that run alike are run with one library, and their values are written with the same names.
+pub fn one_to_be_run()
+    ensures { OneToBeRun }
+{}

@@ -1,0 +1,105 @@
+-- Whatever sources with rules are compiled to, it is one: one list of broken rules, or executables that run
+-- alike. (Mercury Language Reference Manual: Modes; Determinism; this project's rules and event lists.)
+use Rattle.std.specs.Prelude.{◌≡◌, Bool, List, [], Result, Ok, Err}
+use Rattle.mc_program.specs.Printed.{names_of}
+use Rattle.mc_model.specs.Worlds.{library_of}
+use Rattle.mc_type_table.specs.Rules.{type_faults}
+use Rattle.mc_declarations.specs.Proper.{AreWellWritten}
+use Rattle.mc_inst_table.specs.Rules.{AreInstFaults, InstItem}
+use Rattle.mc_insts.specs.Defining.{plain_definitions}
+use Rattle.mc_modules.specs.Linked.{Linked}
+use Rattle.mc_procs.specs.Procedures.{PlainProcs}
+use Rattle.mc_source.specs.declared.rule.Broken.{Broken}
+use Rattle.mc_rules.specs.Rules.{Comes}
+use Rattle.mc_rules.specs.declared.rules.Ruled.{Ruled}
+use Rattle.mc_whole_laws.specs.JudgedPrograms.{EachHasValues}
+use Rattle.mc_compile.specs.declared.moded.Moded.{Moded}
+use Rattle.mc_compile.specs.Phases.{Refusal, Breaks, Unbuilt, Then}
+use Rattle.mc_compile.specs.Sources.{Sources}
+use Rattle.mc_compile.specs.Reading.{Reads}
+use Rattle.mc_compile.specs.Linking.{PlainNamed, Links}
+use Rattle.mc_compile.specs.Typing.{Types}
+use Rattle.mc_compile.specs.Checking.{Clauses, items_of}
+use Rattle.mc_compile.specs.Ruling.{PlainExecutable, IsModed, Insts, Modes}
+use Rattle.mc_compile.specs.Building.{CompilesRules}
+use Rattle.mc_one_answer.specs.OneListOfRules.{AreTyped}
+use Rattle.mc_one_answer.specs.OneAnswer.{RunAlike, OneRuled, IsBroken}
+
+-- One answer comes of what is put in order of what is linked, where no definition of a type breaks a rule. Where
+-- rules are broken, goals are typed.
+abbrev pub OneOrderedAnswer : Type 0
+OneOrderedAnswer =
+    (runs first : Bool) (named : PlainNamed) (m n : Moded)
+    → type_faults named.files.names ≡ []
+    → IsModed first named m → IsModed first named n
+    → (r s : Ruled)
+    → (IsBroken r → AreTyped m.whole.program m.whole.goals.items)
+    → Comes m.whole.program (plain_definitions m.defs) m.sigs.items m.whole.goals.items
+    m.whole.exported.items runs r
+    → Comes n.whole.program (plain_definitions n.defs) n.sigs.items n.whole.goals.items
+    n.whole.exported.items runs s
+    → OneRuled r s
+
+-- Items break one list of rules of insts.
+abbrev pub OneInstList : Type 0
+OneInstList =
+    (l : Linked) (items : List InstItem) (faults others : List Broken)
+    → AreInstFaults l items faults → AreInstFaults l items others → faults ≡ others
+
+-- the phases of programs with rules, up to what is put in order
+abbrev pub ComeToModes : Sources → Result Moded Refusal → Type 0
+ComeToModes sources =
+    Then Reads (Then Links (Then Types (Then Clauses (Then Insts (Modes sources))))) sources
+
+-- the goals of what is put in order are typed
+abbrev pub GoalsAreTyped : Sources → Type 0
+GoalsAreTyped sources =
+    (moded : Moded)
+    → ComeToModes sources (Ok moded) → AreTyped moded.whole.program moded.whole.goals.items
+
+-- what is linked is well written, and the numbers and texts of its clauses are values
+abbrev pub AreWellLinked : Sources → Type 0
+AreWellLinked sources =
+    (named : PlainNamed)
+    → Then Reads Links sources (Ok named)
+    → AreWellWritten named.files.names × EachHasValues (items_of named)
+
+-- So they are where what is linked is well written.
+abbrev pub WellLinkedAreTyped : Type 0
+WellLinkedAreTyped = (sources : Sources) → AreWellLinked sources → GoalsAreTyped sources
+
+-- executables that run alike, with one goal
+pub record OneExecutable (e f : PlainExecutable) : Type 0 where
+  pub procs : RunAlike e.procs f.procs
+  pub goal : f.goal ≡ e.goal
+
+-- Two answers are one. That something isn't seen to hold is no answer.
+abbrev pub OneCompiled : (here there : Result PlainExecutable Refusal) → Type 0
+OneCompiled (Ok e) (Ok f) = OneExecutable e f
+OneCompiled (Ok e) (Err (Breaks rules)) = ⊥
+OneCompiled (Ok e) (Err Unbuilt) = Unit {0}
+OneCompiled (Err (Breaks rules)) (Ok f) = ⊥
+OneCompiled (Err (Breaks rules)) (Err (Breaks others)) = others ≡ rules
+OneCompiled (Err (Breaks rules)) (Err Unbuilt) = Unit {0}
+OneCompiled (Err Unbuilt) r = Unit {0}
+
+-- sources break rules
+abbrev pub IsRefused : Result PlainExecutable Refusal → Type 0
+IsRefused (Err (Breaks rules)) = Unit {0}
+IsRefused _ = ⊥
+
+-- Whatever sources with rules are compiled to, it is one. Where rules are broken in both ways, goals are typed.
+abbrev pub CompiledAreOne : Type 0
+CompiledAreOne =
+    (sources : Sources) (r q : Result PlainExecutable Refusal)
+    → (IsRefused r → IsRefused q → GoalsAreTyped sources)
+    → CompilesRules sources r → CompilesRules sources q → OneCompiled r q
+
+-- Procedures that run alike are over programs whose values are written with the same names, and whose library
+-- is one.
+pub record RunWithOne (q r : PlainProcs) : Type 0 where
+  pub names : names_of q.program ≡ names_of r.program
+  pub library : library_of q.program ≡ library_of r.program
+
+abbrev pub OneToBeRun : Type 0
+OneToBeRun = (q r : PlainProcs) → RunAlike q r → RunWithOne q r
