@@ -70,8 +70,8 @@ IsBroken (R.Broken v) = Unit {0}
 IsBroken _ = ⊥
 
 -- Whatever comes of a program's goals in its declared modes, it is one, by whatever definitions of
--- insts, where the nodes of modes are one. The goals are those of its clauses; below each type there
--- are finitely many; and signatures stand in the order of their predicates. Where procedures come
+-- insts, where the nodes of modes are one. The goals are those of its clauses; below each type
+-- there are finitely many; and signatures stand in the order of their predicates. Where procedures come
 -- that fit, each clause names its quantified variables apart, and where rules are broken, goals are
 -- typed. (That procedures fit tells that their goals are typed.)
 abbrev pub OneAnswer : Type 0

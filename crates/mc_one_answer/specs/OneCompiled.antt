@@ -1,5 +1,6 @@
--- Whatever sources with rules are compiled to, it is one: one list of broken rules, or executables that run
--- alike. (Mercury Language Reference Manual: Modes; Determinism; this project's rules and event lists.)
+-- Whatever sources with rules are compiled to, it is one: one list of broken rules, or executables
+-- that run alike. (Mercury Language Reference Manual: Modes; Determinism; this project's rules and
+-- event lists.)
 use Rattle.std.specs.Prelude.{◌≡◌, Bool, List, [], Result, Ok, Err}
 use Rattle.mc_program.specs.Printed.{names_of}
 use Rattle.mc_model.specs.Worlds.{library_of}
@@ -25,8 +26,8 @@ use Rattle.mc_compile.specs.Building.{CompilesRules}
 use Rattle.mc_one_answer.specs.OneListOfRules.{AreTyped}
 use Rattle.mc_one_answer.specs.OneAnswer.{RunAlike, OneRuled, IsBroken}
 
--- One answer comes of what is put in order of what is linked, where no definition of a type breaks a rule. Where
--- rules are broken, goals are typed.
+-- One answer comes of what is put in order of what is linked, where no definition of a type breaks
+-- a rule. Where rules are broken, goals are typed.
 abbrev pub OneOrderedAnswer : Type 0
 OneOrderedAnswer =
     (runs first : Bool) (named : PlainNamed) (m n : Moded)
@@ -55,7 +56,8 @@ ComeToModes sources =
 abbrev pub GoalsAreTyped : Sources → Type 0
 GoalsAreTyped sources =
     (moded : Moded)
-    → ComeToModes sources (Ok moded) → AreTyped moded.whole.program moded.whole.goals.items
+    → ComeToModes sources (Ok moded)
+    → AreTyped moded.whole.program moded.whole.goals.items
 
 -- what is linked is well written, and the numbers and texts of its clauses are values
 abbrev pub AreWellLinked : Sources → Type 0
@@ -88,15 +90,16 @@ abbrev pub IsRefused : Result PlainExecutable Refusal → Type 0
 IsRefused (Err (Breaks rules)) = Unit {0}
 IsRefused _ = ⊥
 
--- Whatever sources with rules are compiled to, it is one. Where rules are broken in both ways, goals are typed.
+-- Whatever sources with rules are compiled to, it is one. Where rules are broken in both ways,
+-- goals are typed.
 abbrev pub CompiledAreOne : Type 0
 CompiledAreOne =
     (sources : Sources) (r q : Result PlainExecutable Refusal)
     → (IsRefused r → IsRefused q → GoalsAreTyped sources)
     → CompilesRules sources r → CompilesRules sources q → OneCompiled r q
 
--- Procedures that run alike are over programs whose values are written with the same names, and whose library
--- is one.
+-- Procedures that run alike are over programs whose values are written with the same names, and
+-- whose library is one.
 pub record RunWithOne (q r : PlainProcs) : Type 0 where
   pub names : names_of q.program ≡ names_of r.program
   pub library : library_of q.program ≡ library_of r.program

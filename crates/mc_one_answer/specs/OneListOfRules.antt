@@ -44,7 +44,8 @@ OneListOfRules =
     (P : Program) (ds es : List PlainInstDef) (sigs modes : List Sig) (goals : List Normal)
     (exported : List Bool) (first other here there : PlainProcs) (faults others : List Broken)
     → SigsAreOne (NodesAreOne P ds es) sigs modes
-    → ArePlaced 0 sigs → ModesAreTyped P sigs goals → ((t : TypeTerm) → TypesMet (plain_program P) t)
+    → ArePlaced 0 sigs → ModesAreTyped P sigs goals
+    → ((t : TypeTerm) → TypesMet (plain_program P) t)
     → Begins P ds sigs first → Begins P es modes other
     → AskedOf first sigs goals exported → AskedOf other modes goals exported
     → AreBroken sigs goals first here (mode_ids P sigs) faults

@@ -32,9 +32,9 @@ ModedAreOne =
     (first : Bool) (named : PlainNamed) (m n : Moded)
     → IsModed first named m → IsModed first named n → ModedIsOne m n
 
--- So what comes of it is one answer. What is asked of its goals besides is asked of the first way alone: each
--- clause names its quantified variables apart, where procedures come that fit; goals are typed, where rules are
--- broken; and below each type there are finitely many.
+-- So what comes of it is one answer. What is asked of its goals besides is asked of the first way
+-- alone: each clause names its quantified variables apart, where procedures come that fit; goals
+-- are typed, where rules are broken; and below each type there are finitely many.
 abbrev pub OneModedAnswer : Type 0
 OneModedAnswer =
     (runs first : Bool) (named : PlainNamed) (m n : Moded)
