@@ -1,2 +1,3 @@
 pub mod ProcedureGoal
+pub mod TypedGoals
 pub mod code

@@ -16,4 +16,5 @@ mod variables;
 
 pub use constructors::constructors_fit;
 pub use procedure::procedure_fits;
+pub use typed::goal_is_typed;
 pub use types::types_fit;

@@ -1,4 +1,4 @@
-ghost use Rattle.std.specs.Prelude.{◌≡◌, ◌↔◌, IsTrue, IfOk, Some, map};
+ghost use Rattle.std.specs.Prelude.{◌≡◌, ◌↔◌, ◌<◌, IsTrue, IfOk, Some, length, map};
 ghost use Rattle.std.specs.Str.{IsUtf8};
 ghost use Rattle.mc_program.specs.Programs.{union_type};
 ghost use Rattle.mc_program.specs.Values.{plain_value};
@@ -9,6 +9,7 @@ ghost use Rattle.mc_model.specs.PlainGoals.{plain_flat};
 ghost use Rattle.mc_model.specs.Lists.{In};
 ghost use Rattle.mc_model.specs.Types.{IsValue, instance_of, type_at};
 ghost use Rattle.mc_accepted.specs.Typing.{ConstantOf, TypedGoal, TypedGoals, constructor_types};
+ghost use Rattle.mc_fitting.specs.TypedGoals.{IsTyped};
 ghost use Rattle.mc_fitting.specs.code.VariableTypes.{type_in};
 
 use crate::instance::instances;
@@ -16,11 +17,29 @@ use crate::listed::is_listed;
 use crate::matching::have_instance;
 use crate::variables::{are_alike, has_type, have_types, type_of};
 use mc_base::Memory;
-use mc_model::flat::Flat;
+use mc_model::flat::{Flat, Normal};
 use mc_program::program::Program;
 use mc_program::ty::Ty;
 use mc_program::value::Value;
 use std::alloc::Global;
+
+/// Whether the goal of a predicate is typed, and its head variables have the predicate's types.
+pub fn goal_is_typed(
+    alloc: Global,
+    program: &Program,
+    pred: u32,
+    goal: &Normal,
+) -> Result<bool, Memory>
+    requires { pred < length program.now.preds }
+    ensures { IfOk result (λ b. IsTrue b ↔ IsTyped (plain_program program.now) pred goal.now) }
+{
+    let types = goal.var_types.as_slice();
+    let expected = program.preds.get(pred).types.as_slice();
+    if !have_types(types, goal.head.as_slice(), expected) {
+        return Ok(false);
+    }
+    is_typed(alloc, program, types, &goal.body)
+}
 
 /// Whether the atoms of a goal are typed.
 #[cycle(typed)]

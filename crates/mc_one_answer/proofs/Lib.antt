@@ -19,7 +19,6 @@ pub mod FreshTypes
 pub mod TwoOrders
 pub mod OrderTypes
 pub mod Untidied
-pub mod FitTyped
 pub mod TwoWays
 pub mod TypesOnce
 pub mod OneWhole

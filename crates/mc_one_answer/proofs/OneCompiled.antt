@@ -44,9 +44,8 @@ use Rattle.mc_program_laws.proofs.NamedApart.{whole_named_apart}
 use Rattle.mc_program_laws.proofs.Queries.{has_mode, was_asked}
 use Rattle.mc_program_laws.proofs.Regular.{types_are_met}
 use Rattle.mc_program_laws.proofs.Wholes.{query_has_no_builtin, query_there}
-use Rattle.mc_one_answer.specs.OneAnswer.{RunAlike, OneRuled, ComeToFit, AreNamedApart, IsBroken}
-use Rattle.mc_one_answer.specs.OneCompiled.{OneOrderedAnswer, OneInstList, ComeToModes, GoalsAreTyped, AreWellLinked, WellLinkedAreTyped, OneExecutable, OneCompiled, IsRefused, CompiledAreOne, OneToBeRun}
-use Rattle.mc_one_answer.specs.OneListOfRules.{AreTyped}
+use Rattle.mc_one_answer.specs.OneAnswer.{RunAlike, OneRuled, ComeToFit, AreNamedApart}
+use Rattle.mc_one_answer.specs.OneCompiled.{OneOrderedAnswer, OneInstList, AreWellLinked, WellLinkedAreTyped, OneExecutable, OneCompiled, CompiledAreOne, OneToBeRun}
 use Rattle.mc_one_answer.specs.OneModed.{ModedIsOne, ModedAreOne, OneModedAnswer}
 use Rattle.mc_one_answer.specs.WholePrograms.{WholeGoalsAreTyped}
 use Rattle.mc_one_answer.proofs.SamePrograms.{one-names, same-of}
@@ -83,8 +82,8 @@ module _ (first : Bool) (named : PlainNamed) (m : Moded) (is : IsModed first nam
   types-met none = types_are_met l (map numbered is.clauses) query m.whole is.whole none
 
 pub one-ordered-answer : OneModedAnswer → OneOrderedAnswer
-one-ordered-answer answer runs first named m n none a b r s typed here there =
-    answer runs first named m n a b (named-apart first named m a) (types-met first named m a none) r s typed here there
+one-ordered-answer answer runs first named m n none a b r s here there =
+    answer runs first named m n a b (named-apart first named m a) (types-met first named m a none) r s here there
 
 -- ---- rules of insts
 one-says : (m : Linked) (i : InstItem) (f g : Option Fault) → InstSays m i f → InstSays m i g → f ≡ g
@@ -144,7 +143,7 @@ one-executable wants m n one (R.Broken v) (R.Broken w) h = sym h
 one-executable wants m n one (R.Broken v) (R.Unseen u) h = tt
 one-executable wants m n one (R.Unseen u) s h = tt
 
-module _ (answer : OneOrderedAnswer) (moded : ModedAreOne) (sources : Sources) (typed : PlainTyped) (none : type_faults typed.named.files.names ≡ []) (come : (m : Moded) → Modes sources typed (Ok m) → ComeToModes sources (Ok m)) where
+module _ (answer : OneOrderedAnswer) (moded : ModedAreOne) (sources : Sources) (typed : PlainTyped) (none : type_faults typed.named.files.names ≡ []) where
   module _ (m n : Moded) (a : IsModed sources.first typed.named m) (b : IsModed sources.first typed.named n) where
     abbrev Here : Ruled → Type 0
     Here r = Comes m.whole.program (plain_definitions m.defs) m.sigs.items m.whole.goals.items m.whole.exported.items sources.wants_main r
@@ -152,61 +151,45 @@ module _ (answer : OneOrderedAnswer) (moded : ModedAreOne) (sources : Sources) (
     abbrev There : Ruled → Type 0
     There s = Comes n.whole.program (plain_definitions n.defs) n.sigs.items n.whole.goals.items n.whole.exported.items sources.wants_main s
 
-    one-ruled : (r s : Ruled) → (IsBroken r → IsBroken s → AreTyped m.whole.program m.whole.goals.items) → Here r → There s → OneRuled r s
-    one-ruled (R.Procs q) s t h k = answer sources.wants_main sources.first typed.named m n none a b (R.Procs q) s (λ e. absurd e) h k
-    one-ruled (R.Broken v) (R.Procs q) t h k = answer sources.wants_main sources.first typed.named n m none b a (R.Procs q) (R.Broken v) (λ e. absurd e) k h
-    one-ruled (R.Broken v) (R.Broken w) t h k = answer sources.wants_main sources.first typed.named m n none a b (R.Broken v) (R.Broken w) (λ e. t tt tt) h k
-    one-ruled (R.Broken v) (R.Unseen u) t h k = tt
-    one-ruled (R.Unseen u) s t h k = tt
+    one-ruled : (r s : Ruled) → Here r → There s → OneRuled r s
+    one-ruled r s h k = answer sources.wants_main sources.first typed.named m n none a b r s h k
 
   is-moded : (m : Moded) (h : Modes sources typed (Ok m)) → IsModed sources.first typed.named m
   is-moded m h = subst (IsModed sources.first typed.named) (sym (ok_same m h.moded h.is)) h.is_moded
 
-  refused-as : (m : Moded) (r : Ruled) → IsBroken r → IsRefused (executable sources.wants_main m r)
-  refused-as m (R.Procs q) e = e
-  refused-as m (R.Broken v) e = e
-  refused-as m (R.Unseen u) e = e
-
-  one-behind-modes : (x y : Result PlainExecutable Refusal) → (IsRefused x → IsRefused y → GoalsAreTyped sources) → Then (Modes sources) (Procedures sources) typed x → Then (Modes sources) (Procedures sources) typed y → OneCompiled x y
-  one-behind-modes x y t p q = both t p q
+  one-behind-modes : (x y : Result PlainExecutable Refusal) → Then (Modes sources) (Procedures sources) typed x → Then (Modes sources) (Procedures sources) typed y → OneCompiled x y
+  one-behind-modes x y p q = both p q
     where
-      both : {x y : Result PlainExecutable Refusal} → (IsRefused x → IsRefused y → GoalsAreTyped sources) → Then (Modes sources) (Procedures sources) typed x → Then (Modes sources) (Procedures sources) typed y → OneCompiled x y
-      both t (stopped {r} f) q = absurd (not-both f.moded r (sym f.is))
-      both t (went_on {b = m} f g) (stopped {r} h) = absurd (not-both h.moded r (sym h.is))
-      both {x} {y} t (went_on {b = m} f g) (went_on {b = n} h k) =
+      both : {x y : Result PlainExecutable Refusal} → Then (Modes sources) (Procedures sources) typed x → Then (Modes sources) (Procedures sources) typed y → OneCompiled x y
+      both (stopped {r} f) q = absurd (not-both f.moded r (sym f.is))
+      both (went_on {b = m} f g) (stopped {r} h) = absurd (not-both h.moded r (sym h.is))
+      both {x} {y} (went_on {b = m} f g) (went_on {b = n} h k) =
           let a = is-moded m f in
           let b = is-moded n h in
           let wants = sources.wants_main in
           subst (λ z. OneCompiled z y) (sym g.is)
           (subst (λ z. OneCompiled (executable wants m g.ruled) z) (sym k.is)
-          (one-executable wants m n (moded sources.first typed.named m n a b) g.ruled k.ruled
-          (one-ruled m n a b g.ruled k.ruled
-          (λ d e. t (subst IsRefused (sym g.is) (refused-as m g.ruled d)) (subst IsRefused (sym k.is) (refused-as n k.ruled e)) m (come m f))
-          g.comes k.comes)))
+          (one-executable wants m n (moded sources.first typed.named m n a b) g.ruled k.ruled (one-ruled m n a b g.ruled k.ruled g.comes k.comes)))
 
 -- ---- all phases
 module _ (reads : AtMostOne Reads) (links : AtMostOne Links) (types : AtMostOne Types) (clauses : AtMostOne Clauses) (insts : AtMostOne Insts) (answer : OneOrderedAnswer) (moded : ModedAreOne) (sources : Sources) where
-  abbrev One : (here there : Result PlainExecutable Refusal) → Type 0
-  One x y = (IsRefused x → IsRefused y → GoalsAreTyped sources) → OneCompiled x y
+  refused : (r : Refusal) → OneCompiled (Err r) (Err r)
+  refused (Breaks rules) = refl
+  refused Unbuilt = tt
 
-  refused : (r : Refusal) → One (Err r) (Err r)
-  refused (Breaks rules) t = refl
-  refused Unbuilt t = tt
-
-  pub compiled-are-one : (x y : Result PlainExecutable Refusal) → CompilesRules sources x → CompilesRules sources y → One x y
+  pub compiled-are-one : (x y : Result PlainExecutable Refusal) → CompilesRules sources x → CompilesRules sources y → OneCompiled x y
   compiled-are-one =
-      behind-one Reads (Then Links (Then Types (Then Clauses (Then Insts (Then (Modes sources) (Procedures sources)))))) One sources reads refused (λ read r.
-      behind-one Links (Then Types (Then Clauses (Then Insts (Then (Modes sources) (Procedures sources))))) One read links refused (λ named l.
-      behind-one Types (Then Clauses (Then Insts (Then (Modes sources) (Procedures sources)))) One named types refused (λ typed t.
-      behind-one Clauses (Then Insts (Then (Modes sources) (Procedures sources))) One typed clauses refused (λ checked c.
-      behind-one Insts (Then (Modes sources) (Procedures sources)) One checked insts refused (λ made i x y p q u.
+      behind-one Reads (Then Links (Then Types (Then Clauses (Then Insts (Then (Modes sources) (Procedures sources)))))) OneCompiled sources reads refused (λ read r.
+      behind-one Links (Then Types (Then Clauses (Then Insts (Then (Modes sources) (Procedures sources))))) OneCompiled read links refused (λ named l.
+      behind-one Types (Then Clauses (Then Insts (Then (Modes sources) (Procedures sources)))) OneCompiled named types refused (λ typed t.
+      behind-one Clauses (Then Insts (Then (Modes sources) (Procedures sources))) OneCompiled typed clauses refused (λ checked c.
+      behind-one Insts (Then (Modes sources) (Procedures sources)) OneCompiled checked insts refused (λ made i x y p q.
       let same : made ≡ typed_as named = unbroken_made i.rules checked made i.is ∙ (unbroken_made c.rules typed checked c.is ∙ unbroken_made (type_faults named.files.names) (typed_as named) typed t) in
       one-behind-modes answer moded sources made
-      (subst (λ (z : PlainTyped). type_faults z.named.files.names ≡ []) (sym same) (unbroken (type_faults named.files.names) (typed_as named) typed t))
-      (λ m h. went_on r (went_on l (went_on t (went_on c (went_on i h))))) x y u p q)))))
+      (subst (λ (z : PlainTyped). type_faults z.named.files.names ≡ []) (sym same) (unbroken (type_faults named.files.names) (typed_as named) typed t)) x y p q)))))
 
 pub all-compiled-are-one : AtMostOne Reads → AtMostOne Links → AtMostOne Types → AtMostOne Clauses → OneInstList → OneOrderedAnswer → ModedAreOne → CompiledAreOne
-all-compiled-are-one reads links types clauses insts answer moded sources r q typed a b = compiled-are-one reads links types clauses (one-insts insts) answer moded sources r q a b typed
+all-compiled-are-one reads links types clauses insts answer moded sources r q a b = compiled-are-one reads links types clauses (one-insts insts) answer moded sources r q a b
 
 -- ---- what is well written is typed
 pub well-linked-are-typed : WholeGoalsAreTyped → WellLinkedAreTyped

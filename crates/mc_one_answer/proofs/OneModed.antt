@@ -107,8 +107,8 @@ moded-are-one wholes written placed first named m n a b = one-moded wholes writt
 
 -- ---- what comes of what is put in order
 pub one-moded-answer : ModedAreOne → OnePlainAnswer → OneModedAnswer
-one-moded-answer one answer runs first named m n a b apart met r s typed here there =
+one-moded-answer one answer runs first named m n a b apart met r s here there =
     let both : ModedIsOne m n = one first named m n a b in
     let A : List Bool → Type 0 = λ exported. Comes n.whole.program (plain_definitions n.defs) n.sigs.items n.whole.goals.items exported runs s in
     answer m.whole.program n.whole.program (plain_definitions m.defs) (plain_definitions n.defs) m.sigs.items n.sigs.items m.whole.goals.items n.whole.goals.items m.whole.exported.items runs
-    both.whole.program both.whole.goals both.sigs a.whole.goals apart met both.placed r s typed here (subst A both.whole.exported there)
+    both.whole.program both.whole.goals both.sigs a.whole.goals apart met both.placed r s here (subst A both.whole.exported there)

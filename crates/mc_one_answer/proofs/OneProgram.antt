@@ -30,6 +30,8 @@ use Rattle.mc_accepted.specs.Fits.{FitsTypes}
 use Rattle.mc_accepted.specs.FreshTests.{TestsAlike}
 use Rattle.mc_accepted.specs.Inferred.{DeclaredSystem, LeastClosed, with_determinisms}
 use Rattle.mc_accepted.specs.InstRules.{PlainInstDef}
+use Rattle.mc_accepted.specs.Typing.{TypedGoal}
+use Rattle.mc_fitting.specs.TypedGoals.{IsTyped, type_in as typed_in}
 use Rattle.mc_insts.specs.declared.insts.Insts.{Insts}
 use Rattle.mc_insts.specs.Graphs.{graph_of}
 use Rattle.mc_insts.specs.Kept.{AreOf}
@@ -59,7 +61,7 @@ use Rattle.mc_det.specs.Marked.{marked_body}
 use Rattle.mc_det.specs.MarkedProcedures.{determinisms_of, Inferred, MarksHold}
 use Rattle.mc_det.specs.Pruned.{pruned_body}
 use Rattle.mc_det.specs.PrunedProcedures.{FollowDeclared, Pruned}
-use Rattle.mc_rules.specs.Premises.{HasInsts, Begins, TellNumbers, GoalsFitModes, AskedOf}
+use Rattle.mc_rules.specs.Premises.{HasInsts, Begins, TellNumbers, GoalsFitModes, GoalsAreTyped, AskedOf}
 use Rattle.mc_rules.specs.Rules.{Comes, Determined, FaultsAre, Ordered, IsntAtFirst, break_no_rule, break_uniqueness, break_modes, break_determinism, no_types, no_constructors, no_library, no_exported, no_predicates, no_determinisms, no_definitions, no_insts, no_numbers, no_goals, no_procedure}
 use Rattle.mc_rules.specs.Untidy.{AreUntidy}
 use Rattle.mc_rules.specs.declared.rules.Ruled.{Ruled}
@@ -340,6 +342,15 @@ module _ (P Q : Program) (same : Same P Q) (ds : List PlainInstDef) (sigs : List
       normal_fits P Q same q (mode_in sigs p k) (goal_at gs p) (goal_at hs p) (one p)
       (h p (subst (λ n. p < n) (sym same.preds) lt) (subst A (sym same.source) none) k within)
 
+  goals_typed : (gs hs : List Normal) → SameGoals gs hs → GoalsAreTyped Q hs → GoalsAreTyped P gs
+  goals_typed gs hs one h p lt none =
+      let A : Source → Type 0 = λ S. (S.preds p).builtin ≡ None in
+      let X : List Ty → List ℕ → Flat_goal → Type 0 = λ ts head body. (map (typed_in ts) head ≡ ((plain_program P).preds p).types) × TypedGoal (plain_program P) (typed_in ts) body in
+      let t : IsTyped (plain_program P) p (goal_at hs p) =
+      subst (λ (S : Source). IsTyped S p (goal_at hs p)) same.source (h p (subst (λ n. p < n) (sym same.preds) lt) (subst A (sym same.source) none)) in
+      let u = of-goal (goal_at gs p) (goal_at hs p) (one p) X (t.head, t.body) in
+      record { head = u.0; body = u.1 }
+
   asked : (gs hs : List Normal) → SameGoals gs hs → (exported : List Bool) (q : PlainProcs) → AskedOf (over Q q) sigs hs exported → AskedOf (over P q) sigs gs exported
   asked gs hs one exported q h =
       record {
@@ -349,6 +360,7 @@ module _ (P Q : Program) (same : Same P Q) (ds : List PlainInstDef) (sigs : List
         insts_there = h.insts_there;
         numbers_told = tell_numbers q h.numbers_told;
         goals_fit = goals_fit gs hs one q h.goals_fit;
+        goals_typed = goals_typed gs hs one h.goals_typed;
       }
 
 -- ---- what comes
@@ -401,7 +413,9 @@ module _ (P Q : Program) (same : Same P Q) (ds : List PlainInstDef) (sigs : List
   comes (no_numbers isnt) =
       no_numbers (not-first (λ q. TellNumbers q sigs) (λ q. TellNumbers q sigs) (λ q i h. tell_numbers q.program P (back P q.program i) ds sigs q h) isnt)
   comes (no_goals isnt) =
-      no_goals (not-first (λ q. GoalsFitModes q sigs hs) (λ q. GoalsFitModes q sigs gs) (λ q i h. goals_fit q.program P (back P q.program i) ds sigs hs gs (back-goals gs hs one) q h) isnt)
+      no_goals
+      (not-first (λ q. GoalsFitModes q sigs hs × GoalsAreTyped q.program hs) (λ q. GoalsFitModes q sigs gs × GoalsAreTyped q.program gs)
+      (λ q i h. (goals_fit q.program P (back P q.program i) ds sigs hs gs (back-goals gs hs one) q h.0, goals_typed q.program P (back P q.program i) ds sigs hs gs (back-goals gs hs one) h.1)) isnt)
   comes (no_procedure {k = k} {last = l} came) = no_procedure (in-order (O.Unfit k) l came)
 
 pub one-comes : OneComes

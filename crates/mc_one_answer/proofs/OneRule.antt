@@ -44,11 +44,12 @@ use Rattle.mc_graph_laws.specs.Nodes.{Finds}
 use Rattle.mc_graph_laws.proofs.NodesMeanOne.{nodes-related}
 use Rattle.mc_graph_laws.proofs.OneVerdicts.{one-verdict}
 use Rattle.mc_switch.specs.Types as W
-use Rattle.mc_rules.specs.Premises.{Begins, AskedOf}
+use Rattle.mc_fitting.specs.TypedGoals.{IsTyped}
+use Rattle.mc_rules.specs.Premises.{Begins, AskedOf, GoalsAreTyped}
 use Rattle.mc_rule_laws.proofs.BodyOrders.{same_types}
 use Rattle.mc_one_answer.specs.FoundNodes.{joins_some, FoundNodes}
 use Rattle.mc_one_answer.specs.ModesMeanOne.{AreOne, NodesAreOne, SigsAreOne, ArePlaced, ModesAreOne}
-use Rattle.mc_one_answer.specs.OneListOfRules.{IsTyped, ModesAreTyped, OneListOfRules}
+use Rattle.mc_one_answer.specs.OneListOfRules.{OneListOfRules}
 use Rattle.mc_one_answer.proofs.FoundNodes.{in-numbers}
 use Rattle.mc_one_answer.proofs.ModesMeanOne.{modes-mean-one}
 use Rattle.mc_one_answer.proofs.NamedApart.{named-apart}
@@ -181,7 +182,7 @@ related-some P K L C E r =
       fits = r.fits;
     }
 
-module _ (found : FoundNodes) (P : Program) (ds es : List PlainInstDef) (sigs modes : List Sig) (goals : List Normal) (exported : List Bool) (first other : PlainProcs) (same : SigsAreOne (NodesAreOne P ds es) sigs modes) (placed : ArePlaced 0 sigs) (typed : ModesAreTyped P sigs goals)
+module _ (found : FoundNodes) (P : Program) (ds es : List PlainInstDef) (sigs modes : List Sig) (goals : List Normal) (exported : List Bool) (first other : PlainProcs) (same : SigsAreOne (NodesAreOne P ds es) sigs modes) (placed : ArePlaced 0 sigs)
     (met : (t : TypeTerm) → TypesMet (plain_program P) t) (here : Begins P ds sigs first) (there : Begins P es modes other) (asked : AskedOf first sigs goals exported) (asked_too : AskedOf other modes goals exported) where
   one-verdict-told : (id : ModeId) → IsMode P sigs id → (v w : Verdict) → IsTold found P sigs goals met id first.insts v → IsTold found P modes goals met id other.insts w → OneVerdict v w
   one-verdict-told id is v w x y =
@@ -211,7 +212,7 @@ module _ (found : FoundNodes) (P : Program) (ds es : List PlainInstDef) (sigs mo
           (subst (λ (X : Program). ((plain_program X).preds id.pred).builtin ≡ None) (sym here.program) is.no_builtin) id.mode is.mode
 
       types : IsTyped (plain_program P) id.pred g
-      types = typed id.pred is.pred is.no_builtin id.mode is.mode
+      types = subst (λ (X : Program). GoalsAreTyped X goals) here.program asked.goals_typed id.pred is.pred is.no_builtin
 
       are : ModesAreOne P sigs modes x.insts y.insts x.choice y.choice
       are = modes-mean-one P ds es sigs modes first other x.insts y.insts same placed here there asked.insts_there asked_too.insts_there x.grown y.grown x.choice y.choice
@@ -246,8 +247,8 @@ module _ (found : FoundNodes) (P : Program) (ds es : List PlainInstDef) (sigs mo
       (same-rules last also ts us rest (All-tail (IsMode P sigs) t.id (ids ts) are) (All-tail (IsTried sigs goals first last) t ts x) (All-tail (IsTried modes goals other also) u us y))
 
 pub one-list-of-rules : FoundNodes → OneListOfRules
-one-list-of-rules found P ds es sigs modes goals exported first other last also faults others same placed typed met here there asked asked_too x y =
+one-list-of-rules found P ds es sigs modes goals exported first other last also faults others same placed met here there asked asked_too x y =
     x.rules
-    ∙ same-rules found P ds es sigs modes goals exported first other same placed typed met here there asked asked_too last also x.tried y.tried (x.ids_are ∙ (sym (ids_one (NodesAreOne P ds es) P sigs modes same) ∙ sym y.ids_are))
+    ∙ same-rules found P ds es sigs modes goals exported first other same placed met here there asked asked_too last also x.tried y.tried (x.ids_are ∙ (sym (ids_one (NodesAreOne P ds es) P sigs modes same) ∙ sym y.ids_are))
     (subst (λ is. All (IsMode P sigs) is) (sym x.ids_are) (are_modes P sigs)) x.each y.each
     ∙ sym y.rules

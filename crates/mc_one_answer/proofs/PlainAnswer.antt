@@ -50,8 +50,8 @@ module _ (P Q : Program) (one : OneProgram P Q) where
   one-ruled (R.Unseen u) s is h = tt
 
 pub one-plain-answer : OneComes → OneAnswer → OnePlainAnswer
-one-plain-answer comes answer P Q ds es sigs modes goals others exported runs one same sigs-one normal apart met placed r s typed a b =
+one-plain-answer comes answer P Q ds es sigs modes goals others exported runs one same sigs-one normal apart met placed r s a b =
     let A : Ruled → Type 0 = λ x. Comes Q es modes others exported runs x in
     one-ruled P Q one r s (λ q e. its-program Q es modes others exported runs q (subst A e b))
-    (answer P ds es sigs modes goals exported runs sigs-one normal apart met placed r (ruled_over P s) typed a
+    (answer P ds es sigs modes goals exported runs sigs-one normal apart met placed r (ruled_over P s) a
     (comes P Q es modes goals others exported runs one same s b))

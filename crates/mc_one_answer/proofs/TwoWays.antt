@@ -38,9 +38,8 @@ use Rattle.mc_rules.specs.declared.rules.Ruled.TheVariants as R
 use Rattle.mc_rule_laws.proofs.OfModes.{last_program}
 use Rattle.mc_one_answer.specs.FoundNodes.{FoundNodes}
 use Rattle.mc_one_answer.specs.ModesMeanOne.{NodesAreOne, SigsAreOne, ArePlaced}
-use Rattle.mc_one_answer.specs.OneListOfRules.{AreTyped, ModesAreTyped, OneListOfRules}
-use Rattle.mc_one_answer.specs.OneAnswer.{RunAlike, OneRuled, ComeToFit, AreNamedApart, IsBroken, OneAnswer}
-use Rattle.mc_one_answer.proofs.FitTyped.{fit_typed}
+use Rattle.mc_one_answer.specs.OneListOfRules.{OneListOfRules}
+use Rattle.mc_one_answer.specs.OneAnswer.{RunAlike, OneRuled, ComeToFit, AreNamedApart, OneAnswer}
 use Rattle.mc_one_answer.proofs.SamePrograms.{one-value}
 use Rattle.mc_one_answer.proofs.OrderTypes.{types_are_one}
 use Rattle.mc_one_answer.proofs.TwoOrders.{orders_are_one}
@@ -160,10 +159,10 @@ module _ (P : Program) (defs defs2 : List PlainInstDef) (sigs sigs2 : List Sig) 
   both_untidy v w a b = a.same ∙ (ap by_place (one_untidy a.insts b.insts a.untidy b.untidy a.has b.has a.says b.says) ∙ sym b.same)
 
   -- ---- goals in order break no rule, and those that break one break one list
-  module _ (rules : OneListOfRules) (placed : ArePlaced 0 sigs) (typed : ModesAreTyped P sigs goals) (met : (t : TypeTerm) → TypesMet (plain_program P) t) where
+  module _ (rules : OneListOfRules) (placed : ArePlaced 0 sigs) (met : (t : TypeTerm) → TypesMet (plain_program P) t) where
     one_list_told : (o p : Orders) (q r : PlainProcs) (came : Here o q) (also : There p r) (xs ys : List Broken) → AreBroken sigs goals came.first q (mode_ids came.first.program sigs) xs → AreBroken sigs2 goals also.first r (mode_ids also.first.program sigs2) ys → xs ≡ ys
     one_list_told o p q r came also xs ys f g =
-        rules P defs defs2 sigs sigs2 goals exported came.first also.first q r xs ys one_sigs placed typed met came.begins also.begins came.asked also.asked
+        rules P defs defs2 sigs sigs2 goals exported came.first also.first q r xs ys one_sigs placed met came.begins also.begins came.asked also.asked
         (subst (λ (X : Program). AreBroken sigs goals came.first q (mode_ids X sigs) xs) came.begins.program f)
         (subst (λ (X : Program). AreBroken sigs2 goals also.first r (mode_ids X sigs2) ys) also.begins.program g)
 
@@ -188,15 +187,12 @@ module _ (P : Program) (defs defs2 : List PlainInstDef) (sigs sigs2 : List Sig) 
     abbrev does : Builtin → List Val → Outcome
     does = outcome (library_of P) []
 
-    -- where procedures come that fit, clauses name their variables apart, and goals are typed
+    -- where procedures come that fit, clauses name their variables apart
     fitting : (l : PlainProcs) (xs : List Broken) → JudgedHere l xs → ComeToFit P defs sigs goals exported
     fitting l xs a = record { ordered = a.ordered; last = l; came = a.came; determined = a.determined; fit = a.fit }
 
     apart : (l : PlainProcs) (xs : List Broken) → JudgedHere l xs → AreNamedApart P
     apart l xs a = apart_if (fitting l xs a)
-
-    typed_here : (l : PlainProcs) (xs : List Broken) → JudgedHere l xs → ModesAreTyped P sigs goals
-    typed_here l xs a = fit_typed found does P defs sigs goals exported normal (apart l xs a) met a.ordered l a.came a.determined a.fit
 
     -- the orders of goals are one
     orders : (l1 l2 : PlainProcs) (xs ys : List Broken) (a : JudgedHere l1 xs) (b : JudgedThere l2 ys)
@@ -211,7 +207,7 @@ module _ (P : Program) (defs defs2 : List PlainInstDef) (sigs sigs2 : List Sig) 
 
     not_kept : (l : PlainProcs) (v : Vec Broken Global) → JudgedHere l [] → BreaksThere v → ⊥
     not_kept l v a (inl b) = nor_untidy v O.All a.ordered b a.came
-    not_kept l v a (inr (inl b)) = not_both rules placed (typed_here l [] a) met v a.ordered b.last a.came b.came
+    not_kept l v a (inr (inl b)) = not_both rules placed met v a.ordered b.last a.came b.came
     not_kept l v a (inr (inr b)) = b.some (sym (one_fault_list l b.last [] v.items a b.judged))
 
     both_kept : (q r : PlainProcs) → JudgedHere q [] → JudgedThere r [] → RunAlike q r
@@ -225,35 +221,31 @@ module _ (P : Program) (defs defs2 : List PlainInstDef) (sigs sigs2 : List Sig) 
           queries = λ does budget height k. (one does budget height k).1;
         }
 
-    module _ (typed : AreTyped P goals) where
-      modes_typed : ModesAreTyped P sigs goals
-      modes_typed p lt none k there = typed p lt none
+    nor_kept : (l : PlainProcs) (v : Vec Broken Global) → BreaksHere v → JudgedThere l [] → ⊥
+    nor_kept l v (inl a) b = not_untidy v O.All b.ordered a b.came
+    nor_kept l v (inr (inl a)) b = nor_both rules placed met v a.last b.ordered a.came b.came
+    nor_kept l v (inr (inr a)) b = a.some (one_fault_list a.last l v.items [] a.judged b)
 
-      nor_kept : (l : PlainProcs) (v : Vec Broken Global) → BreaksHere v → JudgedThere l [] → ⊥
-      nor_kept l v (inl a) b = not_untidy v O.All b.ordered a b.came
-      nor_kept l v (inr (inl a)) b = nor_both rules placed modes_typed met v a.last b.ordered a.came b.came
-      nor_kept l v (inr (inr a)) b = a.some (one_fault_list a.last l v.items [] a.judged b)
+    both_broken : (v w : Vec Broken Global) → BreaksHere v → BreaksThere w → v.items ≡ w.items
+    both_broken v w (inl a) (inl b) = both_untidy v w a b
+    both_broken v w (inl a) (inr (inl b)) = absurd (not_untidy v (O.Broken w) b.last a b.came)
+    both_broken v w (inl a) (inr (inr b)) = absurd (not_untidy v O.All b.judged.ordered a b.judged.came)
+    both_broken v w (inr (inl a)) (inl b) = absurd (nor_untidy w (O.Broken v) a.last b a.came)
+    both_broken v w (inr (inl a)) (inr (inl b)) = one_mode_list rules placed met v w a.last b.last a.came b.came
+    both_broken v w (inr (inl a)) (inr (inr b)) = absurd (nor_both rules placed met v a.last b.judged.ordered a.came b.judged.came)
+    both_broken v w (inr (inr a)) (inl b) = absurd (nor_untidy w O.All a.judged.ordered b a.judged.came)
+    both_broken v w (inr (inr a)) (inr (inl b)) = absurd (not_both rules placed met w a.judged.ordered b.last a.judged.came b.came)
+    both_broken v w (inr (inr a)) (inr (inr b)) = one_fault_list a.last b.last v.items w.items a.judged b.judged
 
-      both_broken : (v w : Vec Broken Global) → BreaksHere v → BreaksThere w → v.items ≡ w.items
-      both_broken v w (inl a) (inl b) = both_untidy v w a b
-      both_broken v w (inl a) (inr (inl b)) = absurd (not_untidy v (O.Broken w) b.last a b.came)
-      both_broken v w (inl a) (inr (inr b)) = absurd (not_untidy v O.All b.judged.ordered a b.judged.came)
-      both_broken v w (inr (inl a)) (inl b) = absurd (nor_untidy w (O.Broken v) a.last b a.came)
-      both_broken v w (inr (inl a)) (inr (inl b)) = one_mode_list rules placed modes_typed met v w a.last b.last a.came b.came
-      both_broken v w (inr (inl a)) (inr (inr b)) = absurd (nor_both rules placed modes_typed met v a.last b.judged.ordered a.came b.judged.came)
-      both_broken v w (inr (inr a)) (inl b) = absurd (nor_untidy w O.All a.judged.ordered b a.judged.came)
-      both_broken v w (inr (inr a)) (inr (inl b)) = absurd (not_both rules placed modes_typed met w a.judged.ordered b.last a.judged.came b.came)
-      both_broken v w (inr (inr a)) (inr (inr b)) = one_fault_list a.last b.last v.items w.items a.judged b.judged
-
-    both_come : (r s : Ruled) → (IsBroken r → AreTyped P goals) → Comes P defs sigs goals exported runs r → Comes P defs2 sigs2 goals exported runs s → OneRuled r s
-    both_come (R.Procs q) (R.Procs r) typed a b = both_kept q r (kept P defs sigs goals exported runs q a) (kept P defs2 sigs2 goals exported runs r b)
-    both_come (R.Procs q) (R.Broken v) typed a b = not_kept q v (kept P defs sigs goals exported runs q a) (broken P defs2 sigs2 goals exported runs v b)
-    both_come (R.Procs q) (R.Unseen u) typed a b = tt
-    both_come (R.Broken v) (R.Procs q) typed a b = nor_kept (typed tt) q v (broken P defs sigs goals exported runs v a) (kept P defs2 sigs2 goals exported runs q b)
-    both_come (R.Broken v) (R.Broken w) typed a b = both_broken (typed tt) v w (broken P defs sigs goals exported runs v a) (broken P defs2 sigs2 goals exported runs w b)
-    both_come (R.Broken v) (R.Unseen u) typed a b = tt
-    both_come (R.Unseen u) s typed a b = tt
+    both_come : (r s : Ruled) → Comes P defs sigs goals exported runs r → Comes P defs2 sigs2 goals exported runs s → OneRuled r s
+    both_come (R.Procs q) (R.Procs r) a b = both_kept q r (kept P defs sigs goals exported runs q a) (kept P defs2 sigs2 goals exported runs r b)
+    both_come (R.Procs q) (R.Broken v) a b = not_kept q v (kept P defs sigs goals exported runs q a) (broken P defs2 sigs2 goals exported runs v b)
+    both_come (R.Procs q) (R.Unseen u) a b = tt
+    both_come (R.Broken v) (R.Procs q) a b = nor_kept q v (broken P defs sigs goals exported runs v a) (kept P defs2 sigs2 goals exported runs q b)
+    both_come (R.Broken v) (R.Broken w) a b = both_broken v w (broken P defs sigs goals exported runs v a) (broken P defs2 sigs2 goals exported runs w b)
+    both_come (R.Broken v) (R.Unseen u) a b = tt
+    both_come (R.Unseen u) s a b = tt
 
 -- two answers are one
 pub one-answer : FoundNodes → OneListOfRules → OneAnswer
-one-answer found rules P ds es sigs others goals exported runs same normal apart met placed r s typed a b = both_come P ds es sigs others goals exported runs same found rules placed normal apart met r s typed a b
+one-answer found rules P ds es sigs others goals exported runs same normal apart met placed r s a b = both_come P ds es sigs others goals exported runs same found rules placed normal apart met r s a b

@@ -23,7 +23,6 @@ use Rattle.mc_rules.specs.Rules.{Comes, Determined, Ordered}
 use Rattle.mc_rules.specs.declared.rules.Ruled.{Ruled}
 use Rattle.mc_rules.specs.declared.rules.Ruled.TheVariants as R
 use Rattle.mc_one_answer.specs.ModesMeanOne.{NodesAreOne, SigsAreOne, ArePlaced}
-use Rattle.mc_one_answer.specs.OneListOfRules.{AreTyped}
 use Rattle.mc_one_answer.specs.OneWhole.{GoalsAreOne, OneProgram}
 
 -- Procedures of programs that are one as plain data run alike: under each number, at each budget and height, whatever
@@ -64,16 +63,10 @@ abbrev pub AreNamedApart : Program → Type 0
 AreNamedApart P =
     (p : ℕ) → p < length P.preds → EachNamedApart ((plain_program P).preds p).clauses
 
--- an answer is a list of broken rules
-abbrev pub IsBroken : Ruled → Type 0
-IsBroken (R.Broken v) = Unit {0}
-IsBroken _ = ⊥
-
 -- Whatever comes of a program's goals in its declared modes, it is one, by whatever definitions of
 -- insts, where the nodes of modes are one. The goals are those of its clauses; below each type
--- there are finitely many; and signatures stand in the order of their predicates. Where procedures come
--- that fit, each clause names its quantified variables apart, and where rules are broken, goals are
--- typed. (That procedures fit tells that their goals are typed.)
+-- there are finitely many; and signatures stand in the order of their predicates. Where procedures
+-- come that fit, each clause names its quantified variables apart.
 abbrev pub OneAnswer : Type 0
 OneAnswer =
     (P : Program) (ds es : List PlainInstDef) (sigs others : List Sig) (goals : List Normal)
@@ -84,7 +77,6 @@ OneAnswer =
     → ((t : TypeTerm) → TypesMet (plain_program P) t)
     → ArePlaced 0 sigs
     → (r s : Ruled)
-    → (IsBroken r → AreTyped P goals)
     → Comes P ds sigs goals exported runs r → Comes P es others goals exported runs s
     → OneRuled r s
 
@@ -105,6 +97,5 @@ OnePlainAnswer =
     → ((t : TypeTerm) → TypesMet (plain_program P) t)
     → ArePlaced 0 sigs
     → (r s : Ruled)
-    → (IsBroken r → AreTyped P goals)
     → Comes P ds sigs goals exported runs r → Comes Q es modes others exported runs s
     → OneRuled r s

@@ -11,6 +11,7 @@ use Rattle.mc_insts.specs.Defining.{plain_definitions}
 use Rattle.mc_modules.specs.Linked.{Linked}
 use Rattle.mc_procs.specs.Procedures.{PlainProcs}
 use Rattle.mc_source.specs.declared.rule.Broken.{Broken}
+use Rattle.mc_rules.specs.Premises.{GoalsAreTyped}
 use Rattle.mc_rules.specs.Rules.{Comes}
 use Rattle.mc_rules.specs.declared.rules.Ruled.{Ruled}
 use Rattle.mc_whole_laws.specs.JudgedPrograms.{EachHasValues}
@@ -23,18 +24,16 @@ use Rattle.mc_compile.specs.Typing.{Types}
 use Rattle.mc_compile.specs.Checking.{Clauses, items_of}
 use Rattle.mc_compile.specs.Ruling.{PlainExecutable, IsModed, Insts, Modes}
 use Rattle.mc_compile.specs.Building.{CompilesRules}
-use Rattle.mc_one_answer.specs.OneListOfRules.{AreTyped}
-use Rattle.mc_one_answer.specs.OneAnswer.{RunAlike, OneRuled, IsBroken}
+use Rattle.mc_one_answer.specs.OneAnswer.{RunAlike, OneRuled}
 
 -- One answer comes of what is put in order of what is linked, where no definition of a type breaks
--- a rule. Where rules are broken, goals are typed.
+-- a rule.
 abbrev pub OneOrderedAnswer : Type 0
 OneOrderedAnswer =
     (runs first : Bool) (named : PlainNamed) (m n : Moded)
     → type_faults named.files.names ≡ []
     → IsModed first named m → IsModed first named n
     → (r s : Ruled)
-    → (IsBroken r → AreTyped m.whole.program m.whole.goals.items)
     → Comes m.whole.program (plain_definitions m.defs) m.sigs.items m.whole.goals.items
     m.whole.exported.items runs r
     → Comes n.whole.program (plain_definitions n.defs) n.sigs.items n.whole.goals.items
@@ -53,11 +52,11 @@ ComeToModes sources =
     Then Reads (Then Links (Then Types (Then Clauses (Then Insts (Modes sources))))) sources
 
 -- the goals of what is put in order are typed
-abbrev pub GoalsAreTyped : Sources → Type 0
-GoalsAreTyped sources =
+abbrev pub ComeTyped : Sources → Type 0
+ComeTyped sources =
     (moded : Moded)
     → ComeToModes sources (Ok moded)
-    → AreTyped moded.whole.program moded.whole.goals.items
+    → GoalsAreTyped moded.whole.program moded.whole.goals.items
 
 -- what is linked is well written, and the numbers and texts of its clauses are values
 abbrev pub AreWellLinked : Sources → Type 0
@@ -68,7 +67,7 @@ AreWellLinked sources =
 
 -- So they are where what is linked is well written.
 abbrev pub WellLinkedAreTyped : Type 0
-WellLinkedAreTyped = (sources : Sources) → AreWellLinked sources → GoalsAreTyped sources
+WellLinkedAreTyped = (sources : Sources) → AreWellLinked sources → ComeTyped sources
 
 -- executables that run alike, with one goal
 pub record OneExecutable (e f : PlainExecutable) : Type 0 where
@@ -85,17 +84,10 @@ OneCompiled (Err (Breaks rules)) (Err (Breaks others)) = others ≡ rules
 OneCompiled (Err (Breaks rules)) (Err Unbuilt) = Unit {0}
 OneCompiled (Err Unbuilt) r = Unit {0}
 
--- sources break rules
-abbrev pub IsRefused : Result PlainExecutable Refusal → Type 0
-IsRefused (Err (Breaks rules)) = Unit {0}
-IsRefused _ = ⊥
-
--- Whatever sources with rules are compiled to, it is one. Where rules are broken in both ways,
--- goals are typed.
+-- Whatever sources with rules are compiled to, it is one.
 abbrev pub CompiledAreOne : Type 0
 CompiledAreOne =
     (sources : Sources) (r q : Result PlainExecutable Refusal)
-    → (IsRefused r → IsRefused q → GoalsAreTyped sources)
     → CompilesRules sources r → CompilesRules sources q → OneCompiled r q
 
 -- Procedures that run alike are over programs whose values are written with the same names, and

@@ -20,23 +20,6 @@ use Rattle.mc_switch.specs.Types.{type_in}
 use Rattle.mc_rules.specs.Premises.{Begins, AskedOf}
 use Rattle.mc_one_answer.specs.ModesMeanOne.{NodesAreOne, SigsAreOne, ArePlaced}
 
--- a predicate's goal is typed, and its head variables have the predicate's types
-pub record IsTyped (P : Source) (p : ℕ) (g : Normal) : Type 0 where
-  pub head : map (type_in g.var_types) g.head ≡ (P.preds p).types
-  pub body : TypedGoal P (type_in g.var_types) (plain_flat g.body)
-
--- so are those of all predicates that are no builtins
-abbrev pub AreTyped : Program → List Normal → Type 0
-AreTyped P goals =
-    (p : ℕ) → p < length P.preds → ((plain_program P).preds p).builtin ≡ None
-    → IsTyped (plain_program P) p (goal_at goals p)
-
--- so are those of the predicates that have modes
-abbrev pub ModesAreTyped : Program → List Sig → List Normal → Type 0
-ModesAreTyped P sigs goals =
-    (p : ℕ) → p < length P.preds → ((plain_program P).preds p).builtin ≡ None
-    → (k : ℕ) → k < length (modes_at sigs p) → IsTyped (plain_program P) p (goal_at goals p)
-
 -- Where goals are put in order in two ways, from the beginning on, they break one list of rules; and
 -- where they break none in one, they break none in the other.
 abbrev pub OneListOfRules : Type 0
@@ -44,8 +27,7 @@ OneListOfRules =
     (P : Program) (ds es : List PlainInstDef) (sigs modes : List Sig) (goals : List Normal)
     (exported : List Bool) (first other here there : PlainProcs) (faults others : List Broken)
     → SigsAreOne (NodesAreOne P ds es) sigs modes
-    → ArePlaced 0 sigs → ModesAreTyped P sigs goals
-    → ((t : TypeTerm) → TypesMet (plain_program P) t)
+    → ArePlaced 0 sigs → ((t : TypeTerm) → TypesMet (plain_program P) t)
     → Begins P ds sigs first → Begins P es modes other
     → AskedOf first sigs goals exported → AskedOf other modes goals exported
     → AreBroken sigs goals first here (mode_ids P sigs) faults

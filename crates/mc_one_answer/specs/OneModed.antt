@@ -11,8 +11,7 @@ use Rattle.mc_compile.specs.Ruling.{IsModed}
 use Rattle.mc_rules.specs.Rules.{Comes}
 use Rattle.mc_rules.specs.declared.rules.Ruled.{Ruled}
 use Rattle.mc_one_answer.specs.ModesMeanOne.{NodesAreOne, SigsAreOne, ArePlaced}
-use Rattle.mc_one_answer.specs.OneAnswer.{OneRuled, ComeToFit, AreNamedApart, IsBroken}
-use Rattle.mc_one_answer.specs.OneListOfRules.{AreTyped}
+use Rattle.mc_one_answer.specs.OneAnswer.{OneRuled, ComeToFit, AreNamedApart}
 use Rattle.mc_one_answer.specs.OneWhole.{WholeIsOne}
 
 -- One program as plain data, whose signatures stand in the order of its predicates and are one by the two
@@ -33,8 +32,8 @@ ModedAreOne =
     → IsModed first named m → IsModed first named n → ModedIsOne m n
 
 -- So what comes of it is one answer. What is asked of its goals besides is asked of the first way
--- alone: each clause names its quantified variables apart, where procedures come that fit; goals
--- are typed, where rules are broken; and below each type there are finitely many.
+-- alone: each clause names its quantified variables apart, where procedures come that fit; and
+-- below each type there are finitely many.
 abbrev pub OneModedAnswer : Type 0
 OneModedAnswer =
     (runs first : Bool) (named : PlainNamed) (m n : Moded)
@@ -43,7 +42,6 @@ OneModedAnswer =
     m.whole.exported.items → AreNamedApart m.whole.program)
     → ((t : TypeTerm) → TypesMet (plain_program m.whole.program) t)
     → (r s : Ruled)
-    → (IsBroken r → AreTyped m.whole.program m.whole.goals.items)
     → Comes m.whole.program (plain_definitions m.defs) m.sigs.items m.whole.goals.items
     m.whole.exported.items runs r
     → Comes n.whole.program (plain_definitions n.defs) n.sigs.items n.whole.goals.items

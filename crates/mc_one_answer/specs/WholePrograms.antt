@@ -12,8 +12,8 @@ use Rattle.mc_signatures.specs.Signatures.{AreSignatures}
 use Rattle.mc_whole_program.specs.Wholes.{IsWhole}
 use Rattle.mc_whole_program.specs.declared.program.WholeProgram.{WholeProgram}
 use Rattle.mc_whole_laws.specs.WholeTypes.{TypesFitIn}
+use Rattle.mc_rules.specs.Premises.{GoalsAreTyped}
 use Rattle.mc_one_answer.specs.ModesMeanOne.{ArePlaced}
-use Rattle.mc_one_answer.specs.OneListOfRules.{AreTyped}
 
 -- Where a whole program fits as far as types go, its predicates' goals are typed.
 abbrev pub WholeGoalsAreTyped : Type 0
@@ -21,7 +21,7 @@ WholeGoalsAreTyped =
     (l : Linked) (clauses : List (ℕ × TypedClause)) (query : Option TypedClause)
     (whole : WholeProgram)
     → IsWhole l clauses query whole → TypesFitIn l whole
-    → AreTyped whole.program whole.goals.items
+    → GoalsAreTyped whole.program whole.goals.items
 
 -- The signatures of declared modes stand in the order of their predicates, and so do others behind
 -- them.

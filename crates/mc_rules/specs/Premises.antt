@@ -15,6 +15,7 @@ use Rattle.mc_insts.specs.Graphs.{graph_of, count_of}
 use Rattle.mc_insts.specs.Kept.{AreOf}
 use Rattle.mc_library_fit.specs.HasLibrary.{HasLibrary}
 use Rattle.mc_procs.specs.Procedures.{PlainProcs, source_of, insts_of}
+use Rattle.mc_fitting.specs.TypedGoals.{IsTyped}
 use Rattle.mc_modes.specs.Signatures.{modes_at, mode_in, SigsFit}
 use Rattle.mc_modes.specs.Schedules.{NormalFits}
 use Rattle.mc_orders.specs.Numbering.{mode_ids}
@@ -53,13 +54,20 @@ GoalsFitModes q sigs goals =
     → p < length q.program.preds → ((source_of q).preds p).builtin ≡ None
     → (k : ℕ) → k < length (modes_at sigs p) → NormalFits q (mode_in sigs p k) (goal_at goals p)
 
+-- the goals of predicates that are no builtins are typed
+abbrev pub GoalsAreTyped : Program → List Normal → Type 0
+GoalsAreTyped P goals =
+    (p : ℕ)
+    → p < length P.preds → ((plain_program P).preds p).builtin ≡ None
+    → IsTyped (plain_program P) p (goal_at goals p)
+
 -- a declared determinism that is committed is `cc_multi` or `cc_nondet`: it has many answers
 abbrev pub CommittedAreMany : List Sig → Type 0
 CommittedAreMany sigs =
     (p k : ℕ) (d : Det) → (mode_in sigs p k).det ≡ Some d → d.committed ≡ true → d.most ≡ M.Many
 
 -- what is asked of declared modes and goals: modes are those of predicates, their insts are there, they
--- tell the numbers of their procedures, and goals fit them
+-- tell the numbers of their procedures, and goals fit them and are typed
 pub record AskedOf (q : PlainProcs) (sigs : List Sig) (goals : List Normal) (exported : List Bool)
     : Type 0 where
   pub as_many_exported : length exported ≡ length q.program.preds
@@ -68,3 +76,4 @@ pub record AskedOf (q : PlainProcs) (sigs : List Sig) (goals : List Normal) (exp
   pub insts_there : SigsFit (count_of q.insts) sigs
   pub numbers_told : TellNumbers q sigs
   pub goals_fit : GoalsFitModes q sigs goals
+  pub goals_typed : GoalsAreTyped q.program goals

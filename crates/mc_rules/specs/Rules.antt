@@ -30,7 +30,7 @@ use Rattle.mc_det.specs.Determinisms.{AreDeterminisms, declared_system}
 use Rattle.mc_det.specs.MarkedProcedures.{Inferred, MarksHold, determinisms_of}
 use Rattle.mc_det.specs.PrunedProcedures.{Pruned}
 use Rattle.mc_switch.specs.SwitchedBodies.{Switches}
-use Rattle.mc_rules.specs.Premises.{HasInsts, Begins, TellNumbers, GoalsFitModes, CommittedAreMany, AskedOf}
+use Rattle.mc_rules.specs.Premises.{HasInsts, Begins, TellNumbers, GoalsFitModes, GoalsAreTyped, CommittedAreMany, AskedOf}
 use Rattle.mc_rules.specs.Untidy.{AreUntidy}
 use Rattle.mc_rules.specs.declared.rules.Ruled.{Ruled}
 use Rattle.mc_rules.specs.declared.rules.Ruled.TheVariants as R
@@ -123,7 +123,7 @@ pub data Comes (P : Program) (ds : List PlainInstDef) (sigs : List Sig) (goals :
       IsntAtFirst P ds sigs (λ q. TellNumbers q sigs)
       → Comes P ds sigs goals exported runs (R.Unseen U.Numbers)
   no_goals :
-      IsntAtFirst P ds sigs (λ q. GoalsFitModes q sigs goals)
+      IsntAtFirst P ds sigs (λ q. GoalsFitModes q sigs goals × GoalsAreTyped q.program goals)
       → Comes P ds sigs goals exported runs (R.Unseen U.Goals)
   no_procedure :
       {k : ℕ} {last : PlainProcs}

@@ -39,7 +39,7 @@ fn pred_fits(procs: &Procs, sigs: &[Sig], goals: &[Normal], pred: u32) -> bool
 }
 
 /// Whether a builtin stands for a predicate's clauses.
-fn has_builtin(pred: &Pred) -> bool
+pub(crate) fn has_builtin(pred: &Pred) -> bool
     ensures none { IsFalse result → pred.now.builtin ≡ None }
     ensures some { IsTrue result → pred.now.builtin ≡ None → ⊥ }
 {

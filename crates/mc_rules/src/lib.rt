@@ -7,6 +7,7 @@ mod judging;
 mod premises;
 mod rules;
 mod signatures;
+mod typed;
 mod untidy;
 
 pub use rules::{Ruled, Unseen, procedures};

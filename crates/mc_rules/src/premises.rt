@@ -8,6 +8,7 @@ ghost use Rattle.mc_rules.specs.code.Missing.{IsMissing};
 use crate::determinisms::committed_are_many;
 use crate::goals::goals_fit;
 use crate::rules::Unseen;
+use crate::typed::goals_are_typed;
 use mc_base::Memory;
 use mc_model::flat::Normal;
 use mc_model::inst::Sig;
@@ -43,6 +44,9 @@ pub(crate) fn missing(
         return Ok(Some(Unseen::Numbers));
     }
     if !goals_fit(procs, sigs, goals) {
+        return Ok(Some(Unseen::Goals));
+    }
+    if !goals_are_typed(alloc, procs.program(), goals)? {
         return Ok(Some(Unseen::Goals));
     }
     Ok(None)

@@ -64,7 +64,7 @@ pub enum Unseen {
     Insts,
     /// Modes tell the numbers of their procedures.
     Numbers,
-    /// Goals name what is there, and have a head variable for each inst of their modes.
+    /// Goals name what is there, have a head variable for each inst of their modes, and are typed.
     Goals,
     /// The procedure of this number fits.
     Procedure(u32),

@@ -8,7 +8,7 @@ use Rattle.mc_accepted.specs.Fits.{FitsTypes}
 use Rattle.mc_insts.specs.Programs.{FitsConstructors}
 use Rattle.mc_library_fit.specs.HasLibrary.{HasLibrary}
 use Rattle.mc_procs.specs.Procedures.{PlainProcs, parameters_in}
-use Rattle.mc_rules.specs.Premises.{TellNumbers, GoalsFitModes, CommittedAreMany}
+use Rattle.mc_rules.specs.Premises.{TellNumbers, GoalsFitModes, GoalsAreTyped, CommittedAreMany}
 use Rattle.mc_rules.specs.declared.rules.Unseen.{Unseen}
 use Rattle.mc_rules.specs.declared.rules.Unseen.TheVariants as U
 
@@ -20,7 +20,8 @@ IsMissing q sigs goals exported U.Determinisms = CommittedAreMany sigs → ⊥
 IsMissing q sigs goals exported U.Definitions = ⊥
 IsMissing q sigs goals exported U.Insts = ⊥
 IsMissing q sigs goals exported U.Numbers = TellNumbers q sigs → ⊥
-IsMissing q sigs goals exported U.Goals = GoalsFitModes q sigs goals → ⊥
+IsMissing q sigs goals exported U.Goals =
+    GoalsFitModes q sigs goals × GoalsAreTyped q.program goals → ⊥
 IsMissing q sigs goals exported U.Types = ⊥
 IsMissing q sigs goals exported U.Constructors = ⊥
 IsMissing q sigs goals exported U.Library = ⊥

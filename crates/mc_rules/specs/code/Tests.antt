@@ -8,6 +8,7 @@ use Rattle.mc_model.specs.PlainGoals.{plain_flat}
 use Rattle.mc_model.specs.declared.flat.Normal.{Normal}
 use Rattle.mc_model.specs.declared.inst.ModeDecl.{ModeDecl}
 use Rattle.mc_model.specs.declared.inst.Sig.{Sig}
+use Rattle.mc_fitting.specs.TypedGoals.{IsTyped}
 use Rattle.mc_procs.specs.Named.{NumbersBelow}
 use Rattle.mc_procs.specs.Procedures.{PlainProcs, source_of}
 use Rattle.mc_mode_points.specs.Modes.{ModesFit}
@@ -42,6 +43,11 @@ abbrev pub PredFits : PlainProcs → List Sig → List Normal → ℕ → Type 0
 PredFits q sigs goals p =
     ((source_of q).preds p).builtin ≡ None
     → (k : ℕ) → k < length (modes_at sigs p) → NormalFits q (mode_in sigs p k) (goal_at goals p)
+
+-- the goal of one that is no builtin is typed
+abbrev pub PredIsTyped : Program → List Normal → ℕ → Type 0
+PredIsTyped P goals p =
+    ((plain_program P).preds p).builtin ≡ None → IsTyped (plain_program P) p (goal_at goals p)
 
 -- a constructor is there, and has that many arguments
 abbrev pub MakesKnown : Program → (symbol : ℕ) → (args : List ℕ) → Type 0

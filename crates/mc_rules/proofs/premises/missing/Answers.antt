@@ -1,5 +1,6 @@
-use Rattle.std.proofs.Common.{length, ap, ◌∙◌, arith}
+use Rattle.std.proofs.Common.{length, ap, subst, ◌∙◌, arith}
 use Rattle.mc_program.specs.declared.program.Program.{Program}
+use Rattle.mc_rules.specs.Premises.{GoalsAreTyped}
 use Rattle.mc_rules.proofs.premises.missing.Goals as goal
 
 pub returns : goal.returns
@@ -10,4 +11,5 @@ returns c = record {
   insts_there = c.requires.sigs;
   numbers_told = c.in_ok-tell_numbers.ensures.0 c.if-not-branch.false;
   goals_fit = c.goals_fit.ensures.0 c.if-not-goals_fit.false;
+  goals_typed = subst (λ (P : Program). GoalsAreTyped P c.args.goals.now) c.program-3.ensures (c.in_ok-goals_are_typed.ensures.0 c.if-not-branch-2.false);
 }
