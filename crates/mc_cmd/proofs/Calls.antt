@@ -25,7 +25,7 @@ use Rattle.mc_cmd.specs.Messages.{usage_line, unreadable_line, broken_lines}
 use Rattle.mc_cmd.specs.Ends.{Outcome, said, stop_of, end_status, written_run}
 use Rattle.mc_cmd.specs.Outcome.{files_of, bounds_of, sources_of, run_of_goal, written_of, written, Answers, refused, ran, Texts, These, Missing, texts_in, AnswersOver, DefinedFor, Defined}
 use Rattle.mc_cmd.specs.Call.{Told, NoneRose, AnswersWhole, Wrote, LacksOne, CannotRead, OfFiles, OfSources, BreaksRules, IsUnbuilt, RunsToEnd, StopsBy, IsThrown, IsTrueProgram, RunsTrue, SaidUnreadable, SaysUnreadable, PutsDefined, HoldTexts}
-use Rattle.mc_cmd.specs.Laws.{AtMostOneAnswer, IsSettled}
+use Rattle.mc_cmd.specs.Laws.{AtMostOneAnswer, AllIsSeen}
 use Rattle.mc_cmd.specs.declared.status.Status.{Status}
 use Rattle.mc_cmd.specs.declared.status.Status.TheVariants as S
 use Rattle.mc_cmd.specs.declared.decision.Decision.{Decision}
@@ -137,7 +137,7 @@ module _ (laws : Laws) where
   is_defined words held f0 f1 D.Memory x cf n s = absurd (s refl)
 
   -- and the one that is
-  one_defined : (words : List (List ℕ)) (held : Held) (f0 f1 : ℕ) (d : Decision) → IsDecided words (Some held) d → CountsFaults d f0 f1 → (Rose f0 f1 → ⊥) → (told_of d).status ≢ S.Memory → IsSettled words held → (o : Outcome) → Defined words held o → told_of d ≡ o
+  one_defined : (words : List (List ℕ)) (held : Held) (f0 f1 : ℕ) (d : Decision) → IsDecided words (Some held) d → CountsFaults d f0 f1 → (Rose f0 f1 → ⊥) → (told_of d).status ≢ S.Memory → AllIsSeen words held → (o : Outcome) → Defined words held o → told_of d ≡ o
   one_defined words held f0 f1 d x cf n s t o y = laws.one words held t (told_of d) o (is_defined words held f0 f1 d x cf n s) y
 
 -- the answers of facts come to their end
@@ -221,7 +221,7 @@ module _ (words : List (List ℕ)) (store : Option Held) (f0 f1 a0 a1 : ℕ) (ou
       at (Err put.Failed) w v (inr c) i e = absurd (none.output c.0)
       at (Err put.Memory) w v c i e = absurd (n e)
 
-  pub prefixes : Laws → (held : Held) (bo be : List ℕ) → Told store held out.before bo err.before be → (Rose f0 f1 → ⊥) → IsSettled words held → (o : Outcome) → Defined words held o → PutsFront out.before out.after o.out × PutsFront err.before err.after o.err
+  pub prefixes : Laws → (held : Held) (bo be : List ℕ) → Told store held out.before bo err.before be → (Rose f0 f1 → ⊥) → AllIsSeen words held → (o : Outcome) → Defined words held o → PutsFront out.before out.after o.out × PutsFront err.before err.after o.err
   prefixes laws held bo be told n t o y = at (memory_or_told h.decision)
     where
       at : (h.decision ≡ D.Memory) ⊎ ((told_of h.decision).status ≢ S.Memory) → PutsFront out.before out.after o.out × PutsFront err.before err.after o.err

@@ -8,5 +8,6 @@ pub mod Stops
 pub mod InTurn
 pub mod Commands
 pub mod Understanding
+pub mod Written
 pub mod Once
 pub mod Calls

@@ -1,41 +1,70 @@
--- Of words and of what files hold there is one defined answer at most, where the sources don't come to
--- the phases of rules, since what they are compiled to is one thing at most.
+-- Of words and of what files hold there is one defined answer at most, where nothing is left unseen, since what sources are
+-- built to is one thing.
 use Rattle.std.proofs.Common.{◌≡◌, ℕ, List, Option, Some, None, Result, Ok, Err, refl, sym, ap, ◌∙◌}
 use Rattle.mc_outside.specs.Meaning.{Held}
+use Rattle.mc_source.specs.declared.rule.Broken.{Broken}
 use Rattle.mc_command_line.specs.Words.{Meaning, meaning}
-use Rattle.mc_compile.specs.Phases.{Refusal, Unbuilt, AtMostOne}
-use Rattle.mc_compile.specs.Building.{Built}
+use Rattle.mc_compile.specs.Phases.{Refusal, Breaks, Unbuilt, AtMostOne}
+use Rattle.mc_compile.specs.Sources.{Sources}
+use Rattle.mc_compile.specs.Building.{Built, of_procedures, Builds, built, CompilesRules}
 use Rattle.mc_compile.specs.Compiling.{Compiles}
+use Rattle.mc_compile.specs.Ruling.{PlainExecutable}
+use Rattle.mc_one_answer.specs.OneCompiled.{CompiledAreOne, OneToBeRun, OneCompiled}
 use Rattle.mc_cmd.specs.Ends.{Outcome}
-use Rattle.mc_cmd.specs.Outcome.{files_of, sources_of, refusal, written, Answers, refused, ran, Texts, These, Missing, texts_in, AnswersOver, DefinedFor}
+use Rattle.mc_cmd.specs.Outcome.{bounds_of, files_of, sources_of, refusal, written, Answers, refused, ran, Texts, These, Missing, texts_in, AnswersOver, DefinedFor}
 use Rattle.mc_cmd.specs.Laws.{AtMostOneAnswer}
-use Rattle.mc_cmd.proofs.Builds.{one_built}
+use Rattle.mc_cmd.proofs.Builds.{BothWays, of_form, of_rules, both_ways}
+use Rattle.mc_cmd.proofs.Written.{written_as_one}
 
-ok_same : (x y : Built) → ◌≡◌ {A = Result Built Refusal} (Ok x) (Ok y) → x ≡ y
-ok_same x y e = cc
+-- nothing is left unseen of these texts
+abbrev AreSeen : Meaning → List (List ℕ) → Type 0
+AreSeen m texts = Builds (sources_of m texts) (Err Unbuilt) → ⊥
 
-not_both : (x : Built) (r : Refusal) → ◌≡◌ {A = Result Built Refusal} (Ok x) (Err r) → ⊥
-not_both x r e = cc
+-- what is answered of what sources are built to
+abbrev told : Meaning → Result Built Refusal → Outcome
+told m (Ok x) = written m x
+told m (Err r) = refusal m r
 
-err_same : (x y : Refusal) → ◌≡◌ {A = Result Built Refusal} (Err x) (Err y) → x ≡ y
-err_same x y e = cc
+-- something is left unseen
+abbrev IsUnseen : Result Built Refusal → Type 0
+IsUnseen (Err Unbuilt) = Unit {0}
+IsUnseen _ = ⊥
 
--- these texts are settled before the phases of rules
-abbrev AreSettled : Meaning → List (List ℕ) → Type 0
-AreSettled m texts = Compiles (sources_of m texts) (Err Unbuilt) → ⊥
+module _ (compiles : AtMostOne Compiles) (one : CompiledAreOne) (to_be_run : OneToBeRun) where
+  -- what is told of the phases of rules is one thing, where nothing is left unseen
+  one_told : (m : Meaning) (r q : Result PlainExecutable Refusal) → OneCompiled r q → (IsUnseen (built r) → ⊥) → (IsUnseen (built q) → ⊥) → told m (built r) ≡ told m (built q)
+  one_told m (Ok e) (Ok f) h n k = written_as_one to_be_run (bounds_of m) e f h
+  one_told m (Ok e) (Err (Breaks rules)) h n k = absurd h
+  one_told m (Ok e) (Err Unbuilt) h n k = absurd (k tt)
+  one_told m (Err (Breaks rules)) (Ok f) h n k = absurd h
+  one_told m (Err (Breaks rules)) (Err (Breaks others)) h n k = ap (λ (bs : List Broken). refusal m (Breaks bs)) (sym h)
+  one_told m (Err (Breaks rules)) (Err Unbuilt) h n k = absurd (k tt)
+  one_told m (Err Unbuilt) q h n k = absurd (n tt)
 
-module _ (one : AtMostOne Compiles) where
-  one_of_texts : (m : Meaning) (texts : List (List ℕ)) (o p : Outcome) → AreSettled m texts → Answers m texts o → Answers m texts p → o ≡ p
-  one_of_texts m texts o p n (refused {r = r} x) (refused {r = s} y) = ap (refusal m) (err_same r s (one_built one (sources_of m texts) (Err r) (Err s) n x y))
-  one_of_texts m texts o p n (refused {r = r} x) (ran {x = f} y) = absurd (not_both f r (one_built one (sources_of m texts) (Ok f) (Err r) n y x))
-  one_of_texts m texts o p n (ran {x = f} x) (refused {r = r} y) = absurd (not_both f r (one_built one (sources_of m texts) (Ok f) (Err r) n x y))
-  one_of_texts m texts o p n (ran {x = f} x) (ran {x = g} y) = ap (written m) (ok_same f g (one_built one (sources_of m texts) (Ok f) (Ok g) n x y))
+  one_built : (m : Meaning) (s : Sources) (r q : Result Built Refusal) → BothWays s r q → (IsUnseen r → ⊥) → (IsUnseen q → ⊥) → told m r ≡ told m q
+  one_built m s r q (of_form e) n k = ap (told m) e
+  one_built m s r q (of_rules {r = x} {q = y} a b) n k = one_told m x y (one s x y a b) n k
 
-  one_over : (m : Meaning) (t : Texts) (o p : Outcome) → ((texts : List (List ℕ)) → t ≡ These texts → AreSettled m texts) → AnswersOver m t o → AnswersOver m t p → o ≡ p
-  one_over m (These texts) o p n x y = one_of_texts m texts o p (n texts refl) x y
+  module _ (m : Meaning) (texts : List (List ℕ)) (seen : AreSeen m texts) where
+    is_seen : (r : Result Built Refusal) → Builds (sources_of m texts) r → IsUnseen r → ⊥
+    is_seen (Ok x) b u = u
+    is_seen (Err (Breaks rules)) b u = u
+    is_seen (Err Unbuilt) b u = seen b
+
+    same_told : (r q : Result Built Refusal) → Builds (sources_of m texts) r → Builds (sources_of m texts) q → told m r ≡ told m q
+    same_told r q x y = one_built m (sources_of m texts) r q (both_ways compiles (sources_of m texts) x y) (is_seen r x) (is_seen q y)
+
+    one_of_texts : (o p : Outcome) → Answers m texts o → Answers m texts p → o ≡ p
+    one_of_texts o p (refused {r = r} x) (refused {r = q} y) = same_told (Err r) (Err q) x y
+    one_of_texts o p (refused {r = r} x) (ran {x = f} y) = same_told (Err r) (Ok f) x y
+    one_of_texts o p (ran {x = f} x) (refused {r = r} y) = same_told (Ok f) (Err r) x y
+    one_of_texts o p (ran {x = f} x) (ran {x = g} y) = same_told (Ok f) (Ok g) x y
+
+  one_over : (m : Meaning) (t : Texts) (o p : Outcome) → ((texts : List (List ℕ)) → t ≡ These texts → AreSeen m texts) → AnswersOver m t o → AnswersOver m t p → o ≡ p
+  one_over m (These texts) o p n x y = one_of_texts m texts (n texts refl) o p x y
   one_over m (Missing file) o p n x y = x ∙ sym y
 
-  one_for : (k : Option Meaning) (held : Held) (o p : Outcome) → ((m : Meaning) (texts : List (List ℕ)) → k ≡ Some m → texts_in held (files_of m) ≡ These texts → AreSettled m texts) → DefinedFor k held o → DefinedFor k held p → o ≡ p
+  one_for : (k : Option Meaning) (held : Held) (o p : Outcome) → ((m : Meaning) (texts : List (List ℕ)) → k ≡ Some m → texts_in held (files_of m) ≡ These texts → AreSeen m texts) → DefinedFor k held o → DefinedFor k held p → o ≡ p
   one_for None held o p n x y = x ∙ sym y
   one_for (Some m) held o p n x y = one_over m (texts_in held (files_of m)) o p (λ texts e. n m texts refl e) x y
 

@@ -7,7 +7,7 @@ ghost use Rattle.mc_compile.specs.Sources.{Sources};
 ghost use Rattle.mc_compile.specs.Building.{Built, Builds};
 ghost use Rattle.mc_cmd.specs.Ends.{Outcome};
 ghost use Rattle.mc_cmd.specs.Outcome.{Defined, files_of};
-ghost use Rattle.mc_cmd.specs.Laws.{IsSettled};
+ghost use Rattle.mc_cmd.specs.Laws.{AllIsSeen};
 ghost use Rattle.mc_cmd.specs.Call.{AnswersWhole, BreaksRules, IsThrown, IsUnbuilt, LacksOne, NoneRose, OfFiles, OfSources, PutsDefined, RunsToEnd, RunsTrue, SaidUnreadable, SaysUnreadable, StopsBy, Told, Wrote};
 ghost use Rattle.mc_cmd.specs.code.Decisions.{CountPuts, EndsRun, Happened, Quiet, Writes, ended, told_of};
 
@@ -50,11 +50,11 @@ pub fn merc<F: Files, I: Source, O: Sink, E: Sink>(
         → AnswersWhole (map string_bytes words.now.items) held before_out before_err result
         (O.written out.new) (E.written err.new) }
     // Where a sink failed or memory was wanting, each sink was given a front part of the defined bytes, which are one
-    // answer at most where the sources are facts or are refused before the phases of rules.
+    // answer at most where all that procedures need is seen to hold.
     ensures prefix { (held : Held) (before_out before_err : List ℕ)
         → Told (F.held files.old) held (O.written out.old) before_out (E.written err.old) before_err
         → (Rose (F.faults files.old) (F.faults files.new) → ⊥)
-        → IsSettled (map string_bytes words.now.items) held
+        → AllIsSeen (map string_bytes words.now.items) held
         → (o : Outcome) → Defined (map string_bytes words.now.items) held o
         → PutsFront (O.written out.old) (O.written out.new) o.out
         × PutsFront (E.written err.old) (E.written err.new) o.err }
