@@ -37,7 +37,6 @@ use Rattle.mc_compile.specs.Checking.{Clauses}
 use Rattle.mc_compile.specs.Ruling.{PlainExecutable, IsModed, Insts, Modes, Procedures, executable, goal_of, numbered}
 use Rattle.mc_compile.specs.Building.{CompilesRules}
 use Rattle.mc_compile.proofs.Chains.{unbroken, unbroken_made}
-use Rattle.mc_compile.proofs.Once.{ok_same}
 use Rattle.mc_program_laws.proofs.Clauses.{typed_clauses_apart}
 use Rattle.mc_program_laws.proofs.Modes.{has_scopes}
 use Rattle.mc_program_laws.proofs.NamedApart.{whole_named_apart}
@@ -112,6 +111,9 @@ one-insts one typed x y p q =
     ∙ sym q.is)
 
 -- ---- one phase behind another
+ok_same : {B : Type 0} (x y : B) → ◌≡◌ {A = Result B Refusal} (Ok x) (Ok y) → x ≡ y
+ok_same x y e = cc
+
 err-same : {B C : Type 0} (r s : Refusal) → ◌≡◌ {A = Result B Refusal} (Err r) (Err s) → ◌≡◌ {A = Result C Refusal} (Err r) (Err s)
 err-same r s e = let same : r ≡ s = cc in ap Err same
 
