@@ -352,8 +352,7 @@ module _ (C : Chosen) (P : Source) (declared : ℕ → List Declared) (T : ℕ �
           → WithSleeper gs (remove gs k)
       with-sleeper [] k h e m o = absurd (omega (arith, h))
       with-sleeper (g ∷ gs) zero h e m o =
-          let r = all-mild gs e m in
-          (
+          let r = all-mild gs e m in (
             (
               (
                 (λ z. 0),
@@ -368,8 +367,7 @@ module _ (C : Chosen) (P : Source) (declared : ℕ → List Declared) (T : ℕ �
       with-sleeper (g ∷ gs) (suc k) h e m o =
           let q = and_parts (is_mild P declared g) (list_all (is_mild P declared) (remove gs k)) e in
           let p = and_parts (making_is_mild s (vs ++ all) g) (list_all (making_is_mild s (vs ++ all)) (remove gs k)) m in
-          let r = with-sleeper gs k (omega (arith, h)) q.1 p.1 o in
-          (
+          let r = with-sleeper gs k (omega (arith, h)) q.1 p.1 o in (
             ((own g, goal-is-mild g q.0 p.0), r.0),
             (λ z. let j = r.1 z in let l = times-append z (changed_by g) (changed_by_each (remove gs k)) in omega (arith, j, l)),
             inr r.2,

@@ -1,9 +1,7 @@
 -- Goals that sleep by their parts.
-use Rattle.std.proofs.Common.{◌≡◌, ◌∙◌, ◌⊎◌, inl, inr, ⊎_elim, true≢false, ℕ, zero, suc, ◌<◌, ◌≤◌, ◌+◌, ◌-◌, Bool, true, false, ◌&&◌, nat_eq, List, [], ◌∷◌, ◌++◌, map, length, get_or, take, drop, Result, Ok, Err, IfOk, IsTrue, refl, sym, ap, ap₂, subst, arith}
+use Rattle.std.proofs.Common.{◌≡◌, ◌∙◌, ◌⊎◌, inl, inr, ⊎_elim, true≢false, ℕ, zero, suc, ◌<◌, ◌≤◌, ◌+◌, ◌-◌, Bool, true, false, ◌&&◌, List, [], ◌∷◌, ◌++◌, map, length, get_or, take, drop, Result, Ok, Err, IfOk, IsTrue, refl, sym, ap, ap₂, subst, arith}
 use Rattle.std.specs.Bool.{◌==◌}
 use Rattle.std.specs.List.{list_all, remove}
-use Rattle.std.proofs.Math.Path.{fun_ext}
-use Rattle.std.proofs.lemmas.Bool.Decides.{nat_tests}
 use Rattle.std.proofs.lemmas.List.{take-map, drop-map, length-drop, get_or-map, length-map}
 use Rattle.std.proofs.Math.Nat.{eq-or-lt_of_le}
 use Rattle.mc_program.specs.Programs.{Source}
@@ -13,7 +11,6 @@ use Rattle.mc_model.specs.Flat.{Flat_goal, flats, variables_of, variables_of_all
 use Rattle.mc_model.specs.PlainGoals.{plain_flat}
 use Rattle.mc_model.specs.declared.flat.Flat.{Flat}
 use Rattle.mc_accepted.specs.Arranged.{Declared}
-use Rattle.mc_accepted.specs.Ordered.{times_in}
 use Rattle.mc_procs.specs.Named.{NumbersBelow}
 use Rattle.mc_procs.specs.Procedures.{PlainProcs}
 use Rattle.mc_mode_points.specs.declared.state.State.{State}

@@ -1,4 +1,4 @@
-use Rattle.std.proofs.Common.{◌≡◌, ◌∙◌, ◌<◌, ℕ, List, true, length, map, get_or, sym, ap, subst, arith}
+use Rattle.std.proofs.Common.{◌≡◌, ℕ, List, true, length, map, get_or, subst, arith}
 use Rattle.mc_model.specs.Flat.{Flat_goal}
 use Rattle.mc_model.specs.PlainGoals.{plain_flat}
 use Rattle.mc_modes.specs.code.Waiting.{nothing}
@@ -20,7 +20,7 @@ loop-j-preserved c =
     let mild : ℕ → Type 0 = λ i. making_is_mild s vs (get_or (map plain_flat gs) i nothing) ≡ true in
     but-one-on mild c.args.place j c.loop-j.invariant
     (elim c.else-j-place.branch [
-      else-j-place-via-then-j-place+in_ok-making_is_mild+else-not-branch w ↦ λ n.
+      | else-j-place-via-then-j-place+in_ok-making_is_mild+else-not-branch w ↦ λ n.
           subst (λ (g : Flat_goal). making_is_mild s vs g ≡ true) (goal-is gs j w.index-goals-j.result (omega (arith, c.loop-j-test.true)) w.index-goals-j.is)
           (subst (λ (us : List ℕ). making_is_mild s us (plain_flat w.index-goals-j.result) ≡ true) w.deref.ensures.value (w.in_ok-making_is_mild.ensures w.if-not-branch.false))
       | else-j-place-via-else-j-place w ↦ λ n. absurd (n w.if-j-place.false)

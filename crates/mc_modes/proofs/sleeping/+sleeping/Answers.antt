@@ -1,4 +1,4 @@
-use Rattle.std.proofs.Common.{◌≡◌, ◌∙◌, ◌<◌, ◌≤◌, ◌+◌, ◌++◌, ℕ, List, map, length, get_or, sym, ap, subst, arith}
+use Rattle.std.proofs.Common.{◌≡◌, ◌∙◌, ◌<◌, ◌++◌, ℕ, List, map, length, get_or, sym, ap, subst, arith}
 use Rattle.std.specs.List.{remove}
 use denote.Param.Weighed.{at_most}
 use Rattle.std.proofs.lemmas.List.{length-map}
