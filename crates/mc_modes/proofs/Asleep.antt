@@ -139,7 +139,7 @@ module _ (C : Chosen) (P : Source) (declared : ℕ → List Declared) (T : ℕ �
 
   -- ---- conjunctions
   module _ (s : State) (found : (f : ℕ) (is : List ℕ) → was_found s f is ≡ true → (k : ℕ) × (C.over f is ≡ Some k)) where
-    -- what goals whose variables these are tells of others: among how many of those that ran a variable is
+    -- Beside these variables, which change: by how often goals that ran change a variable, and how often in all.
     module _ (vs : List ℕ) (below : length s.insts.items ≤ first) (total : ℕ → ℕ) where
       abbrev rest : (done : ℕ → ℕ) → Free
       rest done z = kept_beside s vs z && nat_eq (done z) 0

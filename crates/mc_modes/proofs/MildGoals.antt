@@ -1,5 +1,5 @@
 -- A mild goal waits, or runs to a reachable end at which other variables are as they are at a state.
-use Rattle.std.proofs.Common.{◌≡◌, ◌∙◌, ◌⊎◌, inl, inr, ℕ, suc, ◌<◌, ◌≤◌, Bool, true, false, cond, not, nat_eq, nat_lt, ◌&&◌, ◌||◌, List, [], ◌∷◌, map, length, Option, Some, None, refl, ap, sym, subst, ⊎_elim, arith}
+use Rattle.std.proofs.Common.{◌≡◌, ◌∙◌, ◌⊎◌, inl, inr, ℕ, suc, ◌<◌, ◌≤◌, Bool, true, false, cond, not, nat_eq, nat_lt, ◌&&◌, ◌||◌, List, [], ◌∷◌, map, length, Option, Some, None, refl, sym, subst, ⊎_elim, arith}
 use Rattle.std.specs.List.{list_any, list_all}
 use Rattle.std.proofs.Math.Nat.{le_refl}
 use Rattle.std.proofs.lemmas.Bool.{eqb-true, not-true, and_parts}
@@ -7,17 +7,15 @@ use Rattle.mc_source.specs.Determinism.{is_zero}
 use Rattle.mc_program.specs.Values.{Val}
 use Rattle.mc_program.specs.Programs.{TypeTerm, Source}
 use Rattle.mc_program.specs.declared.builtin.Builtin.{Builtin}
-use Rattle.mc_model.specs.Flat as F
-use Rattle.mc_model.specs.Flat.{Flat_goal, variables_of}
 use Rattle.mc_model.specs.Lists.{In, is_in}
 use Rattle.mc_model.specs.Scheduled.{Scheduled, Call}
 use Rattle.mc_model.specs.Stream.{is_bound}
 use Rattle.mc_accepted.specs.Ordered.{Mode, is_state, modes_of, builtin_most}
-use Rattle.mc_accepted.specs.Arranged.{Operations, Declared, waits, Point, with_inst, Arranged, runs, breaks, fresh_at, one, atom, assigned, same, built, made, constant, input_after, after_call, after, usable, implied_in, better, best, called, applying, applied_with, call_of, trial}
+use Rattle.mc_accepted.specs.Arranged.{Operations, Declared, waits, Point, with_inst, Arranged, runs, breaks, fresh_at, one, atom, assigned, same, built, made, constant, input_after, after_call, after, usable, implied_in, better, best, called, applying, applied_with, call_of}
 use Rattle.mc_accepted.specs.Chosen.{Chosen, of_nodes}
 use Rattle.mc_mode_points.specs.States.{point_of}
 use Rattle.mc_mode_points.specs.declared.state.State.{State}
-use Rattle.mc_modes.specs.code.Sleeping.{OfWaiting, Waits, Free, is_mild, call_returns}
+use Rattle.mc_modes.specs.code.Sleeping.{OfWaiting, Waits, Free, call_returns}
 
 -- the kept variables are as they are at a state
 abbrev pub KeptAt : State → Free → Point ℕ → Type 0
