@@ -47,7 +47,7 @@ known-at P [] k d w h = absurd (omega arith)
 known-at P (g ∷ gs) zero d w h = w.0
 known-at P (g ∷ gs) (suc k) d w h = known-at P gs k d w.1 (omega arith)
 
-below-goal : (n : ℕ) (gs : List Flat_goal) (k : ℕ) (d : Flat_goal) → NumbersBelow n (variables_of_all (flats gs)) → k < length gs → NumbersBelow n (variables_of (get_or gs k d))
+pub below-goal : (n : ℕ) (gs : List Flat_goal) (k : ℕ) (d : Flat_goal) → NumbersBelow n (variables_of_all (flats gs)) → k < length gs → NumbersBelow n (variables_of (get_or gs k d))
 below-goal n [] k d w h = absurd (omega arith)
 below-goal n (g ∷ gs) zero d w h = below-first n (variables_of g) (variables_of_all (flats gs)) w
 below-goal n (g ∷ gs) (suc k) d w h = below-goal n gs k d (below-second n (variables_of g) (variables_of_all (flats gs)) w) (omega arith)

@@ -1,5 +1,5 @@
 -- What atoms wait for, by the places of their variables.
-use Rattle.std.proofs.Common.{◌≡◌, ◌∙◌, ℕ, zero, suc, ◌<◌, Bool, ◌≤◌, ◌+◌, true, false, true≢false, not, ◌&&◌, ◌||◌, nat_eq, nat_lt, List, [], ◌∷◌, length, map, drop, get_or, Option, None, refl, sym, ap, ap₂, subst, arith}
+use Rattle.std.proofs.Common.{◌≡◌, ◌∙◌, ℕ, zero, suc, ◌<◌, Bool, ◌≤◌, ◌+◌, true, false, not, ◌&&◌, ◌||◌, nat_eq, nat_lt, List, [], ◌∷◌, length, map, drop, get_or, Option, None, refl, sym, ap, ap₂, subst, arith}
 use Rattle.std.specs.List.{list_any, list_all}
 use Rattle.std.proofs.lemmas.List.{drop_more, drop_all, get_or-map}
 use Rattle.std.proofs.lemmas.Bool.Decides.{nat_tests}
@@ -15,7 +15,7 @@ use Rattle.mc_accepted.specs.Ordered.{Mode, zipped, times_in}
 use Rattle.mc_procs.specs.Named.{NumbersBelow}
 use Rattle.mc_mode_points.specs.States.{point_of}
 use Rattle.mc_mode_points.specs.declared.state.State.{State}
-use Rattle.mc_modes.specs.code.Sleeping.{Free, input_is_free, free_beside, free_now, call_sleeps, call_returns}
+use Rattle.mc_modes.specs.code.Sleeping.{Free, input_is_free, free_beside, free_now, kept_beside, call_sleeps, call_returns}
 use Rattle.mc_modes.proofs.Counts.{is-in-times}
 
 or-true : (t u : Bool) → u ≡ true → (t || u) ≡ true
@@ -36,21 +36,11 @@ free-is s others x i here h e z o =
     ∙ (not-not (nat_eq (times_in x others) 0)
     ∙ sym (ap₂ (λ (t u : Bool). (t && not u) && nat_eq (times_in x others) 0) below free))
 
--- what is told of a free one
-and-both : (s t : Bool) → (s && t) ≡ true → (s ≡ true) × (t ≡ true)
-and-both true true e = (refl, refl)
-and-both true false e = absurd (true≢false (sym e))
-and-both false t e = absurd (true≢false (sym e))
-
-not-so : (t : Bool) → not t ≡ true → t ≡ false
-not-so true e = absurd (true≢false (sym e))
-not-so false e = refl
-
-pub free-tells : (s : State) (others : List ℕ) (x : ℕ) → free_beside (free_now s) others x ≡ true → (x < length s.insts.items) × (is_bound (point_of s.insts.items x) ≡ false)
-free-tells s others x e =
-    let free = (and-both (free_now s x) (nat_eq (times_in x others) 0) e).0 in
-    let both = and-both (nat_lt x (length s.insts.items)) (not (is_bound (point_of s.insts.items x))) free in
-    (grind (arith, nat_tests, both), not-so (is_bound (point_of s.insts.items x)) both.1)
+-- a variable that isn't among these
+pub kept-is : (s : State) (vs : List ℕ) (x : ℕ) (here : Bool) → x < length s.insts.items → here ≡ is_in x vs → here ≡ false → kept_beside s vs x ≡ true
+kept-is s vs x here h e o =
+    let below : nat_lt x (length s.insts.items) ≡ true = grind (arith, nat_tests, h) in
+    ap₂ (λ (t u : Bool). t && u) below (sym (not-not (nat_eq (times_in x vs) 0)) ∙ ap not (sym (is-in-times x vs) ∙ (sym e ∙ o)))
 
 pub any-at : (f : ℕ → Bool) (xs : List ℕ) (k d : ℕ) → k < length xs → f (get_or xs k d) ≡ true → list_any f xs ≡ true
 any-at f [] k d h e = absurd (omega arith)

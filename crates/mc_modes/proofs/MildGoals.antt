@@ -1,42 +1,43 @@
--- A mild goal waits, or runs to a reachable end at which other variables are as they were.
-use Rattle.std.proofs.Common.{◌≡◌, ◌∙◌, ◌⊎◌, inl, inr, ℕ, suc, ◌<◌, ◌≤◌, Bool, true, false, cond, not, nat_eq, nat_lt, ◌&&◌, ◌||◌, List, [], ◌∷◌, length, Option, Some, None, refl, ap, sym, subst, ⊎_elim, arith}
+-- A mild goal waits, or runs to a reachable end at which other variables are as they are at a state.
+use Rattle.std.proofs.Common.{◌≡◌, ◌∙◌, ◌⊎◌, inl, inr, ℕ, suc, ◌<◌, ◌≤◌, Bool, true, false, cond, not, nat_eq, nat_lt, ◌&&◌, ◌||◌, List, [], ◌∷◌, map, length, Option, Some, None, refl, sym, subst, ⊎_elim, arith}
 use Rattle.std.specs.List.{list_any, list_all}
 use Rattle.std.proofs.Math.Nat.{le_refl}
 use Rattle.std.proofs.lemmas.Bool.{eqb-true, not-true, and_parts}
 use Rattle.mc_source.specs.Determinism.{is_zero}
+use Rattle.mc_program.specs.Values.{Val}
 use Rattle.mc_program.specs.Programs.{TypeTerm, Source}
 use Rattle.mc_program.specs.declared.builtin.Builtin.{Builtin}
-use Rattle.mc_model.specs.Flat as F
-use Rattle.mc_model.specs.Flat.{Flat_goal, variables_of}
 use Rattle.mc_model.specs.Lists.{In, is_in}
 use Rattle.mc_model.specs.Scheduled.{Scheduled, Call}
 use Rattle.mc_model.specs.Stream.{is_bound}
 use Rattle.mc_accepted.specs.Ordered.{Mode, is_state, modes_of, builtin_most}
-use Rattle.mc_accepted.specs.Arranged.{Operations, Declared, waits, Point, with_inst, Arranged, runs, breaks, fresh_at, one, atom, assigned, same, input_after, after_call, after, usable, implied_in, better, best, called, applying, applied_with, call_of, trial}
+use Rattle.mc_accepted.specs.Arranged.{Operations, Declared, waits, Point, with_inst, Arranged, runs, breaks, fresh_at, one, atom, assigned, same, built, made, constant, input_after, after_call, after, usable, implied_in, better, best, called, applying, applied_with, call_of}
 use Rattle.mc_accepted.specs.Chosen.{Chosen, of_nodes}
-use Rattle.mc_modes.specs.code.Sleeping.{OfWaiting, Waits, Free, is_mild, call_returns}
+use Rattle.mc_mode_points.specs.States.{point_of}
+use Rattle.mc_mode_points.specs.declared.state.State.{State}
+use Rattle.mc_modes.specs.code.Sleeping.{OfWaiting, Waits, Free, call_returns}
 
--- the free variables are free at a point
-abbrev pub FreeAt : Free → Point ℕ → Type 0
-FreeAt free b = (x : ℕ) → free x ≡ true → is_bound (b x) ≡ false
+-- the kept variables are as they are at a state
+abbrev pub KeptAt : State → Free → Point ℕ → Type 0
+KeptAt s kept b = (x : ℕ) → kept x ≡ true → b x ≡ point_of s.insts.items x
 
--- none of these is free
-abbrev pub NoneFree : Free → List ℕ → Type 0
-NoneFree free vs = (x : ℕ) → free x ≡ true → In x vs → ⊥
+-- none of these is kept
+abbrev pub NoneKept : Free → List ℕ → Type 0
+NoneKept kept vs = (x : ℕ) → kept x ≡ true → In x vs → ⊥
 
--- a free variable is one of the first
-abbrev pub FirstFree : Free → (first : ℕ) → Type 0
-FirstFree free first = (x : ℕ) → free x ≡ true → x < first
+-- a kept variable is one of the first
+abbrev pub FirstKept : Free → (first : ℕ) → Type 0
+FirstKept kept first = (x : ℕ) → kept x ≡ true → x < first
 
--- A try waits, or runs to a reachable end where the free variables still are free.
-abbrev pub Mild : Free → (first : ℕ) → Arranged ℕ → Type 0
-Mild free first (runs gs None m zs) = ⊥
-Mild free first (runs gs (Some c) m zs) = (first ≤ m) × FreeAt free c
-Mild free first (breaks f) = OfWaiting f
+-- A try waits, or runs to a reachable end where the kept variables still are as they were.
+abbrev pub Mild : State → Free → (first : ℕ) → Arranged ℕ → Type 0
+Mild s kept first (runs gs None m zs) = ⊥
+Mild s kept first (runs gs (Some c) m zs) = (first ≤ m) × KeptAt s kept c
+Mild s kept first (breaks f) = OfWaiting f
 
-pub waiting-is-mild : (free : Free) (first : ℕ) (r : Arranged ℕ) → Waits r → Mild free first r
-waiting-is-mild free first (runs gs o m zs) w = absurd w
-waiting-is-mild free first (breaks f) w = w
+pub waiting-is-mild : (s : State) (kept : Free) (first : ℕ) (r : Arranged ℕ) → Waits r → Mild s kept first r
+waiting-is-mild s kept first (runs gs o m zs) w = absurd w
+waiting-is-mild s kept first (breaks f) w = w
 
 with-inst-off : (x y i : ℕ) (b : Point ℕ) → (y ≡ x → ⊥) → with_inst ℕ x i b y ≡ b y
 with-inst-off x y i b off = at (nat_eq y x) (eqb-true y x)
@@ -49,17 +50,17 @@ cond-off : (t : Bool) (b c : Point ℕ) (x : ℕ) → c x ≡ b x → cond t b c
 cond-off true b c x e = refl
 cond-off false b c x e = e
 
-module _ (C : Chosen) (P : Source) (declared : ℕ → List Declared) (T : ℕ → TypeTerm) (free : Free) (first : ℕ) where
+module _ (C : Chosen) (P : Source) (declared : ℕ → List Declared) (T : ℕ → TypeTerm) (s : State) (kept : Free) (first : ℕ) where
   abbrev Op : Operations ℕ
   Op = of_nodes C
 
-  mild-if : (t : Bool) (p q : Arranged ℕ) → Mild free first p → Mild free first q → Mild free first (cond t p q)
+  mild-if : (t : Bool) (p q : Arranged ℕ) → Mild s kept first p → Mild s kept first q → Mild s kept first (cond t p q)
   mild-if true p q h k = h
   mild-if false p q h k = k
 
-  -- free variables that stay as they were still are free
-  still-free : (b c : Point ℕ) → FreeAt free b → ((x : ℕ) → free x ≡ true → c x ≡ b x) → FreeAt free c
-  still-free b c u s x e = ap is_bound (s x e) ∙ u x e
+  -- kept variables that stay as they were still are kept
+  still-kept : (b c : Point ℕ) → KeptAt s kept b → ((x : ℕ) → kept x ≡ true → c x ≡ b x) → KeptAt s kept c
+  still-kept b c u h x e = h x e ∙ u x e
 
   -- ---- equations
   assigned-off : (x y : ℕ) (b : Point ℕ) (z : ℕ) → (z ≡ x → ⊥) → (z ≡ y → ⊥) → assigned Op P declared T x y b z ≡ b z
@@ -69,12 +70,12 @@ module _ (C : Chosen) (P : Source) (declared : ℕ → List Declared) (T : ℕ �
       at true = with-inst-off y z 3 b q
       at false = refl
 
-  same-is-mild : (x y n : ℕ) (b : Point ℕ) → first ≤ n → FreeAt free b → NoneFree free (x ∷ y ∷ []) → Mild free first (same Op P declared T x y n b)
+  same-is-mild : (x y n : ℕ) (b : Point ℕ) → first ≤ n → KeptAt s kept b → NoneKept kept (x ∷ y ∷ []) → Mild s kept first (same Op P declared T x y n b)
   same-is-mild x y n b le u off =
       mild-if (is_bound (b x)) _ _
       (mild-if (is_bound (b y)) _ _ (mild-if (is_state (T x)) _ _ tt (le, u))
-      (le, still-free b (assigned Op P declared T y x b) u (λ z e. assigned-off y x b z (λ q. off z e (inr (inl q))) (λ q. off z e (inl q)))))
-      (mild-if (is_bound (b y)) _ _ (le, still-free b (assigned Op P declared T x y b) u (λ z e. assigned-off x y b z (λ q. off z e (inl q)) (λ q. off z e (inr (inl q))))) tt)
+      (le, still-kept b (assigned Op P declared T y x b) u (λ z e. assigned-off y x b z (λ q. off z e (inr (inl q))) (λ q. off z e (inl q)))))
+      (mild-if (is_bound (b y)) _ _ (le, still-kept b (assigned Op P declared T x y b) u (λ z e. assigned-off x y b z (λ q. off z e (inl q)) (λ q. off z e (inr (inl q))))) tt)
 
   -- ---- calls
   call-off : (f : ℕ → Bool) (ms : List Mode) (xs : List ℕ) (b : Point ℕ) (z : ℕ) → (In z xs → ⊥) → after_call Op P declared T f ms xs b z ≡ b z
@@ -103,9 +104,9 @@ module _ (C : Chosen) (P : Source) (declared : ℕ → List Declared) (T : ℕ �
       at false j f g = ⊎_elim (λ e. inl (inl e)) (λ l. ⊎_elim (λ q. inl (inr q)) (λ q. inr q) (g l)) j
 
   -- what returns
-  returning-is-mild : (t : Bool) (s : Scheduled) (n : ℕ) (b c : Point ℕ) → t ≡ false → first ≤ n → FreeAt free c → Mild free first (one Op b s (cond t None (Some c)) n)
-  returning-is-mild true s n b c e le u = absurd (cc e)
-  returning-is-mild false s n b c e le u = (le, u)
+  returning-is-mild : (t : Bool) (g : Scheduled) (n : ℕ) (b c : Point ℕ) → t ≡ false → first ≤ n → KeptAt s kept c → Mild s kept first (one Op b g (cond t None (Some c)) n)
+  returning-is-mild true g n b c e le u = absurd (cc e)
+  returning-is-mild false g n b c e le u = (le, u)
 
   abbrev Returns : Option Declared → Type 0
   Returns None = Unit {0}
@@ -126,38 +127,61 @@ module _ (C : Chosen) (P : Source) (declared : ℕ → List Declared) (T : ℕ �
       at true (Some e) p r = either (nat_lt (length (implied_in Op P declared T e.modes xs b)) (length (implied_in Op P declared T d.modes xs b))) e d r p
       at false o p r = r
 
-  called-is-mild : (o : Option Declared) (xs : List ℕ) (n : ℕ) (b : Point ℕ) → Returns o → first ≤ n → FreeAt free b → NoneFree free xs → Mild free first (called Op P declared T o xs n b)
+  called-is-mild : (o : Option Declared) (xs : List ℕ) (n : ℕ) (b : Point ℕ) → Returns o → first ≤ n → KeptAt s kept b → NoneKept kept xs → Mild s kept first (called Op P declared T o xs n b)
   called-is-mild None xs n b r le u off = tt
   called-is-mild (Some d) xs n b r le u off =
       returning-is-mild d.never (Call d.proc xs (implied_in Op P declared T d.modes xs b) false) n b (after Op P declared T d.modes xs b) r le
-      (still-free b (after Op P declared T d.modes xs b) u (λ z e. call-off (λ x. is_bound (b x)) d.modes xs b z (off z e)))
+      (still-kept b (after Op P declared T d.modes xs b) u (λ z e. call-off (λ x. is_bound (b x)) d.modes xs b z (off z e)))
 
-  applied-is-mild : (is : List ℕ) (op : Builtin) (xs : List ℕ) (n : ℕ) (b : Point ℕ) → is_zero (builtin_most op) ≡ false → first ≤ n → FreeAt free b → FirstFree free first → NoneFree free xs → Mild free first (applied_with Op P declared T is op xs n b)
+  applied-is-mild : (is : List ℕ) (op : Builtin) (xs : List ℕ) (n : ℕ) (b : Point ℕ) → is_zero (builtin_most op) ≡ false → first ≤ n → KeptAt s kept b → FirstKept kept first → NoneKept kept xs → Mild s kept first (applied_with Op P declared T is op xs n b)
   applied-is-mild [] op xs n b r le u lt off =
       returning-is-mild (is_zero (builtin_most op)) (applying Op P declared T op xs) n b (after Op P declared T (modes_of op) xs b) r le
-      (still-free b (after Op P declared T (modes_of op) xs b) u (λ z e. call-off (λ x. is_bound (b x)) (modes_of op) xs b z (off z e)))
+      (still-kept b (after Op P declared T (modes_of op) xs b) u (λ z e. call-off (λ x. is_bound (b x)) (modes_of op) xs b z (off z e)))
   applied-is-mild (i ∷ is) op xs n b r le u lt off =
       let zs = fresh_at 0 (i ∷ is) xs n in (
         omega (arith, le),
-        still-free b (after Op P declared T (modes_of op) zs b) u
+        still-kept b (after Op P declared T (modes_of op) zs b) u
             (λ z e. call-off (λ x. is_bound (b x)) (modes_of op) zs b z (λ j. ⊎_elim (off z e) (λ q. let l = lt z e in omega arith) (fresh-from 0 (i ∷ is) xs n z j))),
       )
 
-  call-is-mild : (o : Option Builtin) (p : ℕ) (xs : List ℕ) (n : ℕ) (b : Point ℕ) → call_returns P declared o p ≡ true → first ≤ n → FreeAt free b → FirstFree free first → NoneFree free xs → Mild free first (call_of Op P declared T o p xs n b)
+  call-is-mild : (o : Option Builtin) (p : ℕ) (xs : List ℕ) (n : ℕ) (b : Point ℕ) → call_returns P declared o p ≡ true → first ≤ n → KeptAt s kept b → FirstKept kept first → NoneKept kept xs → Mild s kept first (call_of Op P declared T o p xs n b)
   call-is-mild None p xs n b e le u lt off = called-is-mild (best Op P declared T (declared p) xs b) xs n b (best-returns (declared p) xs b e) le u off
   call-is-mild (Some op) p xs n b e le u lt off =
       mild-if (usable Op P declared T xs (modes_of op) xs b) _ _ (applied-is-mild (implied_in Op P declared T (modes_of op) xs b) op xs n b (not-true (is_zero (builtin_most op)) e) le u lt off) tt
 
-  atom-is-mild : (xs : List ℕ) (b : Point ℕ) (r : Arranged ℕ) → Mild free first r → Mild free first (atom Op P declared T xs b r)
+  atom-is-mild : (xs : List ℕ) (b : Point ℕ) (r : Arranged ℕ) → Mild s kept first r → Mild s kept first (atom Op P declared T xs b r)
   atom-is-mild xs b r h = mild-if (list_any (λ x. C.is_dead (b x)) xs) _ _ tt h
 
-  pub mild-runs : (g : Flat_goal) → is_mild P declared g ≡ true → FirstFree free first → NoneFree free (variables_of g) → (O : List ℕ) (n : ℕ) (b : Point ℕ) → first ≤ n → FreeAt free b → Mild free first (trial Op P declared T g O n b)
-  mild-runs (F.Same x y) e lt off O n b le u = atom-is-mild (x ∷ y ∷ []) b (same Op P declared T x y n b) (same-is-mild x y n b le u off)
-  mild-runs (F.Call p xs) e lt off O n b le u = atom-is-mild xs b (call_of Op P declared T (P.preds p).builtin p xs n b) (call-is-mild (P.preds p).builtin p xs n b e le u lt off)
-  mild-runs (F.Made x s ys) e lt off O n b le u = absurd (cc e)
-  mild-runs (F.Is x v) e lt off O n b le u = absurd (cc e)
-  mild-runs (F.And gs) e lt off O n b le u = absurd (cc e)
-  mild-runs (F.Or gs) e lt off O n b le u = absurd (cc e)
-  mild-runs (F.If vs g h k) e lt off O n b le u = absurd (cc e)
-  mild-runs (F.Not g) e lt off O n b le u = absurd (cc e)
-  mild-runs (F.Exists vs g) e lt off O n b le u = absurd (cc e)
+  -- ---- equations of a free variable with a constructor or a constant
+  mild-else : (t : Bool) (p q : Arranged ℕ) → t ≡ false → Mild s kept first q → Mild s kept first (cond t p q)
+  mild-else true p q e h = absurd (cc e)
+  mild-else false p q e h = h
+
+  mild-then : (t : Bool) (p q : Arranged ℕ) → t ≡ true → Mild s kept first p → Mild s kept first (cond t p q)
+  mild-then true p q e h = h
+  mild-then false p q e h = absurd (cc e)
+
+  set-keeps : (x i : ℕ) (b : Point ℕ) → KeptAt s kept b → NoneKept kept (x ∷ []) → KeptAt s kept (with_inst ℕ x i b)
+  set-keeps x i b u off = still-kept b (with_inst ℕ x i b) u (λ z e. with-inst-off x z i b (λ q. off z e (inl q)))
+
+  pub made-is-mild : (x f : ℕ) (ys : List ℕ) (n : ℕ) (b : Point ℕ) → first ≤ n → KeptAt s kept b → NoneKept kept (x ∷ []) → is_bound (b x) ≡ false
+      → (list_any (λ y. not (is_bound (b y)) || is_state (T y)) ys ≡ true) ⊎ ((k : ℕ) × (C.over f (map b ys) ≡ Some k)) → Mild s kept first (atom Op P declared T (x ∷ ys) b (made Op P declared T x f ys n b))
+  made-is-mild x f ys n b le u off free h =
+      atom-is-mild (x ∷ ys) b (made Op P declared T x f ys n b)
+      (mild-else (is_bound (b x)) _ _ free
+      (⊎_elim (λ e. mild-then (list_any (λ y. not (is_bound (b y)) || is_state (T y)) ys) _ _ e tt)
+      (λ k.
+      mild-if (list_any (λ y. not (is_bound (b y)) || is_state (T y)) ys) _ _ tt
+      (subst (λ (o : Option ℕ). Mild s kept first (built Op P declared T x f ys n b o)) (sym k.1) (le, set-keeps x k.0 b u off))) h))
+
+  pub constant-is-mild : (x : ℕ) (v : Val) (n : ℕ) (b : Point ℕ) → first ≤ n → KeptAt s kept b → NoneKept kept (x ∷ []) → is_bound (b x) ≡ false
+      → Mild s kept first (atom Op P declared T (x ∷ []) b (constant Op P declared T x v n b))
+  constant-is-mild x v n b le u off free =
+      atom-is-mild (x ∷ []) b (constant Op P declared T x v n b) (mild-else (is_bound (b x)) _ _ free (le, set-keeps x 1 b u off))
+
+  pub same-runs : (x y : ℕ) → NoneKept kept (x ∷ y ∷ []) → (n : ℕ) (b : Point ℕ) → first ≤ n → KeptAt s kept b → Mild s kept first (atom Op P declared T (x ∷ y ∷ []) b (same Op P declared T x y n b))
+  same-runs x y off n b le u = atom-is-mild (x ∷ y ∷ []) b (same Op P declared T x y n b) (same-is-mild x y n b le u off)
+
+  pub call-runs : (p : ℕ) (xs : List ℕ) → call_returns P declared (P.preds p).builtin p ≡ true → FirstKept kept first → NoneKept kept xs → (n : ℕ) (b : Point ℕ) → first ≤ n → KeptAt s kept b
+      → Mild s kept first (atom Op P declared T xs b (call_of Op P declared T (P.preds p).builtin p xs n b))
+  call-runs p xs e lt off n b le u = atom-is-mild xs b (call_of Op P declared T (P.preds p).builtin p xs n b) (call-is-mild (P.preds p).builtin p xs n b e le u lt off)

@@ -82,7 +82,7 @@ module _ (sigs : List Sig) (gs : List Flat_goal) (k : ℕ) (h : k < length gs) (
 
   -- it waits, whatever occurs outside it
   pub passed-asleep : (found : Option ModeFault) → FoundSoFar sigs gs k found q p s u
-      → ((C : Chosen) (T : ℕ → TypeTerm) (O : List ℕ) → Waits (trial (of_nodes C) (source_of p) (declared_in sigs) T g O (length u.insts.items) (point_of u.insts.items)))
+      → ((first : ℕ) (C : Chosen) (T : ℕ → TypeTerm) (O : List ℕ) → Suits first p u C T → Waits (trial (of_nodes C) (source_of p) (declared_in sigs) T g O (length u.insts.items) (point_of u.insts.items)))
       → FoundSoFar sigs gs (k + 1) found q p s u
   passed-asleep found so asleep = λ first O C T w v.
       let W = all_waiting (of_nodes C) (source_of q) (declared_in sigs) T gs in
@@ -92,7 +92,7 @@ module _ (sigs : List Sig) (gs : List Flat_goal) (k : ℕ) (h : k < length gs) (
       let same_try : trial (of_nodes C) (source_of p) (declared_in sigs) T g (O ++ others) (length u.insts.items) (point_of u.insts.items) ≡ here =
       ap₂ (trial (of_nodes C) (source_of p) (declared_in sigs) T g (O ++ others)) same.count same.point
       ∙ ap (λ P. trial (of_nodes C) P (declared_in sigs) T g (O ++ others) n b) (same-source q p s u m) in
-      sym (scanned-waits found (waiting_at (of_nodes C) (source_of q) (declared_in sigs) T g) (all_waiting (of_nodes C) (source_of q) (declared_in sigs) T (remove gs k)) here (pick (take (k + 1) W) (drop (k + 1) W) O n b) (subst Waits same_try (asleep C T (O ++ others))))
+      sym (scanned-waits found (waiting_at (of_nodes C) (source_of q) (declared_in sigs) T g) (all_waiting (of_nodes C) (source_of q) (declared_in sigs) T (remove gs k)) here (pick (take (k + 1) W) (drop (k + 1) W) O n b) (subst Waits same_try (asleep first C T (O ++ others) v)))
       ∙ (ap (scanned found) (sym (pick-at (of_nodes C) (source_of q) (declared_in sigs) T gs k O n b h)) ∙ so first O C T w v)
 
   -- it runs

@@ -1,25 +1,26 @@
 -- A pass over the waiting goals of a conjunction, by their places.
-use Rattle.std.proofs.Common.{◌≡◌, ◌∙◌, ℕ, ◌<◌, ◌+◌, List, [], length, get_or, Option, sym, ap, subst, arith}
+use Rattle.std.proofs.Common.{◌≡◌, ◌∙◌, ℕ, ◌<◌, ◌+◌, true, List, [], length, get_or, Option, Some, None, refl, sym, ap, subst, arith}
 use Rattle.mc_model.specs.Flat.{Flat_goal, variables_of}
 use Rattle.mc_model.specs.PlainGoals.{plain_flat}
 use Rattle.mc_model.specs.declared.flat.Flat.{Flat}
 use Rattle.mc_model.specs.declared.inst.Sig.{Sig}
 use Rattle.mc_procs.specs.Named.{NumbersBelow}
-use Rattle.mc_accepted.specs.Arranged.{trial}
-use Rattle.mc_accepted.specs.Chosen.{of_nodes}
+use Rattle.mc_accepted.specs.Arranged.{trial, is_there}
+use Rattle.mc_accepted.specs.Chosen.{Chosen, of_nodes}
 use Rattle.mc_procs.specs.Procedures.{PlainProcs, source_of}
 use Rattle.mc_mode_points.specs.States.{point_of, SameState}
+use Rattle.mc_mode_points.specs.Tables.{node_in}
+use Rattle.mc_program.specs.Programs.{TypeTerm}
 use Rattle.mc_mode_points.specs.Agreeing.{Stands, Moved}
 use Rattle.mc_mode_points.specs.Answers.{FreshAlike}
 use Rattle.mc_mode_points.specs.declared.state.State.{State}
 use Rattle.mc_mode_points.specs.declared.part.Part.{Part}
 use Rattle.mc_mode_points.specs.declared.fault.ModeFault.{ModeFault}
 use Rattle.mc_modes.specs.Signatures.{declared_in}
-use Rattle.mc_modes.specs.Tries.{trying, Runs, Breaks}
+use Rattle.mc_modes.specs.Tries.{Suits, trying, Runs, Breaks}
 use Rattle.mc_modes.specs.code.Waiting.{nothing, goals_at, variables_of_each, tells_around, Counted, noted, IsReady}
-use Rattle.mc_modes.specs.code.Sleeping.{Waits, Asleep, free_beside, free_now}
+use Rattle.mc_modes.specs.code.Sleeping.{Waits, Asleep, was_found}
 use Rattle.mc_modes.proofs.Asleep.{asleep-waits}
-use Rattle.mc_modes.proofs.FreeInputs.{free-tells}
 use Rattle.mc_modes.proofs.Passing.{FoundSoFar, passed-on, passed-asleep, passed-by}
 use Rattle.mc_modes.proofs.Placing.{goal-in, goals-long, place-below}
 
@@ -63,13 +64,21 @@ module _ (sigs : List Sig) (gs : List Flat) (ks : List ℕ) (k : ℕ) (x : Flat)
       (passed-on sigs waiting k short q p s u same m counted found r t f m.stands so
       (subst (λ (g : Flat_goal). Breaks (tells_around (variables_of g) u) (trying sigs g p u) p r u t f) (sym placed) b))
 
+  -- a node that was found is one for whatever suits
+  found-over : (first : ℕ) (C : Chosen) (T : ℕ → TypeTerm) → Suits first p u C T → (f : ℕ) (is : List ℕ) → was_found u f is ≡ true → (k : ℕ) × (C.over f is ≡ Some k)
+  found-over first C T v f is e = at (node_in u.nodes.overs f is) (λ k h. v.agrees.over f k is h) e
+    where
+      at : (o : Option ℕ) → ((k : ℕ) → o ≡ Some k → C.over f is ≡ Some k) → is_there o ≡ true → (k : ℕ) × (C.over f is ≡ Some k)
+      at None h e = absurd (cc e)
+      at (Some k) h e = (k, h k refl)
+
   -- it is seen to wait
-  pub found-asleep : Asleep (source_of p) (declared_in sigs) (free_beside (free_now u) []) (plain_flat x) → FoundSoFar sigs waiting (k + 1) found q p s u
+  pub found-asleep : Asleep (source_of p) (declared_in sigs) u [] (plain_flat x) → FoundSoFar sigs waiting (k + 1) found q p s u
   found-asleep a =
       passed-asleep sigs waiting k short q p s u same m counted found so
-      (λ C T O.
+      (λ first C T O v.
       subst (λ (g : Flat_goal). Waits (trial (of_nodes C) (source_of p) (declared_in sigs) T g O (length u.insts.items) (point_of u.insts.items))) (sym placed)
-      (asleep-waits C (source_of p) (declared_in sigs) T (length u.insts.items) (free_beside (free_now u) []) (plain_flat x) a (λ y e. (free-tells u [] y e).0) O (length u.insts.items) (point_of u.insts.items) (omega arith) (λ y e. (free-tells u [] y e).1)))
+      (asleep-waits C (source_of p) (declared_in sigs) T (length u.insts.items) u (found-over first C T v) [] (plain_flat x) a (omega arith) O (length u.insts.items) (point_of u.insts.items) (omega arith) (λ y e. refl)))
 
   -- it runs
   pub found-ready : (part : Part) → Stands q s → Runs (tells_around (variables_of (plain_flat x)) u) (trying sigs (plain_flat x) p u) p r u t part → IsReady sigs waiting q r s t k part

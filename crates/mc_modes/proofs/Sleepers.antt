@@ -1,9 +1,7 @@
 -- Goals that sleep by their parts.
-use Rattle.std.proofs.Common.{◌≡◌, ◌∙◌, ◌⊎◌, inl, inr, ⊎_elim, true≢false, ℕ, zero, suc, ◌<◌, ◌≤◌, ◌+◌, ◌-◌, Bool, true, false, ◌&&◌, nat_eq, List, [], ◌∷◌, ◌++◌, map, length, get_or, take, drop, Result, Ok, Err, IfOk, IsTrue, refl, sym, ap, ap₂, subst, arith}
+use Rattle.std.proofs.Common.{◌≡◌, ◌∙◌, ◌⊎◌, inl, inr, ⊎_elim, true≢false, ℕ, zero, suc, ◌<◌, ◌≤◌, ◌+◌, ◌-◌, Bool, true, false, ◌&&◌, List, [], ◌∷◌, ◌++◌, map, length, get_or, take, drop, Result, Ok, Err, IfOk, IsTrue, refl, sym, ap, ap₂, subst, arith}
 use Rattle.std.specs.Bool.{◌==◌}
 use Rattle.std.specs.List.{list_all, remove}
-use Rattle.std.proofs.Math.Path.{fun_ext}
-use Rattle.std.proofs.lemmas.Bool.Decides.{nat_tests}
 use Rattle.std.proofs.lemmas.List.{take-map, drop-map, length-drop, get_or-map, length-map}
 use Rattle.std.proofs.Math.Nat.{eq-or-lt_of_le}
 use Rattle.mc_program.specs.Programs.{Source}
@@ -13,14 +11,13 @@ use Rattle.mc_model.specs.Flat.{Flat_goal, flats, variables_of, variables_of_all
 use Rattle.mc_model.specs.PlainGoals.{plain_flat}
 use Rattle.mc_model.specs.declared.flat.Flat.{Flat}
 use Rattle.mc_accepted.specs.Arranged.{Declared}
-use Rattle.mc_accepted.specs.Ordered.{times_in}
+use Rattle.mc_procs.specs.Named.{NumbersBelow}
 use Rattle.mc_procs.specs.Procedures.{PlainProcs}
 use Rattle.mc_mode_points.specs.declared.state.State.{State}
 use Rattle.mc_modes.specs.Fitting.{Known, AllKnown, GoalFits, GoalsFit}
-use Rattle.mc_modes.specs.code.Waiting.{nothing, variables_of_each}
-use Rattle.mc_modes.specs.code.Sleeping.{Free, free_beside, Asleep, in_first}
-use Rattle.mc_modes.proofs.Counts.{times-append}
-use Rattle.mc_modes.proofs.Fits.{each-variables, known-at, goal-at}
+use Rattle.mc_modes.specs.code.Waiting.{nothing}
+use Rattle.mc_modes.specs.code.Sleeping.{Asleep, in_first, changed_by, changed_by_each}
+use Rattle.mc_modes.proofs.Fits.{known-at, goal-at, below-goal}
 
 pub both-true : (s t : Bool) → s ≡ true → t ≡ true → (s && t) ≡ true
 both-true s t e f = ap₂ (λ (a b : Bool). a && b) e f
@@ -31,9 +28,9 @@ sleeps-by (Ok b) X Y f h = λ i. f (h i)
 sleeps-by (Err e) X Y f h = tt
 
 -- a disjunction by its first branch
-pub or-first : (P : Source) (declared : ℕ → List Declared) (free : Free) (gs : List Flat) (x : Flat) → 0 < length gs → x ≡ get_or gs 0 x → Asleep P declared free (plain_flat x) → Asleep P declared free (F.Or (flats (map plain_flat gs)))
-or-first P declared free [] x h e a = absurd (omega arith)
-or-first P declared free (y ∷ ys) x h e a = in_first (subst (λ (z : Flat). Asleep P declared free (plain_flat z)) e a)
+pub or-first : (P : Source) (declared : ℕ → List Declared) (s : State) (vs : List ℕ) (gs : List Flat) (x : Flat) → 0 < length gs → x ≡ get_or gs 0 x → Asleep P declared s vs (plain_flat x) → Asleep P declared s vs (F.Or (flats (map plain_flat gs)))
+or-first P declared s vs [] x h e a = absurd (omega arith)
+or-first P declared s vs (y ∷ ys) x h e a = in_first (subst (λ (z : Flat). Asleep P declared s vs (plain_flat z)) e a)
 
 -- all but one are so
 from-all : {A : Type 0} (f : A → Bool) (d : A) (gs : List A) → ((j : ℕ) → j < length gs → f (get_or gs j d) ≡ true) → list_all f gs ≡ true
@@ -48,21 +45,13 @@ all-but f d (g ∷ gs) (suc k) h =
     both-true (f g) (list_all f (remove gs k)) (h 0 (omega arith) (λ e. omega (arith, e)))
     (all-but f d gs k (λ j l n. h (suc j) (omega (arith, l)) (λ e. n (omega (arith, e)))))
 
--- variables beside which others stand
-none-of-both : (a b : ℕ) (t : Bool) → (t && nat_eq (a + b) 0) ≡ ((t && nat_eq a 0) && nat_eq b 0)
-none-of-both a b t = grind (arith, nat_tests)
-
-pub beside-more : (free : Free) (vs ws : List ℕ) → free_beside free (vs ++ ws) ≡ free_beside (free_beside free vs) ws
-beside-more free vs ws =
-    fun_ext (λ x. ap (λ n. free x && nat_eq n 0) (times-append x vs ws) ∙ none-of-both (times_in x vs) (times_in x ws) (free x))
-
 join-assoc : (xs ys zs : List ℕ) → (xs ++ ys) ++ zs ≡ xs ++ (ys ++ zs)
 join-assoc [] ys zs = refl
 join-assoc (x ∷ xs) ys zs = ap (λ us. x ∷ us) (join-assoc xs ys zs)
 
-each-append : (gs hs : List Flat_goal) → variables_of_each (gs ++ hs) ≡ variables_of_each gs ++ variables_of_each hs
+each-append : (gs hs : List Flat_goal) → changed_by_each (gs ++ hs) ≡ changed_by_each gs ++ changed_by_each hs
 each-append [] hs = refl
-each-append (g ∷ gs) hs = ap (λ vs. variables_of g ++ vs) (each-append gs hs) ∙ sym (join-assoc (variables_of g) (variables_of_each gs) (variables_of_each hs))
+each-append (g ∷ gs) hs = ap (λ vs. changed_by g ++ vs) (each-append gs hs) ∙ sym (join-assoc (changed_by g) (changed_by_each gs) (changed_by_each hs))
 
 take-long : {A : Type 0} (n : ℕ) (xs : List A) → length xs ≤ n → take n xs ≡ xs
 take-long zero [] h = refl
@@ -73,12 +62,12 @@ take-long (suc n) (x ∷ xs) h = ap (λ ys. x ∷ ys) (take-long n xs (omega (ar
 rest-whole : {A : Type 0} (xs : List A) (k : ℕ) → take (length xs - k) (drop k xs) ≡ drop k xs
 rest-whole xs k = take-long (length xs - k) (drop k xs) (omega (arith, length-drop k xs))
 
-pub others-are : (gs : List Flat) (k : ℕ) → variables_of_all (flats (map plain_flat (take k gs))) ++ variables_of_all (flats (map plain_flat (take (length gs - (k + 1)) (drop (k + 1) gs)))) ≡ variables_of_each (remove (map plain_flat gs) k)
+pub others-are : (gs : List Flat) (k : ℕ) → changed_by_each (map plain_flat (take k gs)) ++ changed_by_each (map plain_flat (take (length gs - (k + 1)) (drop (k + 1) gs))) ≡ changed_by_each (remove (map plain_flat gs) k)
 others-are gs k =
-    ap₂ (λ (xs ys : List ℕ). xs ++ ys) (each-variables (take k gs) ∙ ap variables_of_each (sym (take-map plain_flat k gs)))
-    (ap (λ (hs : List Flat). variables_of_all (flats (map plain_flat hs))) (rest-whole gs (k + 1)) ∙ each-variables (drop (k + 1) gs) ∙ ap variables_of_each (sym (drop-map plain_flat (k + 1) gs)))
+    ap₂ (λ (xs ys : List ℕ). xs ++ ys) (ap changed_by_each (sym (take-map plain_flat k gs)))
+    (ap (λ (hs : List Flat). changed_by_each (map plain_flat hs)) (rest-whole gs (k + 1)) ∙ ap changed_by_each (sym (drop-map plain_flat (k + 1) gs)))
     ∙ (sym (each-append (take k (map plain_flat gs)) (drop (k + 1) (map plain_flat gs)))
-    ∙ ap (λ m. variables_of_each (take k (map plain_flat gs) ++ drop m (map plain_flat gs))) (let e : k + 1 ≡ suc k = omega arith in e))
+    ∙ ap (λ m. changed_by_each (take k (map plain_flat gs) ++ drop m (map plain_flat gs))) (let e : k + 1 ≡ suc k = omega arith in e))
 
 -- the goal in a place
 pub goal-is : (gs : List Flat) (k : ℕ) (x : Flat) → k < length gs → x ≡ get_or gs k x → plain_flat x ≡ get_or (map plain_flat gs) k nothing
@@ -111,6 +100,15 @@ pub mild-on : (f : Flat_goal → Bool) (gs : List Flat) (from k : ℕ) (x : Flat
 mild-on f gs from k x h e so is j l m =
     ⊎_elim (λ i. subst (λ n. f (get_or (map plain_flat gs) n nothing) ≡ true) (sym i) (ap f (sym (goal-is gs k x h e)) ∙ is)) (λ i. so j l i)
     (eq-or-lt_of_le (let n : j ≤ k = omega (arith, m) in n))
+
+-- one more is so, but for a place
+pub but-one-on : (F : ℕ → Type 0) (p k : ℕ) → ((i : ℕ) → i < k → (i ≡ p → ⊥) → F i) → ((k ≡ p → ⊥) → F k) → (i : ℕ) → i < k + 1 → (i ≡ p → ⊥) → F i
+but-one-on F p k so is i l n =
+    ⊎_elim (λ e. subst F (sym e) (is (λ q. n (e ∙ q)))) (λ h. so i h n) (eq-or-lt_of_le (let m : i ≤ k = omega (arith, l) in m))
+
+pub below-in : (n : ℕ) (gs : List Flat) (k : ℕ) (x : Flat) → k < length gs → x ≡ get_or gs k x → NumbersBelow n (variables_of_all (flats (map plain_flat gs))) → NumbersBelow n (variables_of (plain_flat x))
+below-in n gs k x h e w =
+    subst (λ (g : Flat_goal). NumbersBelow n (variables_of g)) (sym (goal-is gs k x h e)) (below-goal n (map plain_flat gs) k nothing w (omega (arith, h, length-map gs plain_flat)))
 
 pub joined : (all one two vs us ws : List ℕ) → all ≡ two ++ ws → two ≡ one ++ us → one ≡ vs → all ≡ vs ++ (us ++ ws)
 joined all one two vs us ws e f g = e ∙ (ap (λ xs. xs ++ ws) (f ∙ ap (λ xs. xs ++ us) g) ∙ join-assoc vs us ws)

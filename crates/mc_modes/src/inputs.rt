@@ -161,13 +161,16 @@ fn call_returns(procs: &Procs, sigs: &[Sig], pred: u32) -> bool
     true
 }
 
-/// Whether a goal either waits or runs to a reachable end, as an equation of variables does and a call that comes back.
+/// Whether a goal either waits or runs to a reachable end, as an equation of variables does and a call that comes back;
+/// but equations with constructors and constants have to be looked at beside the others.
 pub fn is_mild(procs: &Procs, sigs: &[Sig], goal: &Flat) -> bool
     requires { Known procs.now.program (plain_flat goal.now) }
     ensures { IsTrue result → is_mild (source_of procs.now) (declared_in sigs.now) (plain_flat goal.now) ≡ true }
 {
     match goal {
         Flat::Same(_, _) => true,
+        Flat::Made(_, _, _) => true,
+        Flat::Const(_, _) => true,
         Flat::Call(pred, _) => call_returns(procs, sigs, *pred),
         _ => false,
     }

@@ -6,6 +6,7 @@ mod arranging;
 mod atoms;
 mod ending;
 mod inputs;
+mod makings;
 mod order;
 mod scheduling;
 mod sleeping;

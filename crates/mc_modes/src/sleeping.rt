@@ -1,16 +1,16 @@
 //! Goals that are seen to wait without being tried: as long as some of their variables are free, whatever else is so.
-ghost use Rattle.std.specs.Prelude.{◌≡◌, ◌<◌, ◌≤◌, ℕ, true, length, map, IfOk, IsTrue, get_or};
+ghost use Rattle.std.specs.Prelude.{◌≡◌, ◌<◌, ◌≤◌, ◌++◌, ℕ, true, length, map, IfOk, IsTrue, get_or};
 ghost use Rattle.std.specs.List.{remove};
 ghost use Rattle.mc_model.specs.Flat.{And, Exists, If, Or, flats};
 ghost use Rattle.mc_model.specs.PlainGoals.{plain_flat};
 ghost use Rattle.mc_procs.specs.Procedures.{source_of};
 ghost use Rattle.mc_modes.specs.Fitting.{GoalFits, GoalsFit, AllKnown};
 ghost use Rattle.mc_modes.specs.Signatures.{declared_in};
-ghost use Rattle.mc_modes.specs.code.Waiting.{nothing, variables_of_each};
-ghost use Rattle.mc_modes.specs.code.Sleeping.{Asleep, is_mild, free_beside, free_now};
+ghost use Rattle.mc_modes.specs.code.Waiting.{nothing};
+ghost use Rattle.mc_modes.specs.code.Sleeping.{Asleep, is_mild, changed_by_each};
 
 use crate::inputs::{call_sleeps, is_free, is_mild, one_is_free};
-use crate::variables::push_all_variables;
+use crate::makings::{changed_beside, is_one_too_many, makings_are_mild};
 use mc_base::{Memory, Row};
 use mc_mode_points::State;
 use mc_model::flat::Flat;
@@ -18,8 +18,8 @@ use mc_model::inst::Sig;
 use mc_procs::Procs;
 use std::alloc::Global;
 
-/// Whether a goal is seen to wait as long as those of its variables are free that are so now, and that none of these
-/// others is. It may wait where this isn't seen.
+/// Whether a goal is seen to wait as long as all variables but these others are as they are now. It may wait where this
+/// isn't seen.
 #[cycle(sleeping)]
 pub fn sleeps(
     alloc: Global,
@@ -31,7 +31,7 @@ pub fn sleeps(
 ) -> Result<bool, Memory>
     requires { GoalFits procs.now state.now (plain_flat goal.now) }
     ensures { IfOk result (λ b. IsTrue b → Asleep (source_of procs.now) (declared_in sigs.now)
-        (free_beside (free_now state.now) others.now) (plain_flat goal.now)) }
+        state.now others.now (plain_flat goal.now)) }
 {
     match goal {
         Flat::Not(goal) => sleeps(alloc, procs, sigs, state, others, goal),
@@ -64,7 +64,7 @@ fn quantified_sleeps(
 ) -> Result<bool, Memory>
     requires { GoalFits procs.now state.now (Exists vars.now (plain_flat goal.now)) }
     ensures { IfOk result (λ b. IsTrue b → Asleep (source_of procs.now) (declared_in sigs.now)
-        (free_beside (free_now state.now) others.now) (Exists vars.now (plain_flat goal.now))) }
+        state.now others.now (Exists vars.now (plain_flat goal.now))) }
 {
     sleeps(alloc, procs, sigs, state, others, goal)
 }
@@ -85,7 +85,7 @@ fn condition_sleeps(
     requires { GoalFits procs.now state.now
         (If vars.now (plain_flat condition.now) (plain_flat then_part.now) (plain_flat else_part.now)) }
     ensures { IfOk result (λ b. IsTrue b → Asleep (source_of procs.now) (declared_in sigs.now)
-        (free_beside (free_now state.now) others.now)
+        state.now others.now
         (If vars.now (plain_flat condition.now) (plain_flat then_part.now) (plain_flat else_part.now))) }
 {
     sleeps(alloc, procs, sigs, state, others, condition)
@@ -103,7 +103,7 @@ fn first_sleeps(
 ) -> Result<bool, Memory>
     requires { GoalsFit procs.now state.now (flats (map plain_flat goals.now)) }
     ensures { IfOk result (λ b. IsTrue b → Asleep (source_of procs.now) (declared_in sigs.now)
-        (free_beside (free_now state.now) others.now) (Or (flats (map plain_flat goals.now)))) }
+        state.now others.now (Or (flats (map plain_flat goals.now)))) }
 {
     if goals.is_empty() {
         return Ok(false);
@@ -111,7 +111,7 @@ fn first_sleeps(
     sleeps(alloc, procs, sigs, state, others, &goals[0])
 }
 
-/// Whether one of a conjunction's goals does whatever the others bind, which are mild.
+/// Whether one of a conjunction's goals does whatever the others change, which are mild.
 #[cycle(sleeping)]
 fn one_sleeps(
     alloc: Global,
@@ -123,25 +123,28 @@ fn one_sleeps(
 ) -> Result<bool, Memory>
     requires { GoalsFit procs.now state.now (flats (map plain_flat goals.now)) }
     ensures { IfOk result (λ b. IsTrue b → Asleep (source_of procs.now) (declared_in sigs.now)
-        (free_beside (free_now state.now) others.now) (And (flats (map plain_flat goals.now)))) }
+        state.now others.now (And (flats (map plain_flat goals.now)))) }
 {
     let wild = first_wild(procs, sigs, goals, 0);
     if wild < goals.len() {
         if first_wild(procs, sigs, goals, wild + 1) < goals.len() {
             return Ok(false);
         }
-        return sleeps_among(alloc, procs, sigs, state, others, goals, wild);
+        if !sleeps_among(alloc, procs, sigs, state, others, goals, wild)? {
+            return Ok(false);
+        }
+        return makings_are_mild(alloc, state, others, goals, wild);
     }
     for place in 0..goals.len() {
         let sleeps_alone = sleeps(alloc, procs, sigs, state, others, &goals[place])?;
         if sleeps_alone && sleeps_among(alloc, procs, sigs, state, others, goals, place)? {
-            return Ok(true);
+            return makings_are_mild(alloc, state, others, goals, place);
         }
     }
     Ok(false)
 }
 
-/// Whether the goal in a place does whatever the goals in other places bind.
+/// Whether the goal in a place does whatever the goals in other places change.
 #[cycle(sleeping)]
 fn sleeps_among(
     alloc: Global,
@@ -155,17 +158,15 @@ fn sleeps_among(
     requires fits { GoalsFit procs.now state.now (flats (map plain_flat goals.now)) }
     requires place { place < length goals.now }
     ensures { IfOk result (λ b. IsTrue b → Asleep (source_of procs.now) (declared_in sigs.now)
-        (free_beside (free_beside (free_now state.now) others.now)
-        (variables_of_each (remove (map plain_flat goals.now) place)))
+        state.now (others.now ++ changed_by_each (remove (map plain_flat goals.now) place))
         (get_or (map plain_flat goals.now) place nothing)) }
 {
-    let mut all = Vec::from_slice(alloc, others)?;
-    push_all_variables(&mut all, &goals[..place])?;
-    push_all_variables(&mut all, &goals[place + 1..])?;
-    sleeps(alloc, procs, sigs, state, &all, &goals[place])
+    let changed = changed_beside(alloc, others, goals, place)?;
+    sleeps(alloc, procs, sigs, state, &changed, &goals[place])
 }
 
-/// The first place, from one on, of a goal that isn't mild; the number of goals where there is none.
+/// The first place, from one on, of a goal that isn't mild, or of one equation with a constructor or constant too many;
+/// the number of goals where there is none.
 fn first_wild(procs: &Procs, sigs: &[Sig], goals: &[Flat], from: usize) -> usize
     requires known { AllKnown procs.now.program (flats (map plain_flat goals.now)) }
     requires from { from ≤ length goals.now }
@@ -173,8 +174,10 @@ fn first_wild(procs: &Procs, sigs: &[Sig], goals: &[Flat], from: usize) -> usize
     ensures mild { (j : ℕ) → from ≤ j → j < result
         → is_mild (source_of procs.now) (declared_in sigs.now) (get_or (map plain_flat goals.now) j nothing) ≡ true }
 {
+    let mut makings = 0;
     for place in from..goals.len() {
-        if !is_mild(procs, sigs, &goals[place]) {
+        let goal = &goals[place];
+        if is_one_too_many(goal, &mut makings) || !is_mild(procs, sigs, goal) {
             return place;
         }
     }
