@@ -37,6 +37,14 @@ def nested(n, around):
             ":- pred gen(int::out) is det.\ngen(1).\n:- pred need(%s) is semidet.\nneed(%s).\np(Y) :- gen(Y), %s.\n"
             % (", ".join(["int::in"] * n), ", ".join(["1"] * n), goal))
 
+def beside(n, making):
+    """Negations, one in another, each of which makes something beside the next one; the innermost waits for an outer variable."""
+    goal = "need(V)"
+    for k in reversed(range(1, n + 1)):
+        goal = "\\+ ( %s, %s )" % (goal, making % k)
+    return (heading("int") + ":- pred p(int::in, int::out) is semidet.\n:- implementation.\n:- type t ---> red ; f(int).\n"
+            ":- pred need(int::in) is semidet.\nneed(V) :- V > 0.\np(X, V) :- %s, V = X.\n" % goal)
+
 def bare(n):
     """Negations without other goals in them, around one that waits for variables that goals behind them give."""
     names = ["X%d" % k for k in range(n)]
@@ -123,6 +131,8 @@ measure("4000 sums written backwards", sums_backwards(4000), 1)
 for kind, around, most in (("negations", "\\+ ( %s, gen(X%d) )", 80), ("quantified goals", "some [] ( %s, gen(X%d) )", 80), ("conditions", "( %s, gen(X%d) -> true ; true )", 60)):
     for n in (most // 4, most // 2, most):
         measure("%d %s, one in another, around one that waits" % (n, kind), nested(n, around), 1)
+for kind, making in (("constant", "M%d = red"), ("construction", "M%d = f(X)")):
+    measure("60 negations, one in another, a %s beside each" % kind, beside(60, making), 1)
 measure("200 negations around one that waits for 200 variables", bare(200), 1)
 measure("10000 undeclared predicates in a chain", undeclared(10000, "X > 0"), 1)
 measure("10000 undeclared predicates in a ring", undeclared(10000, "X > 0, p0(X)"), 1)
