@@ -21,11 +21,11 @@ use Rattle.mc_compile.specs.Compiling.{Compiles}
 use Rattle.mc_compile.specs.Building.{Built, of_facts, of_procedures, Builds}
 use Rattle.mc_compile.specs.Laws.{CompiledFits, CompiledAsks, QueryIsAsked}
 use Rattle.mc_program_laws.specs.ProgramTruth.{ExecutablesAreTrue}
-use Rattle.mc_cmd.specs.Messages.{usage_line, unreadable_line, broken_lines}
+use Rattle.mc_cmd.specs.Messages.{usage_line, unreadable_line, broken_lines, not_built_line}
 use Rattle.mc_cmd.specs.Ends.{Outcome, said, stop_of, end_status, written_run}
 use Rattle.mc_cmd.specs.Outcome.{files_of, bounds_of, sources_of, run_of_goal, written_of, written, Answers, refused, ran, Texts, These, Missing, texts_in, AnswersOver, DefinedFor, Defined}
 use Rattle.mc_cmd.specs.Call.{Told, NoneRose, AnswersWhole, Wrote, LacksOne, CannotRead, OfFiles, OfSources, BreaksRules, IsUnbuilt, RunsToEnd, StopsBy, IsThrown, IsTrueProgram, RunsTrue, SaidUnreadable, SaysUnreadable, PutsDefined, HoldTexts}
-use Rattle.mc_cmd.specs.Laws.{AtMostOneAnswer, AllIsSeen}
+use Rattle.mc_cmd.specs.Laws.{AtMostOneAnswer, IsAnswer, PutsAnswer}
 use Rattle.mc_cmd.specs.declared.status.Status.{Status}
 use Rattle.mc_cmd.specs.declared.status.Status.TheVariants as S
 use Rattle.mc_cmd.specs.declared.decision.Decision.{Decision}
@@ -136,9 +136,9 @@ module _ (laws : Laws) where
       (subst (λ (o : Outcome). Answers x.command x.texts o) (ran_written x.command x.texts b q goal a) (ran a.compiles))
   is_defined words held f0 f1 D.Memory x cf n s = absurd (s refl)
 
-  -- and the one that is
-  one_defined : (words : List (List ℕ)) (held : Held) (f0 f1 : ℕ) (d : Decision) → IsDecided words (Some held) d → CountsFaults d f0 f1 → (Rose f0 f1 → ⊥) → (told_of d).status ≢ S.Memory → AllIsSeen words held → (o : Outcome) → Defined words held o → told_of d ≡ o
-  one_defined words held f0 f1 d x cf n s t o y = laws.one words held t (told_of d) o (is_defined words held f0 f1 d x cf n s) y
+  -- and the one that is, where both say more than that something isn't seen to hold
+  one_defined : (words : List (List ℕ)) (held : Held) (f0 f1 : ℕ) (d : Decision) → IsDecided words (Some held) d → CountsFaults d f0 f1 → (Rose f0 f1 → ⊥) → (told_of d).status ≢ S.Memory → IsAnswer (told_of d) → (o : Outcome) → Defined words held o → IsAnswer o → told_of d ≡ o
+  one_defined words held f0 f1 d x cf n s t o y k = laws.one words held (told_of d) o (is_defined words held f0 f1 d x cf n s) y t k
 
 -- the answers of facts come to their end
 answers_done : (b : RunBounds) (c : Compiled) → (told_of (D.Answers b c)).status ≡ S.Done
@@ -162,6 +162,18 @@ memory_or_told D.Checked = inr (λ e. cc)
 memory_or_told (D.Answers b c) = inr (λ e. let z : S.Done ≡ S.Memory = sym (answers_done b c) ∙ e in cc)
 memory_or_told (D.Ran b q goal) = inr (λ e. ran_status b q goal S.Memory e)
 memory_or_told D.Memory = inl refl
+
+-- it is said that something isn't seen to hold, or an answer is told
+unseen_or_told : (d : Decision) → (d ≡ D.NotBuilt) ⊎ IsAnswer (told_of d)
+unseen_or_told D.Usage = inr (λ e. cc)
+unseen_or_told (D.Absent line) = inr (λ e. cc)
+unseen_or_told (D.Unreadable line) = inr (λ e. cc)
+unseen_or_told (D.Rejected files broken) = inr (λ e. cc)
+unseen_or_told D.NotBuilt = inl refl
+unseen_or_told D.Checked = inr (λ e. cc)
+unseen_or_told (D.Answers b c) = inr (λ e. let z : S.Done ≡ S.NotBuilt = sym (answers_done b c) ∙ e in cc)
+unseen_or_told (D.Ran b q goal) = inr (λ e. ran_status b q goal S.NotBuilt e)
+unseen_or_told D.Memory = inr (λ e. cc)
 
 wrote_told : (w0 w1 : Option (List ℕ)) (before bytes : List ℕ) → w0 ≡ Some before → Wrote w0 w1 bytes → w1 ≡ Some (before ++ bytes)
 wrote_told w0 w1 before bytes e w = let z : Wrote (Some before) w1 bytes = subst (λ (x : Option (List ℕ)). Wrote x w1 bytes) e w in z
@@ -221,13 +233,21 @@ module _ (words : List (List ℕ)) (store : Option Held) (f0 f1 a0 a1 : ℕ) (ou
       at (Err put.Failed) w v (inr c) i e = absurd (none.output c.0)
       at (Err put.Memory) w v c i e = absurd (n e)
 
-  pub prefixes : Laws → (held : Held) (bo be : List ℕ) → Told store held out.before bo err.before be → (Rose f0 f1 → ⊥) → AllIsSeen words held → (o : Outcome) → Defined words held o → PutsFront out.before out.after o.out × PutsFront err.before err.after o.err
-  prefixes laws held bo be told n t o y = at (memory_or_told h.decision)
+  -- where it is said that something isn't seen to hold, a front part of its line was put
+  unseen_put : h.decision ≡ D.NotBuilt → Wrote out.before out.after [] × PutsFront err.before err.after not_built_line
+  unseen_put e = (
+    writes_none out.before out.after h.written (subst (λ (d : Decision). Writes out.before out.after h.written (told_of d).out) e h.output),
+    writes_front err.before err.after h.written not_built_line (subst (λ (d : Decision). Writes err.before err.after h.written (told_of d).err) e h.errors),
+  )
+
+  pub prefixes : Laws → (held : Held) (bo be : List ℕ) → Told store held out.before bo err.before be → (Rose f0 f1 → ⊥) → (o : Outcome) → Defined words held o → IsAnswer o → PutsAnswer o out.before out.after err.before err.after
+  prefixes laws held bo be told n o y k = at (memory_or_told h.decision) (unseen_or_told h.decision)
     where
-      at : (h.decision ≡ D.Memory) ⊎ ((told_of h.decision).status ≢ S.Memory) → PutsFront out.before out.after o.out × PutsFront err.before err.after o.err
-      at (inl e) = let w = none_put e in (nothing_front out.before out.after o.out w.0, nothing_front err.before err.after o.err w.1)
-      at (inr m) =
-          let e = one_defined laws words held f0 f1 h.decision (decided_told held told.files) h.faults n m t o y in (
+      at : (h.decision ≡ D.Memory) ⊎ ((told_of h.decision).status ≢ S.Memory) → (h.decision ≡ D.NotBuilt) ⊎ IsAnswer (told_of h.decision) → PutsAnswer o out.before out.after err.before err.after
+      at (inl e) u = let w = none_put e in inl (nothing_front out.before out.after o.out w.0, nothing_front err.before err.after o.err w.1)
+      at (inr m) (inl e) = inr (unseen_put e)
+      at (inr m) (inr t) =
+          let e = one_defined laws words held f0 f1 h.decision (decided_told held told.files) h.faults n m t o y k in inl (
             subst (λ (x : Outcome). PutsFront out.before out.after x.out) e (writes_front out.before out.after h.written (told_of h.decision).out h.output),
             subst (λ (x : Outcome). PutsFront err.before err.after x.err) e (writes_front err.before err.after h.written (told_of h.decision).err h.errors),
           )

@@ -1,5 +1,5 @@
--- Of words and of what files hold there is one defined answer at most, where nothing is left unseen, since what sources are
--- built to is one thing.
+-- Of words and of what files hold there is one defined answer at most, beside that something isn't seen to hold, since what
+-- sources are built to is one thing.
 use Rattle.std.proofs.Common.{◌≡◌, ℕ, List, Option, Some, None, Result, Ok, Err, refl, sym, ap, ◌∙◌}
 use Rattle.mc_outside.specs.Meaning.{Held}
 use Rattle.mc_source.specs.declared.rule.Broken.{Broken}
@@ -12,13 +12,9 @@ use Rattle.mc_compile.specs.Ruling.{PlainExecutable}
 use Rattle.mc_one_answer.specs.OneCompiled.{CompiledAreOne, OneToBeRun, OneCompiled}
 use Rattle.mc_cmd.specs.Ends.{Outcome}
 use Rattle.mc_cmd.specs.Outcome.{bounds_of, files_of, sources_of, refusal, written, Answers, refused, ran, Texts, These, Missing, texts_in, AnswersOver, DefinedFor}
-use Rattle.mc_cmd.specs.Laws.{AtMostOneAnswer}
+use Rattle.mc_cmd.specs.Laws.{AtMostOneAnswer, IsAnswer}
 use Rattle.mc_cmd.proofs.Builds.{BothWays, of_form, of_rules, both_ways}
 use Rattle.mc_cmd.proofs.Written.{written_as_one}
-
--- nothing is left unseen of these texts
-abbrev AreSeen : Meaning → List (List ℕ) → Type 0
-AreSeen m texts = Builds (sources_of m texts) (Err Unbuilt) → ⊥
 
 -- what is answered of what sources are built to
 abbrev told : Meaning → Result Built Refusal → Outcome
@@ -45,28 +41,28 @@ module _ (compiles : AtMostOne Compiles) (one : CompiledAreOne) (to_be_run : One
   one_built m s r q (of_form e) n k = ap (told m) e
   one_built m s r q (of_rules {r = x} {q = y} a b) n k = one_told m x y (one s x y a b) n k
 
-  module _ (m : Meaning) (texts : List (List ℕ)) (seen : AreSeen m texts) where
-    is_seen : (r : Result Built Refusal) → Builds (sources_of m texts) r → IsUnseen r → ⊥
-    is_seen (Ok x) b u = u
-    is_seen (Err (Breaks rules)) b u = u
-    is_seen (Err Unbuilt) b u = seen b
+  is_seen : (m : Meaning) (r : Result Built Refusal) → IsAnswer (told m r) → IsUnseen r → ⊥
+  is_seen m (Ok x) n u = u
+  is_seen m (Err (Breaks rules)) n u = u
+  is_seen m (Err Unbuilt) n u = n refl
 
-    same_told : (r q : Result Built Refusal) → Builds (sources_of m texts) r → Builds (sources_of m texts) q → told m r ≡ told m q
-    same_told r q x y = one_built m (sources_of m texts) r q (both_ways compiles (sources_of m texts) x y) (is_seen r x) (is_seen q y)
+  module _ (m : Meaning) (texts : List (List ℕ)) where
+    same_told : (r q : Result Built Refusal) → Builds (sources_of m texts) r → Builds (sources_of m texts) q → IsAnswer (told m r) → IsAnswer (told m q) → told m r ≡ told m q
+    same_told r q x y n k = one_built m (sources_of m texts) r q (both_ways compiles (sources_of m texts) x y) (is_seen m r n) (is_seen m q k)
 
-    one_of_texts : (o p : Outcome) → Answers m texts o → Answers m texts p → o ≡ p
-    one_of_texts o p (refused {r = r} x) (refused {r = q} y) = same_told (Err r) (Err q) x y
-    one_of_texts o p (refused {r = r} x) (ran {x = f} y) = same_told (Err r) (Ok f) x y
-    one_of_texts o p (ran {x = f} x) (refused {r = r} y) = same_told (Ok f) (Err r) x y
-    one_of_texts o p (ran {x = f} x) (ran {x = g} y) = same_told (Ok f) (Ok g) x y
+    one_of_texts : (o p : Outcome) → Answers m texts o → Answers m texts p → IsAnswer o → IsAnswer p → o ≡ p
+    one_of_texts o p (refused {r = r} x) (refused {r = q} y) n k = same_told (Err r) (Err q) x y n k
+    one_of_texts o p (refused {r = r} x) (ran {x = f} y) n k = same_told (Err r) (Ok f) x y n k
+    one_of_texts o p (ran {x = f} x) (refused {r = r} y) n k = same_told (Ok f) (Err r) x y n k
+    one_of_texts o p (ran {x = f} x) (ran {x = g} y) n k = same_told (Ok f) (Ok g) x y n k
 
-  one_over : (m : Meaning) (t : Texts) (o p : Outcome) → ((texts : List (List ℕ)) → t ≡ These texts → AreSeen m texts) → AnswersOver m t o → AnswersOver m t p → o ≡ p
-  one_over m (These texts) o p n x y = one_of_texts m texts (n texts refl) o p x y
-  one_over m (Missing file) o p n x y = x ∙ sym y
+  one_over : (m : Meaning) (t : Texts) (o p : Outcome) → AnswersOver m t o → AnswersOver m t p → IsAnswer o → IsAnswer p → o ≡ p
+  one_over m (These texts) o p x y n k = one_of_texts m texts o p x y n k
+  one_over m (Missing file) o p x y n k = x ∙ sym y
 
-  one_for : (k : Option Meaning) (held : Held) (o p : Outcome) → ((m : Meaning) (texts : List (List ℕ)) → k ≡ Some m → texts_in held (files_of m) ≡ These texts → AreSeen m texts) → DefinedFor k held o → DefinedFor k held p → o ≡ p
-  one_for None held o p n x y = x ∙ sym y
-  one_for (Some m) held o p n x y = one_over m (texts_in held (files_of m)) o p (λ texts e. n m texts refl e) x y
+  one_for : (k : Option Meaning) (held : Held) (o p : Outcome) → DefinedFor k held o → DefinedFor k held p → IsAnswer o → IsAnswer p → o ≡ p
+  one_for None held o p x y n k = x ∙ sym y
+  one_for (Some m) held o p x y n k = one_over m (texts_in held (files_of m)) o p x y n k
 
   pub one_answer : AtMostOneAnswer
-  one_answer words held n o p x y = one_for (meaning words) held o p n x y
+  one_answer words held o p x y n k = one_for (meaning words) held o p x y n k

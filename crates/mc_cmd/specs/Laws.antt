@@ -1,22 +1,25 @@
 -- Laws of the defined answer.
-use Rattle.std.specs.Prelude.{◌≡◌, ℕ, List, Some, Err}
-use Rattle.mc_outside.specs.Meaning.{Held}
-use Rattle.mc_command_line.specs.Words.{Meaning, meaning}
-use Rattle.mc_compile.specs.Phases.{Unbuilt}
-use Rattle.mc_compile.specs.Building.{Builds}
+use Rattle.std.specs.Prelude.{◌≡◌, ◌≢◌, ◌⊎◌, ℕ, List, [], Option}
+use Rattle.mc_outside.specs.Meaning.{Held, PutsFront}
+use Rattle.mc_cmd.specs.Call.{Wrote}
 use Rattle.mc_cmd.specs.Ends.{Outcome}
-use Rattle.mc_cmd.specs.Outcome.{Defined, These, files_of, sources_of, texts_in}
+use Rattle.mc_cmd.specs.Messages.{not_built_line}
+use Rattle.mc_cmd.specs.Outcome.{Defined}
+use Rattle.mc_cmd.specs.declared.status.Status.TheVariants as S
 
--- Of the sources of a command nothing that procedures need is left unseen.
-abbrev pub AllIsSeen : (words : List (List ℕ)) → Held → Type 0
-AllIsSeen words held =
-    (m : Meaning) (texts : List (List ℕ))
-    → meaning words ≡ Some m → texts_in held (files_of m) ≡ These texts
-    → Builds (sources_of m texts) (Err Unbuilt) → ⊥
+-- an answer that says more than that something isn't seen to hold
+abbrev pub IsAnswer : Outcome → Type 0
+IsAnswer o = o.status ≢ S.NotBuilt
 
--- Of words and of what files hold there is one defined answer at most, where all that procedures need
--- is seen to hold. (That it is so of whatever breaks no rule is tested, and not proved yet.)
+-- Of words and of what files hold there is one defined answer at most, beside the line `not built yet`.
 abbrev pub AtMostOneAnswer : Type 0
 AtMostOneAnswer =
-    (words : List (List ℕ)) (held : Held) → AllIsSeen words held → (o p : Outcome)
-    → Defined words held o → Defined words held p → o ≡ p
+    (words : List (List ℕ)) (held : Held) (o p : Outcome)
+    → Defined words held o → Defined words held p → IsAnswer o → IsAnswer p → o ≡ p
+
+-- each sink was given a front part of an answer, or of the line `not built yet`
+abbrev pub PutsAnswer :
+    Outcome → (out0 out1 err0 err1 : Option (List ℕ)) → Type 0
+PutsAnswer o out0 out1 err0 err1 =
+    (PutsFront out0 out1 o.out × PutsFront err0 err1 o.err)
+    ⊎ (Wrote out0 out1 [] × PutsFront err0 err1 not_built_line)

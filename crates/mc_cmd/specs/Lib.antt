@@ -2,6 +2,6 @@ pub mod Codes
 pub mod Messages
 pub mod Ends
 pub mod Outcome
-pub mod Laws
 pub mod Call
+pub mod Laws
 pub mod code

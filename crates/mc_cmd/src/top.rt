@@ -1,13 +1,13 @@
 ghost use Rattle.std.specs.Prelude.{◌≡◌, ◌≢◌, ◌⊎◌, ◌<◌, ℕ, List, [], map, string_bytes, Option, Some, None, Ok, IfOk};
 ghost use Rattle.mc_outside.specs.Counts.{Rose};
-ghost use Rattle.mc_outside.specs.Meaning.{Held, PutsFront};
+ghost use Rattle.mc_outside.specs.Meaning.{Held};
 ghost use Rattle.mc_model.specs.EventList.{budget, too_deep};
 ghost use Rattle.mc_command_line.specs.Words.{Meaning, meaning};
 ghost use Rattle.mc_compile.specs.Sources.{Sources};
 ghost use Rattle.mc_compile.specs.Building.{Built, Builds};
 ghost use Rattle.mc_cmd.specs.Ends.{Outcome};
 ghost use Rattle.mc_cmd.specs.Outcome.{Defined, files_of};
-ghost use Rattle.mc_cmd.specs.Laws.{AllIsSeen};
+ghost use Rattle.mc_cmd.specs.Laws.{IsAnswer, PutsAnswer};
 ghost use Rattle.mc_cmd.specs.Call.{AnswersWhole, BreaksRules, IsThrown, IsUnbuilt, LacksOne, NoneRose, OfFiles, OfSources, PutsDefined, RunsToEnd, RunsTrue, SaidUnreadable, SaysUnreadable, StopsBy, Told, Wrote};
 ghost use Rattle.mc_cmd.specs.code.Decisions.{CountPuts, EndsRun, Happened, Quiet, Writes, ended, told_of};
 
@@ -50,14 +50,12 @@ pub fn merc<F: Files, I: Source, O: Sink, E: Sink>(
         → AnswersWhole (map string_bytes words.now.items) held before_out before_err result
         (O.written out.new) (E.written err.new) }
     // Where a sink failed or memory was wanting, each sink was given a front part of the defined bytes, which are one
-    // answer at most where all that procedures need is seen to hold.
+    // answer at most beside the line `not built yet`; or a front part of that line.
     ensures prefix { (held : Held) (before_out before_err : List ℕ)
         → Told (F.held files.old) held (O.written out.old) before_out (E.written err.old) before_err
         → (Rose (F.faults files.old) (F.faults files.new) → ⊥)
-        → AllIsSeen (map string_bytes words.now.items) held
-        → (o : Outcome) → Defined (map string_bytes words.now.items) held o
-        → PutsFront (O.written out.old) (O.written out.new) o.out
-        × PutsFront (E.written err.old) (E.written err.new) o.err }
+        → (o : Outcome) → Defined (map string_bytes words.now.items) held o → IsAnswer o
+        → PutsAnswer o (O.written out.old) (O.written out.new) (E.written err.old) (E.written err.new) }
     // There is such an answer, and each sink was given a front part of it, also where a sink failed; at want of
     // memory it may be that nothing was put.
     ensures defined { (held : Held) (before_out before_err : List ℕ)

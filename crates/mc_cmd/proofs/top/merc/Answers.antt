@@ -9,7 +9,7 @@ returns-clause-whole_answer g c =
 pub returns-clause-prefix : goal.returns-clause-prefix
 returns-clause-prefix g c =
     let laws : Laws = record { answered = c.facts_are_answered.ensures; fit = c.facts_fit.ensures; ask = c.question_asks.ensures; asked = c.query_is_asked.ensures; one = c.at_most_one_answer.ensures } in
-    λ held bo be told n t o defined. prefixes _ _ _ _ _ _ _ _ _ c.carry_out.ensures.happened laws held bo be told n t o defined
+    λ held bo be told n o defined k. prefixes _ _ _ _ _ _ _ _ _ c.carry_out.ensures.happened laws held bo be told n o defined k
 
 pub returns-clause-defined : goal.returns-clause-defined
 returns-clause-defined g c =
