@@ -30,8 +30,8 @@ use std::alloc::Global;
 /// answers of a query on `out`, one line each, or what `main` writes, or on `err` the line of each broken rule, or one
 /// line that says why nothing is answered, and answers how it ended.
 ///
-/// What breaks no rule of the phases before is `NotBuilt` where something that its procedures need isn't seen to fit. The
-/// first put that fails ends the call with `WriteFault`, and nothing more is put. `Memory` ends the call at once.
+/// `NotBuilt` says that something that procedures need isn't seen to hold. The first put that fails ends the call with
+/// `WriteFault`, and nothing more is put. `Memory` ends the call at once.
 pub fn merc<F: Files, I: Source, O: Sink, E: Sink>(
     alloc: Global,
     words: &Vec<String>,
@@ -72,8 +72,8 @@ pub fn merc<F: Files, I: Source, O: Sink, E: Sink>(
         → Wrote (O.written out.old) (O.written out.new) []
         × SaysUnreadable (F.held files.old) (E.written err.old) (E.written err.new) (files_of m) }
     // What any sources are built to runs true: no unbound variable is read, each answer binds what its modes declare
-    // and is true in the completion, success counts obey determinism, where a run ends each assignment that isn't
-    // answered is false, and what `main` writes is what its last state has gained.
+    // and is true in the completion, success counts obey determinism, where a run ends that isn't committed to one answer
+    // each assignment that isn't answered is false, and what `main` has written at its end is what its last state has gained.
     ensures truth { (s : Sources) (b : Built) → Builds s (Ok b) → RunsTrue b }
     // Done comes only where the sources compile, and the run of the query, or of `main`, ends.
     ensures done { result ≡ Status.Done
@@ -107,7 +107,7 @@ pub fn merc<F: Files, I: Source, O: Sink, E: Sink>(
     ensures write_seen { (O.faults out.old < O.faults out.new)
         ⊎ (E.faults err.old < E.faults err.new)
         → result ≡ Status.WriteFault }
-    // NotBuilt comes only where the sources break no rule of the phases before, and something isn't seen to fit.
+    // NotBuilt comes only where the sources break no rule up to those of insts (M7), and something needn't be seen to hold.
     ensures not_built { result ≡ Status.NotBuilt
         → OfSources (map string_bytes words.now.items) (F.held files.old) IsUnbuilt }
     // Threw, Budget and TooDeep come only where the run of the query, or of `main`, over procedures stops so.
