@@ -5,50 +5,24 @@ use Rattle.mc_outside.specs.Counts.{Rose}
 use Rattle.mc_outside.specs.Meaning.{Held, PutsFront}
 use Rattle.mc_outside.specs.declared.traits.PutFault.{PutFault}
 use Rattle.mc_outside.specs.declared.traits.PutFault.TheVariants as put
-use Rattle.mc_program.specs.Printed.{printed, names_of}
-use Rattle.mc_model.specs.EventList.{Ends, Halt, budget, too_deep}
-use Rattle.mc_model.specs.Good.{GoodQuery}
-use Rattle.mc_command_line.specs.Words.{Meaning, Check, Run, Query, Bounds, meaning}
+use Rattle.mc_model.specs.EventList.{Halt, budget, too_deep}
+use Rattle.mc_command_line.specs.Words.{Meaning, meaning}
 use Rattle.mc_command_line.specs.Plain.{plain_bounds}
 use Rattle.mc_command_line.specs.declared.limits.Bounds.{Bounds as RunBounds}
-use Rattle.mc_ground_form.specs.Database.{Question, query_procedure, query_run, system_of}
-use Rattle.mc_ground_form.specs.Laws.{FactsAreAnswered, FactsAreGood, QueriesAreGood}
-use Rattle.mc_ground_form.specs.declared.compiled.Compiled.{Compiled}
-use Rattle.mc_ground_form.specs.Program.{IsProgram}
-use Rattle.mc_compile.specs.Sources.{Sources}
-use Rattle.mc_compile.specs.Forming.{Formed}
-use Rattle.mc_compile.specs.Compiling.{Compiles}
-use Rattle.mc_compile.specs.Building.{Built, of_facts, of_procedures, Builds}
-use Rattle.mc_compile.specs.Laws.{CompiledFits, CompiledAsks, QueryIsAsked}
-use Rattle.mc_program_laws.specs.ProgramTruth.{ExecutablesAreTrue}
 use Rattle.mc_cmd.specs.Messages.{usage_line, unreadable_line, broken_lines, not_built_line}
-use Rattle.mc_cmd.specs.Ends.{Outcome, said, stop_of, end_status, written_run}
-use Rattle.mc_cmd.specs.Outcome.{files_of, bounds_of, sources_of, run_of_goal, written_of, written, Answers, refused, ran, Texts, These, Missing, texts_in, AnswersOver, DefinedFor, Defined}
-use Rattle.mc_cmd.specs.Call.{Told, NoneRose, AnswersWhole, Wrote, LacksOne, CannotRead, OfFiles, OfSources, BreaksRules, IsUnbuilt, RunsToEnd, StopsBy, IsThrown, IsTrueProgram, RunsTrue, SaidUnreadable, SaysUnreadable, PutsDefined, HoldTexts}
+use Rattle.mc_cmd.specs.Ends.{Outcome, said, stop_of, end_status}
+use Rattle.mc_cmd.specs.Outcome.{files_of, bounds_of, sources_of, run_of_goal, Answers, refused, ran, Texts, These, Missing, texts_in, AnswersOver, DefinedFor, Defined}
+use Rattle.mc_cmd.specs.Call.{Told, NoneRose, AnswersWhole, Wrote, LacksOne, CannotRead, OfFiles, OfSources, BreaksRules, IsUnbuilt, RunsToEnd, StopsBy, IsThrown, SaidUnreadable, SaysUnreadable, PutsDefined, HoldTexts}
 use Rattle.mc_cmd.specs.Laws.{AtMostOneAnswer, IsAnswer, PutsAnswer}
 use Rattle.mc_cmd.specs.declared.status.Status.{Status}
 use Rattle.mc_cmd.specs.declared.status.Status.TheVariants as S
 use Rattle.mc_cmd.specs.declared.decision.Decision.{Decision}
 use Rattle.mc_cmd.specs.declared.decision.Decision.TheVariants as D
-use Rattle.mc_cmd.specs.code.Facts.{left_of, rows_asked}
-use Rattle.mc_cmd.specs.code.Decisions.{IsAsked, Understood, IsDecided, CountsFaults, CountsAbsents, told_of, Writes, ended, CountPuts, Quiet, EndsRun, Sinks, Happened}
+use Rattle.mc_cmd.specs.code.Decisions.{Understood, IsDecided, CountsFaults, CountsAbsents, told_of, Writes, ended, CountPuts, Quiet, EndsRun, Sinks, Happened}
 use Rattle.mc_cmd.proofs.Puts.{nothing_front, front_nothing, writes_front}
-use Rattle.mc_cmd.proofs.FactsRun.{written_agrees, run_ends, facts_unstopped}
-use Rattle.mc_cmd.proofs.Commands.{HasBounds, is_command}
+use Rattle.mc_cmd.proofs.Commands.{is_command}
 use Rattle.mc_cmd.proofs.InTurn.{first_unread}
-use Rattle.mc_cmd.proofs.Builds.{facts_compile}
 use Rattle.mc_cmd.proofs.Stops.{Stops, goal_status, ran_status, done_written, unasked_written, unasked_ends, ran_written, ran_ends, ran_stops, stops_thrown, stops_spent, stops_deep}
-
--- the laws that the command stands on
-pub record Laws : Type 0 where
-  pub answered : FactsAreAnswered
-  pub fit : CompiledFits
-  pub ask : CompiledAsks
-  pub asked : QueryIsAsked
-  pub one : AtMostOneAnswer
-
-some_none : true ≡ false → ⊥
-some_none e = cc
 
 -- what is understood of texts is decided of the words
 pub decided_of_texts : (words : List (List ℕ)) (store : Option Held) (m : Meaning) (names texts : List (List ℕ)) (d : Decision) → meaning words ≡ Some m → names ≡ files_of m → HoldTexts store names texts → Understood m texts d →
@@ -65,17 +39,8 @@ decided_of_texts words store m names texts d e n h u = at d u
     at (D.Rejected files broken) u = record { command = m; means = e; texts = texts; holds = held; understood = u }
     at D.NotBuilt u = record { command = m; means = e; texts = texts; holds = held; understood = u }
     at D.Checked u = record { command = m; means = e; texts = texts; holds = held; understood = u }
-    at (D.Answers b c) u = record { command = m; means = e; texts = texts; holds = held; understood = u }
     at (D.Ran b q goal) u = record { command = m; means = e; texts = texts; holds = held; understood = u }
     at D.Memory u = tt
-
--- the program of a query is that of its question
-program_asked : (m : Meaning) (texts : List (List ℕ)) (b : RunBounds) (c : Compiled) (a : IsAsked m texts b c) → IsProgram a.formed.database (Some a.question) c
-program_asked m texts b c a = subst (λ (q : Option Question). IsProgram a.formed.database q c) a.asked a.program.program
-
--- its facts are compiled by the chain of facts
-asked_compiles : (m : Meaning) (texts : List (List ℕ)) (b : RunBounds) (c : Compiled) (a : IsAsked m texts b c) → Compiles (sources_of m texts) (Ok a.formed)
-asked_compiles m texts b c a = facts_compile (sources_of m texts) a.formed a.compiles
 
 -- an outcome of texts is a defined one
 defined_over : (words : List (List ℕ)) (held : Held) (m : Meaning) (t : Texts) (o : Outcome) → meaning words ≡ Some m → texts_in held (files_of m) ≡ t → AnswersOver m t o → Defined words held o
@@ -84,65 +49,29 @@ defined_over words held m t o e h a = subst (λ (q : Option Meaning). DefinedFor
 over_defined : (words : List (List ℕ)) (held : Held) (m : Meaning) (t : Texts) (o : Outcome) → meaning words ≡ Some m → texts_in held (files_of m) ≡ t → Defined words held o → AnswersOver m t o
 over_defined words held m t o e h d = subst (λ (x : Texts). AnswersOver m x o) h (subst (λ (q : Option Meaning). DefinedFor q held o) e d)
 
--- where a question is asked there are bounds
-bounded : QueryIsAsked → (m : Meaning) (texts : List (List ℕ)) (x : Formed) (q : Question) → HasBounds m → Compiles (sources_of m texts) (Ok x) → x.question ≡ Some q → (1 ≤ (bounds_of m).budget) × (1 ≤ (bounds_of m).depth)
-bounded law (Check files) texts x q b k e = absurd (some_none (ap is_some (sym e) ∙ law (sources_of (Check files) texts) x k))
-bounded law (Run b files) texts x q h k e = (h.budget, h.depth)
-bounded law (Query first b goal files) texts x q h k e = (h.budget, h.depth)
+-- what is told of a decision is a defined answer
+is_defined : (words : List (List ℕ)) (held : Held) (f0 f1 : ℕ) (d : Decision) → IsDecided words (Some held) d → CountsFaults d f0 f1 → (Rose f0 f1 → ⊥) → (told_of d).status ≢ S.Memory → Defined words held (told_of d)
+is_defined words held f0 f1 D.Usage x cf n s = subst (λ (q : Option Meaning). DefinedFor q held (said usage_line S.Usage)) (sym x) refl
+is_defined words held f0 f1 (D.Absent line) x cf n s =
+    defined_over words held x.command (Missing x.stops.0) (told_of (D.Absent line)) x.means x.stops.1.0 (ap (λ (l : List ℕ). said l S.Absent) x.stops.1.1)
+is_defined words held f0 f1 (D.Unreadable line) x cf n s = absurd (n cf)
+is_defined words held f0 f1 (D.Rejected files broken) x cf n s =
+    defined_over words held x.command (These x.texts) (told_of (D.Rejected files broken)) x.means x.holds
+    (subst (λ (ns : List (List ℕ)). Answers x.command x.texts (said (broken_lines ns broken) S.Rejected)) (sym x.understood.0) (refused x.understood.1))
+is_defined words held f0 f1 D.NotBuilt x cf n s = defined_over words held x.command (These x.texts) (told_of D.NotBuilt) x.means x.holds (refused x.understood)
+is_defined words held f0 f1 D.Checked x cf n s =
+    let a = x.understood in
+    defined_over words held x.command (These x.texts) (told_of D.Checked) x.means x.holds
+    (subst (λ (o : Outcome). Answers x.command x.texts o) (unasked_written x.command a.executable a.unasked) (ran a.compiles))
+is_defined words held f0 f1 (D.Ran b q goal) x cf n s =
+    let a = x.understood in
+    defined_over words held x.command (These x.texts) (told_of (D.Ran b q goal)) x.means x.holds
+    (subst (λ (o : Outcome). Answers x.command x.texts o) (ran_written x.command x.texts b q goal a) (ran a.compiles))
+is_defined words held f0 f1 D.Memory x cf n s = absurd (s refl)
 
-module _ (laws : Laws) where
-  module _ (words : List (List ℕ)) (m : Meaning) (texts : List (List ℕ)) (b : RunBounds) (c : Compiled) (a : IsAsked m texts b c) (e : meaning words ≡ Some m) where
-    within : (1 ≤ (bounds_of m).budget) × (1 ≤ (bounds_of m).depth)
-    within = bounded laws.asked m texts a.formed a.question (is_command words m e).bounded (asked_compiles m texts b c a) a.asked
-
-    -- what is put is what is written of the run
-    told_written : written m (of_facts a.formed) ≡ told_of (D.Answers b c)
-    told_written =
-        let s = sources_of m texts in
-        let k = asked_compiles m texts b c a in
-        ap (written_of (bounds_of m) a.formed.database) a.asked
-        ∙ sym (written_agrees laws.answered a.formed.database a.question c (bounds_of m) (program_asked m texts b c a) (laws.fit s a.formed k) (laws.ask s a.formed a.question k a.asked) within.0 within.1)
-        ∙ ap (λ (k : Bounds). written_run k (printed (names_of c.program)) c.vars (left_of (rows_asked c))) (sym a.bounds)
-
-    -- and the run ends
-    ended_run : IfSome a.formed.question (λ q. Ends (query_run a.formed.database q (bounds_of m).budget (bounds_of m).depth))
-    ended_run =
-        let s = sources_of m texts in
-        let k = asked_compiles m texts b c a in
-        subst (λ (o : Option Question). IfSome o (λ q. Ends (query_run a.formed.database q (bounds_of m).budget (bounds_of m).depth))) (sym a.asked)
-        (run_ends laws.answered a.formed.database a.question c (bounds_of m) (program_asked m texts b c a) (laws.fit s a.formed k) (laws.ask s a.formed a.question k a.asked) within.0 within.1)
-
-  -- what is told of a decision is a defined answer
-  is_defined : (words : List (List ℕ)) (held : Held) (f0 f1 : ℕ) (d : Decision) → IsDecided words (Some held) d → CountsFaults d f0 f1 → (Rose f0 f1 → ⊥) → (told_of d).status ≢ S.Memory → Defined words held (told_of d)
-  is_defined words held f0 f1 D.Usage x cf n s = subst (λ (q : Option Meaning). DefinedFor q held (said usage_line S.Usage)) (sym x) refl
-  is_defined words held f0 f1 (D.Absent line) x cf n s =
-      defined_over words held x.command (Missing x.stops.0) (told_of (D.Absent line)) x.means x.stops.1.0 (ap (λ (l : List ℕ). said l S.Absent) x.stops.1.1)
-  is_defined words held f0 f1 (D.Unreadable line) x cf n s = absurd (n cf)
-  is_defined words held f0 f1 (D.Rejected files broken) x cf n s =
-      defined_over words held x.command (These x.texts) (told_of (D.Rejected files broken)) x.means x.holds
-      (subst (λ (ns : List (List ℕ)). Answers x.command x.texts (said (broken_lines ns broken) S.Rejected)) (sym x.understood.0) (refused x.understood.1))
-  is_defined words held f0 f1 D.NotBuilt x cf n s = defined_over words held x.command (These x.texts) (told_of D.NotBuilt) x.means x.holds (refused x.understood)
-  is_defined words held f0 f1 D.Checked x cf n s =
-      let a = x.understood in
-      defined_over words held x.command (These x.texts) (told_of D.Checked) x.means x.holds
-      (subst (λ (o : Outcome). Answers x.command x.texts o) (unasked_written x.command a.built a.unasked) (ran a.compiles))
-  is_defined words held f0 f1 (D.Answers b c) x cf n s =
-      let a = x.understood in
-      defined_over words held x.command (These x.texts) (told_of (D.Answers b c)) x.means x.holds
-      (subst (λ (o : Outcome). Answers x.command x.texts o) (told_written words x.command x.texts b c a x.means) (ran a.compiles))
-  is_defined words held f0 f1 (D.Ran b q goal) x cf n s =
-      let a = x.understood in
-      defined_over words held x.command (These x.texts) (told_of (D.Ran b q goal)) x.means x.holds
-      (subst (λ (o : Outcome). Answers x.command x.texts o) (ran_written x.command x.texts b q goal a) (ran a.compiles))
-  is_defined words held f0 f1 D.Memory x cf n s = absurd (s refl)
-
-  -- and the one that is, where both say more than that something isn't seen to hold
-  one_defined : (words : List (List ℕ)) (held : Held) (f0 f1 : ℕ) (d : Decision) → IsDecided words (Some held) d → CountsFaults d f0 f1 → (Rose f0 f1 → ⊥) → (told_of d).status ≢ S.Memory → IsAnswer (told_of d) → (o : Outcome) → Defined words held o → IsAnswer o → told_of d ≡ o
-  one_defined words held f0 f1 d x cf n s t o y k = laws.one words held (told_of d) o (is_defined words held f0 f1 d x cf n s) y t k
-
--- the answers of facts come to their end
-answers_done : (b : RunBounds) (c : Compiled) → (told_of (D.Answers b c)).status ≡ S.Done
-answers_done b c = ap end_status (facts_unstopped (rows_asked c))
+-- and the one that is, where both say more than that something isn't seen to hold
+one_defined : AtMostOneAnswer → (words : List (List ℕ)) (held : Held) (f0 f1 : ℕ) (d : Decision) → IsDecided words (Some held) d → CountsFaults d f0 f1 → (Rose f0 f1 → ⊥) → (told_of d).status ≢ S.Memory → IsAnswer (told_of d) → (o : Outcome) → Defined words held o → IsAnswer o → told_of d ≡ o
+one_defined one words held f0 f1 d x cf n s t o y k = one words held (told_of d) o (is_defined words held f0 f1 d x cf n s) y t k
 
 -- the statuses of runs that stop
 abbrev IsStopStatus : Status → Type 0
@@ -159,7 +88,6 @@ memory_or_told (D.Unreadable line) = inr (λ e. cc)
 memory_or_told (D.Rejected files broken) = inr (λ e. cc)
 memory_or_told D.NotBuilt = inr (λ e. cc)
 memory_or_told D.Checked = inr (λ e. cc)
-memory_or_told (D.Answers b c) = inr (λ e. let z : S.Done ≡ S.Memory = sym (answers_done b c) ∙ e in cc)
 memory_or_told (D.Ran b q goal) = inr (λ e. ran_status b q goal S.Memory e)
 memory_or_told D.Memory = inl refl
 
@@ -171,7 +99,6 @@ unseen_or_told (D.Unreadable line) = inr (λ e. cc)
 unseen_or_told (D.Rejected files broken) = inr (λ e. cc)
 unseen_or_told D.NotBuilt = inl refl
 unseen_or_told D.Checked = inr (λ e. cc)
-unseen_or_told (D.Answers b c) = inr (λ e. let z : S.Done ≡ S.NotBuilt = sym (answers_done b c) ∙ e in cc)
 unseen_or_told (D.Ran b q goal) = inr (λ e. ran_status b q goal S.NotBuilt e)
 unseen_or_told D.Memory = inr (λ e. cc)
 
@@ -213,9 +140,9 @@ module _ (words : List (List ℕ)) (store : Option Held) (f0 f1 a0 a1 : ℕ) (ou
   memory_status : h.decision ≡ D.Memory → s ≡ S.Memory
   memory_status e = h.status ∙ ap ended (subst (λ (d : Decision). Quiet d h.written) e h.quiet)
 
-  pub whole : Laws → (held : Held) (bo be : List ℕ) → Told store held out.before bo err.before be → NoneRose f0 f1 out.faults_before out.faults_after err.faults_before err.faults_after → s ≢ S.Memory →
+  pub whole : (held : Held) (bo be : List ℕ) → Told store held out.before bo err.before be → NoneRose f0 f1 out.faults_before out.faults_after err.faults_before err.faults_after → s ≢ S.Memory →
       AnswersWhole words held bo be s out.after err.after
-  whole laws held bo be told none n = at h.written h.output h.errors h.puts h.told h.status
+  whole held bo be told none n = at h.written h.output h.errors h.puts h.told h.status
     where
       t : Outcome
       t = told_of h.decision
@@ -224,7 +151,7 @@ module _ (words : List (List ℕ)) (store : Option Held) (f0 f1 a0 a1 : ℕ) (ou
           AnswersWhole words held bo be s out.after err.after
       at (Ok u) w v c i e = (
         t,
-        is_defined laws words held f0 f1 h.decision (decided_told held told.files) h.faults none.files (λ m. n (e ∙ i ∙ m)),
+        is_defined words held f0 f1 h.decision (decided_told held told.files) h.faults none.files (λ m. n (e ∙ i ∙ m)),
         e ∙ i,
         wrote_told out.before out.after bo t.out told.output w,
         wrote_told err.before err.after be t.err told.errors v,
@@ -240,29 +167,29 @@ module _ (words : List (List ℕ)) (store : Option Held) (f0 f1 a0 a1 : ℕ) (ou
     writes_front err.before err.after h.written not_built_line (subst (λ (d : Decision). Writes err.before err.after h.written (told_of d).err) e h.errors),
   )
 
-  pub prefixes : Laws → (held : Held) (bo be : List ℕ) → Told store held out.before bo err.before be → (Rose f0 f1 → ⊥) → (o : Outcome) → Defined words held o → IsAnswer o → PutsAnswer o out.before out.after err.before err.after
-  prefixes laws held bo be told n o y k = at (memory_or_told h.decision) (unseen_or_told h.decision)
+  pub prefixes : AtMostOneAnswer → (held : Held) (bo be : List ℕ) → Told store held out.before bo err.before be → (Rose f0 f1 → ⊥) → (o : Outcome) → Defined words held o → IsAnswer o → PutsAnswer o out.before out.after err.before err.after
+  prefixes one held bo be told n o y k = at (memory_or_told h.decision) (unseen_or_told h.decision)
     where
       at : (h.decision ≡ D.Memory) ⊎ ((told_of h.decision).status ≢ S.Memory) → (h.decision ≡ D.NotBuilt) ⊎ IsAnswer (told_of h.decision) → PutsAnswer o out.before out.after err.before err.after
       at (inl e) u = let w = none_put e in inl (nothing_front out.before out.after o.out w.0, nothing_front err.before err.after o.err w.1)
       at (inr m) (inl e) = inr (unseen_put e)
       at (inr m) (inr t) =
-          let e = one_defined laws words held f0 f1 h.decision (decided_told held told.files) h.faults n m t o y k in inl (
+          let e = one_defined one words held f0 f1 h.decision (decided_told held told.files) h.faults n m t o y k in inl (
             subst (λ (x : Outcome). PutsFront out.before out.after x.out) e (writes_front out.before out.after h.written (told_of h.decision).out h.output),
             subst (λ (x : Outcome). PutsFront err.before err.after x.err) e (writes_front err.before err.after h.written (told_of h.decision).err h.errors),
           )
 
   -- a front part of a defined answer was put, or memory was wanting and nothing was
-  pub puts_defined : Laws → (held : Held) (bo be : List ℕ) → Told store held out.before bo err.before be → (Rose f0 f1 → ⊥) →
+  pub puts_defined : (held : Held) (bo be : List ℕ) → Told store held out.before bo err.before be → (Rose f0 f1 → ⊥) →
       PutsDefined words held out.before out.after err.before err.after ⊎ ((s ≡ S.Memory) × (Wrote out.before out.after [] × Wrote err.before err.after []))
-  puts_defined laws held bo be told n = at (memory_or_told h.decision)
+  puts_defined held bo be told n = at (memory_or_told h.decision)
     where
       at : (h.decision ≡ D.Memory) ⊎ ((told_of h.decision).status ≢ S.Memory) →
           PutsDefined words held out.before out.after err.before err.after ⊎ ((s ≡ S.Memory) × (Wrote out.before out.after [] × Wrote err.before err.after []))
       at (inl e) = inr (memory_status e, none_put e)
       at (inr m) = inl (
         told_of h.decision,
-        is_defined laws words held f0 f1 h.decision (decided_told held told.files) h.faults n m,
+        is_defined words held f0 f1 h.decision (decided_told held told.files) h.faults n m,
         writes_front out.before out.after h.written (told_of h.decision).out h.output,
         writes_front err.before err.after h.written (told_of h.decision).err h.errors,
       )
@@ -282,7 +209,6 @@ module _ (words : List (List ℕ)) (store : Option Held) (f0 f1 a0 a1 : ℕ) (ou
       at (D.Rejected files broken) x cf w v = absurd (omega (arith, cf, f))
       at D.NotBuilt x cf w v = absurd (omega (arith, cf, f))
       at D.Checked x cf w v = absurd (omega (arith, cf, f))
-      at (D.Answers b c) x cf w v = absurd (omega (arith, cf, f))
       at (D.Ran b q goal) x cf w v = absurd (omega (arith, cf, f))
       at D.Memory x cf w v =
           let first = first_unread store (files_of m) (is_command words m e).some in (
@@ -303,7 +229,6 @@ module _ (words : List (List ℕ)) (store : Option Held) (f0 f1 a0 a1 : ℕ) (ou
       at (D.Rejected files broken) x t = cc
       at D.NotBuilt x t = cc
       at D.Checked x t = cc
-      at (D.Answers b c) x t = let z : S.Done ≡ S.Usage = sym (answers_done b c) ∙ t in cc
       at (D.Ran b q goal) x t = absurd (ran_status b q goal S.Usage t)
       at D.Memory x t = cc
 
@@ -330,12 +255,11 @@ module _ (words : List (List ℕ)) (store : Option Held) (f0 f1 a0 a1 : ℕ) (ou
       at (D.Rejected files broken) x e = absurd (no_command words x.command n x.means)
       at D.NotBuilt x e = absurd (no_command words x.command n x.means)
       at D.Checked x e = absurd (no_command words x.command n x.means)
-      at (D.Answers b c) x e = absurd (no_command words x.command n x.means)
       at (D.Ran b q goal) x e = absurd (no_command words x.command n x.means)
       at D.Memory x e = wanting S.Usage e
 
-  pub done_cause : Laws → s ≡ S.Done → OfSources words store RunsToEnd
-  done_cause laws e = at h.written h.decision h.decided h.ends (done_written h.written (sym h.status ∙ e)) (told_status S.Done e (λ x. cc) (λ x. cc))
+  pub done_cause : s ≡ S.Done → OfSources words store RunsToEnd
+  done_cause e = at h.written h.decision h.decided h.ends (done_written h.written (sym h.status ∙ e)) (told_status S.Done e (λ x. cc) (λ x. cc))
     where
       at : (r : Result Status PutFault) (d : Decision) → IsDecided words store d → EndsRun d r → r ≡ Ok S.Done → (told_of d).status ≡ S.Done → OfSources words store RunsToEnd
       at r D.Usage x n w t = cc
@@ -345,14 +269,11 @@ module _ (words : List (List ℕ)) (store : Option Held) (f0 f1 a0 a1 : ℕ) (ou
       at r D.NotBuilt x n w t = cc
       at r D.Checked x n w t =
           let a = x.understood in
-          record { command = x.command; means = x.means; texts = x.texts; holds = x.holds; so = (a.built, a.compiles, unasked_ends (bounds_of x.command) a.built a.unasked) }
-      at r (D.Answers b c) x n w t =
-          let a = x.understood in
-          record { command = x.command; means = x.means; texts = x.texts; holds = x.holds; so = (of_facts a.formed, a.compiles, ended_run laws words x.command x.texts b c a x.means) }
+          record { command = x.command; means = x.means; texts = x.texts; holds = x.holds; so = (a.executable, a.compiles, unasked_ends (bounds_of x.command) a.executable a.unasked) }
       at r (D.Ran b q goal) x n w t =
           let a = x.understood in
           let there : EndsRun (D.Ran b q goal) (Ok S.Done) = subst (λ (k : Result Status PutFault). EndsRun (D.Ran b q goal) k) w n in
-          record { command = x.command; means = x.means; texts = x.texts; holds = x.holds; so = (of_procedures (record { procs = q; goal = Some goal }), a.compiles, ran_ends x.command x.texts b q goal a (there refl)) }
+          record { command = x.command; means = x.means; texts = x.texts; holds = x.holds; so = (record { procs = q; goal = Some goal }, a.compiles, ran_ends x.command x.texts b q goal a (there refl)) }
       at r D.Memory x n w t = cc
 
   pub rejected_cause : s ≡ S.Rejected → OfSources words store BreaksRules
@@ -366,7 +287,6 @@ module _ (words : List (List ℕ)) (store : Option Held) (f0 f1 a0 a1 : ℕ) (ou
       at (D.Rejected files broken) x t = record { command = x.command; means = x.means; texts = x.texts; holds = x.holds; so = (broken, x.understood.1) }
       at D.NotBuilt x t = cc
       at D.Checked x t = cc
-      at (D.Answers b c) x t = let z : S.Done ≡ S.Rejected = sym (answers_done b c) ∙ t in cc
       at (D.Ran b q goal) x t = absurd (ran_status b q goal S.Rejected t)
       at D.Memory x t = cc
 
@@ -382,7 +302,6 @@ module _ (words : List (List ℕ)) (store : Option Held) (f0 f1 a0 a1 : ℕ) (ou
       at (D.Rejected files broken) x t = cc
       at D.NotBuilt x t = record { command = x.command; means = x.means; texts = x.texts; holds = x.holds; so = x.understood }
       at D.Checked x t = cc
-      at (D.Answers b c) x t = let z : S.Done ≡ S.NotBuilt = sym (answers_done b c) ∙ t in cc
       at (D.Ran b q goal) x t = absurd (ran_status b q goal S.NotBuilt t)
       at D.Memory x t = cc
 
@@ -396,7 +315,6 @@ module _ (words : List (List ℕ)) (store : Option Held) (f0 f1 a0 a1 : ℕ) (ou
       at (D.Rejected files broken) x t = cc
       at D.NotBuilt x t = cc
       at D.Checked x t = cc
-      at (D.Answers b c) x t = let z : S.Done ≡ S.Absent = sym (answers_done b c) ∙ t in cc
       at (D.Ran b q goal) x t = absurd (ran_status b q goal S.Absent t)
       at D.Memory x t = cc
 
@@ -410,7 +328,6 @@ module _ (words : List (List ℕ)) (store : Option Held) (f0 f1 a0 a1 : ℕ) (ou
       at (D.Rejected files broken) x t = cc
       at D.NotBuilt x t = cc
       at D.Checked x t = cc
-      at (D.Answers b c) x t = let z : S.Done ≡ S.Absent = sym (answers_done b c) ∙ t in cc
       at (D.Ran b q goal) x t = absurd (ran_status b q goal S.Absent t)
       at D.Memory x t = cc
 
@@ -424,7 +341,6 @@ module _ (words : List (List ℕ)) (store : Option Held) (f0 f1 a0 a1 : ℕ) (ou
       at (D.Rejected files broken) x t = cc
       at D.NotBuilt x t = cc
       at D.Checked x t = cc
-      at (D.Answers b c) x t = let z : S.Done ≡ S.ReadFault = sym (answers_done b c) ∙ t in cc
       at (D.Ran b q goal) x t = absurd (ran_status b q goal S.ReadFault t)
       at D.Memory x t = cc
 
@@ -444,7 +360,6 @@ module _ (words : List (List ℕ)) (store : Option Held) (f0 f1 a0 a1 : ℕ) (ou
       at (Ok u) (D.Rejected files broken) x w v i t = let z : S.Rejected ≡ S.ReadFault = sym i ∙ t in cc
       at (Ok u) D.NotBuilt x w v i t = let z : S.NotBuilt ≡ S.ReadFault = sym i ∙ t in cc
       at (Ok u) D.Checked x w v i t = let z : S.Done ≡ S.ReadFault = sym i ∙ t in cc
-      at (Ok u) (D.Answers b c) x w v i t = let z : S.Done ≡ S.ReadFault = sym (answers_done b c) ∙ sym i ∙ t in cc
       at (Ok u) (D.Ran b q goal) x w v i t = absurd (ran_status b q goal S.ReadFault (sym i ∙ t))
       at (Ok u) D.Memory x w v i t = let z : S.Memory ≡ S.ReadFault = sym i ∙ t in cc
 
@@ -458,7 +373,6 @@ module _ (words : List (List ℕ)) (store : Option Held) (f0 f1 a0 a1 : ℕ) (ou
       at (D.Rejected files broken) x t = absurd (omega (arith, x, f))
       at D.NotBuilt x t = absurd (omega (arith, x, f))
       at D.Checked x t = absurd (omega (arith, x, f))
-      at (D.Answers b c) x t = absurd (omega (arith, x, f))
       at (D.Ran b q goal) x t = absurd (omega (arith, x, f))
       at D.Memory x t = wanting S.ReadFault t
 
@@ -472,7 +386,6 @@ module _ (words : List (List ℕ)) (store : Option Held) (f0 f1 a0 a1 : ℕ) (ou
       at (D.Rejected files broken) x t = absurd (omega (arith, x, f))
       at D.NotBuilt x t = absurd (omega (arith, x, f))
       at D.Checked x t = absurd (omega (arith, x, f))
-      at (D.Answers b c) x t = absurd (omega (arith, x, f))
       at (D.Ran b q goal) x t = absurd (omega (arith, x, f))
       at D.Memory x t = wanting S.Absent t
 
@@ -483,7 +396,6 @@ module _ (words : List (List ℕ)) (store : Option Held) (f0 f1 a0 a1 : ℕ) (ou
   told_no_fault (D.Rejected files broken) t = cc
   told_no_fault D.NotBuilt t = cc
   told_no_fault D.Checked t = cc
-  told_no_fault (D.Answers b c) t = let z : S.Done ≡ S.WriteFault = sym (answers_done b c) ∙ t in cc
   told_no_fault (D.Ran b q goal) t = absurd (ran_status b q goal S.WriteFault t)
   told_no_fault D.Memory t = cc
 
@@ -518,7 +430,6 @@ module _ (words : List (List ℕ)) (store : Option Held) (f0 f1 a0 a1 : ℕ) (ou
       at (D.Rejected files broken) y t = absurd (subst IsStopStatus (sym t) k)
       at D.NotBuilt y t = absurd (subst IsStopStatus (sym t) k)
       at D.Checked y t = absurd (subst IsStopStatus (sym t) k)
-      at (D.Answers b c) y t = absurd (subst IsStopStatus (sym (sym (answers_done b c) ∙ t)) k)
       at (D.Ran b q goal) y t = ran_stops IsSo words store b q goal y (why (stop_of (run_of_goal q goal b.budget b.depth)) (sym (goal_status (plain_bounds b) q goal) ∙ t))
       at D.Memory y t = absurd (subst IsStopStatus (sym t) k)
 
@@ -530,22 +441,3 @@ module _ (words : List (List ℕ)) (store : Option Held) (f0 f1 a0 a1 : ℕ) (ou
 
   pub deep_cause : s ≡ S.TooDeep → OfSources words store (StopsBy (λ halt. halt ≡ too_deep))
   deep_cause e = stop_cause (λ halt. halt ≡ too_deep) S.TooDeep tt stops_deep e
-
--- every run of facts to which sources compile is good, and every run of the query
-true_program : CompiledFits → CompiledAsks → FactsAreGood → QueriesAreGood → (s : Sources) (x : Formed) → Builds s (Ok (of_facts x)) → IsTrueProgram x
-true_program fit ask facts queries s x j =
-    record { system = system_of x.database x.question; bare = refl; procedures = facts x.database x.question (fit s x (facts_compile s x j)); query = queried x.question refl }
-  where
-    k : Compiles s (Ok x)
-    k = facts_compile s x j
-
-    queried : (o : Option Question) → x.question ≡ o → IfSome o (λ q. (n h : ℕ) → GoodQuery (system_of x.database x.question) n h (query_procedure x.database q))
-    queried None e = tt
-    queried (Some q) e =
-        subst (λ (o : Option Question). (n h : ℕ) → GoodQuery (system_of x.database o) n h (query_procedure x.database q)) (sym e)
-        (queries x.database q (fit s x k) (ask s x q k e))
-
--- what sources are built to runs true
-pub true_built : CompiledFits → CompiledAsks → FactsAreGood → QueriesAreGood → ExecutablesAreTrue → (s : Sources) (b : Built) → Builds s (Ok b) → RunsTrue b
-true_built fit ask facts queries executables s (of_facts x) j = true_program fit ask facts queries s x j
-true_built fit ask facts queries executables s (of_procedures e) j = executables s e j

@@ -61,7 +61,6 @@ stops_behind store fs ts f gs (D.Unreadable line) a s = (f, (record { before = f
 stops_behind store fs ts f gs (D.Rejected files broken) a s = absurd s
 stops_behind store fs ts f gs D.NotBuilt a s = absurd s
 stops_behind store fs ts f gs D.Checked a s = absurd s
-stops_behind store fs ts f gs (D.Answers b c) a s = absurd s
 stops_behind store fs ts f gs (D.Ran b q goal) a s = absurd s
 stops_behind store fs ts f gs D.Memory a s = tt
 

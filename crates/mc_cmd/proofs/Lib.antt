@@ -1,9 +1,7 @@
 pub mod Puts
 pub mod Looking
 pub mod Runs
-pub mod FactsRun
 pub mod Procs
-pub mod Builds
 pub mod Stops
 pub mod InTurn
 pub mod Commands

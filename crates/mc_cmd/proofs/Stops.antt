@@ -9,8 +9,7 @@ use Rattle.mc_model.specs.EventList.{End, Stuck, Stopped, Answer, Called, Wrote,
 use Rattle.mc_command_line.specs.Words.{Meaning, Bounds}
 use Rattle.mc_command_line.specs.Plain.{plain_bounds}
 use Rattle.mc_command_line.specs.declared.limits.Bounds.{Bounds as RunBounds}
-use Rattle.mc_ground_form.specs.Database.{Question, query_run}
-use Rattle.mc_compile.specs.Building.{Built, of_facts, of_procedures}
+use Rattle.mc_compile.specs.Ruling.{PlainExecutable}
 use Rattle.mc_compile.specs.declared.executable.Goal.{Goal}
 use Rattle.mc_compile.specs.declared.executable.Goal.TheVariants as G
 use Rattle.mc_model.specs.declared.run.Stop.{Stop}
@@ -19,10 +18,10 @@ use Rattle.mc_cmd.specs.declared.status.Status.TheVariants as S
 use Rattle.mc_cmd.specs.declared.decision.Decision.TheVariants as D
 use Rattle.mc_procs.specs.Procedures.{PlainProcs}
 use Rattle.mc_cmd.specs.Ends.{said, stop_of, shown, end_line, end_status, written_main}
-use Rattle.mc_cmd.specs.Outcome.{bounds_of, run_of_goal, run_of_query, written_procedures, written_goal, written, written_of}
+use Rattle.mc_cmd.specs.Outcome.{bounds_of, run_of_goal, run_of_query, written_procedures, written_goal, written}
 use Rattle.mc_cmd.specs.Call.{EndsWithin, IsThrown, OfSources, StopsBy}
 use Rattle.mc_cmd.specs.code.Runs.{QueryItems, EndsUnless, plain_end, plain_stop}
-use Rattle.mc_cmd.specs.code.Decisions.{IsUnasked, IsRan, IsOfTexts, told_of, ended}
+use Rattle.mc_cmd.specs.code.Decisions.{IsRan, IsOfTexts, told_of, ended}
 
 -- what a run shows ends as the run does
 pub stop_shown : (xs : QueryItems) → stop_of (shown xs) ≡ stop_of xs
@@ -107,20 +106,18 @@ done_written (Ok u) e = ap Ok e
 done_written (Err put.Failed) e = cc
 done_written (Err put.Memory) e = cc
 
--- nothing is asked
-pub unasked_written : (m : Meaning) (x : Built) → IsUnasked x → written m x ≡ said [] S.Done
-unasked_written m (of_facts x) u = ap (written_of (bounds_of m) x.database) u
-unasked_written m (of_procedures e) u = ap (written_procedures (bounds_of m) e.procs) u
+-- nothing is run
+pub unasked_written : (m : Meaning) (e : PlainExecutable) → e.goal ≡ None → written m e ≡ said [] S.Done
+unasked_written m e u = ap (written_procedures (bounds_of m) e.procs) u
 
-pub unasked_ends : (b : Bounds) (x : Built) → IsUnasked x → EndsWithin b x
-unasked_ends b (of_facts x) u = subst (λ (o : Option Question). IfSome o (λ q. Ends (query_run x.database q b.budget b.depth))) (sym u) tt
-unasked_ends b (of_procedures e) u = subst (λ (o : Option Goal). IfSome o (λ goal. Ends (run_of_goal e.procs goal b.budget b.depth))) (sym u) tt
+pub unasked_ends : (b : Bounds) (e : PlainExecutable) → e.goal ≡ None → EndsWithin b e
+unasked_ends b e u = subst (λ (o : Option Goal). IfSome o (λ goal. Ends (run_of_goal e.procs goal b.budget b.depth))) (sym u) tt
 
 -- a goal over procedures is run
-pub ran_written : (m : Meaning) (texts : List (List ℕ)) (b : RunBounds) (q : PlainProcs) (goal : Goal) → IsRan m texts b q goal → written m (of_procedures (record { procs = q; goal = Some goal })) ≡ told_of (D.Ran b q goal)
+pub ran_written : (m : Meaning) (texts : List (List ℕ)) (b : RunBounds) (q : PlainProcs) (goal : Goal) → IsRan m texts b q goal → written m (record { procs = q; goal = Some goal }) ≡ told_of (D.Ran b q goal)
 ran_written m texts b q goal a = ap (λ (k : Bounds). written_goal k q goal) (sym a.bounds)
 
-pub ran_ends : (m : Meaning) (texts : List (List ℕ)) (b : RunBounds) (q : PlainProcs) (goal : Goal) → IsRan m texts b q goal → Ends (run_of_goal q goal b.budget b.depth) → EndsWithin (bounds_of m) (of_procedures (record { procs = q; goal = Some goal }))
+pub ran_ends : (m : Meaning) (texts : List (List ℕ)) (b : RunBounds) (q : PlainProcs) (goal : Goal) → IsRan m texts b q goal → Ends (run_of_goal q goal b.budget b.depth) → EndsWithin (bounds_of m) (record { procs = q; goal = Some goal })
 ran_ends m texts b q goal a n = subst (λ (k : Bounds). Ends (run_of_goal q goal k.budget k.depth)) a.bounds n
 
 -- why a run stopped

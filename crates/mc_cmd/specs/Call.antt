@@ -4,16 +4,12 @@ use Rattle.mc_outside.specs.Counts.{Rose}
 use Rattle.mc_outside.specs.Meaning.{Held, PutsFront}
 use Rattle.mc_source.specs.declared.rule.Broken.{Broken}
 use Rattle.mc_model.specs.EventList.{Ends, Halt, Exc, thrown}
-use Rattle.mc_model.specs.Good.{System, GoodProcedures, GoodQuery}
 use Rattle.mc_command_line.specs.Words.{Meaning, Bounds, meaning}
-use Rattle.mc_ground_form.specs.Database.{query_procedure, query_run, system_of}
 use Rattle.mc_compile.specs.Phases.{Breaks, Unbuilt}
 use Rattle.mc_compile.specs.Sources.{Sources}
-use Rattle.mc_compile.specs.Forming.{Formed}
 use Rattle.mc_compile.specs.Ruling.{PlainExecutable}
-use Rattle.mc_compile.specs.Building.{Built, of_facts, of_procedures, Builds}
+use Rattle.mc_compile.specs.Compiling.{Compiles}
 use Rattle.mc_compile.specs.declared.executable.Goal.{Goal}
-use Rattle.mc_program_laws.specs.ProgramTruth.{IsTrueExecutable}
 use Rattle.mc_cmd.specs.declared.status.Status.{Status}
 use Rattle.mc_cmd.specs.Messages.{unreadable_line}
 use Rattle.mc_cmd.specs.Ends.{Outcome, stop_of}
@@ -108,29 +104,26 @@ pub record OfSources (words : List (List ℕ)) (store : Option Held) (P : Meanin
 
 -- the sources break rules
 abbrev pub BreaksRules : Meaning → Sources → Type 0
-BreaksRules m s = (broken : List Broken) × Builds s (Err (Breaks broken))
+BreaksRules m s = (broken : List Broken) × Compiles s (Err (Breaks broken))
 
 -- they break none, and something is asked for that isn't built yet
 abbrev pub IsUnbuilt : Meaning → Sources → Type 0
-IsUnbuilt m s = Builds s (Err Unbuilt)
+IsUnbuilt m s = Compiles s (Err Unbuilt)
 
--- the run of the query or of `main`, where one is run of what was built, comes to its end within
--- bounds
-abbrev pub EndsWithin : Bounds → Built → Type 0
-EndsWithin b (of_facts x) =
-    IfSome x.question (λ q. Ends (query_run x.database q b.budget b.depth))
-EndsWithin b (of_procedures e) =
-    IfSome e.goal (λ goal. Ends (run_of_goal e.procs goal b.budget b.depth))
+-- the run of the query or of `main`, where one is run, comes to its end within bounds
+abbrev pub EndsWithin : Bounds → PlainExecutable → Type 0
+EndsWithin b e = IfSome e.goal (λ goal. Ends (run_of_goal e.procs goal b.budget b.depth))
 
 -- they compile, and what is run of them comes to its end within its bounds
 abbrev pub RunsToEnd : Meaning → Sources → Type 0
-RunsToEnd m s = (x : Built) × Builds s (Ok x) × EndsWithin (bounds_of m) x
+RunsToEnd m s =
+    (e : PlainExecutable) × Compiles s (Ok e) × EndsWithin (bounds_of m) e
 
--- They compile to procedures, and the run of the query, or of `main`, stops before its end for a
--- reason of this kind. (The run of a query over facts doesn't stop.)
+-- They compile, and the run of the query, or of `main`, stops before its end for a reason of this
+-- kind.
 pub record StopsBy (IsSo : Halt → Type 0) (m : Meaning) (s : Sources) : Type 0 where
   pub executable : PlainExecutable
-  pub compiles : Builds s (Ok (of_procedures executable))
+  pub compiles : Compiles s (Ok executable)
   pub goal : Goal
   pub asked : executable.goal ≡ Some goal
   pub halt : Halt
@@ -140,18 +133,3 @@ pub record StopsBy (IsSo : Halt → Type 0) (m : Meaning) (s : Sources) : Type 0
 
 abbrev pub IsThrown : Halt → Type 0
 IsThrown halt = (e : Exc) × (halt ≡ thrown e)
-
--- There is a system whose bare form is the facts that sources are compiled to, so that its runs are those
--- which are written. Every run of its procedures is good, and so is every run of the query, where
--- there is one.
-pub record IsTrueProgram (x : Formed) : Type 0 where
-  pub system : System
-  pub bare : system ≡ system_of x.database x.question
-  pub procedures : GoodProcedures system
-  pub query :
-      IfSome x.question (λ q. (n h : ℕ) → GoodQuery system n h (query_procedure x.database q))
-
--- What sources are built to runs true: every run of its procedures, of the query and of `main` is good.
-abbrev pub RunsTrue : Built → Type 0
-RunsTrue (of_facts x) = IsTrueProgram x
-RunsTrue (of_procedures e) = IsTrueExecutable e

@@ -12,11 +12,10 @@ use Rattle.mc_model.specs.EventList.{Items}
 use Rattle.mc_model.specs.Stream.{run_call, run_query}
 use Rattle.mc_model.specs.Worlds.{library_of}
 use Rattle.mc_procs.specs.Procedures.{PlainProcs, procedure_at}
-use Rattle.mc_ground_form.specs.Database.{Database, Question, query_run}
-use Rattle.mc_ground_form.specs.Lines.{names_of}
 use Rattle.mc_compile.specs.Phases.{Refusal, Breaks, Unbuilt}
 use Rattle.mc_compile.specs.Sources.{Sources}
-use Rattle.mc_compile.specs.Building.{Built, of_facts, of_procedures, Builds}
+use Rattle.mc_compile.specs.Ruling.{PlainExecutable}
+use Rattle.mc_compile.specs.Compiling.{Compiles}
 use Rattle.mc_compile.specs.declared.executable.Goal.{Goal}
 use Rattle.mc_compile.specs.declared.executable.Goal.TheVariants as G
 use Rattle.mc_cmd.specs.declared.status.Status.TheVariants as S
@@ -62,12 +61,6 @@ abbrev pub refusal : Meaning → Refusal → Outcome
 refusal m (Breaks broken) = said (broken_lines (files_of m) broken) S.Rejected
 refusal m Unbuilt = said not_built_line S.NotBuilt
 
--- what is written of facts and their query within bounds; without a query nothing is run
-abbrev pub written_of : Bounds → Database → Option Question → Outcome
-written_of b d None = said [] S.Done
-written_of b d (Some q) =
-    written_run b (printed (names_of d)) q.variables (query_run d q b.budget b.depth)
-
 -- the run of a query over procedures, over an empty input
 abbrev pub run_of_query : PlainProcs → (query budget depth : ℕ) → Items (List (Option Val))
 run_of_query q query n h =
@@ -103,15 +96,15 @@ abbrev pub written_procedures : Bounds → PlainProcs → Option Goal → Outcom
 written_procedures b q None = said [] S.Done
 written_procedures b q (Some goal) = written_goal b q goal
 
--- what is written where the sources compile: to facts, or to procedures
-abbrev pub written : Meaning → Built → Outcome
-written m (of_facts x) = written_of (bounds_of m) x.database x.question
-written m (of_procedures e) = written_procedures (bounds_of m) e.procs e.goal
+-- what is written where the sources compile
+abbrev pub written : Meaning → PlainExecutable → Outcome
+written m e = written_procedures (bounds_of m) e.procs e.goal
 
 -- What is answered of a command whose files hold these texts.
 pub data Answers (m : Meaning) (texts : List (List ℕ)) : Outcome → Type 0 where
-  refused : {r : Refusal} → Builds (sources_of m texts) (Err r) → Answers m texts (refusal m r)
-  ran : {x : Built} → Builds (sources_of m texts) (Ok x) → Answers m texts (written m x)
+  refused : {r : Refusal} → Compiles (sources_of m texts) (Err r) → Answers m texts (refusal m r)
+  ran :
+      {e : PlainExecutable} → Compiles (sources_of m texts) (Ok e) → Answers m texts (written m e)
 
 -- the texts that files hold, as much of each as is read, or the first file that isn't there
 pub data Texts : Type 0 where

@@ -5,14 +5,13 @@ ghost use Rattle.mc_compile.specs.Sources.{is_first as is_first_wanted};
 ghost use Rattle.mc_cmd.specs.Messages.{absent_line, unreadable_line};
 ghost use Rattle.mc_cmd.specs.Outcome.{bounds_of, files_of, query_of, is_first, is_run};
 ghost use Rattle.mc_cmd.specs.Call.{HoldTexts};
-ghost use Rattle.mc_cmd.specs.code.Decisions.{CountsAbsents, CountsFaults, IsAnswered, IsAnsweredByFacts, IsAnsweredByRun, IsDecided, IsHeld, IsStopped, Stops, StopsAt, Understood, given_names};
+ghost use Rattle.mc_cmd.specs.code.Decisions.{CountsAbsents, CountsFaults, IsAnswered, IsDecided, IsHeld, IsStopped, Stops, StopsAt, Understood, given_names};
 
 use crate::decision::Decision;
 use crate::messages;
 use mc_base::{Memory, Row, Text};
 use mc_command_line::{Bounds, Command, query_text, read_words};
-use mc_compile::{CompileFault, Compiled, Executable, Given, Query, compile, query_is_asked};
-use mc_ground_form::Compiled as Facts;
+use mc_compile::{CompileFault, Executable, Given, Query, compile};
 use mc_outside::{FileAnswer, Files};
 use std::alloc::{AllocError, Global};
 
@@ -152,19 +151,9 @@ fn bounds_of(command: &Command<'_>) -> Bounds
     }
 }
 
-/// What is decided of a command whose sources compile to facts.
-fn asked_of_facts(command: &Command<'_>, facts: Facts) -> Decision
-    ensures { IsAnsweredByFacts (plain_command command.now) facts result }
-{
-    match command {
-        Command::Query { bounds, .. } => Decision::Answers(*bounds, facts),
-        Command::Check(_) | Command::Run(..) => Decision::Checked,
-    }
-}
-
-/// What is decided of a command whose sources compile to procedures.
-fn asked_of_procedures(command: &Command<'_>, executable: Executable) -> Decision
-    ensures { IsAnsweredByRun (plain_command command.now) executable result }
+/// What is decided of a command whose sources compile.
+fn asked(command: &Command<'_>, executable: Executable) -> Decision
+    ensures { IsAnswered (plain_command command.now) executable result }
 {
     let Executable { procs, goal } = executable;
     match goal {
@@ -173,28 +162,17 @@ fn asked_of_procedures(command: &Command<'_>, executable: Executable) -> Decisio
     }
 }
 
-/// What is decided of a command whose sources compile.
-fn asked(command: &Command<'_>, compiled: Compiled) -> Decision
-    ensures { IsAnswered (plain_command command.now) compiled result }
-{
-    match compiled {
-        Compiled::Facts(facts) => asked_of_facts(command, facts),
-        Compiled::Procedures(executable) => asked_of_procedures(command, executable),
-    }
-}
-
 /// Compiles the files of a command, and decides by that.
 fn compiled(alloc: Global, command: &Command<'_>, sources: Row<Given>) -> Decision
     requires { given_names sources ≡ files_of (plain_command command.now) }
     ensures { Understood (plain_command command.now) (texts_of sources) result }
 {
-    query_is_asked();
     let query = match query_of(alloc, command) {
         Ok(query) => query,
         Err(Memory) => return Decision::Memory,
     };
     match compile(alloc, &sources, query.as_ref(), is_run(command)) {
-        Ok(compiled) => asked(command, compiled),
+        Ok(executable) => asked(command, executable),
         Err(CompileFault::Rejected(broken)) => Decision::Rejected(sources, broken),
         Err(CompileFault::NotBuilt) => Decision::NotBuilt,
         Err(CompileFault::Memory) => Decision::Memory,

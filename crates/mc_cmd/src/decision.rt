@@ -1,7 +1,6 @@
 use mc_base::{Memory, Row};
 use mc_command_line::Bounds;
 use mc_compile::{Given, Goal};
-use mc_ground_form::Compiled as Facts;
 use mc_procs::Procs;
 use mc_source::rule::Broken;
 
@@ -20,8 +19,6 @@ pub enum Decision {
     NotBuilt,
     /// The sources compile, and nothing is asked of them.
     Checked,
-    /// The answers of the query over facts, within these bounds.
-    Answers(Bounds, Facts),
     /// The run of the query, or of `main`, over procedures, within these bounds.
     Ran(Bounds, Procs, Goal),
     /// There is no room.

@@ -1,13 +1,11 @@
 ghost use Rattle.mc_cmd.specs.Laws.{AtMostOneAnswer};
 
-use mc_compile::at_most_one_program;
 use mc_one_answer::laws::{compiled_are_one, one_to_be_run};
 
 /// Of words and of what files hold there is one defined answer at most: a law, and nothing to run.
 pub fn at_most_one_answer()
     ensures { AtMostOneAnswer }
 {
-    at_most_one_program();
     compiled_are_one();
     one_to_be_run();
 }

@@ -3,7 +3,6 @@
 
 mod decide;
 mod decision;
-mod facts;
 mod law;
 mod main_run;
 mod messages;

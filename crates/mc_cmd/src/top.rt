@@ -4,24 +4,22 @@ ghost use Rattle.mc_outside.specs.Meaning.{Held};
 ghost use Rattle.mc_model.specs.EventList.{budget, too_deep};
 ghost use Rattle.mc_command_line.specs.Words.{Meaning, meaning};
 ghost use Rattle.mc_compile.specs.Sources.{Sources};
-ghost use Rattle.mc_compile.specs.Building.{Built, Builds};
+ghost use Rattle.mc_compile.specs.Compiling.{Compiles};
+ghost use Rattle.mc_compile.specs.Ruling.{PlainExecutable};
+ghost use Rattle.mc_program_laws.specs.ProgramTruth.{IsTrueExecutable};
 ghost use Rattle.mc_cmd.specs.Ends.{Outcome};
 ghost use Rattle.mc_cmd.specs.Outcome.{Defined, files_of};
 ghost use Rattle.mc_cmd.specs.Laws.{IsAnswer, PutsAnswer};
-ghost use Rattle.mc_cmd.specs.Call.{AnswersWhole, BreaksRules, IsThrown, IsUnbuilt, LacksOne, NoneRose, OfFiles, OfSources, PutsDefined, RunsToEnd, RunsTrue, SaidUnreadable, SaysUnreadable, StopsBy, Told, Wrote};
+ghost use Rattle.mc_cmd.specs.Call.{AnswersWhole, BreaksRules, IsThrown, IsUnbuilt, LacksOne, NoneRose, OfFiles, OfSources, PutsDefined, RunsToEnd, SaidUnreadable, SaysUnreadable, StopsBy, Told, Wrote};
 ghost use Rattle.mc_cmd.specs.code.Decisions.{CountPuts, EndsRun, Happened, Quiet, Writes, ended, told_of};
 
 use crate::decide::decide;
 use crate::decision::Decision;
-use crate::facts::FactsRun;
 use crate::law::at_most_one_answer;
 use crate::messages;
 use crate::procs_run::write_goal;
-use crate::run::write_run;
 use crate::status::Status;
 use crate::write::{put_line, put_rules};
-use mc_compile::{facts_fit, query_is_asked, question_asks};
-use mc_ground_form::{facts_are_answered, facts_are_good, queries_are_good};
 use mc_outside::{Files, PutFault, Sink, Source};
 use mc_program_laws::laws::executables_are_true;
 use std::alloc::Global;
@@ -71,10 +69,10 @@ pub fn merc<F: Files, I: Source, O: Sink, E: Sink>(
         → F.faults files.old < F.faults files.new
         → Wrote (O.written out.old) (O.written out.new) []
         × SaysUnreadable (F.held files.old) (E.written err.old) (E.written err.new) (files_of m) }
-    // What any sources are built to runs true: no unbound variable is read, each answer binds what its modes declare
+    // What any sources are compiled to runs true: no unbound variable is read, each answer binds what its modes declare
     // and is true in the completion, success counts obey determinism, where a run ends that isn't committed to one answer
     // each assignment that isn't answered is false, and what `main` has written at its end is what its last state has gained.
-    ensures truth { (s : Sources) (b : Built) → Builds s (Ok b) → RunsTrue b }
+    ensures truth { (s : Sources) (e : PlainExecutable) → Compiles s (Ok e) → IsTrueExecutable e }
     // Done comes only where the sources compile, and the run of the query, or of `main`, ends.
     ensures done { result ≡ Status.Done
         → OfSources (map string_bytes words.now.items) (F.held files.old) RunsToEnd }
@@ -110,7 +108,7 @@ pub fn merc<F: Files, I: Source, O: Sink, E: Sink>(
     // NotBuilt comes only where the sources break no rule up to those of insts (M7), and something needn't be seen to hold.
     ensures not_built { result ≡ Status.NotBuilt
         → OfSources (map string_bytes words.now.items) (F.held files.old) IsUnbuilt }
-    // Threw, Budget and TooDeep come only where the run of the query, or of `main`, over procedures stops so.
+    // Threw, Budget and TooDeep come only where the run of the query, or of `main`, stops so.
     ensures threw { result ≡ Status.Threw
         → OfSources (map string_bytes words.now.items) (F.held files.old) (StopsBy IsThrown) }
     ensures spent { result ≡ Status.Budget
@@ -123,12 +121,6 @@ pub fn merc<F: Files, I: Source, O: Sink, E: Sink>(
     ensures held { F.held files.new ≡ F.held files.old }
     ensures input { input.new ≡ input.old }
 {
-    facts_are_answered();
-    facts_are_good();
-    queries_are_good();
-    facts_fit();
-    question_asks();
-    query_is_asked();
     executables_are_true();
     at_most_one_answer();
     let _ = input;
@@ -185,15 +177,6 @@ fn tell<O: Sink, E: Sink>(
         Decision::Rejected(sources, broken) => put_rules(alloc, &sources, broken.as_slice(), err),
         Decision::NotBuilt => put_line(messages::NOT_BUILT, Status::NotBuilt, err),
         Decision::Checked => Ok(Status::Done),
-        Decision::Answers(bounds, compiled) => write_run(
-            alloc,
-            bounds,
-            &compiled.program,
-            &compiled.vars,
-            &mut FactsRun::of(&compiled),
-            out,
-            err,
-        ),
         Decision::Ran(bounds, procs, goal) => write_goal(alloc, bounds, &procs, &goal, out, err),
         Decision::Memory => Err(PutFault::Memory),
     }

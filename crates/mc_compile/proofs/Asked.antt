@@ -1,21 +1,24 @@
--- Where there is a query, and only there, something is asked of what sources are compiled to.
-use Rattle.std.proofs.Common.{◌≡◌, ℕ, Bool, true, false, ◌||◌, List, [], ◌∷◌, ◌++◌, length, Option, Some, None, Result, Ok, Err, refl, sym, ap, ◌∙◌, inl, inr}
-use Rattle.std.specs.Prelude.{is_some, if◌then◌else◌}
+-- Where `main` isn't wanted, something is run of what sources are compiled to exactly where there is a query.
+use Rattle.std.proofs.Common.{◌≡◌, ℕ, Bool, true, false, List, [], ◌∷◌, ◌++◌, length, Option, Some, None, Result, Ok, refl, sym, ap, ◌∙◌, inl, inr}
+use Rattle.std.specs.Prelude.{is_some}
 use Rattle.mc_term_data.specs.Plain.{PlainTerm}
 use Rattle.mc_term_data.specs.declared.term.Term.{Term}
 use Rattle.mc_source.specs.declared.rule.Broken.{Broken}
 use Rattle.mc_items.specs.Queries.{IsQueryRefusal}
 use Rattle.mc_items.specs.declared.entry.ItemsFault.TheVariants as I
-use Rattle.mc_ground_form.specs.Database.{Database, Question}
-use Rattle.mc_ground_form.specs.Facts.{LinkedFiles, Fact, facts, database, question}
-use Rattle.mc_ground_form.specs.Program.{plain_goal, with_question, over_facts, form_of}
-use Rattle.mc_compile.specs.Phases.{Refusal, Unbuilt, went_on}
+use Rattle.mc_model.specs.declared.inst.Sig.{Sig}
+use Rattle.mc_procs.specs.Procedures.{PlainProcs}
+use Rattle.mc_rules.specs.declared.rules.Ruled.{Ruled}
+use Rattle.mc_rules.specs.declared.rules.Ruled.TheVariants as R
+use Rattle.mc_whole_program.specs.declared.program.WholeProgram.{WholeProgram}
+use Rattle.mc_compile.specs.declared.moded.Moded.{Moded}
+use Rattle.mc_compile.specs.Phases.{Refusal, went_on}
 use Rattle.mc_compile.specs.Sources.{Sources}
-use Rattle.mc_compile.specs.Reading.{PlainRead, QueryReads, Reads, rules_from, reading_rules, read_as}
+use Rattle.mc_compile.specs.Reading.{PlainRead, QueryReads, Reads, plain_goal, rules_from, reading_rules, read_as}
 use Rattle.mc_compile.specs.Linking.{PlainNamed, Links, linked_with, linking_rules_of, library_behind}
 use Rattle.mc_compile.specs.Typing.{PlainTyped, Types}
 use Rattle.mc_compile.specs.Checking.{Clauses}
-use Rattle.mc_compile.specs.Forming.{Formed, Forms, formed}
+use Rattle.mc_compile.specs.Ruling.{PlainExecutable, Insts, Modes, Procedures, executable, goal_of, query_number}
 use Rattle.mc_compile.specs.Laws.{QueryIsAsked}
 use Rattle.mc_compile.proofs.Once.{ok_same}
 use Rattle.mc_compile.proofs.Chains.{unbroken_made, unbroken}
@@ -38,32 +41,36 @@ goal_read k None (Some goal) rules r e = absurd r
 goal_read k (Some text) None rules r e = absurd (refused_breaks k text rules r e)
 goal_read k (Some text) (Some goal) rules r e = refl
 
-some_same : {A : Type 0} (x y : A) → Some x ≡ Some y → x ≡ y
-some_same x y e = cc
+-- something is run over procedures where there is a number of a query
+goal_there : (procs : PlainProcs) (query : Option ℕ) (variables : List (List ℕ)) → is_some (goal_of false procs query variables) ≡ is_some query
+goal_there procs None variables = refl
+goal_there procs (Some number) variables = refl
 
--- where files are of the form, the goal asks
-over_asks : (P : LinkedFiles) (goal : Option PlainTerm) (fs : Option (List Fact)) (p : Database × Option Question) → over_facts P goal fs ≡ Some p → is_some p.1 ≡ is_some goal
-over_asks P None None p e = cc
-over_asks P (Some goal) None p e = cc
-over_asks P None (Some fs) p e = sym (ap (λ (r : Database × Option Question). is_some r.1) (some_same (database P fs, None) p e))
-over_asks P (Some goal) (Some fs) p e = at (question P goal) e
+executed : (s : Sources) (moded : Moded) (e : PlainExecutable) → Procedures s moded (Ok e) → s.wants_main ≡ false → is_some e.goal ≡ is_some moded.query
+executed s moded e p wants = at p.ruled p.is
   where
-    at : (q : Option Question) → with_question (database P fs) q ≡ Some p → is_some p.1 ≡ true
-    at None e = cc
-    at (Some q) e = sym (ap (λ (r : Database × Option Question). is_some r.1) (some_same (database P fs, Some q) p e))
+    at : (ruled : Ruled) → ◌≡◌ {A = Result PlainExecutable Refusal} (Ok e) (executable s.wants_main moded ruled) → is_some e.goal ≡ is_some moded.query
+    at (R.Procs procs) is =
+        let made : PlainExecutable = record { procs = procs; goal = goal_of s.wants_main procs moded.query moded.whole.variables } in
+        ap (λ (x : PlainExecutable). is_some x.goal) (ok_same e made is)
+        ∙ ap (λ (b : Bool). is_some (goal_of b procs moded.query moded.whole.variables)) wants
+        ∙ goal_there procs moded.query moded.whole.variables
+    at (R.Broken list) is = cc
+    at (R.Unseen u) is = cc
 
-form_asks : (named : PlainNamed) (o : Option (Database × Option Question)) (form : Formed) → form_of named.files named.goal ≡ o → ◌≡◌ {A = Result Formed Refusal} (Ok form) (formed named o) → is_some form.question ≡ is_some named.goal
-form_asks named None form f e = cc
-form_asks named (Some p) form f e =
-    ap (λ (x : Formed). is_some x.question) (ok_same form (record { files = named.files; goal = named.goal; database = p.0; question = p.1 }) e)
-    ∙ over_asks named.files named.goal (facts named.files) p f
+-- and there is such a number where there is a goal
+number_there : (whole : WholeProgram) (sigs : List Sig) (goal : Option PlainTerm) → is_some (query_number whole sigs goal) ≡ is_some goal
+number_there whole sigs None = refl
+number_there whole sigs (Some goal) = refl
 
-forms_asks : (sources : Sources) (typed : PlainTyped) (form : Formed) → Forms sources typed (Ok form) → is_some form.question ≡ is_some typed.named.goal
-forms_asks sources typed form e = at (sources.wants_main || sources.first) e
-  where
-    at : (b : Bool) → ◌≡◌ {A = Result Formed Refusal} (Ok form) (if b then Err Unbuilt else formed typed.named (form_of typed.named.files typed.named.goal)) → is_some form.question ≡ is_some typed.named.goal
-    at true e = cc
-    at false e = form_asks typed.named (form_of typed.named.files typed.named.goal) form refl e
+modes_goal : (s : Sources) (typed : PlainTyped) (moded : Moded) → Modes s typed (Ok moded) → is_some moded.query ≡ is_some typed.named.goal
+modes_goal s typed moded m =
+    ap (λ (x : Moded). is_some x.query) (ok_same moded m.moded m.is)
+    ∙ ap is_some m.is_moded.number
+    ∙ number_there m.moded.whole m.is_moded.declared typed.named.goal
+
+insts_goal : (typed after : PlainTyped) → Insts typed (Ok after) → after.named.goal ≡ typed.named.goal
+insts_goal typed after i = ap (λ (p : PlainTyped). p.named.goal) (unbroken_made i.rules typed after i.is)
 
 clauses_goal : (typed after : PlainTyped) → Clauses typed (Ok after) → after.named.goal ≡ typed.named.goal
 clauses_goal typed after c = ap (λ (p : PlainTyped). p.named.goal) (checked_is typed after c)
@@ -83,8 +90,10 @@ reads_goal sources read r =
     (appended_nothing (rules_from 0 r.read.files) r.read.goal_rules (unbroken (reading_rules r.read) (read_as r.read) read r.is))
 
 pub query_asked : QueryIsAsked
-query_asked sources form (went_on {b = read} r (went_on {b = named} l (went_on {b = typed} t (went_on {b = after} c f)))) =
-    forms_asks sources after form f
+query_asked sources e (went_on {b = read} r (went_on {b = named} l (went_on {b = typed} t (went_on {b = after} c (went_on {b = sound} i (went_on {b = moded} m p)))))) wants =
+    executed sources moded e p wants
+    ∙ modes_goal sources sound moded m
+    ∙ ap is_some (insts_goal after sound i)
     ∙ ap is_some (clauses_goal typed after c)
     ∙ ap is_some (types_goal named typed t)
     ∙ ap is_some (links_goal read named l)

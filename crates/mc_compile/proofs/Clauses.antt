@@ -13,7 +13,7 @@ use Rattle.mc_compile.specs.declared.given.CompileFault.TheVariants as F
 use Rattle.mc_compile.specs.declared.typed.Typed.{Typed}
 use Rattle.mc_compile.specs.declared.checked.Checked.{Checked}
 use Rattle.mc_compile.specs.Phases.{Tells}
-use Rattle.mc_compile.specs.Linking.{plain_named, AreLinked}
+use Rattle.mc_compile.specs.Linking.{plain_named}
 use Rattle.mc_compile.specs.Typing.{PlainTyped, plain_typed}
 use Rattle.mc_compile.specs.Checking.{items_of, AreBroken, Clauses, Shows}
 use Rattle.mc_compile.proofs.Chains.{broken_up, none_broken, unbroken_made}
@@ -25,13 +25,6 @@ given_count files n = length-map (take n files) (map plain_entry) ∙ length-tak
 -- what has a table of types goes on as it is
 pub checked_is : (typed after : PlainTyped) → Clauses typed (Ok after) → after ≡ typed
 checked_is typed after c = unbroken_made c.rules typed after c.is
-
-pub still_linked : (typed : PlainTyped) (checked : Checked) → Tells Clauses Shows typed (Ok checked) → AreLinked typed.named → AreLinked (plain_named checked.typed.named)
-still_linked typed checked t linked =
-    let same : plain_named checked.typed.named ≡ typed.named =
-    ap (λ (p : PlainTyped). p.named) (t.1.typed ∙ checked_is typed t.0 t.2)
-    in
-    subst AreLinked (sym same) linked
 
 -- what they are resolved to, of the value that is answered
 pub still_typed : (typed : PlainTyped) (checked : Checked) → Tells Clauses Shows typed (Ok checked)

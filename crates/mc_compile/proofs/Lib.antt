@@ -7,9 +7,7 @@ mod SomeFiles
 mod Links
 mod Types
 mod Clauses
-mod Forms
 pub mod Asked
-mod Both
 mod Modes
 mod Procedures
 mod Queries

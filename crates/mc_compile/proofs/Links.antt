@@ -9,7 +9,7 @@ use Rattle.mc_items.specs.Files.{plain_entry}
 use Rattle.mc_linking.specs.Files.{File, plain_files}
 use Rattle.mc_modules.specs.declared.names.Names.{Names}
 use Rattle.mc_modules.specs.Linked.{Linked, linked, plain_names}
-use Rattle.mc_ground_form.specs.Program.{plain_goal}
+use Rattle.mc_compile.specs.Reading.{plain_goal}
 use Rattle.mc_compile.specs.declared.given.CompileFault.{CompileFault}
 use Rattle.mc_compile.specs.declared.given.CompileFault.TheVariants as F
 use Rattle.mc_compile.specs.declared.named.Named.{Named}
@@ -17,7 +17,7 @@ use Rattle.mc_compile.specs.declared.reading.Read.{Read}
 use Rattle.mc_compile.specs.Phases.{Breaks, unless_broken, Tells, Viewed}
 use Rattle.mc_compile.specs.Library.{library_texts}
 use Rattle.mc_compile.specs.Reading.{PlainRead, plain_read}
-use Rattle.mc_compile.specs.Linking.{library_behind, rules_in, linking_rules_of, PlainNamed, plain_named, AreLinked, linked_with, Links}
+use Rattle.mc_compile.specs.Linking.{library_behind, rules_in, linking_rules_of, PlainNamed, plain_named, linked_with, Links}
 use Rattle.mc_compile.specs.code.Reader.{IsRejected, IsWithLibrary}
 use Rattle.mc_compile.proofs.Chains.{broken_up, none_broken, unbroken_made}
 
@@ -26,15 +26,6 @@ made goal given all names = record { files = record { given = given; all = all; 
 
 made_same : (goal : Option PlainTerm) (g h a b : List File) (m n : Linked) → g ≡ h → a ≡ b → m ≡ n → made goal g a m ≡ made goal h b n
 made_same goal g h a b m n e f i = rw (e, f, i) refl
-
--- what the phase answers is linked with these modules
-pub answer_is : (rules : List Broken) (read : PlainRead) (library : List File) (named : PlainNamed) → Ok named ≡ unless_broken rules (linked_with read library) → linked_with read library ≡ named
-answer_is rules read library named e = sym (unbroken_made rules (linked_with read library) named e)
-
-pub are_linked : (read : PlainRead) (named : Named) → Tells Links (Viewed plain_named) read (Ok named) → AreLinked (plain_named named)
-are_linked read named t =
-    let library = library_behind read.files t.2.modules in
-    subst AreLinked (answer_is (linking_rules_of read.files library read.goal) read library t.0 t.2.is ∙ sym t.1) refl
 
 module _ (read : Read) (all : List (List Entry)) (w : IsWithLibrary library_texts read.files all) where
   abbrev library : List File

@@ -1,4 +1,4 @@
--- Where `main` is wanted of a program with rules, it is what is run.
+-- Where `main` is wanted, it is what is run.
 use Rattle.std.proofs.Common.{◌≡◌, ℕ, Bool, true, [], Option, Some, None, Result, Ok, refl, sym, ap, ◌∙◌}
 use Rattle.std.specs.Prelude.{is_some}
 use Rattle.std.specs.Option.{option_map}

@@ -15,7 +15,7 @@ use Rattle.mc_declared_modes.specs.declared.written.WrittenMode.{WrittenMode}
 use Rattle.mc_insts.specs.Defining.{plain_definitions, DefinitionsFit}
 use Rattle.mc_signatures.specs.MeantModes.{MeansMode}
 use Rattle.mc_signatures.specs.Signatures.{AreSignatures, builtin_of}
-use Rattle.mc_ground_form.specs.Program.{plain_goal}
+use Rattle.mc_compile.specs.Reading.{plain_goal}
 use Rattle.mc_whole_program.specs.Wholes.{numbered_clause, IsWhole}
 use Rattle.mc_compile.specs.declared.moded.Moded.{Moded}
 use Rattle.mc_compile.specs.Phases.{Tells, Viewed}

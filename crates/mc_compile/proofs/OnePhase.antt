@@ -6,15 +6,13 @@ use Rattle.mc_source.specs.declared.rule.Broken.{Broken}
 use Rattle.mc_items.specs.Laws.{AtMostOneList, AtMostOneGoal, NotGoalAndBroken, AtMostOneQueryRefusal}
 use Rattle.mc_type_table.specs.Sight.{definitions_seen}
 use Rattle.mc_clause_phase.specs.Laws as L
-use Rattle.mc_ground_form.specs.Program.{plain_goal}
+use Rattle.mc_compile.specs.Reading.{plain_goal}
 use Rattle.mc_compile.specs.Phases.{Refusal, unless_broken, AtMostOne}
-use Rattle.mc_compile.specs.Sources.{Sources}
 use Rattle.mc_compile.specs.Library.{library_texts}
 use Rattle.mc_compile.specs.Reading.{Reading, FileReads, FilesRead, QueryReads, counted, rules_from, items_from, PlainRead, Reads}
 use Rattle.mc_compile.specs.Linking.{PlainNamed, library_behind, linking_rules_of, linked_with, Links}
 use Rattle.mc_compile.specs.Typing.{Types}
 use Rattle.mc_compile.specs.Checking.{items_of, Clauses}
-use Rattle.mc_compile.specs.Forming.{Forms}
 
 module _ (one_list : AtMostOneList) where
   one_reading : (n : ℕ) (text : List ℕ) (r s : Reading) → FileReads n text r → FileReads n text s → r ≡ s
@@ -89,6 +87,3 @@ one_list_of_clauses one typed x y p q =
     p.is
     ∙ ap (λ rules. unless_broken rules typed) (one names (definitions_seen names) (items_of typed.named) p.rules q.rules p.are q.are)
     ∙ sym q.is
-
-pub one_form : (sources : Sources) → AtMostOne (Forms sources)
-one_form sources typed x y p q = p ∙ sym q

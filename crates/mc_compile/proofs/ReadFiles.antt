@@ -9,7 +9,7 @@ use Rattle.mc_items.specs.Verdicts.{PlainVerdict, kept, breaks}
 use Rattle.mc_items.specs.declared.entry.ItemsFault.TheVariants as I
 use Rattle.mc_items.specs.Files.{plain_entry, broken_in, too_long_in, IsWhole, IsRefusal}
 use Rattle.mc_linking.specs.Files.{File, plain_files}
-use Rattle.mc_ground_form.specs.Program.{plain_goal}
+use Rattle.mc_compile.specs.Reading.{plain_goal}
 use Rattle.mc_compile.specs.declared.given.CompileFault.{CompileFault}
 use Rattle.mc_compile.specs.declared.given.CompileFault.TheVariants as C
 use Rattle.mc_compile.specs.declared.reader.Reader.{Reader}

@@ -9,18 +9,13 @@ use Rattle.mc_compile.specs.declared.given.CompileFault.TheVariants as F
 use Rattle.mc_compile.specs.declared.named.Named.{Named}
 use Rattle.mc_compile.specs.declared.typed.Typed.{Typed}
 use Rattle.mc_compile.specs.Phases.{Breaks, Tells, Viewed}
-use Rattle.mc_compile.specs.Linking.{PlainNamed, plain_named, AreLinked}
+use Rattle.mc_compile.specs.Linking.{PlainNamed, plain_named}
 use Rattle.mc_compile.specs.Typing.{PlainTyped, plain_typed, typed_as, Types}
 use Rattle.mc_compile.proofs.Chains.{broken_up, none_broken, unbroken_made}
 
 -- what is linked stays what it was
 pub typed_is : (named : PlainNamed) (typed : PlainTyped) → Types named (Ok typed) → typed ≡ typed_as named
 typed_is named typed t = unbroken_made (type_faults named.files.names) (typed_as named) typed t
-
-pub still_linked : (named : PlainNamed) (typed : Typed) → Tells Types (Viewed plain_typed) named (Ok typed) → AreLinked named → AreLinked (plain_named typed.named)
-still_linked named typed t linked =
-    let same : plain_named typed.named ≡ named = ap (λ (p : PlainTyped). p.named) (t.1 ∙ typed_is named t.0 t.2) in
-    subst AreLinked (sym same) linked
 
 abbrev made : PlainNamed → List TypeDef → PlainTyped
 made named types = record { named = named; types = types }

@@ -7,20 +7,20 @@ use Rattle.mc_compile.specs.Reading.{PlainRead, Reads}
 use Rattle.mc_compile.specs.Linking.{PlainNamed, Links}
 use Rattle.mc_compile.specs.Typing.{PlainTyped, Types}
 use Rattle.mc_compile.specs.Checking.{Clauses}
-use Rattle.mc_compile.specs.Forming.{Formed, Forms}
+use Rattle.mc_compile.specs.Ruling.{PlainExecutable, Rules}
 
 -- the phases from clauses on
-abbrev pub FromClauses : Sources → PlainTyped → Result Formed Refusal → Type 0
-FromClauses sources = Then Clauses (Forms sources)
+abbrev pub FromClauses : Sources → PlainTyped → Result PlainExecutable Refusal → Type 0
+FromClauses sources = Then Clauses (Rules sources)
 
 -- the phases from types on
-abbrev pub FromTypes : Sources → PlainNamed → Result Formed Refusal → Type 0
+abbrev pub FromTypes : Sources → PlainNamed → Result PlainExecutable Refusal → Type 0
 FromTypes sources = Then Types (FromClauses sources)
 
 -- the phases from linking on
-abbrev pub FromLinking : Sources → PlainRead → Result Formed Refusal → Type 0
+abbrev pub FromLinking : Sources → PlainRead → Result PlainExecutable Refusal → Type 0
 FromLinking sources = Then Links (FromTypes sources)
 
 -- all phases
-abbrev pub Compiles : Sources → Result Formed Refusal → Type 0
+abbrev pub Compiles : Sources → Result PlainExecutable Refusal → Type 0
 Compiles sources = Then Reads (FromLinking sources) sources

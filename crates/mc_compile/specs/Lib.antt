@@ -5,9 +5,7 @@ pub mod Library
 pub mod Linking
 pub mod Typing
 pub mod Checking
-pub mod Forming
-pub mod Compiling
 pub mod Ruling
-pub mod Building
+pub mod Compiling
 pub mod Laws
 pub mod code

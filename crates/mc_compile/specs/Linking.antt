@@ -1,19 +1,19 @@
 -- The phase that links: the library's modules behind the given files, what names mean, and the
 -- rules of linking that are broken (this project's rules; the Mercury manual: The module system).
-use Rattle.std.specs.Prelude.{◌≡◌, ℕ, ◌+◌, List, [], ◌++◌, length, Option, Some, None, Result}
+use Rattle.std.specs.Prelude.{◌≡◌, ℕ, ◌+◌, List, [], ◌++◌, length, take, Option, Some, None, Result}
 use Rattle.mc_term_data.specs.Plain.{PlainTerm}
 use Rattle.mc_source.specs.declared.rule.Broken.{Broken}
 use Rattle.mc_source.specs.Rules.{broken_at}
-use Rattle.mc_linking.specs.Files.{File}
+use Rattle.mc_items.specs.declared.entry.Entry.{Entry}
+use Rattle.mc_state_variables.specs.Numbered.{line_of}
+use Rattle.mc_linking.specs.Files.{File, plain_files}
 use Rattle.mc_linking.specs.Faults.{link_faults, goal_fault}
-use Rattle.mc_modules.specs.Linked.{linked}
-use Rattle.mc_ground_form.specs.Facts.{LinkedFiles, with_library}
-use Rattle.mc_ground_form.specs.Program.{plain_goal, line_of}
-use Rattle.mc_ground_form.specs.Answered.{linked_files}
+use Rattle.mc_modules.specs.Linked.{Linked, linked, plain_names}
+use Rattle.mc_modules.specs.declared.names.Names.{Names}
 use Rattle.mc_compile.specs.declared.named.Named.{Named}
 use Rattle.mc_compile.specs.Phases.{Refusal, unless_broken}
 use Rattle.mc_compile.specs.Library.{library_texts}
-use Rattle.mc_compile.specs.Reading.{Reading, FilesRead, PlainRead, rules_from, items_from}
+use Rattle.mc_compile.specs.Reading.{Reading, FilesRead, PlainRead, plain_goal, rules_from, items_from}
 
 -- What the library's modules read as, which break no rule.
 pub record IsLibrary (library : List (List ℕ)) (modules : List Reading) : Type 0 where
@@ -39,6 +39,27 @@ rules_in files k goal = link_faults files ++ goal_rules_in files k goal
 abbrev pub linking_rules_of : (files library : List File) → Option PlainTerm → List Broken
 linking_rules_of files library goal = rules_in (files ++ library) (length files) goal
 
+-- Files that were linked: those that were given, all of them with the library's behind, and their
+-- names.
+pub record LinkedFiles : Type 0 where
+  pub given : List File
+  pub all : List File
+  pub names : Linked
+
+-- given files with the library's behind, and their names
+abbrev pub with_library : (given library : List File) → LinkedFiles
+with_library given library =
+    record { given = given; all = given ++ library; names = linked (given ++ library) }
+
+-- linked files, of which the first are given
+abbrev pub linked_files : List (List Entry) → (given : ℕ) → Names → LinkedFiles
+linked_files files n names =
+    record {
+      given = plain_files (take n files);
+      all = plain_files files;
+      names = plain_names names;
+    }
+
 -- the given files and all with the library's behind, with their names, and the goal
 pub record PlainNamed : Type 0 where
   pub files : LinkedFiles
@@ -50,10 +71,6 @@ plain_named named =
       files = linked_files named.files named.given named.names;
       goal = plain_goal named.goal;
     }
-
--- the names are those of all the files
-abbrev pub AreLinked : PlainNamed → Type 0
-AreLinked named = named.files.names ≡ linked named.files.all
 
 -- what is read, once it is linked with these modules behind it
 abbrev pub linked_with : PlainRead → (library : List File) → PlainNamed

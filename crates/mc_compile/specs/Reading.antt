@@ -1,7 +1,7 @@
 -- The phase that reads: what the given files and the query read as, and the rules of reading that
 -- they break (this project's rules; the Mercury manual: Syntax).
 use Rattle.std.specs.Prelude.{◌≡◌, ℕ, ◌+◌, ◌≤◌, ◌<◌, ◌⊎◌, min, List, [], ◌∷◌, ◌++◌, length, Option, Some, None, Result}
-use Rattle.mc_term_data.specs.Plain.{PlainTerm}
+use Rattle.mc_term_data.specs.Plain.{PlainTerm, plain_term}
 use Rattle.mc_term_data.specs.declared.term.Term.{Term}
 use Rattle.mc_source.specs.declared.rule.Broken.{Broken}
 use Rattle.mc_items.specs.Verdicts.{PlainVerdict}
@@ -9,7 +9,6 @@ use Rattle.mc_items.specs.Files.{Items, kept_in, broken_in, too_long_in, greates
 use Rattle.mc_items.specs.Queries.{IsGoal, IsQueryRefusal}
 use Rattle.mc_items.specs.declared.entry.ItemsFault.TheVariants as I
 use Rattle.mc_linking.specs.Files.{File, plain_files}
-use Rattle.mc_ground_form.specs.Program.{plain_goal}
 use Rattle.mc_compile.specs.declared.reading.Read.{Read}
 use Rattle.mc_compile.specs.Phases.{Refusal, unless_broken}
 use Rattle.mc_compile.specs.Sources.{Sources}
@@ -78,6 +77,11 @@ pub record AreRead (texts : List (List ℕ)) (query : Option (List ℕ)) : Type 
 abbrev pub reading_rules :
     {texts : List (List ℕ)} {query : Option (List ℕ)} → AreRead texts query → List Broken
 reading_rules sources = rules_from 0 sources.files ++ sources.goal_rules
+
+-- the goal of a query as plain data
+abbrev pub plain_goal : Option Term → Option PlainTerm
+plain_goal None = None
+plain_goal (Some goal) = Some (plain_term goal)
 
 -- the items of each file, and the goal of the query where there is one
 pub record PlainRead : Type 0 where

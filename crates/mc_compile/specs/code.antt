@@ -1,3 +1,2 @@
 pub mod Reader
-pub mod Stages
 pub mod Parts

@@ -1,5 +1,4 @@
 use mc_base::{Row, Text};
-use mc_ground_form::Compiled as Facts;
 use mc_procs::Procs;
 
 /// What is run over procedures, by the number of one of them.
@@ -11,18 +10,9 @@ pub enum Goal {
     Main(u32),
 }
 
-/// A program with rules that can be run: its procedures, and what is run over them, where something is.
+/// What sources are compiled to: procedures, and what is run over them, where something is.
 #[derive(Drop)]
 pub struct Executable {
     pub procs: Procs,
     pub goal: Option<Goal>,
-}
-
-/// What sources are compiled to.
-#[derive(Drop)]
-pub enum Compiled {
-    /// A program of facts
-    Facts(Facts),
-    /// The procedures of a program with rules
-    Procedures(Executable),
 }

@@ -4,7 +4,6 @@
 mod checked;
 mod compiling;
 mod executable;
-mod forming;
 mod given;
 mod law;
 mod library;
@@ -18,12 +17,9 @@ mod typed;
 
 pub use checked::Checked;
 pub use compiling::compile;
-pub use executable::{Compiled, Executable, Goal};
+pub use executable::{Executable, Goal};
 pub use given::{CompileFault, Given, Query};
-pub use law::{
-    at_most_one_phase, at_most_one_program, facts_fit, main_is_run, numbers_are_those_of_names,
-    query_is_asked, question_asks,
-};
+pub use law::{at_most_one_phase, main_is_run, query_is_asked};
 pub use library::LIBRARY;
 pub use moded::Moded;
 pub use named::Named;

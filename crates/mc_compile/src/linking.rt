@@ -1,6 +1,6 @@
 ghost use Rattle.std.specs.Prelude.{◌≡◌, ℕ, ◌+◌, ◌<◌, ◌^◌, [], ◌++◌, map, length, IfOk, IfErr};
 ghost use Rattle.mc_linking.specs.Files.{plain_files};
-ghost use Rattle.mc_ground_form.specs.Program.{plain_goal};
+ghost use Rattle.mc_compile.specs.Reading.{plain_goal};
 ghost use Rattle.mc_compile.specs.Library.{library_texts};
 ghost use Rattle.mc_modules.specs.Linked.{linked, plain_names};
 ghost use Rattle.mc_compile.specs.Linking.{goal_rules_in, rules_in};

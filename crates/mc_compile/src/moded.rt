@@ -1,7 +1,7 @@
 ghost use Rattle.std.specs.Prelude.{◌≡◌, ◌++◌, map, IfOk};
 ghost use Rattle.mc_modules.specs.Linked.{plain_names};
 ghost use Rattle.mc_type_table.specs.Sight.{definitions_seen};
-ghost use Rattle.mc_ground_form.specs.Program.{plain_goal};
+ghost use Rattle.mc_compile.specs.Reading.{plain_goal};
 ghost use Rattle.mc_clause_phase.specs.Judging.{AreTyped};
 ghost use Rattle.mc_compile.specs.Phases.{Tells, Viewed};
 ghost use Rattle.mc_compile.specs.Sources.{Sources};

@@ -5,4 +5,4 @@
 #[cfg(test)]
 mod tests;
 #[cfg(test)]
-mod tests_form;
+mod tests_sources;

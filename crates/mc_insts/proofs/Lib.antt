@@ -29,6 +29,7 @@ pub mod Gathering
 pub mod Kept
 pub mod PairKeys
 pub mod Growths
+pub mod SameElements
 pub mod Readies
 pub mod Chained
 pub mod MoreFunctors

@@ -1,6 +1,7 @@
 ghost use Rattle.std.specs.Prelude.{◌≡◌, ◌∷◌, ◌<◌, ℕ, [], length, get_or, take, IfOk, OnOk, OnErr};
 ghost use Rattle.mc_program.specs.PlainPrograms.{plain_type, plain_program};
 ghost use Rattle.mc_insts.specs.Merging.{StandsForAll, OneIncludesTheOther, EachIs};
+ghost use Rattle.mc_insts.specs.code.Lists.{SameElements};
 ghost use Rattle.mc_insts.specs.code.TypeRows.{terms, term_at, AllBelow};
 ghost use Rattle.mc_insts.specs.code.Pairs.{Stood};
 
@@ -8,10 +9,22 @@ use crate::grow::cut;
 use crate::insts::{InstId, Insts};
 use crate::pairs::MergedPairs;
 use crate::triples::Triple;
+use indexmap::IndexSet;
 use mc_base::Memory;
 use mc_program::program::Program;
 use mc_program::ty::Ty;
 use std::alloc::Global;
+
+/// The insts of a list, each once, in the order in which they first come. It takes the time of one hash for each.
+fn distinct(alloc: Global, insts: &[u32]) -> Result<IndexSet<u32>, Memory>
+    ensures { IfOk result (λ once. SameElements once.keys insts.now) }
+{
+    let mut once = IndexSet::new(alloc);
+    for inst in insts {
+        once.insert(*inst)?;
+    }
+    Ok(once)
+}
 
 impl Insts {
     ghost use Rattle.mc_insts.specs.Graphs.{graph_of, count_of};
@@ -49,8 +62,9 @@ impl Insts {
         self.merge_pair(alloc, i, j, r, program)
     }
 
-    /// The least inst above all of these at a type. They are merged by halves, so that n insts of one constructor each
-    /// take the time of n log n constructors. After want of memory the graph is as before.
+    /// The least inst above all of these at a type. The distinct ones are merged by halves, so that n insts, m of them
+    /// distinct and of one constructor each, take the time of n hashes and of m log m constructors. After want of memory
+    /// the graph is as before.
     pub fn merge_all(
         &mut self,
         alloc: Global,
@@ -71,9 +85,10 @@ impl Insts {
         ensures graph { OnErr result (graph_of self.new ≡ graph_of self.old) }
         ensures count { OnErr result (count_of self.new ≡ count_of self.old) }
     {
+        let once = distinct(alloc, insts)?;
         let r = self.row(alloc, t, program)?;
         let count = self.graph.nodes.len();
-        match self.merge_halves(alloc, insts, r, program) {
+        match self.merge_halves(alloc, once.as_slice(), r, program) {
             Ok(k) => Ok(k),
             Err(_) => {
                 self.forget(alloc, count);

@@ -35,7 +35,7 @@ use Rattle.mc_compile.specs.Linking.{PlainNamed, Links, library_behind, linking_
 use Rattle.mc_compile.specs.Typing.{PlainTyped, Types, typed_as}
 use Rattle.mc_compile.specs.Checking.{Clauses}
 use Rattle.mc_compile.specs.Ruling.{PlainExecutable, IsModed, Insts, Modes, Procedures, executable, goal_of, numbered}
-use Rattle.mc_compile.specs.Building.{CompilesRules}
+use Rattle.mc_compile.specs.Compiling.{Compiles}
 use Rattle.mc_compile.proofs.Chains.{unbroken, unbroken_made}
 use Rattle.mc_program_laws.proofs.Clauses.{typed_clauses_apart}
 use Rattle.mc_program_laws.proofs.Modes.{has_scopes}
@@ -179,7 +179,7 @@ module _ (reads : AtMostOne Reads) (links : AtMostOne Links) (types : AtMostOne 
   refused (Breaks rules) = refl
   refused Unbuilt = tt
 
-  pub compiled-are-one : (x y : Result PlainExecutable Refusal) → CompilesRules sources x → CompilesRules sources y → OneCompiled x y
+  pub compiled-are-one : (x y : Result PlainExecutable Refusal) → Compiles sources x → Compiles sources y → OneCompiled x y
   compiled-are-one =
       behind-one Reads (Then Links (Then Types (Then Clauses (Then Insts (Then (Modes sources) (Procedures sources)))))) OneCompiled sources reads refused (λ read r.
       behind-one Links (Then Types (Then Clauses (Then Insts (Then (Modes sources) (Procedures sources))))) OneCompiled read links refused (λ named l.

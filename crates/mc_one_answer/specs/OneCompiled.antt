@@ -1,4 +1,4 @@
--- Whatever sources with rules are compiled to, it is one: one list of broken rules, or executables
+-- Whatever sources are compiled to, it is one: one list of broken rules, or executables
 -- that run alike. (Mercury Language Reference Manual: Modes; Determinism; this project's rules and
 -- event lists.)
 use Rattle.std.specs.Prelude.{◌≡◌, Bool, List, [], Result, Ok, Err}
@@ -23,7 +23,7 @@ use Rattle.mc_compile.specs.Linking.{PlainNamed, Links}
 use Rattle.mc_compile.specs.Typing.{Types}
 use Rattle.mc_compile.specs.Checking.{Clauses, items_of}
 use Rattle.mc_compile.specs.Ruling.{PlainExecutable, IsModed, Insts, Modes}
-use Rattle.mc_compile.specs.Building.{CompilesRules}
+use Rattle.mc_compile.specs.Compiling.{Compiles}
 use Rattle.mc_one_answer.specs.OneAnswer.{RunAlike, OneRuled}
 
 -- One answer comes of what is put in order of what is linked, where no definition of a type breaks
@@ -46,7 +46,7 @@ OneInstList =
     (l : Linked) (items : List InstItem) (faults others : List Broken)
     → AreInstFaults l items faults → AreInstFaults l items others → faults ≡ others
 
--- the phases of programs with rules, up to what is put in order
+-- the phases up to what is put in order
 abbrev pub ComeToModes : Sources → Result Moded Refusal → Type 0
 ComeToModes sources =
     Then Reads (Then Links (Then Types (Then Clauses (Then Insts (Modes sources))))) sources
@@ -84,11 +84,11 @@ OneCompiled (Err (Breaks rules)) (Err (Breaks others)) = others ≡ rules
 OneCompiled (Err (Breaks rules)) (Err Unbuilt) = Unit {0}
 OneCompiled (Err Unbuilt) r = Unit {0}
 
--- Whatever sources with rules are compiled to, it is one.
+-- Whatever sources are compiled to, it is one.
 abbrev pub CompiledAreOne : Type 0
 CompiledAreOne =
     (sources : Sources) (r q : Result PlainExecutable Refusal)
-    → CompilesRules sources r → CompilesRules sources q → OneCompiled r q
+    → Compiles sources r → Compiles sources q → OneCompiled r q
 
 -- Procedures that run alike are over programs whose values are written with the same names, and
 -- whose library is one.

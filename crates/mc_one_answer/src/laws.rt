@@ -136,7 +136,7 @@ pub fn well_linked_are_typed()
     whole_goals_are_typed()
 }
 
-/// Whatever sources with rules are compiled to, it is one.
+/// Whatever sources are compiled to, it is one.
 pub fn compiled_are_one()
     ensures { CompiledAreOne }
 {

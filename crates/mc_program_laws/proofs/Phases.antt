@@ -1,6 +1,6 @@
--- What sources are that are built to procedures: their names and types break no rule, and the procedures
+-- What sources are that are compiled to procedures: their names and types break no rule, and the procedures
 -- come of the program that they are.
-use Rattle.std.proofs.Common.{◌≡◌, List, [], ◌∷◌, Result, Ok, Err, refl, sym, ap, ◌∙◌, subst}
+use Rattle.std.proofs.Common.{◌≡◌, List, [], ◌∷◌, Result, Ok, refl, sym, ap, ◌∙◌, subst}
 use Rattle.mc_source.specs.declared.rule.Broken.{Broken}
 use Rattle.mc_type_table.specs.Rules.{type_faults}
 use Rattle.mc_insts.specs.Defining.{plain_definitions}
@@ -9,10 +9,9 @@ use Rattle.mc_rules.specs.Rules.{Comes}
 use Rattle.mc_rules.specs.declared.rules.Ruled.{Ruled}
 use Rattle.mc_rules.specs.declared.rules.Ruled.TheVariants as R
 use Rattle.mc_compile.specs.declared.moded.Moded.{Moded}
-use Rattle.mc_compile.specs.Building.{Built, of_facts, of_procedures, Builds, as_facts, refused, as_procedures, built, CompilesRules}
-use Rattle.mc_compile.specs.Forming.{Formed}
+use Rattle.mc_compile.specs.Compiling.{Compiles}
 use Rattle.mc_compile.specs.Linking.{PlainNamed}
-use Rattle.mc_compile.specs.Phases.{Refusal, Breaks, unless_broken, went_on}
+use Rattle.mc_compile.specs.Phases.{Refusal, unless_broken, went_on}
 use Rattle.mc_compile.specs.Ruling.{PlainExecutable, IsModed, executable, goal_of}
 use Rattle.mc_compile.specs.Sources.{Sources}
 use Rattle.mc_compile.specs.Typing.{PlainTyped, typed_as}
@@ -52,8 +51,8 @@ module _ (s : Sources) (moded : Moded) (e : PlainExecutable) where
   ruled_to (R.Broken list) come is = cc
   ruled_to (R.Unseen u) come is = cc
 
-by_rules : (s : Sources) (e : PlainExecutable) → CompilesRules s (Ok e) → IsBuilt s e
-by_rules s e (went_on r (went_on {b = named} l (went_on {b = typed} t (went_on {b = checked} c (went_on {b = insts} i (went_on {b = moded} m p)))))) =
+pub is_built : (s : Sources) (e : PlainExecutable) → Compiles s (Ok e) → IsBuilt s e
+is_built s e (went_on r (went_on {b = named} l (went_on {b = typed} t (went_on {b = checked} c (went_on {b = insts} i (went_on {b = moded} m p)))))) =
     let types = unbroken (type_faults named.files.names) (typed_as named) typed t in
     let clauses = unbroken c.rules typed checked c.is in
     let of_insts = unbroken i.rules checked insts i.is in
@@ -68,22 +67,3 @@ by_rules s e (went_on r (went_on {b = named} l (went_on {b = typed} t (went_on {
       come = ruled.0;
       goal = ruled.1;
     }
-
--- it is not by facts that procedures are built, nor where a rule is broken
-not_facts : (form : Formed) (e : PlainExecutable) → ◌≡◌ {A = Result Built Refusal} (Ok (of_facts form)) (Ok (of_procedures e)) → ⊥
-not_facts form e h = cc
-
-not_refused : (r : Refusal) (e : PlainExecutable) → ◌≡◌ {A = Result Built Refusal} (Err r) (Ok (of_procedures e)) → ⊥
-not_refused r e h = cc
-
-built_as : (x : Result PlainExecutable Refusal) (e : PlainExecutable) → ◌≡◌ {A = Result Built Refusal} (built x) (Ok (of_procedures e)) → x ≡ Ok e
-built_as (Ok d) e h = let same : d ≡ e = cc in ap Ok same
-built_as (Err r) e h = cc
-
-of_answer : (s : Sources) (e : PlainExecutable) (answer : Result Built Refusal) → Builds s answer → answer ≡ Ok (of_procedures e) → CompilesRules s (Ok e)
-of_answer s e answer (as_facts {form = form} c) h = absurd (not_facts form e h)
-of_answer s e answer (refused {rules = rules} c) h = absurd (not_refused (Breaks rules) e h)
-of_answer s e answer (as_procedures {result = x} c d i) h = subst (CompilesRules s) (built_as x e (sym i ∙ h)) d
-
-pub is_built : (s : Sources) (e : PlainExecutable) → Builds s (Ok (of_procedures e)) → IsBuilt s e
-is_built s e b = by_rules s e (of_answer s e (Ok (of_procedures e)) b refl)

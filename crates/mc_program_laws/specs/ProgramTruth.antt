@@ -1,5 +1,4 @@
--- What sources are built to, where it is procedures, runs true: each run of each procedure is good,
--- and so are those of the query and of `main`, which writes what its last state has gained.
+-- What sources are compiled to runs true: each run of each procedure is good, and so are those of the query and of `main`, which writes what its last state has gained.
 -- (Mercury Language Reference Manual: Semantics; Modes; Determinism.)
 use Rattle.std.specs.Prelude.{◌≡◌, ℕ, List, [], ◌∷◌, Option, Some, None, Ok}
 use Rattle.mc_program.specs.Values.{Val, state}
@@ -12,7 +11,7 @@ use Rattle.mc_model.specs.Worlds.{library_of}
 use Rattle.mc_procs.specs.Procedures.{as_system}
 use Rattle.mc_compile.specs.Sources.{Sources}
 use Rattle.mc_compile.specs.Ruling.{PlainExecutable}
-use Rattle.mc_compile.specs.Building.{of_procedures, Builds}
+use Rattle.mc_compile.specs.Compiling.{Compiles}
 use Rattle.mc_compile.specs.declared.executable.Goal.TheVariants as G
 
 -- the system of procedures that can be run, over an empty input
@@ -49,4 +48,4 @@ pub record IsTrueExecutable (e : PlainExecutable) : Type 0 where
 abbrev pub ExecutablesAreTrue : Type 0
 ExecutablesAreTrue =
     (sources : Sources) (e : PlainExecutable)
-    → Builds sources (Ok (of_procedures e)) → IsTrueExecutable e
+    → Compiles sources (Ok e) → IsTrueExecutable e

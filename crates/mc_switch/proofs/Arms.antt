@@ -1,25 +1,30 @@
 -- The arms of a switch, from the groups of what is kept of disjuncts.
 use Rattle.std.proofs.Common.{◌≡◌, ℕ, zero, suc, ◌+◌, ◌-◌, ◌<◌, List, take, drop, [], ◌∷◌, ◌++◌, length, map, get_or, slice_set, inl, inr, Bool, true, false, not, nat_eq, ◌&&◌, if◌then◌else◌, Option, Some, None, All, refl, sym, ap, ap₂, ◌∙◌, subst, arith}
 use Rattle.std.specs.List.{list_all}
+use Rattle.std.specs.Option.{option_or}
 use Rattle.std.proofs.lemmas.Bool.{eqb-true, eq-eqb, and_parts, cases_lt}
 use Rattle.std.proofs.lemmas.List.{get_or_past, get_or-set_same, get_or-set_other, set-set, set-get_or, map-append, length-map, take_more, length-take-le}
 use Rattle.std.proofs.Math.Seq.{drop-cons}
 use Rattle.std.proofs.lemmas.List.Elements.{All-nil, All-cons, All-head, All-tail}
 use Rattle.mc_source.specs.Determinism.{inferred, det}
+use Rattle.mc_model.specs.Good.{System}
 use Rattle.mc_model.specs.Lists.{is_in}
 use Rattle.mc_model.specs.PlainGoals.{arms_of, plain_node, plain_arm}
 use Rattle.mc_model.specs.declared.sched.Arm.{Arm}
 use Rattle.mc_model.specs.declared.sched.GoalNode.{GoalNode}
-use Rattle.mc_model.specs.Scheduled.{Label, Node, node, Scheduled, Disj, Switch, Arms, arm_then}
+use Rattle.mc_model.specs.Scheduled.{Label, Node, node, Scheduled, Disj, Switch, Arms, arm_then, nodes, node_then}
 use Rattle.mc_model.specs.Stream.{is_bound}
+use Rattle.mc_program.specs.Programs.{TypeTerm}
+use Rattle.mc_accepted.specs.Least.{least}
+use Rattle.mc_accepted.specs.Ordered.{Insts}
 use Rattle.mc_accepted.specs.Switched as spec
-use Rattle.mc_accepted.specs.Switched.{Disjunct, Kept, openings, openings_of, label_in, is_label, and_label, labels_of, those, opens_with, arm_of, arms_on, on_chosen, grouped, goals_of, chosen}
+use Rattle.mc_accepted.specs.Switched.{Disjunct, Kept, openings, openings_of, label_in, is_label, and_label, labels_of, those, opens_with, arm_of, arms_on, on_chosen, grouped, goals_of, chosen, is_opened, misses_none}
 use Rattle.mc_procs.specs.Procedures.{PlainProcs}
 use Rattle.mc_varset.specs.Members.{has}
 use Rattle.mc_switch.specs.declared.disjunct.Opened.{Opened}
 use Rattle.mc_switch.specs.declared.groups.Group.{Group}
 use Rattle.mc_switch.specs.Types.{type_in, inst_in}
-use Rattle.mc_switch.specs.code.Grouping.{AroundFits, EndsSo, FormedEnds, disjuncts_of, nodes_of}
+use Rattle.mc_switch.specs.code.Grouping.{AroundFits, EndsSo, FormedEnds, IsGrouped, disjuncts_of, nodes_of, opened_first}
 use Rattle.mc_switch.specs.Kept.{Extends, OnlyGrew}
 use Rattle.mc_switch.specs.declared.around.Around.{Around}
 use Rattle.mc_switch.specs.declared.formed.Formed.{Formed}
@@ -258,3 +263,31 @@ one_more_disjunct ns ms k n m o before after many lt e opens goal put h =
     pushed [] (v ∷ vs) e = absurd (omega (arith, e))
     pushed (u ∷ us) [] e = absurd (omega (arith, e))
     pushed (u ∷ us) (v ∷ vs) e = ap (λ (ds : List Disjunct). record { opens = openings (plain_node u); goal = plain_node v.node } ∷ ds) (pushed us vs (omega (arith, e)))
+
+-- where the first of the goals opens nothing, they are a disjunction
+module _ (S : System) (T : ℕ → TypeTerm) (kept : Kept) (b : Insts) (out : List ℕ) where
+  abbrev with_first : ℕ → List Disjunct → List spec.Opening → Scheduled
+  with_first k ds os =
+      let xs = map (λ (o : spec.Opening). o.0) os in
+      on_chosen (λ ys. arm_of kept (grouped S T kept k b ys)) out ds
+      (option_or (least (λ x. is_opened S T out b ds x && misses_none S T b ds x) xs) (least (is_opened S T out b ds) xs))
+
+  none_grouped : (k : ℕ) (ns ms : List Node) → opened_first ns ≡ [] → grouped S T kept k b out (disjuncts_of ns ms) ≡ Disj (goals_of (disjuncts_of ns ms))
+  none_grouped zero ns ms e = refl
+  none_grouped (suc k) [] ms e = refl
+  none_grouped (suc k) (n ∷ ns) [] e = refl
+  none_grouped (suc k) (n ∷ ns) (m ∷ ms) e = ap (with_first k (disjuncts_of (n ∷ ns) (m ∷ ms))) e
+
+goals_disjoined : (ns ms : List Node) → length ms ≡ length ns → nodes ms ≡ goals_of (disjuncts_of ns ms)
+goals_disjoined [] [] e = refl
+goals_disjoined [] (m ∷ ms) e = absurd (omega (arith, e))
+goals_disjoined (n ∷ ns) [] e = absurd (omega (arith, e))
+goals_disjoined (n ∷ ns) (m ∷ ms) e = ap (node_then m) (goals_disjoined ns ms (omega (arith, e)))
+
+pub none_is : (q : PlainProcs) (N : List Entry) (at : Around) (ns : List GoalNode) (fs : List Formed) (s : Scheduled) → length fs ≡ length ns → opened_first (map plain_node ns) ≡ [] → s ≡ Disj (nodes (nodes_of fs)) → IsGrouped q N at (map plain_node ns) (nodes_of fs) s
+none_is q N at ns fs s many none is =
+    λ S M suits later.
+    let ds = disjuncts_of (map plain_node ns) (nodes_of fs) in
+    is
+    ∙ ap Disj (goals_disjoined (map plain_node ns) (nodes_of fs) (length-map fs (λ (f : Formed). plain_node f.node) ∙ many ∙ sym (length-map ns plain_node)))
+    ∙ sym (none_grouped S (type_in at.types.now) (kept_in S M at) (inst_in at.before.now) [] (openings_of ds) (map plain_node ns) (nodes_of fs) none)

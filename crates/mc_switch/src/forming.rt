@@ -14,7 +14,7 @@ ghost use Rattle.mc_det.specs.code.Walks.{bounds_in};
 ghost use Rattle.mc_switch.specs.code.Forms.{Stands, Returns, Enters, IsGoal, IsNode, AreRun, EachIs, AreArms};
 
 use crate::around::Around;
-use crate::formed::Formed;
+use crate::formed::{Formed, disjunction_of};
 use crate::grouping::switched;
 use crate::merging::Merger;
 use crate::parts::{
@@ -128,18 +128,8 @@ fn plain_disjunction(alloc: Global, goals: Vec<Formed>) -> Result<FormedGoal, Me
     ensures never { IfOk result (λ part. part.never_ends ≡ list_all (λ f. f.never_ends) goals.items) }
 {
     let never_ends = all_never_end(goals.as_slice());
-    let mut nodes = Vec::with_capacity(alloc, goals.len())?;
-    for goal in goals {
-        let Formed {
-            node,
-            never_ends: _,
-        } = goal;
-        nodes.push(node)?;
-    }
-    Ok(FormedGoal {
-        goal: Sched::Disj(Row::of(nodes)?),
-        never_ends,
-    })
+    let goal = disjunction_of(alloc, goals)?;
+    Ok(FormedGoal { goal, never_ends })
 }
 
 impl Forming {

@@ -1,9 +1,9 @@
-ghost use Rattle.std.specs.Prelude.{◌≡◌, ◌+◌, [], false, length, map, All, IfOk, OnOk};
+ghost use Rattle.std.specs.Prelude.{◌≡◌, ◌↔◌, ◌+◌, [], false, length, map, All, IsTrue, IfOk, OnOk};
 ghost use Rattle.mc_source.specs.Determinism.{inferred, det};
 ghost use Rattle.mc_model.specs.PlainGoals.{plain_node, plain_sched, plain_arm, plain_label};
 ghost use Rattle.mc_model.specs.Scheduled.{Disj, node};
 ghost use Rattle.mc_accepted.specs.Switched.{goals_of, openings_of};
-ghost use Rattle.mc_switch.specs.code.Grouping.{AroundFits, FormedEnds, IsGrouped, disjuncts_of, nodes_of};
+ghost use Rattle.mc_switch.specs.code.Grouping.{AroundFits, FormedEnds, IsGrouped, disjuncts_of, nodes_of, opened_first};
 ghost use Rattle.mc_switch.specs.Kept.{AreMerged, Merges, OnlyGrew};
 ghost use Rattle.mc_switch.specs.code.Ends.{KeepsEnd};
 ghost use Rattle.mc_switch.specs.Openings.{plain_opening_label};
@@ -15,10 +15,10 @@ ghost use Rattle.mc_switch.specs.code.Parts.{KeepsGroup, KeepsEnds, AreKept, IsG
 use crate::around::Around;
 use crate::choice::chosen;
 use crate::disjunct::Opened;
-use crate::formed::Formed;
+use crate::formed::{Formed, disjunction_of};
 use crate::groups::{Group, split};
 use crate::merging::Merger;
-use crate::opening::OpeningLabel;
+use crate::opening::{OpeningLabel, openings};
 use mc_base::{Memory, Row, Text};
 use mc_model::inst::InstId;
 use mc_model::sched::{Arm, GoalNode, On, Sched};
@@ -47,10 +47,24 @@ pub fn switched(
     ensures merges { OnOk result (Merges procs.new around.now.types.now merger.old.found merger.new.found) }
     ensures grew { OnlyGrew procs.old procs.new }
 {
+    if none_opened(alloc, sources)? {
+        return disjunction_of(alloc, goals);
+    }
     let disjuncts = all_opened(alloc, sources, goals)?;
     let times = openings_of(disjuncts.as_slice())?;
     let mut out = VarSet::new(alloc, around.types.len())?;
     grouped(alloc, procs, merger, around, &mut out, times, disjuncts)
+}
+
+/// Whether the first of these goals deconstructs no variable, or there is none: then they are no switch.
+fn none_opened(alloc: Global, sources: &[GoalNode]) -> Result<bool, Memory>
+    ensures { IfOk result (λ none. IsTrue none ↔ opened_first (map plain_node sources.now) ≡ []) }
+{
+    if sources.is_empty() {
+        return Ok(true);
+    }
+    let opens = openings(alloc, &sources[0])?;
+    Ok(opens.is_empty())
 }
 
 /// Goals with what their sources deconstruct.
@@ -65,7 +79,7 @@ fn all_opened<'a>(
     ensures first { IfOk result (λ os. All KeepsFirst os.items) }
     ensures ends { IfOk result (λ os. AreKept goals.items os.items) }
 {
-    let mut disjuncts = Vec::new(alloc);
+    let mut disjuncts = Vec::with_capacity(alloc, goals.len())?;
     for goal in goals {
         let k = disjuncts.len();
         let Formed { node, never_ends } = goal;

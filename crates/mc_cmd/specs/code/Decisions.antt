@@ -7,86 +7,53 @@ use Rattle.mc_outside.specs.declared.traits.PutFault.{PutFault}
 use Rattle.mc_outside.specs.declared.traits.PutFault.TheVariants as put
 use Rattle.mc_outside.specs.declared.traits.FileAnswer.{FileAnswer}
 use Rattle.mc_outside.specs.declared.traits.FileAnswer.TheVariants as A
-use Rattle.mc_program.specs.Printed.{printed, names_of}
 use Rattle.mc_model.specs.EventList.{Ends}
 use Rattle.mc_procs.specs.Procedures.{PlainProcs}
 use Rattle.mc_command_line.specs.Words.{Meaning, Query, meaning}
 use Rattle.mc_command_line.specs.Plain.{plain_bounds}
 use Rattle.mc_command_line.specs.declared.limits.Bounds.{Bounds}
-use Rattle.mc_ground_form.specs.Database.{Question}
 use Rattle.mc_compile.specs.Phases.{Breaks, Unbuilt}
-use Rattle.mc_compile.specs.Forming.{Formed, IsProgramOf}
-use Rattle.mc_compile.specs.Building.{Built, of_facts, of_procedures, Builds}
-use Rattle.mc_compile.specs.declared.executable.Compiled.{Compiled}
-use Rattle.mc_compile.specs.declared.executable.Compiled.TheVariants as C
+use Rattle.mc_compile.specs.Ruling.{PlainExecutable}
+use Rattle.mc_compile.specs.Compiling.{Compiles}
 use Rattle.mc_compile.specs.declared.executable.Executable.{Executable}
 use Rattle.mc_compile.specs.declared.executable.Goal.{Goal}
 use Rattle.mc_compile.specs.declared.given.Given.{Given}
-use Rattle.mc_ground_form.specs.declared.compiled.Compiled.{Compiled as Facts}
 use Rattle.mc_cmd.specs.declared.status.Status.{Status}
 use Rattle.mc_cmd.specs.declared.status.Status.TheVariants as S
 use Rattle.mc_cmd.specs.declared.decision.Decision.{Decision}
 use Rattle.mc_cmd.specs.declared.decision.Decision.TheVariants as D
 use Rattle.mc_cmd.specs.Messages.{usage_line, not_built_line, absent_line, unreadable_line, broken_lines}
-use Rattle.mc_cmd.specs.Ends.{Outcome, said, written_run}
+use Rattle.mc_cmd.specs.Ends.{Outcome, said}
 use Rattle.mc_cmd.specs.Outcome.{files_of, bounds_of, sources_of, run_of_goal, written_goal}
 use Rattle.mc_cmd.specs.Call.{CannotRead, HoldTexts, Lacks, Wrote}
-use Rattle.mc_cmd.specs.code.Facts.{left_of, rows_asked}
 
 abbrev pub given_names : List Given → List (List ℕ)
 given_names gs = map (λ (g : Given). g.name) gs
 
--- nothing is asked of what was built
-abbrev pub IsUnasked : Built → Type 0
-IsUnasked (of_facts x) = x.question ≡ None
-IsUnasked (of_procedures e) = e.goal ≡ None
-
--- Sources that compile, of which nothing is asked.
+-- Sources that compile, of which nothing is run.
 pub record IsChecked (m : Meaning) (texts : List (List ℕ)) : Type 0 where
-  pub built : Built
-  pub compiles : Builds (sources_of m texts) (Ok built)
-  pub unasked : IsUnasked built
-
--- Sources that compile to facts, with a query, and the program that they are compiled to.
-pub record IsAsked (m : Meaning) (texts : List (List ℕ)) (b : Bounds) (c : Facts) : Type 0 where
-  pub formed : Formed
-  pub compiles : Builds (sources_of m texts) (Ok (of_facts formed))
-  pub question : Question
-  pub asked : formed.question ≡ Some question
-  pub bounds : plain_bounds b ≡ bounds_of m
-  pub program : IsProgramOf c formed
+  pub executable : PlainExecutable
+  pub compiles : Compiles (sources_of m texts) (Ok executable)
+  pub unasked : executable.goal ≡ None
 
 -- Sources that compile to procedures, with what is run over them.
 pub record IsRan (m : Meaning) (texts : List (List ℕ)) (b : Bounds) (q : PlainProcs) (goal : Goal) : Type 0 where
-  pub compiles :
-      Builds (sources_of m texts) (Ok (of_procedures (record { procs = q; goal = Some goal })))
+  pub compiles : Compiles (sources_of m texts) (Ok (record { procs = q; goal = Some goal }))
   pub bounds : plain_bounds b ≡ bounds_of m
 
--- what is decided of a command whose sources compile to facts
-abbrev pub IsAnsweredByFacts : Meaning → Facts → Decision → Type 0
-IsAnsweredByFacts (Query first bounds goal files) c (D.Answers b e) =
-    (plain_bounds b ≡ bounds) × (e ≡ c)
-IsAnsweredByFacts (Query first bounds goal files) c _ = ⊥
-IsAnsweredByFacts m c d = d ≡ D.Checked
-
--- and to procedures
-abbrev pub IsAnsweredByRun : Meaning → Executable → Decision → Type 0
-IsAnsweredByRun m e D.Checked = e.goal ≡ None
-IsAnsweredByRun m e (D.Ran b q goal) =
+-- what is decided of a command whose sources compile
+abbrev pub IsAnswered : Meaning → Executable → Decision → Type 0
+IsAnswered m e D.Checked = e.goal ≡ None
+IsAnswered m e (D.Ran b q goal) =
     (plain_bounds b ≡ bounds_of m) × ((e.procs ≡ q) × (e.goal ≡ Some goal))
-IsAnsweredByRun m e _ = ⊥
-
-abbrev pub IsAnswered : Meaning → Compiled → Decision → Type 0
-IsAnswered m (C.Facts c) d = IsAnsweredByFacts m c d
-IsAnswered m (C.Procedures e) d = IsAnsweredByRun m e d
+IsAnswered m e _ = ⊥
 
 -- what a decision says of a command and the texts of its files
 abbrev pub Understood : Meaning → (texts : List (List ℕ)) → Decision → Type 0
 Understood m texts (D.Rejected files broken) =
-    (given_names files ≡ files_of m) × Builds (sources_of m texts) (Err (Breaks broken))
-Understood m texts D.NotBuilt = Builds (sources_of m texts) (Err Unbuilt)
+    (given_names files ≡ files_of m) × Compiles (sources_of m texts) (Err (Breaks broken))
+Understood m texts D.NotBuilt = Compiles (sources_of m texts) (Err Unbuilt)
 Understood m texts D.Checked = IsChecked m texts
-Understood m texts (D.Answers b c) = IsAsked m texts b c
 Understood m texts (D.Ran b q goal) = IsRan m texts b q goal
 Understood m texts D.Memory = Unit {0}
 Understood m texts _ = ⊥
@@ -145,7 +112,6 @@ IsDecided words store (D.Unreadable line) = IsOfFile words store (D.Unreadable l
 IsDecided words store (D.Rejected files broken) = IsOfTexts words store (D.Rejected files broken)
 IsDecided words store D.NotBuilt = IsOfTexts words store D.NotBuilt
 IsDecided words store D.Checked = IsOfTexts words store D.Checked
-IsDecided words store (D.Answers b c) = IsOfTexts words store (D.Answers b c)
 IsDecided words store (D.Ran b q goal) = IsOfTexts words store (D.Ran b q goal)
 IsDecided words store D.Memory = Unit {0}
 
@@ -168,8 +134,6 @@ told_of (D.Unreadable line) = said line.items S.ReadFault
 told_of (D.Rejected files broken) = said (broken_lines (given_names files) broken) S.Rejected
 told_of D.NotBuilt = said not_built_line S.NotBuilt
 told_of D.Checked = said [] S.Done
-told_of (D.Answers b c) =
-    written_run (plain_bounds b) (printed (names_of c.program)) c.vars (left_of (rows_asked c))
 told_of (D.Ran b q goal) = written_goal (plain_bounds b) q goal
 told_of D.Memory = said [] S.Memory
 
@@ -197,7 +161,7 @@ abbrev pub Quiet : Decision → Result Status PutFault → Type 0
 Quiet D.Memory r = r ≡ Err put.Memory
 Quiet _ r = Unit {0}
 
--- a run of procedures of which all was written, and whose status is that of an end, came to its end
+-- a run of which all was written, and whose status is that of an end, came to its end
 abbrev pub EndsRun : Decision → Result Status PutFault → Type 0
 EndsRun (D.Ran b q goal) r =
     IfOk r (λ s. s ≡ S.Done → Ends (run_of_goal q goal b.budget b.depth))

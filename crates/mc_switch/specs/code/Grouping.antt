@@ -8,7 +8,7 @@ use Rattle.mc_model.specs.declared.sched.GoalNode.{GoalNode}
 use Rattle.mc_program.specs.declared.ty.Ty.{Ty}
 use Rattle.mc_accepted.specs.MergedArms.{never_ends}
 use Rattle.mc_accepted.specs.Ordered.{change_at}
-use Rattle.mc_accepted.specs.Switched.{Disjunct, openings, openings_of, grouped}
+use Rattle.mc_accepted.specs.Switched.{Disjunct, Opening, openings, openings_of, grouped}
 use Rattle.mc_insts.specs.Graphs.{count_of}
 use Rattle.mc_procs.specs.Procedures.{PlainProcs}
 use Rattle.mc_mode_points.specs.Tables.{Entry}
@@ -22,6 +22,11 @@ abbrev pub disjuncts_of : (sources goals : List Node) → List Disjunct
 disjuncts_of [] ms = []
 disjuncts_of (n ∷ ns) [] = []
 disjuncts_of (n ∷ ns) (m ∷ ms) = record { opens = openings n; goal = m } ∷ disjuncts_of ns ms
+
+-- what the first of these goals deconstructs
+abbrev pub opened_first : List Node → List Opening
+opened_first [] = []
+opened_first (n ∷ ns) = openings n
 
 -- each variable has an inst before the whole and one after it
 pub record AroundFits (q : PlainProcs) (at : Around) : Type 0 where

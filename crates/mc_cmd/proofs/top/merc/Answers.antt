@@ -1,31 +1,27 @@
-use Rattle.mc_cmd.proofs.Calls.{Laws, whole, prefixes, puts_defined, unread, true_built, done_cause, usage_cause, usage_told, rejected_cause, not_built_cause, absent_cause, absent_lacks, absent_seen, read_cause, read_told, read_seen, write_cause, write_seen, threw_cause, spent_cause, deep_cause}
+use Rattle.mc_cmd.proofs.Calls.{whole, prefixes, puts_defined, unread, done_cause, usage_cause, usage_told, rejected_cause, not_built_cause, absent_cause, absent_lacks, absent_seen, read_cause, read_told, read_seen, write_cause, write_seen, threw_cause, spent_cause, deep_cause}
 use Rattle.mc_cmd.proofs.top.merc.Goals as goal
 
 pub returns-clause-whole_answer : goal.returns-clause-whole_answer
 returns-clause-whole_answer g c =
-    let laws : Laws = record { answered = c.facts_are_answered.ensures; fit = c.facts_fit.ensures; ask = c.question_asks.ensures; asked = c.query_is_asked.ensures; one = c.at_most_one_answer.ensures } in
-    λ held bo be told none n. whole _ _ _ _ _ _ _ _ _ c.carry_out.ensures.happened laws held bo be told none n
+    λ held bo be told none n. whole _ _ _ _ _ _ _ _ _ c.carry_out.ensures.happened held bo be told none n
 
 pub returns-clause-prefix : goal.returns-clause-prefix
 returns-clause-prefix g c =
-    let laws : Laws = record { answered = c.facts_are_answered.ensures; fit = c.facts_fit.ensures; ask = c.question_asks.ensures; asked = c.query_is_asked.ensures; one = c.at_most_one_answer.ensures } in
-    λ held bo be told n o defined k. prefixes _ _ _ _ _ _ _ _ _ c.carry_out.ensures.happened laws held bo be told n o defined k
+    λ held bo be told n o defined k. prefixes _ _ _ _ _ _ _ _ _ c.carry_out.ensures.happened c.at_most_one_answer.ensures held bo be told n o defined k
 
 pub returns-clause-defined : goal.returns-clause-defined
 returns-clause-defined g c =
-    let laws : Laws = record { answered = c.facts_are_answered.ensures; fit = c.facts_fit.ensures; ask = c.question_asks.ensures; asked = c.query_is_asked.ensures; one = c.at_most_one_answer.ensures } in
-    λ held bo be told n. puts_defined _ _ _ _ _ _ _ _ _ c.carry_out.ensures.happened laws held bo be told n
+    λ held bo be told n. puts_defined _ _ _ _ _ _ _ _ _ c.carry_out.ensures.happened held bo be told n
 
 pub returns-clause-unreadable : goal.returns-clause-unreadable
 returns-clause-unreadable g c = λ m e f. unread _ _ _ _ _ _ _ _ _ c.carry_out.ensures.happened m e f
 
 pub returns-clause-truth : goal.returns-clause-truth
-returns-clause-truth g c = λ s b k. true_built c.facts_fit.ensures c.question_asks.ensures c.facts_are_good.ensures c.queries_are_good.ensures c.executables_are_true.ensures s b k
+returns-clause-truth g c = c.executables_are_true.ensures
 
 pub returns-clause-done : goal.returns-clause-done
 returns-clause-done g c =
-    let laws : Laws = record { answered = c.facts_are_answered.ensures; fit = c.facts_fit.ensures; ask = c.question_asks.ensures; asked = c.query_is_asked.ensures; one = c.at_most_one_answer.ensures } in
-    λ e. done_cause _ _ _ _ _ _ _ _ _ c.carry_out.ensures.happened laws e
+    λ e. done_cause _ _ _ _ _ _ _ _ _ c.carry_out.ensures.happened e
 
 pub returns-clause-usage : goal.returns-clause-usage
 returns-clause-usage g c = λ e. usage_cause _ _ _ _ _ _ _ _ _ c.carry_out.ensures.happened e

@@ -12,6 +12,3 @@ returns-clause-types c = O.one_type_table
 
 pub returns-clause-clauses : goal.returns-clause-clauses
 returns-clause-clauses c = O.one_list_of_clauses c.at_most_one_list-2.ensures
-
-pub returns-clause-forms : goal.returns-clause-forms
-returns-clause-forms c = O.one_form

@@ -1,6 +1,6 @@
 use Rattle.std.proofs.Common.{◌≡◌, [], sym, ap, ◌∙◌}
 use Rattle.mc_linking.specs.Files.{plain_files}
-use Rattle.mc_ground_form.specs.Program.{plain_goal}
+use Rattle.mc_compile.specs.Reading.{plain_goal}
 use Rattle.mc_compile.specs.Linking.{rules_in}
 use Rattle.mc_compile.proofs.Lists.{none_counted}
 use Rattle.mc_compile.proofs.linking.names.Goals as goal

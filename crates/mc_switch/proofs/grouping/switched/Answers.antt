@@ -2,6 +2,7 @@ use Rattle.std.proofs.Common.{◌≡◌, ℕ, List, [], Bool, map, sym, ap, ap�
 use Rattle.std.proofs.lemmas.Result.{IfOk-weaker}
 use Rattle.mc_model.specs.PlainGoals.{plain_node, plain_sched}
 use Rattle.mc_model.specs.declared.sched.Sched.{Sched}
+use Rattle.mc_model.specs.Scheduled.{Disj, nodes}
 use Rattle.mc_accepted.specs.Switched.{Disjunct, openings_of, grouped}
 use Rattle.mc_switch.specs.code.Grouping.{IsGrouped, nodes_of}
 use Rattle.mc_switch.specs.Types.{type_in, inst_in}
@@ -9,9 +10,20 @@ use Rattle.mc_switch.specs.declared.disjunct.Opened.{Opened}
 use Rattle.mc_switch.specs.code.Choices.{AreSame}
 use Rattle.mc_switch.specs.code.Labels.{plain_opened}
 use Rattle.mc_switch.specs.code.Parts.{kept_in, IsGroupedOf}
-use Rattle.mc_switch.proofs.Arms.{ends_kept}
+use Rattle.mc_switch.proofs.Arms.{ends_kept, none_is}
 use Rattle.mc_switch.proofs.Choosing.{none_out}
 use Rattle.mc_switch.proofs.grouping.switched.Goals as goal
+
+pub returns-then-branch-clause-grouped : goal.returns-then-branch-clause-grouped
+returns-then-branch-clause-grouped c =
+    let q = c.args.procs.now in
+    let N = c.args.merger.now.found in
+    let at = c.args.around.now in
+    let ns = c.args.sources.now in
+    let fs = c.args.goals.items in
+    IfOk-weaker c.disjunction_of.result (λ (s : Sched). plain_sched s ≡ Disj (nodes (nodes_of fs))) (λ (s : Sched). IsGrouped q N at (map plain_node ns) (nodes_of fs) (plain_sched s))
+    (λ s h. none_is q N at ns fs (plain_sched s) c.requires.many (c.in_ok-none_opened.ensures.0 c.if-branch.true) h)
+    c.disjunction_of.ensures
 
 pub grouped-requires-clause-ends : goal.grouped-requires-clause-ends
 grouped-requires-clause-ends c =

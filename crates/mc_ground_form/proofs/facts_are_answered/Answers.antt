@@ -1,5 +1,0 @@
-use Rattle.mc_ground_form.proofs.Runs.{answered}
-use Rattle.mc_ground_form.proofs.facts_are_answered.Goals as goal
-
-pub returns : goal.returns
-returns c = answered

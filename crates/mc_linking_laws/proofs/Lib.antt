@@ -1,0 +1,10 @@
+pub mod Forms
+pub mod Given
+pub mod Homes
+pub mod Meanings
+pub mod Meant
+pub mod Written
+pub mod Library
+pub mod Matters
+pub mod Sources
+pub mod Tested

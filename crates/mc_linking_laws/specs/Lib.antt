@@ -1,0 +1,3 @@
+pub mod WellWritten
+pub mod Tested
+pub mod Sources
