@@ -7,7 +7,7 @@ use Rattle.mc_model.specs.Flat.{Flat_goal}
 use Rattle.mc_accepted.specs.ProperTypes.{EachProper}
 use Rattle.mc_accepted.specs.Typing.{TypedGoal}
 use Rattle.mc_procs.specs.Procedures.{parameters_in}
-use Rattle.mc_fitting.specs.code.VariableTypes.{type_in}
+use Rattle.mc_procs.specs.VariableTypes.{type_in}
 
 pub proper_told : (b : Bool) (P Q : Program) (ts us : List Ty) → P ≡ Q → ts ≡ us → IsTrue b ↔ EachProper (parameters_in P) (map plain_type ts) → IsTrue b ↔ EachProper (parameters_in Q) (map plain_type us)
 proper_told b P Q ts us program types h =

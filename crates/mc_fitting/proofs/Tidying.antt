@@ -6,7 +6,7 @@ use Rattle.mc_model.specs.Insts.{Graph}
 use Rattle.mc_accepted.specs.Tidy.{Tidy, EachTidy}
 use Rattle.mc_procs.specs.Named.{NumbersBelow}
 use Rattle.mc_procs.specs.Procedures.{PlainProcs, source_of, insts_of, with_insts}
-use Rattle.mc_fitting.specs.code.VariableTypes.{type_in}
+use Rattle.mc_procs.specs.VariableTypes.{type_in}
 
 pub number_below : (top : ℕ) (is : List ℕ) (k : ℕ) → k < length is → NumbersBelow top is → get_or is k 0 < top
 number_below top [] k lt h = absurd (omega arith)

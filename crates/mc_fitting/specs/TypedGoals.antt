@@ -1,15 +1,10 @@
 -- The goal of a predicate is typed. (Mercury Language Reference Manual: Types.)
-use Rattle.std.specs.Prelude.{◌≡◌, ℕ, List, map, get_or}
-use Rattle.mc_program.specs.Programs.{TypeTerm, variable_type, Source}
-use Rattle.mc_program.specs.PlainPrograms.{plain_type}
-use Rattle.mc_program.specs.declared.ty.Ty.{Ty}
+use Rattle.std.specs.Prelude.{◌≡◌, ℕ, map}
+use Rattle.mc_program.specs.Programs.{Source}
 use Rattle.mc_model.specs.PlainGoals.{plain_flat}
 use Rattle.mc_model.specs.declared.flat.Normal.{Normal}
 use Rattle.mc_accepted.specs.Typing.{TypedGoal}
-
--- the type of a variable, by the list of types
-abbrev pub type_in : List Ty → ℕ → TypeTerm
-type_in types x = get_or (map plain_type types) x (variable_type x)
+use Rattle.mc_procs.specs.VariableTypes.{type_in}
 
 -- its head variables have the predicate's types, and its body is typed
 pub record IsTyped (P : Source) (p : ℕ) (g : Normal) : Type 0 where

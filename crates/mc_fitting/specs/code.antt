@@ -3,5 +3,4 @@ pub mod Constructors
 pub mod Names
 pub mod Parts
 pub mod Symbols
-pub mod VariableTypes
 pub mod WrittenScopes

@@ -2,8 +2,8 @@ ghost use Rattle.std.specs.Prelude.{◌≡◌, IfOk, MatchOption, None, Some, Is
 ghost use Rattle.mc_program.specs.Programs.{TypeTerm};
 ghost use Rattle.mc_program.specs.PlainPrograms.{plain_type};
 ghost use Rattle.mc_model.specs.Types.{instance_of};
+ghost use Rattle.mc_procs.specs.VariableTypes.{type_in};
 ghost use Rattle.mc_fitting.specs.code.Bindings.{bound_to, Matched};
-ghost use Rattle.mc_fitting.specs.code.VariableTypes.{type_in};
 
 use crate::variables::type_of;
 use mc_base::Memory;

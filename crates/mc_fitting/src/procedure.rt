@@ -7,10 +7,10 @@ ghost use Rattle.mc_insts.specs.Graphs.{count_of};
 ghost use Rattle.mc_procs.specs.Named.{NumbersBelow};
 ghost use Rattle.mc_procs.specs.Procedures.{source_of, insts_of, parameters_of, with_insts};
 ghost use Rattle.mc_procs.specs.Fitting.{ProcedureFits, bounds_of};
+ghost use Rattle.mc_procs.specs.VariableTypes.{type_in};
 ghost use Rattle.mc_fitting.specs.ProcedureGoal.{normal_body};
 ghost use Rattle.mc_fitting.specs.code.Names.{bounds};
 ghost use Rattle.mc_fitting.specs.code.Parts.{NumbersFit, FitsPredicate};
-ghost use Rattle.mc_fitting.specs.code.VariableTypes.{type_in};
 
 use crate::named::{Counts, is_named, numbers_below};
 use crate::proper::all_proper;

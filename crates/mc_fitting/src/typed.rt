@@ -9,8 +9,8 @@ ghost use Rattle.mc_model.specs.PlainGoals.{plain_flat};
 ghost use Rattle.mc_model.specs.Lists.{In};
 ghost use Rattle.mc_model.specs.Types.{IsValue, instance_of, type_at};
 ghost use Rattle.mc_accepted.specs.Typing.{ConstantOf, TypedGoal, TypedGoals, constructor_types};
+ghost use Rattle.mc_procs.specs.VariableTypes.{type_in};
 ghost use Rattle.mc_fitting.specs.TypedGoals.{IsTyped};
-ghost use Rattle.mc_fitting.specs.code.VariableTypes.{type_in};
 
 use crate::instance::instances;
 use crate::listed::is_listed;

@@ -1,6 +1,6 @@
 ghost use Rattle.std.specs.Prelude.{◌≡◌, ◌↔◌, IsTrue, map};
 ghost use Rattle.mc_program.specs.PlainPrograms.{plain_type};
-ghost use Rattle.mc_fitting.specs.code.VariableTypes.{type_in};
+ghost use Rattle.mc_procs.specs.VariableTypes.{type_in};
 
 use mc_program::ty::{Ty, same_type};
 

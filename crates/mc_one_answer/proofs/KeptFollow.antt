@@ -18,10 +18,10 @@ use Rattle.mc_accepted.specs.Switched.{Disjunct, Kept, goals_of, formed}
 use Rattle.mc_insts.specs.Graphs.{count_of}
 use Rattle.mc_procs.specs.Fitting.{AllFit}
 use Rattle.mc_procs.specs.Procedures.{PlainProcs, insts_of}
+use Rattle.mc_procs.specs.VariableTypes.{type_in}
 use Rattle.mc_acceptance_laws.specs.KeptLaws.{OfGroup, OfEachGroup}
 use Rattle.mc_switch.specs.Kept.{Suits, kept_by}
 use Rattle.mc_switch.specs.SwitchedBodies.{IsForm}
-use Rattle.mc_switch.specs.Types.{type_in}
 use Rattle.mc_switch_laws.specs.FormsMerge.{IsTidyOrder}
 use Rattle.mc_graph_laws.specs.Nodes.{MeanOne}
 use Rattle.mc_graph_laws.specs.Follows.{InstsFollow, Follows}

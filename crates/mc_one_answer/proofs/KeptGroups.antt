@@ -21,6 +21,7 @@ use Rattle.mc_accepted.specs.Tidy.{EachIsTidy}
 use Rattle.mc_insts.specs.Graphs.{count_of}
 use Rattle.mc_procs.specs.Fitting.{AllFit}
 use Rattle.mc_procs.specs.Procedures.{PlainProcs, source_of, insts_of}
+use Rattle.mc_procs.specs.VariableTypes.{type_in}
 use Rattle.mc_mode_points.specs.Tables.{Entry, entry, node_in}
 use Rattle.mc_acceptance_laws.specs.KeptLaws.{OfGroup, OfEachGroup, even_group}
 use Rattle.mc_acceptance_laws.proofs.EvenGroups.{groups_are_even}
@@ -28,7 +29,6 @@ use Rattle.mc_acceptance_laws.proofs.KeptGathered.{node_gathers}
 use Rattle.mc_acceptance_laws.proofs.KeptTold.{forms_tell_kept}
 use Rattle.mc_switch.specs.Kept.{all_are, or_none, inst_merged, changes_of, merged_changes, kept_by, Extends, AreMerged, Suits}
 use Rattle.mc_switch.specs.SwitchedBodies.{IsForm}
-use Rattle.mc_switch.specs.Types.{type_in}
 use Rattle.mc_switch_laws.specs.FormsMerge.{IsTidyOrder}
 use Rattle.mc_switch_laws.proofs.Changes.{value_of, value_past}
 use Rattle.mc_one_answer.proofs.FoundNodes.{stood-joined}

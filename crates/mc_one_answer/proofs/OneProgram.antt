@@ -31,12 +31,13 @@ use Rattle.mc_accepted.specs.FreshTests.{TestsAlike}
 use Rattle.mc_accepted.specs.Inferred.{DeclaredSystem, LeastClosed, with_determinisms}
 use Rattle.mc_accepted.specs.InstRules.{PlainInstDef}
 use Rattle.mc_accepted.specs.Typing.{TypedGoal}
-use Rattle.mc_fitting.specs.TypedGoals.{IsTyped, type_in as typed_in}
+use Rattle.mc_fitting.specs.TypedGoals.{IsTyped}
 use Rattle.mc_insts.specs.declared.insts.Insts.{Insts}
 use Rattle.mc_insts.specs.Graphs.{graph_of}
 use Rattle.mc_insts.specs.Kept.{AreOf}
 use Rattle.mc_insts.specs.Programs.{FitsConstructors}
 use Rattle.mc_procs.specs.Procedures.{PlainProcs, insts_of, parameters_in, procedure_at, with_insts}
+use Rattle.mc_procs.specs.VariableTypes.{type_in}
 use Rattle.mc_mode_points.specs.Nodes as Nodes
 use Rattle.mc_mode_points.specs.Nodes.{StoodFor}
 use Rattle.mc_mode_points.specs.Tables.{node_in}
@@ -55,7 +56,6 @@ use Rattle.mc_orders.specs.declared.ordering.Orders.TheVariants as O
 use Rattle.mc_skeletons.specs.Least.{assigned}
 use Rattle.mc_switch.specs.Kept as Kept
 use Rattle.mc_switch.specs.SwitchedBodies.{IsForm, Switches}
-use Rattle.mc_switch.specs.Types.{type_in}
 use Rattle.mc_det.specs.Determinisms.{declared_procedure, AreDeterminisms}
 use Rattle.mc_det.specs.Marked.{marked_body}
 use Rattle.mc_det.specs.MarkedProcedures.{determinisms_of, Inferred, MarksHold}
@@ -345,7 +345,7 @@ module _ (P Q : Program) (same : Same P Q) (ds : List PlainInstDef) (sigs : List
   goals_typed : (gs hs : List Normal) → SameGoals gs hs → GoalsAreTyped Q hs → GoalsAreTyped P gs
   goals_typed gs hs one h p lt none =
       let A : Source → Type 0 = λ S. (S.preds p).builtin ≡ None in
-      let X : List Ty → List ℕ → Flat_goal → Type 0 = λ ts head body. (map (typed_in ts) head ≡ ((plain_program P).preds p).types) × TypedGoal (plain_program P) (typed_in ts) body in
+      let X : List Ty → List ℕ → Flat_goal → Type 0 = λ ts head body. (map (type_in ts) head ≡ ((plain_program P).preds p).types) × TypedGoal (plain_program P) (type_in ts) body in
       let t : IsTyped (plain_program P) p (goal_at hs p) =
       subst (λ (S : Source). IsTyped S p (goal_at hs p)) same.source (h p (subst (λ n. p < n) (sym same.preds) lt) (subst A (sym same.source) none)) in
       let u = of-goal (goal_at gs p) (goal_at hs p) (one p) X (t.head, t.body) in

@@ -24,6 +24,7 @@ use Rattle.mc_insts.specs.declared.insts.Insts.{Insts}
 use Rattle.mc_insts.specs.Graphs.{graph_of, count_of}
 use Rattle.mc_insts.specs.Growing.{Grown}
 use Rattle.mc_procs.specs.Procedures.{PlainProcs, source_of, insts_of, parameters_in}
+use Rattle.mc_procs.specs.VariableTypes as W
 use Rattle.mc_mode_points.specs.Agreeing.{Agrees, TypedAs}
 use Rattle.mc_mode_points.specs.Nodes.{type_in}
 use Rattle.mc_mode_points.specs.declared.state.State.{State}
@@ -43,7 +44,6 @@ use Rattle.mc_graph_laws.specs.Related.{OneVerdict, Related, NodesRelated}
 use Rattle.mc_graph_laws.specs.Nodes.{Finds}
 use Rattle.mc_graph_laws.proofs.NodesMeanOne.{nodes-related}
 use Rattle.mc_graph_laws.proofs.OneVerdicts.{one-verdict}
-use Rattle.mc_switch.specs.Types as W
 use Rattle.mc_fitting.specs.TypedGoals.{IsTyped}
 use Rattle.mc_rules.specs.Premises.{Begins, AskedOf, GoalsAreTyped}
 use Rattle.mc_rule_laws.proofs.BodyOrders.{same_types}

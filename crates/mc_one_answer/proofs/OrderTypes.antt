@@ -38,6 +38,7 @@ use Rattle.mc_order_laws.specs.SomeTest.{TypesMet}
 use Rattle.mc_order_laws.proofs.SomeTest.{some_test_tells, nodes_are_told}
 use Rattle.mc_order_laws.proofs.Tidying.{entries-are-tidy}
 use Rattle.mc_procs.specs.Fitting.{AllFit}
+use Rattle.mc_procs.specs.VariableTypes as W
 use Rattle.mc_mode_points.specs.Agreeing.{Agrees, Stands, TypedAs}
 use Rattle.mc_mode_points.specs.Nodes.{type_in}
 use Rattle.mc_mode_laws.specs.OrdersNamed.{FindsBelow}
@@ -47,7 +48,6 @@ use Rattle.mc_orders.specs.Numbering.{mode_ids}
 use Rattle.mc_orders.specs.Outcomes.{IsOrdered}
 use Rattle.mc_orders.specs.declared.modes.ModeId.{ModeId}
 use Rattle.mc_orders.specs.declared.ordering.Orders.TheVariants as O
-use Rattle.mc_switch.specs.Types as W
 use Rattle.mc_whole.specs.Goals.{HasNormalGoals}
 use Rattle.mc_graph_laws.specs.Follows.{Follows}
 use Rattle.mc_graph_laws.specs.Nodes.{MeanOne}

@@ -31,6 +31,7 @@ use Rattle.mc_order_laws.specs.NormalScopes.{EachNamedApart}
 use Rattle.mc_order_laws.specs.SomeTest.{TypesMet}
 use Rattle.mc_procs.specs.Fitting.{AllFit}
 use Rattle.mc_procs.specs.Procedures.{PlainProcs, source_of, insts_of, parameters_in, parameters_of}
+use Rattle.mc_procs.specs.VariableTypes as W
 use Rattle.mc_mode_points.specs.Agreeing.{Agrees, Stands, TypedAs}
 use Rattle.mc_mode_points.specs.Modes.{ModesFit, ModeFits}
 use Rattle.mc_mode_points.specs.Nodes.{type_in}
@@ -49,7 +50,6 @@ use Rattle.mc_graph_laws.specs.Nodes.{Finds, MeanOne}
 use Rattle.mc_graph_laws.specs.Related.{Related, NodesRelated}
 use Rattle.mc_graph_laws.proofs.GoalsFollow.{entry-follows, order-follows}
 use Rattle.mc_graph_laws.proofs.NodesMeanOne.{nodes-related}
-use Rattle.mc_switch.specs.Types as W
 use Rattle.mc_whole.specs.Goals.{HasNormalGoals}
 use Rattle.mc_rules.specs.Rules.{Determined, Ordered}
 use Rattle.mc_rule_laws.proofs.BodyOrders.{same_types}

@@ -34,6 +34,7 @@ use Rattle.mc_order_laws.specs.NormalScopes.{EachNamedApart}
 use Rattle.mc_order_laws.specs.SomeTest.{TypesMet}
 use Rattle.mc_procs.specs.Fitting.{AllFit}
 use Rattle.mc_procs.specs.Procedures.{PlainProcs, as_system, source_of, insts_of, with_procs, procedure_at, no_procedure}
+use Rattle.mc_procs.specs.VariableTypes.{type_in}
 use Rattle.mc_modes.specs.Schedules.{first_determinism}
 use Rattle.mc_modes.specs.Signatures.{mode_in}
 use Rattle.mc_orders.specs.Numbering.{mode_ids}
@@ -54,7 +55,6 @@ use Rattle.mc_graph_laws.specs.RunLaws.{BodyFollows}
 use Rattle.mc_graph_laws.proofs.Faults.{main-same, one-list-of-faults, one-least}
 use Rattle.mc_graph_laws.proofs.Marking.{pruned-goals-follow, marked-goals-follow}
 use Rattle.mc_graph_laws.proofs.Running.{one-run}
-use Rattle.mc_switch.specs.Types.{type_in}
 use Rattle.mc_whole.specs.Goals.{HasNormalGoals}
 use Rattle.mc_rules.specs.Rules.{Determined, FaultsAre, Ordered}
 use Rattle.mc_rule_laws.proofs.Forms.{form_in_last}

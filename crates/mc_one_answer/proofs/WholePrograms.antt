@@ -17,7 +17,7 @@ use Rattle.mc_declared_modes.specs.WrittenModes.{PlainMode}
 use Rattle.mc_signatures.specs.MeantModes.{MeansMode}
 use Rattle.mc_signatures.specs.Signatures.{AreSignatures, next_behind}
 use Rattle.mc_procs.specs.Procedures.{no_procedure}
-use Rattle.mc_switch.specs.Types.{type_in}
+use Rattle.mc_procs.specs.VariableTypes.{type_in}
 use Rattle.mc_orders.specs.NormalGoals.{goal_at}
 use Rattle.mc_one_answer.specs.ModesMeanOne.{ArePlaced}
 use Rattle.mc_one_answer.specs.WholePrograms.{WholeGoalsAreTyped, SignaturesArePlaced}

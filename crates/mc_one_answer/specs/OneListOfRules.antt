@@ -16,7 +16,6 @@ use Rattle.mc_modes.specs.Signatures.{modes_at}
 use Rattle.mc_orders.specs.NormalGoals.{goal_at}
 use Rattle.mc_orders.specs.Numbering.{mode_ids}
 use Rattle.mc_orders.specs.Outcomes.{AreBroken}
-use Rattle.mc_switch.specs.Types.{type_in}
 use Rattle.mc_rules.specs.Premises.{Begins, AskedOf}
 use Rattle.mc_one_answer.specs.ModesMeanOne.{NodesAreOne, SigsAreOne, ArePlaced}
 

@@ -1,3 +1,4 @@
 pub mod Procedures
 pub mod Named
 pub mod Fitting
+pub mod VariableTypes

@@ -23,6 +23,7 @@ use Rattle.mc_accepted.specs.PrunedMarks.{KeepsMarks}
 use Rattle.mc_accepted.specs.Switched.{Kept, formed}
 use Rattle.mc_accepted.specs.Unmarked.{changed_node}
 use Rattle.mc_procs.specs.Procedures.{PlainProcs, as_system, source_of, insts_of}
+use Rattle.mc_procs.specs.VariableTypes.{type_in}
 use Rattle.mc_skeletons.specs.Least.{assigned}
 use Rattle.mc_det.specs.Determinisms.{as_declared, declared_procedure, declared_system}
 use Rattle.mc_det.specs.Marked.{marked}
@@ -30,7 +31,6 @@ use Rattle.mc_det.specs.MarkedProcedures.{determinisms_of, where_determined}
 use Rattle.mc_det.specs.Pruned.{pruned_body}
 use Rattle.mc_det.specs.PrunedProcedures.{FollowDeclared}
 use Rattle.mc_det.proofs.Pruning.{pruned_keep_marks}
-use Rattle.mc_switch.specs.Types.{type_in}
 use Rattle.mc_acceptance_laws.specs.AcceptedLaws.{IsFormed}
 use Rattle.mc_acceptance_laws.specs.Told.{Retold}
 use Rattle.mc_rules.specs.Rules.{Determined}

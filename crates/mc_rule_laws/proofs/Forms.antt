@@ -29,11 +29,11 @@ use Rattle.mc_insts.specs.Graphs.{graph_of, count_of}
 use Rattle.mc_procs.specs.Named.{Bounds, NumbersBelow, Named, NamedIn, EachNamed, EachArmNamed}
 use Rattle.mc_procs.specs.Fitting.{AllFit, ProcedureFits, bounds_of}
 use Rattle.mc_procs.specs.Procedures.{PlainProcs, source_of, insts_of, with_insts, procedure_at, no_procedure}
+use Rattle.mc_procs.specs.VariableTypes.{type_in}
 use Rattle.mc_mode_points.specs.Nodes.{StoodFor}
 use Rattle.mc_det.specs.Determinisms.{declared_procedure, declared_system}
 use Rattle.mc_switch.specs.Kept.{Suits, kept_by, has_no_answer, never_answers}
 use Rattle.mc_switch.specs.SwitchedBodies.{IsForm, IsOf}
-use Rattle.mc_switch.specs.Types.{type_in}
 use Rattle.mc_switch.proofs.Suiting.{closed_suit}
 use Rattle.mc_order_laws.specs.OrderLaws.{Below}
 use Rattle.mc_order_laws.proofs.Arranging.{below-both, below-left, below-right}

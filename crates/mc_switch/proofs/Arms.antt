@@ -20,10 +20,11 @@ use Rattle.mc_accepted.specs.Ordered.{Insts}
 use Rattle.mc_accepted.specs.Switched as spec
 use Rattle.mc_accepted.specs.Switched.{Disjunct, Kept, openings, openings_of, label_in, is_label, and_label, labels_of, those, opens_with, arm_of, arms_on, on_chosen, grouped, goals_of, chosen, is_opened, misses_none}
 use Rattle.mc_procs.specs.Procedures.{PlainProcs}
+use Rattle.mc_procs.specs.VariableTypes.{type_in}
 use Rattle.mc_varset.specs.Members.{has}
 use Rattle.mc_switch.specs.declared.disjunct.Opened.{Opened}
 use Rattle.mc_switch.specs.declared.groups.Group.{Group}
-use Rattle.mc_switch.specs.Types.{type_in, inst_in}
+use Rattle.mc_switch.specs.Types.{inst_in}
 use Rattle.mc_switch.specs.code.Grouping.{AroundFits, EndsSo, FormedEnds, IsGrouped, disjuncts_of, nodes_of, opened_first}
 use Rattle.mc_switch.specs.Kept.{Extends, OnlyGrew}
 use Rattle.mc_switch.specs.declared.around.Around.{Around}

@@ -12,11 +12,12 @@ use Rattle.mc_accepted.specs.Ordered.{Insts, change_at}
 use Rattle.mc_accepted.specs.Switched.{goals_of}
 use Rattle.mc_insts.specs.Graphs.{count_of}
 use Rattle.mc_procs.specs.Procedures.{PlainProcs}
+use Rattle.mc_procs.specs.VariableTypes.{type_in}
 use Rattle.mc_procs.proofs.Views.{plain_node-open}
 use Rattle.mc_mode_points.specs.Tables.{Entry}
 use Rattle.mc_switch.specs.declared.around.Around.{Around}
 use Rattle.mc_switch.specs.declared.disjunct.Opened.{Opened}
-use Rattle.mc_switch.specs.Types.{type_in, inst_in}
+use Rattle.mc_switch.specs.Types.{inst_in}
 use Rattle.mc_switch.specs.Kept.{Suits, changed_to, change_of, changes_of, merged_changes, kept_by}
 use Rattle.mc_switch.specs.code.Ends.{inst_at_end, insts_at_ends, one_ends, KeepsEnd}
 use Rattle.mc_switch.specs.code.Labels.{plain_opened}

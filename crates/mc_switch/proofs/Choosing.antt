@@ -18,10 +18,11 @@ use Rattle.mc_accepted.specs.Least.{lesser, least}
 use Rattle.mc_accepted.specs.Switched as spec
 use Rattle.mc_accepted.specs.Switched.{Disjunct, label_in, is_told, labels_of, covers, opened_variables, is_opened, misses_none, chosen}
 use Rattle.mc_procs.specs.Procedures.{PlainProcs, as_system}
+use Rattle.mc_procs.specs.VariableTypes.{type_in}
 use Rattle.mc_switch.specs.declared.disjunct.Opened.{Opened}
 use Rattle.mc_switch.specs.declared.opening.Opening.{Opening}
 use Rattle.mc_switch.specs.Openings.{plain_openings}
-use Rattle.mc_switch.specs.Types.{type_in, inst_in}
+use Rattle.mc_switch.specs.Types.{inst_in}
 use Rattle.mc_insts.specs.Graphs.{count_of}
 use Rattle.mc_switch.specs.Kept.{Suits}
 use Rattle.mc_switch.proofs.Growing.{allowed_suits}

@@ -9,8 +9,8 @@ use Rattle.mc_model.specs.Outcomes.{Outcome}
 use Rattle.mc_model.specs.declared.sched.Proc.{Proc}
 use Rattle.mc_accepted.specs.Inferred.{system_of}
 use Rattle.mc_procs.specs.Procedures.{PlainProcs, source_of, with_insts}
+use Rattle.mc_procs.specs.VariableTypes.{type_in}
 use Rattle.mc_det.specs.Determinisms.{declared_procedure, declared_system}
-use Rattle.mc_switch.specs.Types.{type_in}
 use Rattle.mc_switch.specs.Kept.{has_no_answer, never_answers, kept_by}
 use Rattle.mc_switch.specs.SwitchedBodies.{IsOf, Switches, ClosedForms}
 use Rattle.mc_switch.proofs.Suiting.{closed_suit}

@@ -19,6 +19,7 @@ use Rattle.mc_accepted.specs.MergedArms.{takes_constants, never_ends, never_ends
 use Rattle.mc_accepted.specs.Switched.{Kept, Disjunct, openings, grouped, openings_of, formed_in, disjuncts}
 use Rattle.mc_insts.specs.Graphs.{count_of}
 use Rattle.mc_procs.specs.Procedures.{PlainProcs, source_of, insts_of}
+use Rattle.mc_procs.specs.VariableTypes.{type_in}
 use Rattle.mc_procs.proofs.Views.{plain_node-open, plain_arm-open}
 use Rattle.mc_mode_points.specs.Tables.{Entry}
 use Rattle.mc_det.proofs.Telling.{before, one_before, none_after}
@@ -28,7 +29,7 @@ use Rattle.mc_switch.specs.declared.formed.Formed.{Formed}
 use Rattle.mc_switch.specs.declared.parts.FormedGoal.{FormedGoal}
 use Rattle.mc_switch.specs.declared.parts.FormedNodes.{FormedNodes}
 use Rattle.mc_switch.specs.declared.parts.FormedArms.{FormedArms}
-use Rattle.mc_switch.specs.Types.{type_in, inst_in}
+use Rattle.mc_switch.specs.Types.{inst_in}
 use Rattle.mc_switch.specs.Kept.{Suits, Extends, OnlyGrew, kept_by, never_answers}
 use Rattle.mc_switch.specs.code.Grouping.{FormedEnds, IsGrouped, disjuncts_of, nodes_of}
 use Rattle.mc_switch.specs.code.Choices.{allows_one}

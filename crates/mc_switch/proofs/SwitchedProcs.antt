@@ -16,6 +16,7 @@ use Rattle.mc_insts.specs.Growing.{Grown}
 use Rattle.mc_procs.specs.Named.{Named}
 use Rattle.mc_procs.specs.Fitting.{AllFit, ProcedureFits, bounds_of}
 use Rattle.mc_procs.specs.Procedures.{PlainProcs, source_of, insts_of, with_insts, with_procs}
+use Rattle.mc_procs.specs.VariableTypes.{type_in}
 use Rattle.mc_mode_points.specs.Nodes.{StoodFor}
 use Rattle.mc_mode_points.specs.Tables.{Entry}
 use Rattle.mc_mode_points.proofs.Found.{stood-grown}
@@ -23,7 +24,6 @@ use Rattle.mc_det.specs.code.Marks.{AllStand}
 use Rattle.mc_det.specs.code.Walks.{bounds_in}
 use Rattle.mc_det.proofs.Declaring.{procedure_is, some_inst, entered_below}
 use Rattle.mc_det.proofs.Replacing.{with_another, all_may_stand}
-use Rattle.mc_switch.specs.Types.{type_in}
 use Rattle.mc_switch.specs.Kept.{Suits, AreMerged, OnlyGrew, kept_by, has_no_answer, never_answers}
 use Rattle.mc_switch.specs.SwitchedBodies.{IsForm, IsSwitched, Switches}
 use Rattle.mc_switch.proofs.Growing.{suits_before}

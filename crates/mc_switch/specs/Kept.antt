@@ -15,9 +15,9 @@ use Rattle.mc_accepted.specs.Switched.{Kept, goals_of}
 use Rattle.mc_insts.specs.Graphs.{count_of}
 use Rattle.mc_insts.specs.Growing.{Grown}
 use Rattle.mc_procs.specs.Procedures.{PlainProcs, source_of, insts_of, with_insts}
+use Rattle.mc_procs.specs.VariableTypes.{type_in}
 use Rattle.mc_mode_points.specs.Nodes.{StoodFor}
 use Rattle.mc_mode_points.specs.Tables.{Entry, node_in}
-use Rattle.mc_switch.specs.Types.{type_in}
 
 -- these are all that inst
 abbrev pub all_are : ℕ → List ℕ → Bool

@@ -1,14 +1,8 @@
--- Types and insts of variables, by their lists.
-use Rattle.std.specs.Prelude.{◌≡◌, ℕ, ◌<◌, List, map, get_or, length}
-use Rattle.mc_program.specs.Programs.{TypeTerm, variable_type}
-use Rattle.mc_program.specs.PlainPrograms.{plain_type}
+-- Insts of variables, by their list.
+use Rattle.std.specs.Prelude.{◌≡◌, ℕ, ◌<◌, List, get_or, length}
 use Rattle.mc_program.specs.declared.ty.Ty.{Ty}
 use Rattle.mc_insts.specs.Graphs.{count_of}
 use Rattle.mc_procs.specs.Procedures.{PlainProcs}
-
--- the type and the inst of a variable, by their lists
-abbrev pub type_in : List Ty → ℕ → TypeTerm
-type_in types x = get_or (map plain_type types) x (variable_type x)
 
 abbrev pub inst_in : List ℕ → ℕ → ℕ
 inst_in insts x = get_or insts x 0

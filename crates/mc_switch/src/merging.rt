@@ -2,9 +2,10 @@ ghost use Rattle.std.specs.Prelude.{◌≡◌, ◌<◌, ◌++◌, ℕ, [], List,
 ghost use Rattle.mc_model.specs.Good.{System};
 ghost use Rattle.mc_accepted.specs.Ordered.{change_at};
 ghost use Rattle.mc_insts.specs.Graphs.{count_of};
+ghost use Rattle.mc_procs.specs.VariableTypes.{type_in};
 ghost use Rattle.mc_mode_points.specs.Tables.{Entry};
 ghost use Rattle.mc_switch.specs.code.Grouping.{AroundFits};
-ghost use Rattle.mc_switch.specs.Types.{inst_in, type_in};
+ghost use Rattle.mc_switch.specs.Types.{inst_in};
 ghost use Rattle.mc_switch.specs.Kept.{all_are, inst_merged, change_of, kept_by, Extends, AreMerged, Merges, OnlyGrew, Suits};
 ghost use Rattle.mc_switch.specs.code.Labels.{plain_opened};
 ghost use Rattle.mc_switch.specs.code.Ends.{inst_at_end, insts_at_ends, one_ends, KeepsEnd, ChangesSo};

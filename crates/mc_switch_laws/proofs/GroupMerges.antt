@@ -23,6 +23,7 @@ use Rattle.mc_accepted.specs.code.Truthful.{AllAre}
 use Rattle.mc_insts.specs.Graphs.{graph_of}
 use Rattle.mc_procs.specs.Fitting.{AllFit}
 use Rattle.mc_procs.specs.Procedures.{PlainProcs, source_of, insts_of}
+use Rattle.mc_procs.specs.VariableTypes.{type_in}
 use Rattle.mc_mode_points.specs.Tables.{Entry, entry, node_in}
 use Rattle.mc_mode_laws.proofs.MergedThere.{not-free, stood-merged}
 use Rattle.mc_order_laws.proofs.Arranging.{is-set, is-unset, or-first}
@@ -35,7 +36,6 @@ use Rattle.mc_acceptance_laws.proofs.KeptTold.{forms_tell_kept}
 use Rattle.mc_acceptance_laws.proofs.NoSwitches.{orders_have_no_switch}
 use Rattle.mc_switch.specs.Kept.{all_are, or_none, inst_merged, changes_of, merged_changes, kept_by, Extends, AreMerged, Suits}
 use Rattle.mc_switch.specs.SwitchedBodies.{IsForm}
-use Rattle.mc_switch.specs.Types.{type_in}
 use Rattle.mc_switch_laws.specs.FormsMerge.{IsTidyOrder, FormsMerge}
 use Rattle.mc_switch_laws.proofs.Changes.{changes_rise, changes_change, value_of, value_past}
 

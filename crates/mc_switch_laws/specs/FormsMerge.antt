@@ -16,9 +16,9 @@ use Rattle.mc_order_laws.specs.Tidying.{TidyPoint, ChangesTidy}
 use Rattle.mc_acceptance_laws.specs.FormLaws.{BoundAreOutside}
 use Rattle.mc_procs.specs.Fitting.{AllFit}
 use Rattle.mc_procs.specs.Procedures.{PlainProcs, insts_of}
+use Rattle.mc_procs.specs.VariableTypes.{type_in}
 use Rattle.mc_switch.specs.Kept.{Suits}
 use Rattle.mc_switch.specs.SwitchedBodies.{IsForm}
-use Rattle.mc_switch.specs.Types.{type_in}
 
 -- the procedure's body is an order of a goal, from tidy insts, with no more variables than it has types
 pub record IsTidyOrder (S : System) (p : Proc) : Type 0 where

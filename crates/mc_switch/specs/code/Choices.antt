@@ -12,11 +12,12 @@ use Rattle.mc_accepted.specs.Determined.{allows_name, allowed_in}
 use Rattle.mc_accepted.specs.Least.{least}
 use Rattle.mc_accepted.specs.Switched.{Disjunct, covers, labels_of, misses_none, chosen}
 use Rattle.mc_procs.specs.Procedures.{PlainProcs, source_of, insts_of, as_system}
+use Rattle.mc_procs.specs.VariableTypes.{type_in}
 use Rattle.mc_varset.specs.Members.{has}
 use Rattle.mc_switch.specs.declared.disjunct.Opened.{Opened}
 use Rattle.mc_switch.specs.declared.opening.Opening.{Opening}
 use Rattle.mc_switch.specs.Openings.{plain_openings}
-use Rattle.mc_switch.specs.Types.{type_in, inst_in}
+use Rattle.mc_switch.specs.Types.{inst_in}
 use Rattle.mc_switch.specs.code.Labels.{is_opened_by}
 
 -- an inst allows a symbol

@@ -6,12 +6,13 @@ use Rattle.mc_accepted.specs.Ordered.{Insts, change_at}
 use Rattle.mc_accepted.specs.Switched.{goals_of}
 use Rattle.mc_accepted.specs.MergedArms.{ends}
 use Rattle.mc_procs.specs.Procedures.{PlainProcs}
+use Rattle.mc_procs.specs.VariableTypes.{type_in}
 use Rattle.mc_mode_points.specs.Tables.{Entry}
 use Rattle.mc_switch.specs.declared.around.Around.{Around}
 use Rattle.mc_switch.specs.declared.disjunct.Opened.{Opened}
 use Rattle.mc_switch.specs.Kept.{Suits, Extends}
 use Rattle.mc_switch.specs.code.Grouping.{EndsSo}
-use Rattle.mc_switch.specs.Types.{type_in, inst_in}
+use Rattle.mc_switch.specs.Types.{inst_in}
 use Rattle.mc_switch.specs.code.Labels.{plain_opened}
 
 -- the inst of a variable at a disjunct's end, where that is reachable; those at all ends

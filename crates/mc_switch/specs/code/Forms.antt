@@ -11,13 +11,14 @@ use Rattle.mc_accepted.specs.Ordered.{Insts, change_at}
 use Rattle.mc_accepted.specs.Switched.{Kept, formed, formed_in, formed_all}
 use Rattle.mc_insts.specs.Graphs.{count_of}
 use Rattle.mc_procs.specs.Procedures.{PlainProcs}
+use Rattle.mc_procs.specs.VariableTypes.{type_in}
 use Rattle.mc_mode_points.specs.Tables.{Entry}
 use Rattle.mc_switch.specs.declared.formed.Formed.{Formed}
 use Rattle.mc_switch.specs.declared.forming.Forming.{Forming}
 use Rattle.mc_switch.specs.declared.parts.FormedGoal.{FormedGoal}
 use Rattle.mc_switch.specs.declared.parts.FormedNodes.{FormedNodes}
 use Rattle.mc_switch.specs.declared.parts.FormedArms.{FormedArms}
-use Rattle.mc_switch.specs.Types.{type_in, InstsFit}
+use Rattle.mc_switch.specs.Types.{InstsFit}
 use Rattle.mc_switch.specs.Kept.{Suits, Extends, AreMerged, Merges, kept_by}
 
 module _ (S : System) (T : ℕ → TypeTerm) (kept : (before after : Insts) → Kept) where

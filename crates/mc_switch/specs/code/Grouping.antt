@@ -11,10 +11,11 @@ use Rattle.mc_accepted.specs.Ordered.{change_at}
 use Rattle.mc_accepted.specs.Switched.{Disjunct, Opening, openings, openings_of, grouped}
 use Rattle.mc_insts.specs.Graphs.{count_of}
 use Rattle.mc_procs.specs.Procedures.{PlainProcs}
+use Rattle.mc_procs.specs.VariableTypes.{type_in}
 use Rattle.mc_mode_points.specs.Tables.{Entry}
 use Rattle.mc_switch.specs.declared.around.Around.{Around}
 use Rattle.mc_switch.specs.declared.formed.Formed.{Formed}
-use Rattle.mc_switch.specs.Types.{InstsFit, type_in, inst_in}
+use Rattle.mc_switch.specs.Types.{InstsFit, inst_in}
 use Rattle.mc_switch.specs.Kept.{Suits, Extends, kept_by}
 
 -- goals as disjuncts, each with what its source deconstructs: the goal that it is the switch form of

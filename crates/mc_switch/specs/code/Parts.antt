@@ -5,12 +5,13 @@ use Rattle.mc_model.specs.declared.sched.GoalNode.{GoalNode}
 use Rattle.mc_model.specs.Scheduled.{Label, Node, Scheduled}
 use Rattle.mc_accepted.specs.Switched.{Disjunct, Kept, arm_of, chosen, grouped}
 use Rattle.mc_procs.specs.Procedures.{PlainProcs}
+use Rattle.mc_procs.specs.VariableTypes.{type_in}
 use Rattle.mc_mode_points.specs.Tables.{Entry}
 use Rattle.mc_switch.specs.declared.around.Around.{Around}
 use Rattle.mc_switch.specs.declared.disjunct.Opened.{Opened}
 use Rattle.mc_switch.specs.declared.formed.Formed.{Formed}
 use Rattle.mc_switch.specs.declared.groups.Group.{Group}
-use Rattle.mc_switch.specs.Types.{type_in, inst_in}
+use Rattle.mc_switch.specs.Types.{inst_in}
 use Rattle.mc_switch.specs.Kept.{Suits, Extends, kept_by}
 use Rattle.mc_switch.specs.code.Labels.{KeepsFirst, plain_opened}
 use Rattle.mc_switch.specs.code.Ends.{KeepsEnd}

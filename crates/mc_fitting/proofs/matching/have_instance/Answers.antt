@@ -1,7 +1,7 @@
 use Rattle.std.proofs.Common.{◌≡◌, length, map, refl, arith}
 use Rattle.mc_program.specs.PlainPrograms.{plain_type}
 use Rattle.mc_model.specs.Types.{instance_of}
-use Rattle.mc_fitting.specs.code.VariableTypes.{type_in}
+use Rattle.mc_procs.specs.VariableTypes.{type_in}
 use Rattle.mc_fitting.proofs.Agreeing.{finished, by_bindings, it_agrees}
 use Rattle.mc_fitting.proofs.matching.have_instance.Goals as goal
 

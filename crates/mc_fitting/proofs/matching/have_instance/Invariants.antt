@@ -2,8 +2,8 @@ use Rattle.std.proofs.Common.{◌≡◌, ◌↔◌, ℕ, map, drop}
 use Rattle.mc_program.specs.Programs.{TypeTerm}
 use Rattle.mc_program.specs.PlainPrograms.{plain_type}
 use Rattle.mc_model.specs.Types.{instance_of}
+use Rattle.mc_procs.specs.VariableTypes.{type_in}
 use Rattle.mc_fitting.specs.code.Bindings.{Agrees}
-use Rattle.mc_fitting.specs.code.VariableTypes.{type_in}
 use Rattle.mc_fitting.proofs.matching.have_instance.Given as goal
 
 abbrev pub invariant-loop-place : goal.invariant-loop-place

@@ -1,6 +1,6 @@
 use Rattle.std.proofs.Common.{◌≡◌, ◌<◌, ℕ, false, true, get_or, inr, sym, subst, ◌∙◌, arith}
 use Rattle.mc_procs.specs.Procedures.{source_of, insts_of}
-use Rattle.mc_fitting.specs.code.VariableTypes.{type_in}
+use Rattle.mc_procs.specs.VariableTypes.{type_in}
 use Rattle.mc_fitting.proofs.Assembling.{then_others}
 use Rattle.mc_fitting.proofs.Distinct.{holds, isnt}
 use Rattle.mc_fitting.proofs.Tidying.{number_below, at_end, at_place, tidy_told}

@@ -2,7 +2,7 @@ use Rattle.std.proofs.Common.{◌≡◌, ◌↔◌, map, drop}
 use Rattle.mc_accepted.specs.Tidy.{EachTidy}
 use Rattle.mc_insts.specs.Graphs.{count_of}
 use Rattle.mc_procs.specs.Procedures.{source_of, insts_of, with_insts}
-use Rattle.mc_fitting.specs.code.VariableTypes.{type_in}
+use Rattle.mc_procs.specs.VariableTypes.{type_in}
 use Rattle.mc_fitting.proofs.procedure.are_tidy.Given as goal
 
 abbrev pub invariant-loop-place : goal.invariant-loop-place

@@ -5,7 +5,7 @@ use Rattle.mc_program.specs.PlainPrograms.{plain_program}
 use Rattle.mc_model.specs.Flat as F
 use Rattle.mc_model.specs.PlainGoals.{plain_flat}
 use Rattle.mc_accepted.specs.Typing.{TypedGoal}
-use Rattle.mc_fitting.specs.code.VariableTypes.{type_in}
+use Rattle.mc_procs.specs.VariableTypes.{type_in}
 use Rattle.mc_fitting.proofs.TypedAtoms.{flat_call}
 use Rattle.mc_fitting.proofs.typed.+typed.Goals as goal
 

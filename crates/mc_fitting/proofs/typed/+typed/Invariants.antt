@@ -5,7 +5,7 @@ use Rattle.mc_model.specs.declared.flat.Flat.{size-Flat}
 use Rattle.mc_model.specs.Flat.{flats}
 use Rattle.mc_model.specs.PlainGoals.{plain_flat}
 use Rattle.mc_accepted.specs.Typing.{TypedGoals}
-use Rattle.mc_fitting.specs.code.VariableTypes.{type_in}
+use Rattle.mc_procs.specs.VariableTypes.{type_in}
 use Rattle.mc_fitting.proofs.typed.+typed.Given as goal
 
 abbrev pub decreases-is_typed : goal.decreases-is_typed

@@ -1,7 +1,7 @@
 use Rattle.std.proofs.Common.{◌∙◌, map, sym, ap, arith}
 use Rattle.mc_program.specs.Programs.{variable_type}
 use Rattle.mc_model.specs.Types.{instance_of}
-use Rattle.mc_fitting.specs.code.VariableTypes.{type_in}
+use Rattle.mc_procs.specs.VariableTypes.{type_in}
 use Rattle.mc_fitting.proofs.TypedAtoms.{no_types_past, none_told}
 use Rattle.mc_fitting.proofs.typed.call_is_typed.Goals as goal
 

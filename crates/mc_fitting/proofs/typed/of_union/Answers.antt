@@ -4,7 +4,7 @@ use Rattle.mc_program.specs.Programs.{Constructor}
 use Rattle.mc_program.specs.PlainPrograms.{plain_program, plain_type, type_terms}
 use Rattle.mc_program.specs.declared.ty.Ty.{Ty}
 use Rattle.mc_model.specs.Types.{instance_of, type_at}
-use Rattle.mc_fitting.specs.code.VariableTypes.{type_in}
+use Rattle.mc_procs.specs.VariableTypes.{type_in}
 use Rattle.mc_fitting.proofs.TypedAtoms.{arguments_there, arguments_listed, some_told, none_told, symbol_there, symbol_past}
 use Rattle.mc_fitting.proofs.typed.of_union.Goals as goal
 

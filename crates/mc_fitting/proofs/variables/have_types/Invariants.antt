@@ -1,6 +1,6 @@
 use Rattle.std.proofs.Common.{◌≡◌, ◌↔◌, map, drop}
 use Rattle.mc_program.specs.PlainPrograms.{plain_type}
-use Rattle.mc_fitting.specs.code.VariableTypes.{type_in}
+use Rattle.mc_procs.specs.VariableTypes.{type_in}
 use Rattle.mc_fitting.proofs.variables.have_types.Given as goal
 
 abbrev pub invariant-loop-place : goal.invariant-loop-place

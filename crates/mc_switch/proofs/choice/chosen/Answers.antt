@@ -3,7 +3,8 @@ use Rattle.mc_model.specs.Outcomes.{fails}
 use Rattle.mc_accepted.specs.Least.{least}
 use Rattle.mc_accepted.specs.Switched.{misses_none}
 use Rattle.mc_procs.specs.Procedures.{as_system}
-use Rattle.mc_switch.specs.Types.{type_in, inst_in}
+use Rattle.mc_procs.specs.VariableTypes.{type_in}
+use Rattle.mc_switch.specs.Types.{inst_in}
 use Rattle.mc_switch.specs.code.Choices.{first_variables}
 use Rattle.mc_switch.specs.code.Labels.{plain_opened}
 use Rattle.mc_switch.proofs.Choosing.{chosen_covered, chosen_opened, may_be_least, opens_self}

@@ -3,7 +3,8 @@ use Rattle.std.proofs.Math.Seq.{drop-length}
 use Rattle.mc_accepted.specs.Least.{lesser, least}
 use Rattle.mc_accepted.specs.Switched.{misses_none}
 use Rattle.mc_procs.specs.Procedures.{as_system}
-use Rattle.mc_switch.specs.Types.{type_in, inst_in}
+use Rattle.mc_procs.specs.VariableTypes.{type_in}
+use Rattle.mc_switch.specs.Types.{inst_in}
 use Rattle.mc_switch.proofs.Choosing.{least_from}
 use Rattle.mc_switch.proofs.choice.least_covered.Goals as goal
 

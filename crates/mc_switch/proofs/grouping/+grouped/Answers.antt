@@ -9,8 +9,9 @@ use Rattle.mc_model.specs.Scheduled.{Label, Node, Scheduled, node, Disj}
 use Rattle.mc_model.specs.declared.sched.Arm.{Arm}
 use Rattle.mc_model.specs.declared.sched.Sched.{Sched}
 use Rattle.mc_accepted.specs.Switched.{goals_of, grouped}
+use Rattle.mc_procs.specs.VariableTypes.{type_in}
 use Rattle.mc_procs.proofs.Views.{plain_arm-open, plain_sched-Switch}
-use Rattle.mc_switch.specs.Types.{type_in, inst_in}
+use Rattle.mc_switch.specs.Types.{inst_in}
 use Rattle.mc_switch.specs.declared.disjunct.Opened.{Opened}
 use Rattle.mc_switch.specs.code.Choices.{MayBe}
 use Rattle.mc_switch.specs.code.Ends.{KeepsEnd}

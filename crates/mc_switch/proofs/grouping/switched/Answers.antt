@@ -4,8 +4,9 @@ use Rattle.mc_model.specs.PlainGoals.{plain_node, plain_sched}
 use Rattle.mc_model.specs.declared.sched.Sched.{Sched}
 use Rattle.mc_model.specs.Scheduled.{Disj, nodes}
 use Rattle.mc_accepted.specs.Switched.{Disjunct, openings_of, grouped}
+use Rattle.mc_procs.specs.VariableTypes.{type_in}
 use Rattle.mc_switch.specs.code.Grouping.{IsGrouped, nodes_of}
-use Rattle.mc_switch.specs.Types.{type_in, inst_in}
+use Rattle.mc_switch.specs.Types.{inst_in}
 use Rattle.mc_switch.specs.declared.disjunct.Opened.{Opened}
 use Rattle.mc_switch.specs.code.Choices.{AreSame}
 use Rattle.mc_switch.specs.code.Labels.{plain_opened}

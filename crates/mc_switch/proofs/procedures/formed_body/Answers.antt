@@ -3,9 +3,10 @@ use Rattle.mc_model.specs.PlainGoals.{plain_node}
 use Rattle.mc_accepted.specs.Accepted.{entered}
 use Rattle.mc_accepted.specs.Ordered.{Insts}
 use Rattle.mc_accepted.specs.Switched.{formed}
+use Rattle.mc_procs.specs.VariableTypes.{type_in}
 use Rattle.mc_mode_points.specs.Tables.{Entry, node_in}
 use Rattle.mc_det.proofs.Declaring.{ready_first}
-use Rattle.mc_switch.specs.Types.{type_in, inst_in}
+use Rattle.mc_switch.specs.Types.{inst_in}
 use Rattle.mc_switch.specs.Kept.{kept_by}
 use Rattle.mc_switch.proofs.procedures.formed_body.Goals as goal
 

@@ -3,8 +3,9 @@ use Rattle.std.proofs.lemmas.Result.{IfOk-weaker}
 use Rattle.mc_model.specs.Good.{System}
 use Rattle.mc_accepted.specs.MergedArms.{ends}
 use Rattle.mc_accepted.specs.Switched.{goals_of}
+use Rattle.mc_procs.specs.VariableTypes.{type_in}
 use Rattle.mc_mode_points.specs.Tables.{Entry}
-use Rattle.mc_switch.specs.Types.{type_in, inst_in}
+use Rattle.mc_switch.specs.Types.{inst_in}
 use Rattle.mc_switch.specs.Kept.{Suits, Extends, changes_of, kept_by}
 use Rattle.mc_switch.specs.code.Labels.{plain_opened}
 use Rattle.mc_switch.proofs.ChangedInsts.{none_changes, some_change, one_more_change}

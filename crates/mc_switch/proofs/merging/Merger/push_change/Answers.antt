@@ -5,7 +5,8 @@ use Rattle.mc_accepted.specs.MergedArms.{ends}
 use Rattle.mc_accepted.specs.Ordered.{Insts}
 use Rattle.mc_accepted.specs.Switched.{goals_of}
 use Rattle.mc_insts.specs.Graphs.{count_of}
-use Rattle.mc_switch.specs.Types.{type_in, inst_in}
+use Rattle.mc_procs.specs.VariableTypes.{type_in}
+use Rattle.mc_switch.specs.Types.{inst_in}
 use Rattle.mc_switch.specs.code.Labels.{plain_opened}
 use Rattle.mc_switch.specs.Kept.{inst_merged, changed_to}
 use Rattle.mc_switch.proofs.ChangedInsts.{ends_are, some_insts, insts_there, before_bound, after_bound, same_stays, other_changes}

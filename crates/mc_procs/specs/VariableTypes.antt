@@ -1,4 +1,4 @@
--- The types of a procedure's variables.
+-- Types of variables, by their list. (Mercury Language Reference Manual: Types.)
 use Rattle.std.specs.Prelude.{ℕ, List, map, get_or}
 use Rattle.mc_program.specs.Programs.{TypeTerm, variable_type}
 use Rattle.mc_program.specs.PlainPrograms.{plain_type}
