@@ -81,7 +81,7 @@ ok = ok and size <= 4194304 and t <= 4 and m <= 600e6 and status == 0
 growing("facts, query", lambda n: ["query", "p(X, Y)", write("facts.m", facts(n))], (50000, 100000, 200000), 0)
 ok = ok and lines("out") == 200000
 growing("declarations over 10 modules, check", lambda n: ["check"] + declarations(10, n), (1000, 2000, 4000), 0)
-growing("declarations over 10 modules, read and linked alone", lambda n: ["check"] + declarations(10, n, "semidet"), (1000, 2000, 4000), 10)
+growing("semidet declarations over 10 modules, check", lambda n: ["check"] + declarations(10, n, "semidet"), (1000, 2000, 4000), 0)
 growing("64 modules of one name", lambda n: ["check"] + [write("one%d.m" % k, heading("one") + ":- type t%d ---> aa.\n" % k * n) for k in range(64)], (200, 400, 800), 1)
 growing("imports of nothing", lambda n: ["check", write("imports.m", heading("a") + ":- import_module " + ", ".join("m%d" % k for k in range(n)) + ".\n")], (50000, 100000, 200000), 1)
 growing("clauses without declarations", lambda n: ["check", write("loose.m", heading("a") + ":- implementation.\n" + "".join("q%d(aa).\n" % k for k in range(n)))], (50000, 100000, 200000), 1)

@@ -25,7 +25,6 @@ TINY = size == "tiny"
 ROUNDS = 1 if TINY else 5
 SECONDS = 600
 GREATEST = ["--budget", "100000000", "--depth", "10000000"]
-NOT_BUILT = 10
 # GNU Prolog's stacks, in KiB, and its table of atoms: with its own sizes it has no room for lists and facts of this length.
 STACKS = {"GLOBALSZ": "1048576", "LOCALSZ": "262144", "TRAILSZ": "524288", "MAX_ATOM": "100000"}
 
@@ -216,9 +215,6 @@ for row in rows():
         for system in words:
             runs[system].append(run(words[system]))
     faults = {system: fault_of(system, row, runs[system][-1]) for system in runs}
-    if runs["merc"][-1].status == NOT_BUILT:
-        print("| %s | %d | not built yet |" % (row.title, row.answers) + " - |" * (1 + 2 * len(PEERS)), flush=True)
-        continue
     def middle(system):
         return statistics.median(ran.processor for ran in runs[system])
     cells = [row.title, "{:,}".format(row.answers), "%.3f s" % middle("merc"),

@@ -1,6 +1,6 @@
 -- What follows from what a call did.
-use Rattle.std.proofs.Common.{◌≡◌, ◌≢◌, ◌⊎◌, inl, inr, ℕ, ◌<◌, ◌≤◌, true, false, List, [], ◌++◌, Option, Some, None, Result, Ok, Err, refl, sym, ap, ◌∙◌, subst, arith}
-use Rattle.std.specs.Prelude.{IfOk, IfSome, is_some}
+use Rattle.std.proofs.Common.{◌≡◌, ◌≢◌, ◌⊎◌, inl, inr, ℕ, ◌<◌, List, [], ◌++◌, Option, Some, None, Result, Ok, Err, refl, sym, ap, ◌∙◌, subst, arith}
+use Rattle.std.specs.Prelude.{IfOk}
 use Rattle.mc_outside.specs.Counts.{Rose}
 use Rattle.mc_outside.specs.Meaning.{Held, PutsFront}
 use Rattle.mc_outside.specs.declared.traits.PutFault.{PutFault}
@@ -8,12 +8,11 @@ use Rattle.mc_outside.specs.declared.traits.PutFault.TheVariants as put
 use Rattle.mc_model.specs.EventList.{Halt, budget, too_deep}
 use Rattle.mc_command_line.specs.Words.{Meaning, meaning}
 use Rattle.mc_command_line.specs.Plain.{plain_bounds}
-use Rattle.mc_command_line.specs.declared.limits.Bounds.{Bounds as RunBounds}
-use Rattle.mc_cmd.specs.Messages.{usage_line, unreadable_line, broken_lines, not_built_line}
+use Rattle.mc_cmd.specs.Messages.{usage_line, unreadable_line, broken_lines}
 use Rattle.mc_cmd.specs.Ends.{Outcome, said, stop_of, end_status}
-use Rattle.mc_cmd.specs.Outcome.{files_of, bounds_of, sources_of, run_of_goal, Answers, refused, ran, Texts, These, Missing, texts_in, AnswersOver, DefinedFor, Defined}
-use Rattle.mc_cmd.specs.Call.{Told, NoneRose, AnswersWhole, Wrote, LacksOne, CannotRead, OfFiles, OfSources, BreaksRules, IsUnbuilt, RunsToEnd, StopsBy, IsThrown, SaidUnreadable, SaysUnreadable, PutsDefined, HoldTexts}
-use Rattle.mc_cmd.specs.Laws.{AtMostOneAnswer, IsAnswer, PutsAnswer}
+use Rattle.mc_cmd.specs.Outcome.{files_of, bounds_of, run_of_goal, Answers, refused, ran, Texts, These, Missing, texts_in, AnswersOver, DefinedFor, Defined}
+use Rattle.mc_cmd.specs.Call.{Told, NoneRose, AnswersWhole, Wrote, CannotRead, OfFiles, OfSources, BreaksRules, RunsToEnd, StopsBy, IsThrown, SaidAbsent, SaidUnreadable, SaysUnreadable, PutsDefined, HoldTexts}
+use Rattle.mc_cmd.specs.Laws.{AtMostOneAnswer}
 use Rattle.mc_cmd.specs.declared.status.Status.{Status}
 use Rattle.mc_cmd.specs.declared.status.Status.TheVariants as S
 use Rattle.mc_cmd.specs.declared.decision.Decision.{Decision}
@@ -37,7 +36,6 @@ decided_of_texts words store m names texts d e n h u = at d u
     at (D.Absent line) u = absurd u
     at (D.Unreadable line) u = absurd u
     at (D.Rejected files broken) u = record { command = m; means = e; texts = texts; holds = held; understood = u }
-    at D.NotBuilt u = record { command = m; means = e; texts = texts; holds = held; understood = u }
     at D.Checked u = record { command = m; means = e; texts = texts; holds = held; understood = u }
     at (D.Ran b q goal) u = record { command = m; means = e; texts = texts; holds = held; understood = u }
     at D.Memory u = tt
@@ -58,7 +56,6 @@ is_defined words held f0 f1 (D.Unreadable line) x cf n s = absurd (n cf)
 is_defined words held f0 f1 (D.Rejected files broken) x cf n s =
     defined_over words held x.command (These x.texts) (told_of (D.Rejected files broken)) x.means x.holds
     (subst (λ (ns : List (List ℕ)). Answers x.command x.texts (said (broken_lines ns broken) S.Rejected)) (sym x.understood.0) (refused x.understood.1))
-is_defined words held f0 f1 D.NotBuilt x cf n s = defined_over words held x.command (These x.texts) (told_of D.NotBuilt) x.means x.holds (refused x.understood)
 is_defined words held f0 f1 D.Checked x cf n s =
     let a = x.understood in
     defined_over words held x.command (These x.texts) (told_of D.Checked) x.means x.holds
@@ -69,9 +66,9 @@ is_defined words held f0 f1 (D.Ran b q goal) x cf n s =
     (subst (λ (o : Outcome). Answers x.command x.texts o) (ran_written x.command x.texts b q goal a) (ran a.compiles))
 is_defined words held f0 f1 D.Memory x cf n s = absurd (s refl)
 
--- and the one that is, where both say more than that something isn't seen to hold
-one_defined : AtMostOneAnswer → (words : List (List ℕ)) (held : Held) (f0 f1 : ℕ) (d : Decision) → IsDecided words (Some held) d → CountsFaults d f0 f1 → (Rose f0 f1 → ⊥) → (told_of d).status ≢ S.Memory → IsAnswer (told_of d) → (o : Outcome) → Defined words held o → IsAnswer o → told_of d ≡ o
-one_defined one words held f0 f1 d x cf n s t o y k = one words held (told_of d) o (is_defined words held f0 f1 d x cf n s) y t k
+-- and the one that is
+one_defined : AtMostOneAnswer → (words : List (List ℕ)) (held : Held) (f0 f1 : ℕ) (d : Decision) → IsDecided words (Some held) d → CountsFaults d f0 f1 → (Rose f0 f1 → ⊥) → (told_of d).status ≢ S.Memory → (o : Outcome) → Defined words held o → told_of d ≡ o
+one_defined one words held f0 f1 d x cf n s o y = one words held (told_of d) o (is_defined words held f0 f1 d x cf n s) y
 
 -- the statuses of runs that stop
 abbrev IsStopStatus : Status → Type 0
@@ -86,21 +83,9 @@ memory_or_told D.Usage = inr (λ e. cc)
 memory_or_told (D.Absent line) = inr (λ e. cc)
 memory_or_told (D.Unreadable line) = inr (λ e. cc)
 memory_or_told (D.Rejected files broken) = inr (λ e. cc)
-memory_or_told D.NotBuilt = inr (λ e. cc)
 memory_or_told D.Checked = inr (λ e. cc)
 memory_or_told (D.Ran b q goal) = inr (λ e. ran_status b q goal S.Memory e)
 memory_or_told D.Memory = inl refl
-
--- it is said that something isn't seen to hold, or an answer is told
-unseen_or_told : (d : Decision) → (d ≡ D.NotBuilt) ⊎ IsAnswer (told_of d)
-unseen_or_told D.Usage = inr (λ e. cc)
-unseen_or_told (D.Absent line) = inr (λ e. cc)
-unseen_or_told (D.Unreadable line) = inr (λ e. cc)
-unseen_or_told (D.Rejected files broken) = inr (λ e. cc)
-unseen_or_told D.NotBuilt = inl refl
-unseen_or_told D.Checked = inr (λ e. cc)
-unseen_or_told (D.Ran b q goal) = inr (λ e. ran_status b q goal S.NotBuilt e)
-unseen_or_told D.Memory = inr (λ e. cc)
 
 wrote_told : (w0 w1 : Option (List ℕ)) (before bytes : List ℕ) → w0 ≡ Some before → Wrote w0 w1 bytes → w1 ≡ Some (before ++ bytes)
 wrote_told w0 w1 before bytes e w = let z : Wrote (Some before) w1 bytes = subst (λ (x : Option (List ℕ)). Wrote x w1 bytes) e w in z
@@ -160,21 +145,13 @@ module _ (words : List (List ℕ)) (store : Option Held) (f0 f1 a0 a1 : ℕ) (ou
       at (Err put.Failed) w v (inr c) i e = absurd (none.output c.0)
       at (Err put.Memory) w v c i e = absurd (n e)
 
-  -- where it is said that something isn't seen to hold, a front part of its line was put
-  unseen_put : h.decision ≡ D.NotBuilt → Wrote out.before out.after [] × PutsFront err.before err.after not_built_line
-  unseen_put e = (
-    writes_none out.before out.after h.written (subst (λ (d : Decision). Writes out.before out.after h.written (told_of d).out) e h.output),
-    writes_front err.before err.after h.written not_built_line (subst (λ (d : Decision). Writes err.before err.after h.written (told_of d).err) e h.errors),
-  )
-
-  pub prefixes : AtMostOneAnswer → (held : Held) (bo be : List ℕ) → Told store held out.before bo err.before be → (Rose f0 f1 → ⊥) → (o : Outcome) → Defined words held o → IsAnswer o → PutsAnswer o out.before out.after err.before err.after
-  prefixes one held bo be told n o y k = at (memory_or_told h.decision) (unseen_or_told h.decision)
+  pub prefixes : AtMostOneAnswer → (held : Held) (bo be : List ℕ) → Told store held out.before bo err.before be → (Rose f0 f1 → ⊥) → (o : Outcome) → Defined words held o → PutsFront out.before out.after o.out × PutsFront err.before err.after o.err
+  prefixes one held bo be told n o y = at (memory_or_told h.decision)
     where
-      at : (h.decision ≡ D.Memory) ⊎ ((told_of h.decision).status ≢ S.Memory) → (h.decision ≡ D.NotBuilt) ⊎ IsAnswer (told_of h.decision) → PutsAnswer o out.before out.after err.before err.after
-      at (inl e) u = let w = none_put e in inl (nothing_front out.before out.after o.out w.0, nothing_front err.before err.after o.err w.1)
-      at (inr m) (inl e) = inr (unseen_put e)
-      at (inr m) (inr t) =
-          let e = one_defined one words held f0 f1 h.decision (decided_told held told.files) h.faults n m t o y k in inl (
+      at : (h.decision ≡ D.Memory) ⊎ ((told_of h.decision).status ≢ S.Memory) → PutsFront out.before out.after o.out × PutsFront err.before err.after o.err
+      at (inl e) = let w = none_put e in (nothing_front out.before out.after o.out w.0, nothing_front err.before err.after o.err w.1)
+      at (inr m) =
+          let e = one_defined one words held f0 f1 h.decision (decided_told held told.files) h.faults n m o y in (
             subst (λ (x : Outcome). PutsFront out.before out.after x.out) e (writes_front out.before out.after h.written (told_of h.decision).out h.output),
             subst (λ (x : Outcome). PutsFront err.before err.after x.err) e (writes_front err.before err.after h.written (told_of h.decision).err h.errors),
           )
@@ -207,7 +184,6 @@ module _ (words : List (List ℕ)) (store : Option Held) (f0 f1 a0 a1 : ℕ) (ou
           let front : PutsFront err.before err.after (unreadable_line y.0) = subst (λ (bs : List ℕ). PutsFront err.before err.after bs) y.1.1 (writes_front err.before err.after h.written line.items v) in
           (writes_none out.before out.after h.written w, (y.0, subst (λ (k : Meaning). CannotRead store (files_of k) y.0) (same_command words x.command m x.means e) y.1.0, front))
       at (D.Rejected files broken) x cf w v = absurd (omega (arith, cf, f))
-      at D.NotBuilt x cf w v = absurd (omega (arith, cf, f))
       at D.Checked x cf w v = absurd (omega (arith, cf, f))
       at (D.Ran b q goal) x cf w v = absurd (omega (arith, cf, f))
       at D.Memory x cf w v =
@@ -227,7 +203,6 @@ module _ (words : List (List ℕ)) (store : Option Held) (f0 f1 a0 a1 : ℕ) (ou
       at (D.Absent line) x t = cc
       at (D.Unreadable line) x t = cc
       at (D.Rejected files broken) x t = cc
-      at D.NotBuilt x t = cc
       at D.Checked x t = cc
       at (D.Ran b q goal) x t = absurd (ran_status b q goal S.Usage t)
       at D.Memory x t = cc
@@ -253,7 +228,6 @@ module _ (words : List (List ℕ)) (store : Option Held) (f0 f1 a0 a1 : ℕ) (ou
       at (D.Absent line) x e = absurd (no_command words x.command n x.means)
       at (D.Unreadable line) x e = absurd (no_command words x.command n x.means)
       at (D.Rejected files broken) x e = absurd (no_command words x.command n x.means)
-      at D.NotBuilt x e = absurd (no_command words x.command n x.means)
       at D.Checked x e = absurd (no_command words x.command n x.means)
       at (D.Ran b q goal) x e = absurd (no_command words x.command n x.means)
       at D.Memory x e = wanting S.Usage e
@@ -266,7 +240,6 @@ module _ (words : List (List ℕ)) (store : Option Held) (f0 f1 a0 a1 : ℕ) (ou
       at r (D.Absent line) x n w t = cc
       at r (D.Unreadable line) x n w t = cc
       at r (D.Rejected files broken) x n w t = cc
-      at r D.NotBuilt x n w t = cc
       at r D.Checked x n w t =
           let a = x.understood in
           record { command = x.command; means = x.means; texts = x.texts; holds = x.holds; so = (a.executable, a.compiles, unasked_ends (bounds_of x.command) a.executable a.unasked) }
@@ -285,24 +258,8 @@ module _ (words : List (List ℕ)) (store : Option Held) (f0 f1 a0 a1 : ℕ) (ou
       at (D.Absent line) x t = cc
       at (D.Unreadable line) x t = cc
       at (D.Rejected files broken) x t = record { command = x.command; means = x.means; texts = x.texts; holds = x.holds; so = (broken, x.understood.1) }
-      at D.NotBuilt x t = cc
       at D.Checked x t = cc
       at (D.Ran b q goal) x t = absurd (ran_status b q goal S.Rejected t)
-      at D.Memory x t = cc
-
-  pub not_built_cause : s ≡ S.NotBuilt →
-      OfSources words store IsUnbuilt
-  not_built_cause e = at h.decision h.decided (told_status S.NotBuilt e (λ x. cc) (λ x. cc))
-    where
-      at : (d : Decision) → IsDecided words store d → (told_of d).status ≡ S.NotBuilt →
-          OfSources words store IsUnbuilt
-      at D.Usage x t = cc
-      at (D.Absent line) x t = cc
-      at (D.Unreadable line) x t = cc
-      at (D.Rejected files broken) x t = cc
-      at D.NotBuilt x t = record { command = x.command; means = x.means; texts = x.texts; holds = x.holds; so = x.understood }
-      at D.Checked x t = cc
-      at (D.Ran b q goal) x t = absurd (ran_status b q goal S.NotBuilt t)
       at D.Memory x t = cc
 
   pub absent_cause : s ≡ S.Absent → Rose a0 a1
@@ -313,23 +270,27 @@ module _ (words : List (List ℕ)) (store : Option Held) (f0 f1 a0 a1 : ℕ) (ou
       at (D.Absent line) x t = x
       at (D.Unreadable line) x t = cc
       at (D.Rejected files broken) x t = cc
-      at D.NotBuilt x t = cc
       at D.Checked x t = cc
       at (D.Ran b q goal) x t = absurd (ran_status b q goal S.Absent t)
       at D.Memory x t = cc
 
-  pub absent_lacks : s ≡ S.Absent → OfFiles words (LacksOne store)
-  absent_lacks e = at h.decision h.decided (told_status S.Absent e (λ x. cc) (λ x. cc))
+  pub absent_told : s ≡ S.Absent →
+      OfFiles words (SaidAbsent store out.before out.after err.before err.after)
+  absent_told e = at h.written h.decision h.decided h.output h.errors h.told (sym h.status ∙ e)
     where
-      at : (d : Decision) → IsDecided words store d → (told_of d).status ≡ S.Absent → OfFiles words (LacksOne store)
-      at D.Usage x t = cc
-      at (D.Absent line) x t = (x.command, x.means, (x.stops.0, x.stops.1.0))
-      at (D.Unreadable line) x t = cc
-      at (D.Rejected files broken) x t = cc
-      at D.NotBuilt x t = cc
-      at D.Checked x t = cc
-      at (D.Ran b q goal) x t = absurd (ran_status b q goal S.Absent t)
-      at D.Memory x t = cc
+      at : (r : Result Status PutFault) (d : Decision) → IsDecided words store d → Writes out.before out.after r (told_of d).out → Writes err.before err.after r (told_of d).err → IfOk r (λ u. u ≡ (told_of d).status) → ended r ≡ S.Absent →
+          OfFiles words (SaidAbsent store out.before out.after err.before err.after)
+      at (Err put.Failed) d x w v i t = cc
+      at (Err put.Memory) d x w v i t = cc
+      at (Ok u) D.Usage x w v i t = let z : S.Usage ≡ S.Absent = sym i ∙ t in cc
+      at (Ok u) (D.Absent line) x w v i t =
+          let y = x.stops in
+          (x.command, x.means, (y.0, y.1.0, w, subst (λ (bs : List ℕ). Wrote err.before err.after bs) y.1.1 v))
+      at (Ok u) (D.Unreadable line) x w v i t = let z : S.ReadFault ≡ S.Absent = sym i ∙ t in cc
+      at (Ok u) (D.Rejected files broken) x w v i t = let z : S.Rejected ≡ S.Absent = sym i ∙ t in cc
+      at (Ok u) D.Checked x w v i t = let z : S.Done ≡ S.Absent = sym i ∙ t in cc
+      at (Ok u) (D.Ran b q goal) x w v i t = absurd (ran_status b q goal S.Absent (sym i ∙ t))
+      at (Ok u) D.Memory x w v i t = let z : S.Memory ≡ S.Absent = sym i ∙ t in cc
 
   pub read_cause : s ≡ S.ReadFault → Rose f0 f1
   read_cause e = at h.decision h.faults (told_status S.ReadFault e (λ x. cc) (λ x. cc))
@@ -339,7 +300,6 @@ module _ (words : List (List ℕ)) (store : Option Held) (f0 f1 a0 a1 : ℕ) (ou
       at (D.Absent line) x t = cc
       at (D.Unreadable line) x t = x
       at (D.Rejected files broken) x t = cc
-      at D.NotBuilt x t = cc
       at D.Checked x t = cc
       at (D.Ran b q goal) x t = absurd (ran_status b q goal S.ReadFault t)
       at D.Memory x t = cc
@@ -358,7 +318,6 @@ module _ (words : List (List ℕ)) (store : Option Held) (f0 f1 a0 a1 : ℕ) (ou
           let y = x.stops in
           (x.command, x.means, (y.0, y.1.0, w, subst (λ (bs : List ℕ). Wrote err.before err.after bs) y.1.1 v))
       at (Ok u) (D.Rejected files broken) x w v i t = let z : S.Rejected ≡ S.ReadFault = sym i ∙ t in cc
-      at (Ok u) D.NotBuilt x w v i t = let z : S.NotBuilt ≡ S.ReadFault = sym i ∙ t in cc
       at (Ok u) D.Checked x w v i t = let z : S.Done ≡ S.ReadFault = sym i ∙ t in cc
       at (Ok u) (D.Ran b q goal) x w v i t = absurd (ran_status b q goal S.ReadFault (sym i ∙ t))
       at (Ok u) D.Memory x w v i t = let z : S.Memory ≡ S.ReadFault = sym i ∙ t in cc
@@ -371,7 +330,6 @@ module _ (words : List (List ℕ)) (store : Option Held) (f0 f1 a0 a1 : ℕ) (ou
       at (D.Absent line) x t = absurd (omega (arith, x, f))
       at (D.Unreadable line) x t = kinds S.ReadFault t
       at (D.Rejected files broken) x t = absurd (omega (arith, x, f))
-      at D.NotBuilt x t = absurd (omega (arith, x, f))
       at D.Checked x t = absurd (omega (arith, x, f))
       at (D.Ran b q goal) x t = absurd (omega (arith, x, f))
       at D.Memory x t = wanting S.ReadFault t
@@ -384,7 +342,6 @@ module _ (words : List (List ℕ)) (store : Option Held) (f0 f1 a0 a1 : ℕ) (ou
       at (D.Absent line) x t = kinds S.Absent t
       at (D.Unreadable line) x t = absurd (omega (arith, x, f))
       at (D.Rejected files broken) x t = absurd (omega (arith, x, f))
-      at D.NotBuilt x t = absurd (omega (arith, x, f))
       at D.Checked x t = absurd (omega (arith, x, f))
       at (D.Ran b q goal) x t = absurd (omega (arith, x, f))
       at D.Memory x t = wanting S.Absent t
@@ -394,7 +351,6 @@ module _ (words : List (List ℕ)) (store : Option Held) (f0 f1 a0 a1 : ℕ) (ou
   told_no_fault (D.Absent line) t = cc
   told_no_fault (D.Unreadable line) t = cc
   told_no_fault (D.Rejected files broken) t = cc
-  told_no_fault D.NotBuilt t = cc
   told_no_fault D.Checked t = cc
   told_no_fault (D.Ran b q goal) t = absurd (ran_status b q goal S.WriteFault t)
   told_no_fault D.Memory t = cc
@@ -428,7 +384,6 @@ module _ (words : List (List ℕ)) (store : Option Held) (f0 f1 a0 a1 : ℕ) (ou
       at (D.Absent line) y t = absurd (subst IsStopStatus (sym t) k)
       at (D.Unreadable line) y t = absurd (subst IsStopStatus (sym t) k)
       at (D.Rejected files broken) y t = absurd (subst IsStopStatus (sym t) k)
-      at D.NotBuilt y t = absurd (subst IsStopStatus (sym t) k)
       at D.Checked y t = absurd (subst IsStopStatus (sym t) k)
       at (D.Ran b q goal) y t = ran_stops IsSo words store b q goal y (why (stop_of (run_of_goal q goal b.budget b.depth)) (sym (goal_status (plain_bounds b) q goal) ∙ t))
       at D.Memory y t = absurd (subst IsStopStatus (sym t) k)

@@ -1,5 +1,5 @@
 -- Files that are read one after another.
-use Rattle.std.proofs.Common.{◌≡◌, ℕ, ◌+◌, ◌<◌, ◌≤◌, List, [], ◌∷◌, ◌++◌, map, length, take, drop, get_or, Option, Some, None, Result, Ok, Err, refl, sym, ap, ◌∙◌, subst, arith, append_assoc, length-append}
+use Rattle.std.proofs.Common.{◌≡◌, ℕ, suc, ◌+◌, ◌<◌, ◌≤◌, List, [], ◌∷◌, ◌++◌, map, length, take, drop, get_or, Option, Some, None, Result, Ok, Err, refl, sym, ap, ◌∙◌, subst, arith, append_assoc, length-append}
 use Rattle.std.specs.Prelude.{Contains, IfErr}
 use Rattle.std.specs.Result.{IsErrAnd}
 use Rattle.std.proofs.lemmas.List.{take_all, take_more}
@@ -35,8 +35,14 @@ texts_held held (f ∷ fs) (t ∷ ts) a =
     let h = a.0 in
     ap (λ (x : Option (List ℕ)). text_or_missing f x (texts_in held fs)) h.1.0 ∙ ap (with_text (first_part h.0)) (texts_held held fs ts a.1) ∙ ap (λ (u : List ℕ). These (u ∷ ts)) (sym h.1.1)
 
+as_many_held : (store : Option Held) (fs ts : List (List ℕ)) → AreHeld store fs ts → length ts ≡ length fs
+as_many_held store [] [] a = refl
+as_many_held store [] (t ∷ ts) a = absurd a
+as_many_held store (f ∷ fs) [] a = absurd a
+as_many_held store (f ∷ fs) (t ∷ ts) a = ap suc (as_many_held store fs ts a.1)
+
 pub hold_texts : (store : Option Held) (fs ts : List (List ℕ)) → AreHeld store fs ts → HoldTexts store fs ts
-hold_texts None fs ts a = tt
+hold_texts None fs ts a = as_many_held None fs ts a
 hold_texts (Some held) fs ts a = texts_held held fs ts a
 
 missing_behind : (held : Held) (fs ts : List (List ℕ)) (f : List ℕ) (gs : List (List ℕ)) → AreHeld (Some held) fs ts → finmap.get held f ≡ None → texts_in held (fs ++ f ∷ gs) ≡ Missing f
@@ -59,7 +65,6 @@ stops_behind store fs ts f gs D.Usage a s = absurd s
 stops_behind store fs ts f gs (D.Absent line) a s = (f, (lacks_behind store fs ts f gs a s.0, s.1))
 stops_behind store fs ts f gs (D.Unreadable line) a s = (f, (record { before = fs; after = gs; parts = refl; texts = ts; holds = hold_texts store fs ts a }, s))
 stops_behind store fs ts f gs (D.Rejected files broken) a s = absurd s
-stops_behind store fs ts f gs D.NotBuilt a s = absurd s
 stops_behind store fs ts f gs D.Checked a s = absurd s
 stops_behind store fs ts f gs (D.Ran b q goal) a s = absurd s
 stops_behind store fs ts f gs D.Memory a s = tt

@@ -27,7 +27,6 @@ understood_run m texts e D.Usage k a = absurd a
 understood_run m texts e (D.Absent line) k a = absurd a
 understood_run m texts e (D.Unreadable line) k a = absurd a
 understood_run m texts e (D.Rejected fs broken) k a = absurd a
-understood_run m texts e D.NotBuilt k a = absurd a
 understood_run m texts e D.Checked k a = record { executable = plain_executable e; compiles = k; unasked = a }
 understood_run m texts e (D.Ran bounds q goal) k a = record {
   compiles = subst (λ (x : PlainExecutable). Compiles (sources_of m texts) (Ok x)) (same_executable e q goal a.1.0 a.1.1) k;

@@ -1,17 +1,17 @@
 -- How a call went: what it told, put and counted. (This project's profile.)
-use Rattle.std.specs.Prelude.{◌≡◌, ℕ, List, [], ◌∷◌, ◌++◌, Contains, Option, Some, None, Ok, Err, IfSome}
+use Rattle.std.specs.Prelude.{◌≡◌, ℕ, List, [], ◌∷◌, ◌++◌, length, Contains, Option, Some, None, Ok, Err, IfSome}
 use Rattle.mc_outside.specs.Counts.{Rose}
 use Rattle.mc_outside.specs.Meaning.{Held, PutsFront}
 use Rattle.mc_source.specs.declared.rule.Broken.{Broken}
 use Rattle.mc_model.specs.EventList.{Ends, Halt, Exc, thrown}
 use Rattle.mc_command_line.specs.Words.{Meaning, Bounds, meaning}
-use Rattle.mc_compile.specs.Phases.{Breaks, Unbuilt}
+use Rattle.mc_compile.specs.Phases.{Breaks}
 use Rattle.mc_compile.specs.Sources.{Sources}
 use Rattle.mc_compile.specs.Ruling.{PlainExecutable}
 use Rattle.mc_compile.specs.Compiling.{Compiles}
 use Rattle.mc_compile.specs.declared.executable.Goal.{Goal}
 use Rattle.mc_cmd.specs.declared.status.Status.{Status}
-use Rattle.mc_cmd.specs.Messages.{unreadable_line}
+use Rattle.mc_cmd.specs.Messages.{absent_line, unreadable_line}
 use Rattle.mc_cmd.specs.Ends.{Outcome, stop_of}
 use Rattle.mc_cmd.specs.Outcome.{Defined, texts_in, These, Missing, files_of, sources_of, bounds_of, run_of_goal}
 
@@ -59,13 +59,19 @@ abbrev pub Lacks : Option Held → List (List ℕ) → List ℕ → Type 0
 Lacks None files file = Contains files file
 Lacks (Some held) files file = texts_in held files ≡ Missing file
 
--- one of the files isn't there
-abbrev pub LacksOne : Option Held → List (List ℕ) → Type 0
-LacksOne store files = (file : List ℕ) × Lacks store files file
+-- one of the files isn't there, on the error output was put the whole line that says so of it, and
+-- nothing on the output
+abbrev pub SaidAbsent :
+    Option Held → (out0 out1 err0 err1 : Option (List ℕ)) → (files : List (List ℕ)) → Type 0
+SaidAbsent store out0 out1 err0 err1 files =
+    (file : List ℕ)
+    × Lacks store files file
+    × Wrote out0 out1 []
+    × Wrote err0 err1 (absent_line file)
 
--- where it is told what the files hold, these are their texts
+-- a text for each of the files: where it is told what these hold, it is theirs
 abbrev pub HoldTexts : Option Held → (files texts : List (List ℕ)) → Type 0
-HoldTexts None files texts = Unit {0}
+HoldTexts None files texts = length texts ≡ length files
 HoldTexts (Some held) files texts = texts_in held files ≡ These texts
 
 -- the files are read one after another, and this is the one that can't be read: where it is told
@@ -105,10 +111,6 @@ pub record OfSources (words : List (List ℕ)) (store : Option Held) (P : Meanin
 -- the sources break rules
 abbrev pub BreaksRules : Meaning → Sources → Type 0
 BreaksRules m s = (broken : List Broken) × Compiles s (Err (Breaks broken))
-
--- they break none, and something is asked for that isn't built yet
-abbrev pub IsUnbuilt : Meaning → Sources → Type 0
-IsUnbuilt m s = Compiles s (Err Unbuilt)
 
 -- the run of the query or of `main`, where one is run, comes to its end within bounds
 abbrev pub EndsWithin : Bounds → PlainExecutable → Type 0

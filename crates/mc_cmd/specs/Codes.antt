@@ -14,4 +14,3 @@ code_of S.ReadFault = 6
 code_of S.WriteFault = 7
 code_of S.Memory = 8
 code_of S.Absent = 9
-code_of S.NotBuilt = 10

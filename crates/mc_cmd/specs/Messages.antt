@@ -6,9 +6,6 @@ use Rattle.mc_program.specs.Printed.{broken_text}
 abbrev pub usage_line : List ℕ
 usage_line = codes "merc: usage: merc check|run|query|gen\n"
 
-abbrev pub not_built_line : List ℕ
-not_built_line = codes "merc: not built yet\n"
-
 abbrev pub absent_line : List ℕ → List ℕ
 absent_line file = codes "merc: no file " ++ (file ++ codes "\n")
 

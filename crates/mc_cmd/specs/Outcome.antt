@@ -12,14 +12,14 @@ use Rattle.mc_model.specs.EventList.{Items}
 use Rattle.mc_model.specs.Stream.{run_call, run_query}
 use Rattle.mc_model.specs.Worlds.{library_of}
 use Rattle.mc_procs.specs.Procedures.{PlainProcs, procedure_at}
-use Rattle.mc_compile.specs.Phases.{Refusal, Breaks, Unbuilt}
+use Rattle.mc_compile.specs.Phases.{Refusal, Breaks}
 use Rattle.mc_compile.specs.Sources.{Sources}
 use Rattle.mc_compile.specs.Ruling.{PlainExecutable}
 use Rattle.mc_compile.specs.Compiling.{Compiles}
 use Rattle.mc_compile.specs.declared.executable.Goal.{Goal}
 use Rattle.mc_compile.specs.declared.executable.Goal.TheVariants as G
 use Rattle.mc_cmd.specs.declared.status.Status.TheVariants as S
-use Rattle.mc_cmd.specs.Messages.{usage_line, not_built_line, absent_line, broken_lines}
+use Rattle.mc_cmd.specs.Messages.{usage_line, absent_line, broken_lines}
 use Rattle.mc_cmd.specs.Ends.{Outcome, said, shown, written_run, written_main}
 
 -- the files that a command names, in order
@@ -55,11 +55,9 @@ abbrev pub sources_of : Meaning → (texts : List (List ℕ)) → Sources
 sources_of m texts =
     record { texts = texts; query = query_of m; first = is_first m; wants_main = is_run m }
 
--- what is written where the sources go no further: the line of each broken rule, or that something
--- isn't built yet
+-- what is written where the sources go no further: the line of each broken rule
 abbrev pub refusal : Meaning → Refusal → Outcome
 refusal m (Breaks broken) = said (broken_lines (files_of m) broken) S.Rejected
-refusal m Unbuilt = said not_built_line S.NotBuilt
 
 -- the run of a query over procedures, over an empty input
 abbrev pub run_of_query : PlainProcs → (query budget depth : ℕ) → Items (List (Option Val))

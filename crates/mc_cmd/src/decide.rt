@@ -174,7 +174,6 @@ fn compiled(alloc: Global, command: &Command<'_>, sources: Row<Given>) -> Decisi
     match compile(alloc, &sources, query.as_ref(), is_run(command)) {
         Ok(executable) => asked(command, executable),
         Err(CompileFault::Rejected(broken)) => Decision::Rejected(sources, broken),
-        Err(CompileFault::NotBuilt) => Decision::NotBuilt,
         Err(CompileFault::Memory) => Decision::Memory,
     }
 }

@@ -15,8 +15,6 @@ pub enum Decision {
     Unreadable(Vec<u8>),
     /// The files, and the rules that they and the query break.
     Rejected(Row<Given>, Row<Broken>),
-    /// No rule is broken, and something is asked for that isn't built yet.
-    NotBuilt,
     /// The sources compile, and nothing is asked of them.
     Checked,
     /// The run of the query, or of `main`, over procedures, within these bounds.

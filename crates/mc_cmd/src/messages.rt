@@ -2,8 +2,6 @@
 
 pub const USAGE: &[u8] = b"merc: usage: merc check|run|query|gen\n";
 
-pub const NOT_BUILT: &[u8] = b"merc: not built yet\n";
-
 /// Stands before the name of a file that isn't there.
 pub const NO_FILE: &[u8] = b"merc: no file ";
 

@@ -20,12 +20,10 @@ pub enum Status {
     ReadFault,
     /// The output or the error output could not be written.
     WriteFault,
-    /// There was no room.
+    /// There was no room, or something was met that isn't to come (the README says what).
     Memory,
     /// There is no file of that name.
     Absent,
-    /// What was asked is not built yet. This answer goes when every program runs.
-    NotBuilt,
 }
 
 /// The program's exit status.
@@ -43,6 +41,5 @@ pub fn status_code(s: Status) -> u8
         Status::WriteFault => 7,
         Status::Memory => 8,
         Status::Absent => 9,
-        Status::NotBuilt => 10,
     }
 }

@@ -1,6 +1,6 @@
 ghost use Rattle.std.specs.Prelude.{◌≡◌, ◌≢◌, ◌⊎◌, ◌<◌, ℕ, List, [], map, string_bytes, Option, Some, None, Ok, IfOk};
 ghost use Rattle.mc_outside.specs.Counts.{Rose};
-ghost use Rattle.mc_outside.specs.Meaning.{Held};
+ghost use Rattle.mc_outside.specs.Meaning.{Held, PutsFront};
 ghost use Rattle.mc_model.specs.EventList.{budget, too_deep};
 ghost use Rattle.mc_command_line.specs.Words.{Meaning, meaning};
 ghost use Rattle.mc_compile.specs.Sources.{Sources};
@@ -9,8 +9,7 @@ ghost use Rattle.mc_compile.specs.Ruling.{PlainExecutable};
 ghost use Rattle.mc_program_laws.specs.ProgramTruth.{IsTrueExecutable};
 ghost use Rattle.mc_cmd.specs.Ends.{Outcome};
 ghost use Rattle.mc_cmd.specs.Outcome.{Defined, files_of};
-ghost use Rattle.mc_cmd.specs.Laws.{IsAnswer, PutsAnswer};
-ghost use Rattle.mc_cmd.specs.Call.{AnswersWhole, BreaksRules, IsThrown, IsUnbuilt, LacksOne, NoneRose, OfFiles, OfSources, PutsDefined, RunsToEnd, SaidUnreadable, SaysUnreadable, StopsBy, Told, Wrote};
+ghost use Rattle.mc_cmd.specs.Call.{AnswersWhole, BreaksRules, IsThrown, NoneRose, OfFiles, OfSources, PutsDefined, RunsToEnd, SaidAbsent, SaidUnreadable, SaysUnreadable, StopsBy, Told, Wrote};
 ghost use Rattle.mc_cmd.specs.code.Decisions.{CountPuts, EndsRun, Happened, Quiet, Writes, ended, told_of};
 
 use crate::decide::decide;
@@ -28,8 +27,7 @@ use std::alloc::Global;
 /// answers of a query on `out`, one line each, or what `main` writes, or on `err` the line of each broken rule, or one
 /// line that says why nothing is answered, and answers how it ended.
 ///
-/// `NotBuilt` says that something that procedures need isn't seen to hold. The first put that fails ends the call with
-/// `WriteFault`, and nothing more is put. `Memory` ends the call at once.
+/// The first put that fails ends the call with `WriteFault`, and nothing more is put. `Memory` ends the call at once.
 pub fn merc<F: Files, I: Source, O: Sink, E: Sink>(
     alloc: Global,
     words: &Vec<String>,
@@ -48,12 +46,13 @@ pub fn merc<F: Files, I: Source, O: Sink, E: Sink>(
         → AnswersWhole (map string_bytes words.now.items) held before_out before_err result
         (O.written out.new) (E.written err.new) }
     // Where a sink failed or memory was wanting, each sink was given a front part of the defined bytes, which are one
-    // answer at most beside the line `not built yet`; or a front part of that line.
+    // answer at most.
     ensures prefix { (held : Held) (before_out before_err : List ℕ)
         → Told (F.held files.old) held (O.written out.old) before_out (E.written err.old) before_err
         → (Rose (F.faults files.old) (F.faults files.new) → ⊥)
-        → (o : Outcome) → Defined (map string_bytes words.now.items) held o → IsAnswer o
-        → PutsAnswer o (O.written out.old) (O.written out.new) (E.written err.old) (E.written err.new) }
+        → (o : Outcome) → Defined (map string_bytes words.now.items) held o
+        → PutsFront (O.written out.old) (O.written out.new) o.out
+        × PutsFront (E.written err.old) (E.written err.new) o.err }
     // There is such an answer, and each sink was given a front part of it, also where a sink failed; at want of
     // memory it may be that nothing was put.
     ensures defined { (held : Held) (before_out before_err : List ℕ)
@@ -83,10 +82,13 @@ pub fn merc<F: Files, I: Source, O: Sink, E: Sink>(
     // Rejected comes only where the sources break rules.
     ensures rejected { result ≡ Status.Rejected
         → OfSources (map string_bytes words.now.items) (F.held files.old) BreaksRules }
-    // Absent comes only where a read found no file in this call, and one of the files isn't there.
+    // Absent comes only where a read found no file in this call; then the whole line of a file that isn't there was put,
+    // and nothing else.
     ensures absent { result ≡ Status.Absent → Rose (F.absents files.old) (F.absents files.new) }
     ensures absent_told { result ≡ Status.Absent
-        → OfFiles (map string_bytes words.now.items) (LacksOne (F.held files.old)) }
+        → OfFiles (map string_bytes words.now.items)
+        (SaidAbsent (F.held files.old) (O.written out.old) (O.written out.new)
+        (E.written err.old) (E.written err.new)) }
     // No absent file is passed over.
     ensures absent_seen { F.absents files.old < F.absents files.new
         → (result ≡ Status.Absent) ⊎ ((result ≡ Status.WriteFault) ⊎ (result ≡ Status.Memory)) }
@@ -105,9 +107,6 @@ pub fn merc<F: Files, I: Source, O: Sink, E: Sink>(
     ensures write_seen { (O.faults out.old < O.faults out.new)
         ⊎ (E.faults err.old < E.faults err.new)
         → result ≡ Status.WriteFault }
-    // NotBuilt comes only where the sources break no rule up to those of insts (M7), and something needn't be seen to hold.
-    ensures not_built { result ≡ Status.NotBuilt
-        → OfSources (map string_bytes words.now.items) (F.held files.old) IsUnbuilt }
     // Threw, Budget and TooDeep come only where the run of the query, or of `main`, stops so.
     ensures threw { result ≡ Status.Threw
         → OfSources (map string_bytes words.now.items) (F.held files.old) (StopsBy IsThrown) }
@@ -175,7 +174,6 @@ fn tell<O: Sink, E: Sink>(
         Decision::Absent(line) => put_line(line.as_slice(), Status::Absent, err),
         Decision::Unreadable(line) => put_line(line.as_slice(), Status::ReadFault, err),
         Decision::Rejected(sources, broken) => put_rules(alloc, &sources, broken.as_slice(), err),
-        Decision::NotBuilt => put_line(messages::NOT_BUILT, Status::NotBuilt, err),
         Decision::Checked => Ok(Status::Done),
         Decision::Ran(bounds, procs, goal) => write_goal(alloc, bounds, &procs, &goal, out, err),
         Decision::Memory => Err(PutFault::Memory),

@@ -1,5 +1,5 @@
 -- Where `main` isn't wanted, something is run of what sources are compiled to exactly where there is a query.
-use Rattle.std.proofs.Common.{◌≡◌, ℕ, Bool, true, false, List, [], ◌∷◌, ◌++◌, length, Option, Some, None, Result, Ok, refl, sym, ap, ◌∙◌, inl, inr}
+use Rattle.std.proofs.Common.{◌≡◌, ℕ, Bool, false, List, [], ◌∷◌, ◌++◌, length, Option, Some, None, Result, Ok, refl, sym, ap, ◌∙◌, inl, inr}
 use Rattle.std.specs.Prelude.{is_some}
 use Rattle.mc_term_data.specs.Plain.{PlainTerm}
 use Rattle.mc_term_data.specs.declared.term.Term.{Term}
@@ -56,7 +56,6 @@ executed s moded e p wants = at p.ruled p.is
         ∙ ap (λ (b : Bool). is_some (goal_of b procs moded.query moded.whole.variables)) wants
         ∙ goal_there procs moded.query moded.whole.variables
     at (R.Broken list) is = cc
-    at (R.Unseen u) is = cc
 
 -- and there is such a number where there is a goal
 number_there : (whole : WholeProgram) (sigs : List Sig) (goal : Option PlainTerm) → is_some (query_number whole sigs goal) ≡ is_some goal

@@ -10,14 +10,12 @@ use Rattle.mc_compile.proofs.Once.{ok_same}
 -- where the first phase goes no further
 pub stops : {A B C X Y : Type 0} (First : A → Result B Refusal → Type 0) (Second : B → Result C Refusal → Type 0) (V : X → B → Type 0) (W : Y → C → Type 0) (a : A) (fault : CompileFault) → Tells First V a (Err fault) → Tells (Then First Second) W a (Err fault)
 stops First Second V W a (F.Rejected rules) t = stopped t
-stops First Second V W a F.NotBuilt t = stopped t
 stops First Second V W a F.Memory t = tt
 
 -- where it goes on, and the second phase tells this
 pub goes_on : {A B C Y : Type 0} (First : A → Result B Refusal → Type 0) (Second : B → Result C Refusal → Type 0) (W : Y → C → Type 0) (a : A) (b : B) (r : Result Y CompileFault) → First a (Ok b) → Tells Second W b r → Tells (Then First Second) W a r
 goes_on First Second W a b (Ok y) f t = (t.0, t.1, went_on f t.2)
 goes_on First Second W a b (Err (F.Rejected rules)) f t = went_on f t
-goes_on First Second W a b (Err F.NotBuilt) f t = went_on f t
 goes_on First Second W a b (Err F.Memory) f t = tt
 
 -- the same by the view of what the first phase makes

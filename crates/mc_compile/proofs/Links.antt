@@ -1,5 +1,5 @@
 -- What is known of files that are linked.
-use Rattle.std.proofs.Common.{◌≡◌, ℕ, List, [], ◌++◌, map, length, take, Option, Ok, Err, refl, sym, ap, ◌∙◌, subst}
+use Rattle.std.proofs.Common.{◌≡◌, ℕ, List, [], ◌++◌, map, length, take, Option, Ok, Err, refl, sym, ap, ◌∙◌}
 use Rattle.std.proofs.lemmas.List.{length-map, take-map}
 use Rattle.std.proofs.Math.Seq.{take-append_seam}
 use Rattle.mc_term_data.specs.Plain.{PlainTerm}
@@ -14,12 +14,12 @@ use Rattle.mc_compile.specs.declared.given.CompileFault.{CompileFault}
 use Rattle.mc_compile.specs.declared.given.CompileFault.TheVariants as F
 use Rattle.mc_compile.specs.declared.named.Named.{Named}
 use Rattle.mc_compile.specs.declared.reading.Read.{Read}
-use Rattle.mc_compile.specs.Phases.{Breaks, unless_broken, Tells, Viewed}
+use Rattle.mc_compile.specs.Phases.{Breaks, Tells, Viewed}
 use Rattle.mc_compile.specs.Library.{library_texts}
-use Rattle.mc_compile.specs.Reading.{PlainRead, plain_read}
+use Rattle.mc_compile.specs.Reading.{plain_read}
 use Rattle.mc_compile.specs.Linking.{library_behind, rules_in, linking_rules_of, PlainNamed, plain_named, linked_with, Links}
 use Rattle.mc_compile.specs.code.Reader.{IsRejected, IsWithLibrary}
-use Rattle.mc_compile.proofs.Chains.{broken_up, none_broken, unbroken_made}
+use Rattle.mc_compile.proofs.Chains.{broken_up, none_broken}
 
 abbrev made : Option PlainTerm → List File → List File → Linked → PlainNamed
 made goal given all names = record { files = record { given = given; all = all; names = names }; goal = goal }
@@ -67,5 +67,4 @@ module _ (read : Read) (all : List (List Entry)) (w : IsWithLibrary library_text
         is_library = w.is_library;
         is = ap (λ bs. Err (Breaks bs)) same ∙ broken_up rules (linked_with (plain_read read) library) (λ none. rejected.1 (same ∙ none));
       }
-  unlinked_is F.NotBuilt n e rejected = absurd rejected
   unlinked_is F.Memory n e rejected = tt

@@ -46,7 +46,6 @@ main_of there s moded e p wants = at p.ruled p.comes p.is
               ∙ ap (λ (o : Option ℕ). option_map G.Main o) main.1,
         )
     at (R.Broken list) comes is = cc
-    at (R.Unseen u) comes is = cc
 
 pub main_run : MainIsThere → MainIsRun
 main_run there sources e (went_on r (went_on l (went_on t (went_on c (went_on i (went_on {b = moded} m p)))))) wants = main_of there sources moded e p wants

@@ -211,5 +211,4 @@ is_unread s goal old new (C.Rejected bs) d q rejected =
     let r = sources s.texts s.query goal old new d q in
     let same : bs ≡ reading_rules r = rejected.0 ∙ rules_are s.texts s.query goal old new d q in
     record { read = r; is = ap (λ rules. Err (Breaks rules)) same ∙ broken_up (reading_rules r) (read_as r) (λ none. rejected.1 (same ∙ none)) }
-is_unread s goal old new C.NotBuilt d q rejected = absurd rejected
 is_unread s goal old new C.Memory d q rejected = tt

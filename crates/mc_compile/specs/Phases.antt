@@ -4,10 +4,9 @@ use Rattle.mc_source.specs.declared.rule.Broken.{Broken}
 use Rattle.mc_compile.specs.declared.given.CompileFault.{CompileFault}
 use Rattle.mc_compile.specs.declared.given.CompileFault.TheVariants as F
 
--- why sources go no further: the rules that they break, or something that isn't built yet
+-- why sources go no further: the rules that they break
 pub data Refusal : Type 0 where
   Breaks : List Broken → Refusal
-  Unbuilt : Refusal
 
 -- what a phase makes where no rule is broken; else it goes no further
 abbrev pub unless_broken : {A : Type 0} → List Broken → A → Result A Refusal
@@ -32,7 +31,6 @@ abbrev pub Tells :
     → A → Result X CompileFault → Type 0
 Tells {B = B} Phase Shows a (Ok x) = (b : B) × Shows x b × Phase a (Ok b)
 Tells Phase Shows a (Err (F.Rejected rules)) = Phase a (Err (Breaks rules))
-Tells Phase Shows a (Err F.NotBuilt) = Phase a (Err Unbuilt)
 Tells Phase Shows a (Err F.Memory) = Unit {0}
 
 -- a value shows its plain view

@@ -30,7 +30,7 @@ use Rattle.mc_compile.specs.declared.executable.Executable.{Executable}
 use Rattle.mc_compile.specs.declared.executable.Goal.{Goal}
 use Rattle.mc_compile.specs.declared.executable.Goal.TheVariants as G
 use Rattle.mc_compile.specs.declared.moded.Moded.{Moded}
-use Rattle.mc_compile.specs.Phases.{Refusal, Breaks, Unbuilt, unless_broken, Then}
+use Rattle.mc_compile.specs.Phases.{Refusal, Breaks, unless_broken, Then}
 use Rattle.mc_compile.specs.Sources.{Sources}
 use Rattle.mc_compile.specs.Linking.{PlainNamed}
 use Rattle.mc_compile.specs.Typing.{PlainTyped}
@@ -111,8 +111,7 @@ abbrev pub goal_of :
 goal_of true procs query variables = option_map G.Main (main_number procs)
 goal_of false procs query variables = option_map (λ k. G.Query k variables) query
 
--- Procedures are answered with what is run over them, or the rules that they break. What isn't seen to
--- fit isn't built yet.
+-- Procedures are answered with what is run over them, or the rules that they break.
 abbrev pub executable : (wants_main : Bool) → Moded → Ruled → Result PlainExecutable Refusal
 executable wants_main moded (R.Procs procs) =
     Ok
@@ -121,7 +120,6 @@ executable wants_main moded (R.Procs procs) =
       goal = goal_of wants_main procs moded.query moded.whole.variables;
     })
 executable wants_main moded (R.Broken list) = Err (Breaks list.items)
-executable wants_main moded (R.Unseen u) = Err Unbuilt
 
 -- The phase of procedures: each mode's goal in its one order, with its determinism, unless they break
 -- a rule of modes (M8, M1 to M4) or of determinism (E1 to E4, U1).

@@ -25,8 +25,7 @@ use std::alloc::Global;
 /// # Errors
 ///
 /// `Rejected` with the rules that are broken of the first phase that has a fault: one for each faulty item, in the
-/// order of the files, and the query's last. `NotBuilt` where none is broken, and something that procedures need isn't
-/// seen to fit.
+/// order of the files, and the query's last.
 pub fn compile(
     alloc: Global,
     files: &Row<Given>,

@@ -21,9 +21,7 @@ pub enum CompileFault {
     /// The rules that are broken, of the first phase that has a fault: one for each faulty item, in the order of the
     /// files, and the query's last.
     Rejected(Row<Broken>),
-    /// The sources break no rule of the phases before, and something that their procedures need isn't seen to fit.
-    NotBuilt,
-    /// There is no room.
+    /// There is no room, or a test of what the phases made fails, which no source is known to show.
     Memory,
 }
 

@@ -31,8 +31,7 @@ use std::alloc::Global;
 /// # Errors
 ///
 /// `Rejected` with the rules of insts (M6, M7) that items break; else with those of modes (M8, and then M1 to M4) that
-/// declared modes break; else with those of determinism (E1 to E4 and U1) that procedures break. `NotBuilt` where
-/// something isn't seen to fit.
+/// declared modes break; else with those of determinism (E1 to E4 and U1) that procedures break.
 pub fn rules(
     alloc: Global,
     checked: Checked,
@@ -112,7 +111,6 @@ fn executable(alloc: Global, moded: Moded, want_main: bool) -> Result<Executable
             Ok(Executable { procs, goal })
         }
         Ruled::Broken(broken) => Err(CompileFault::Rejected(Row::of(broken)?)),
-        Ruled::Unseen(_) => Err(CompileFault::NotBuilt),
     }
 }
 

@@ -47,7 +47,6 @@ fn rules_shown(alloc: Global, broken: &Row<Broken>) -> Result<Vec<u8>, Fail> {
 pub fn fault_shown(alloc: Global, fault: CompileFault) -> Result<Vec<u8>, Fail> {
     match fault {
         CompileFault::Rejected(broken) => rules_shown(alloc, &broken),
-        CompileFault::NotBuilt => Ok(b"not built".to_vec(alloc)?),
         CompileFault::Memory => Ok(b"memory".to_vec(alloc)?),
     }
 }

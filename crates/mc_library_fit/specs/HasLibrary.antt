@@ -1,5 +1,6 @@
--- That the library in a program is the one that the language defines: the predicates that have
--- builtins are declared as the language says, and so are the constructors of what these make.
+-- That a program has the library as far as its builtins go: the predicates that have builtins are
+-- declared with the names and the types that the language gives them, and so are the constructors of
+-- what these make. Of the library's clauses it says nothing.
 -- (Mercury Language Reference Manual: the library; Types, discriminated unions.)
 use Rattle.std.specs.Prelude.{◌≡◌, ◌<◌, ℕ, List, [], ◌∷◌, Some, length}
 use Rattle.mc_program.specs.Programs.{TypeTerm, variable_type}

@@ -324,8 +324,7 @@ library_place given library nine own below is =
     let long = length-append given library in
     let far : length (given ++ library) ≤ own + library_size = leb-true (length (given ++ library)) (own + library_size) is in
     let past : length given ≤ own = omega (arith, far, long, nine) in
-    let close : length library ≤ (own - length given) + library_size = omega (arith, nine) in
-    (
+    let close : length library ≤ (own - length given) + library_size = omega (arith, nine) in (
       own - length given,
       omega (arith, past),
       (omega (arith, below, long, past), le-leb (length library) ((own - length given) + library_size) close),

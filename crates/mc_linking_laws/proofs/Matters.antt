@@ -20,10 +20,10 @@ type_named w = at (App (w ∷ []) no_term) 1
 abbrev one_file : List File
 one_file =
     (
-      (ModuleStart (codes "m" ∷ []), here)
-      ∷ (Implementation, here)
-      ∷ (SameType (type_named (codes "t")) (type_named (codes "u")), here)
-      ∷ []
+    (ModuleStart (codes "m" ∷ []), here)
+    ∷ (Implementation, here)
+    ∷ (SameType (type_named (codes "t")) (type_named (codes "u")), here)
+    ∷ []
     )
     ∷ []
 

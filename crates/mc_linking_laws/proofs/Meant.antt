@@ -53,7 +53,6 @@ module _ (files : List File) (own : ℕ) (below : own < length files) where
   known_in_order false u first others all =
       let parts = known_parts first others all.1 in (all.0, parts.0, parts.1)
 
-
   -- TYPES
 
   mutual
@@ -71,8 +70,7 @@ module _ (files : List File) (own : ℕ) (below : own < length files) where
     meant_over w line b no_term form all = (means files own w 0 below all.0, tt)
     meant_over w line b (more_terms t ts) form all =
         let parts = known_in_order b _ (U.types_in t) (U.all_types ts) all in
-        let forms = and_parts (is_type t) (are_types ts) form in
-        (
+        let forms = and_parts (is_type t) (are_types ts) form in (
           means files own w (count (more_terms t ts)) below parts.0,
           (meant t forms.0 parts.1, all_meant ts forms.1 parts.2),
         )

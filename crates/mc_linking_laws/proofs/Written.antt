@@ -88,19 +88,16 @@ module _ (files : List File) where
         by true = tt
         by false = (item_so s (has K.DefinedType (head_name h) (shown_of all)) (AbstractType h) (head_name h) same tt, tt)
     types_by_item all s (UnionType h ts) same form seen =
-        let shown = has K.DefinedType (head_name h) (shown_of all) in
-        (
-          item_so s shown (UnionType h ts) (head_name h) same
-              (
-                head_is m s shown (UnionType h ts) h form.0,
-                form.1,
-                subst (λ k. EachMeant (linked files) k (union_fields ts)) (sym here) (union_meant files own below ts form.1 seen),
-              ),
+        let shown = has K.DefinedType (head_name h) (shown_of all) in (
+          item_so s shown (UnionType h ts) (head_name h) same (
+            head_is m s shown (UnionType h ts) h form.0,
+            form.1,
+            subst (λ k. EachMeant (linked files) k (union_fields ts)) (sym here) (union_meant files own below ts form.1 seen),
+          ),
           tt,
         )
     types_by_item all s (SameType h t) same form seen =
-        let shown = has K.DefinedType (head_name h) (shown_of all) in
-        (
+        let shown = has K.DefinedType (head_name h) (shown_of all) in (
           item_so s shown (SameType h t) (head_name h) same
               (head_is m s shown (SameType h t) h form.0, subst (λ k. IsMeant (linked files) k t) (sym here) (type_meant files own below t form.1 seen)),
           tt,

@@ -1,6 +1,6 @@
 -- What is put in order of what is compiled has what the law of one answer asks for; so phase by phase sources
 -- are compiled to one thing.
-use Rattle.std.proofs.Common.{◌≡◌, ℕ, ◌<◌, Bool, true, false, List, [], ◌∷◌, ◌++◌, map, length, Option, Some, None, Result, Ok, Err, refl, sym, ap, ap₂, ◌∙◌, subst}
+use Rattle.std.proofs.Common.{◌≡◌, ℕ, Bool, true, false, List, [], ◌∷◌, ◌++◌, map, length, Option, Some, None, Result, Ok, Err, refl, sym, ap, ap₂, ◌∙◌, subst}
 use Rattle.std.specs.Option.{option_map}
 use Rattle.mc_source.specs.Rules.{Fault, broken_at}
 use Rattle.mc_source.specs.declared.rule.Broken.{Broken}
@@ -19,18 +19,16 @@ use Rattle.mc_clause_phase.specs.declared.judged.TypedClause.{TypedClause}
 use Rattle.mc_inst_table.specs.Rules.{AreInstFaults, no_item, item_then, InstSays, has_free, unfounded, is_sound, InstItem, items_from}
 use Rattle.mc_order_laws.specs.SomeTest.{TypesMet}
 use Rattle.mc_procs.specs.Procedures.{PlainProcs}
-use Rattle.mc_det_rules.specs.Main.{main_number}
 use Rattle.mc_rules.specs.Rules.{Comes}
 use Rattle.mc_rules.specs.declared.rules.Ruled.{Ruled}
 use Rattle.mc_rules.specs.declared.rules.Ruled.TheVariants as R
 use Rattle.mc_whole_laws.specs.KnownCandidates.{ConstructorsAreNumbered}
 use Rattle.mc_whole_laws.proofs.JudgedPrograms.{judged_programs_fit}
-use Rattle.mc_compile.specs.declared.executable.Goal.{Goal}
 use Rattle.mc_compile.specs.declared.executable.Goal.TheVariants as G
 use Rattle.mc_compile.specs.declared.moded.Moded.{Moded}
-use Rattle.mc_compile.specs.Phases.{Refusal, Breaks, Unbuilt, unless_broken, Then, stopped, went_on, AtMostOne}
+use Rattle.mc_compile.specs.Phases.{Refusal, Breaks, unless_broken, Then, stopped, went_on, AtMostOne}
 use Rattle.mc_compile.specs.Sources.{Sources}
-use Rattle.mc_compile.specs.Reading.{PlainRead, Reads}
+use Rattle.mc_compile.specs.Reading.{Reads}
 use Rattle.mc_compile.specs.Linking.{PlainNamed, Links, library_behind, linking_rules_of, linked_with}
 use Rattle.mc_compile.specs.Typing.{PlainTyped, Types, typed_as}
 use Rattle.mc_compile.specs.Checking.{Clauses}
@@ -44,7 +42,7 @@ use Rattle.mc_program_laws.proofs.Queries.{has_mode, was_asked}
 use Rattle.mc_program_laws.proofs.Regular.{types_are_met}
 use Rattle.mc_program_laws.proofs.Wholes.{query_has_no_builtin, query_there}
 use Rattle.mc_one_answer.specs.OneAnswer.{RunAlike, OneRuled, ComeToFit, AreNamedApart}
-use Rattle.mc_one_answer.specs.OneCompiled.{OneOrderedAnswer, OneInstList, AreWellLinked, WellLinkedAreTyped, OneExecutable, OneCompiled, CompiledAreOne, OneToBeRun}
+use Rattle.mc_one_answer.specs.OneCompiled.{OneOrderedAnswer, OneInstList, WellLinkedAreTyped, OneCompiled, CompiledAreOne, OneToBeRun}
 use Rattle.mc_one_answer.specs.OneModed.{ModedIsOne, ModedAreOne, OneModedAnswer}
 use Rattle.mc_one_answer.specs.WholePrograms.{WholeGoalsAreTyped}
 use Rattle.mc_one_answer.proofs.SamePrograms.{one-names, same-of}
@@ -139,11 +137,8 @@ one-goal false m n one q r h = ap₂ (λ (o : Option ℕ) (vs : List (List ℕ))
 one-executable : (wants : Bool) (m n : Moded) → ModedIsOne m n → (r s : Ruled) → OneRuled r s → OneCompiled (executable wants m r) (executable wants n s)
 one-executable wants m n one (R.Procs q) (R.Procs r) h = record { procs = h; goal = one-goal wants m n one q r h }
 one-executable wants m n one (R.Procs q) (R.Broken v) h = h
-one-executable wants m n one (R.Procs q) (R.Unseen u) h = tt
 one-executable wants m n one (R.Broken v) (R.Procs q) h = h
 one-executable wants m n one (R.Broken v) (R.Broken w) h = sym h
-one-executable wants m n one (R.Broken v) (R.Unseen u) h = tt
-one-executable wants m n one (R.Unseen u) s h = tt
 
 module _ (answer : OneOrderedAnswer) (moded : ModedAreOne) (sources : Sources) (typed : PlainTyped) (none : type_faults typed.named.files.names ≡ []) where
   module _ (m n : Moded) (a : IsModed sources.first typed.named m) (b : IsModed sources.first typed.named n) where
@@ -177,7 +172,6 @@ module _ (answer : OneOrderedAnswer) (moded : ModedAreOne) (sources : Sources) (
 module _ (reads : AtMostOne Reads) (links : AtMostOne Links) (types : AtMostOne Types) (clauses : AtMostOne Clauses) (insts : AtMostOne Insts) (answer : OneOrderedAnswer) (moded : ModedAreOne) (sources : Sources) where
   refused : (r : Refusal) → OneCompiled (Err r) (Err r)
   refused (Breaks rules) = refl
-  refused Unbuilt = tt
 
   pub compiled-are-one : (x y : Result PlainExecutable Refusal) → Compiles sources x → Compiles sources y → OneCompiled x y
   compiled-are-one =

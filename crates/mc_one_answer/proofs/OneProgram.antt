@@ -1,5 +1,5 @@
 -- What comes of a program comes of each that is one with it.
-use Rattle.std.proofs.Common.{◌≡◌, ℕ, ◌+◌, ◌<◌, ◌≤◌, Bool, List, [], ◌∷◌, map, length, get_or, take, Option, Some, None, refl, sym, ap, ap₂, ◌∙◌, subst, false}
+use Rattle.std.proofs.Common.{◌≡◌, ℕ, ◌<◌, ◌≤◌, Bool, List, [], ◌∷◌, map, length, get_or, Option, Some, None, refl, sym, ap, ap₂, ◌∙◌, subst, false}
 use Rattle.std.proofs.Math.Path.{fun_ext}
 use Rattle.std.specs.List.{All, AllZip}
 use Rattle.mc_source.specs.Rules.{first_rules, Fault}
@@ -26,7 +26,6 @@ use Rattle.mc_accepted.specs.Arranged.{Verdict, arrange, trial, entry, in_order}
 use Rattle.mc_accepted.specs.Chosen.{Chosen, of_nodes}
 use Rattle.mc_accepted.specs.Determined.{nothing_known}
 use Rattle.mc_accepted.specs.DeterminismFaults.{determinism_faults}
-use Rattle.mc_accepted.specs.Fits.{FitsTypes}
 use Rattle.mc_accepted.specs.FreshTests.{TestsAlike}
 use Rattle.mc_accepted.specs.Inferred.{DeclaredSystem, LeastClosed, with_determinisms}
 use Rattle.mc_accepted.specs.InstRules.{PlainInstDef}
@@ -35,8 +34,7 @@ use Rattle.mc_fitting.specs.TypedGoals.{IsTyped}
 use Rattle.mc_insts.specs.declared.insts.Insts.{Insts}
 use Rattle.mc_insts.specs.Graphs.{graph_of}
 use Rattle.mc_insts.specs.Kept.{AreOf}
-use Rattle.mc_insts.specs.Programs.{FitsConstructors}
-use Rattle.mc_procs.specs.Procedures.{PlainProcs, insts_of, parameters_in, procedure_at, with_insts}
+use Rattle.mc_procs.specs.Procedures.{PlainProcs, insts_of, procedure_at, with_insts}
 use Rattle.mc_procs.specs.VariableTypes.{type_in}
 use Rattle.mc_mode_points.specs.Nodes as Nodes
 use Rattle.mc_mode_points.specs.Nodes.{StoodFor}
@@ -49,7 +47,7 @@ use Rattle.mc_modes.specs.Tries as Tries
 use Rattle.mc_orders.specs.ModeFaults.{rule_of}
 use Rattle.mc_orders.specs.NormalGoals.{goal_at}
 use Rattle.mc_orders.specs.Numbering.{mode_ids}
-use Rattle.mc_orders.specs.Outcomes.{GrownFrom, Tried, IsTried, broken_rules, AreBroken, IsOrdered, IsUnfit, Became}
+use Rattle.mc_orders.specs.Outcomes.{GrownFrom, Tried, IsTried, broken_rules, AreBroken, IsOrdered, Became}
 use Rattle.mc_orders.specs.declared.modes.ModeId.{ModeId}
 use Rattle.mc_orders.specs.declared.ordering.Orders.{Orders}
 use Rattle.mc_orders.specs.declared.ordering.Orders.TheVariants as O
@@ -62,11 +60,11 @@ use Rattle.mc_det.specs.MarkedProcedures.{determinisms_of, Inferred, MarksHold}
 use Rattle.mc_det.specs.Pruned.{pruned_body}
 use Rattle.mc_det.specs.PrunedProcedures.{FollowDeclared, Pruned}
 use Rattle.mc_rules.specs.Premises.{HasInsts, Begins, TellNumbers, GoalsFitModes, GoalsAreTyped, AskedOf}
-use Rattle.mc_rules.specs.Rules.{Comes, Determined, FaultsAre, Ordered, IsntAtFirst, break_no_rule, break_uniqueness, break_modes, break_determinism, no_types, no_constructors, no_library, no_exported, no_predicates, no_determinisms, no_definitions, no_insts, no_numbers, no_goals, no_procedure}
+use Rattle.mc_rules.specs.Rules.{Comes, Determined, FaultsAre, Ordered, break_no_rule, break_uniqueness, break_modes, break_determinism}
 use Rattle.mc_rules.specs.Untidy.{AreUntidy}
 use Rattle.mc_rules.specs.declared.rules.Ruled.{Ruled}
 use Rattle.mc_one_answer.specs.OneProgram.{over, ruled_over, OneComes}
-use Rattle.mc_one_answer.proofs.SamePrograms.{Same, back, same-of, SameGoal, back-goal, same-goal, of-goal, grown, numbered, procedure_fits, all_fit, suits, stands, has_library, normal_fits}
+use Rattle.mc_one_answer.proofs.SamePrograms.{Same, back, same-of, SameGoal, back-goal, same-goal, of-goal, grown, numbered, all_fit, suits, stands, has_library, normal_fits}
 
 -- ---- procedures over this program, which is one with theirs
 module _ (P : Program) where
@@ -283,18 +281,6 @@ module _ (P : Program) (sigs : List Sig) (gs hs : List Normal) (one : SameGoals 
           ended = grown_from P h.after last a h.ended;
         }
 
-    unfit : (first last : PlainProcs) (ids : List ModeId) → Is P first → Is P last → IsUnfit sigs hs exported first last ids → IsUnfit sigs gs exported (over P first) (over P last) ids
-    unfit first last ids is there h =
-        record {
-          id = h.id;
-          proc = h.proc;
-          before = h.before;
-          are = h.are;
-          came = each-zip (IsOrdered sigs hs exported first last) (IsOrdered sigs gs exported (over P first) (over P last)) h.before last.added (λ i p. ordered first last i p is) h.came;
-          ordered = ordered first last h.id h.proc is h.ordered;
-          unfit = λ f. h.unfit (procedure_fits last.program P (back P last.program there) last (plain_proc h.proc) f);
-        }
-
     became : (first last : PlainProcs) (o : Orders) → Is P first → Is P last → Became sigs hs exported first last o → Became sigs gs exported (over P first) (over P last) o
     became first last O.All is there h =
         let A : List ModeId → Type 0 = λ ids. AllZip (IsOrdered sigs gs exported (over P first) (over P last)) ids last.added in
@@ -303,11 +289,6 @@ module _ (P : Program) (sigs : List Sig) (gs hs : List Normal) (one : SameGoals 
     became first last (O.Broken list) is there (faults, broken, same, some) =
         let A : List ModeId → Type 0 = λ ids. AreBroken sigs gs (over P first) (over P last) ids faults in
         (faults, subst A (numbered P first.program is sigs) (are_broken first last (mode_ids first.program sigs) faults is broken), same, some)
-    became first last (O.Unfit k) is there (lt, h) =
-        let A : List ModeId → Type 0 = λ ids. k < length ids in
-        let B : List ModeId → Type 0 = λ ids. IsUnfit sigs gs exported (over P first) (over P last) (take (k + 1) ids) in
-        let e = numbered P first.program is sigs in
-        (subst A e lt, subst B e (unfit first last (take (k + 1) (mode_ids first.program sigs)) is there h))
 
 -- ---- what is asked
 module _ (P Q : Program) (same : Same P Q) (ds : List PlainInstDef) (sigs : List Sig) where
@@ -379,14 +360,6 @@ module _ (P Q : Program) (same : Same P Q) (ds : List PlainInstDef) (sigs : List
         grown = grown_from P h.first q is h.grown;
       }
 
-  not-first : (H K : PlainProcs → Type 0) → ((q : PlainProcs) → Is P q → K (over P q) → H q) → IsntAtFirst Q ds sigs H → IsntAtFirst P ds sigs K
-  not-first H K f h =
-      record {
-        first = over P h.first;
-        begins = begins P Q same ds sigs h.first h.begins;
-        isnt = λ k. h.isnt (f h.first (is-first P Q same ds sigs h.first h.begins) k);
-      }
-
   comes : {s : Ruled} → Comes Q ds sigs hs exported runs s → Comes P ds sigs gs exported runs (ruled_over P s)
   comes (break_no_rule {ordered = o} {last = l} came is none fit) =
       let i = last-is O.All o came in
@@ -400,23 +373,6 @@ module _ (P Q : Program) (same : Same P Q) (ds : List PlainInstDef) (sigs : List
       let i = last-is O.All o came in
       let j = last_is P o l i is in
       break_determinism (in-order O.All o came) (determined P o l i is) (faults_are P runs l list.items j faults) (all_fit P l.program j l fit) some
-  comes (no_types isnt) =
-      let A : Source → Type 0 = λ S. FitsTypes S (parameters_in Q) in
-      no_types (λ h. isnt (subst A (sym same.source) (subst (FitsTypes (plain_program P)) (sym same.params) h)))
-  comes (no_constructors isnt) = no_constructors (λ h. isnt (subst FitsConstructors (sym same.source) h))
-  comes (no_library isnt) = no_library (λ h. isnt (has_library Q P (back P Q same) h))
-  comes (no_exported isnt) = no_exported (λ h. isnt (h ∙ sym same.preds))
-  comes (no_predicates isnt) = no_predicates (λ h. isnt (subst (λ n. length sigs ≤ n) (sym same.preds) h))
-  comes (no_determinisms isnt) = no_determinisms isnt
-  comes (no_definitions isnt) = no_definitions isnt
-  comes (no_insts {insts = I} has isnt) = no_insts (has_insts P Q same ds sigs I has) isnt
-  comes (no_numbers isnt) =
-      no_numbers (not-first (λ q. TellNumbers q sigs) (λ q. TellNumbers q sigs) (λ q i h. tell_numbers q.program P (back P q.program i) ds sigs q h) isnt)
-  comes (no_goals isnt) =
-      no_goals
-      (not-first (λ q. GoalsFitModes q sigs hs × GoalsAreTyped q.program hs) (λ q. GoalsFitModes q sigs gs × GoalsAreTyped q.program gs)
-      (λ q i h. (goals_fit q.program P (back P q.program i) ds sigs hs gs (back-goals gs hs one) q h.0, goals_typed q.program P (back P q.program i) ds sigs hs gs (back-goals gs hs one) h.1)) isnt)
-  comes (no_procedure {k = k} {last = l} came) = no_procedure (in-order (O.Unfit k) l came)
 
 pub one-comes : OneComes
 one-comes P Q ds sigs goals others exported runs programs same s came =

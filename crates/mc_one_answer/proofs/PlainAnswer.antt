@@ -43,11 +43,8 @@ module _ (P Q : Program) (one : OneProgram P Q) where
   one-ruled : (r s : Ruled) → ((q : PlainProcs) → s ≡ R.Procs q → q.program ≡ Q) → OneRuled r (ruled_over P s) → OneRuled r s
   one-ruled (R.Procs q) (R.Procs t) is h = run-alike q t (is t refl) h
   one-ruled (R.Procs q) (R.Broken v) is h = h
-  one-ruled (R.Procs q) (R.Unseen u) is h = tt
   one-ruled (R.Broken v) (R.Procs q) is h = h
   one-ruled (R.Broken v) (R.Broken w) is h = h
-  one-ruled (R.Broken v) (R.Unseen u) is h = tt
-  one-ruled (R.Unseen u) s is h = tt
 
 pub one-plain-answer : OneComes → OneAnswer → OnePlainAnswer
 one-plain-answer comes answer P Q ds es sigs modes goals others exported runs one same sigs-one normal apart met placed r s a b =

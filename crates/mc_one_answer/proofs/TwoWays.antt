@@ -1,5 +1,5 @@
 -- What comes of a program in two ways is one.
-use Rattle.std.proofs.Common.{◌≡◌, ◌⊎◌, inl, inr, ℕ, Bool, List, Vec, [], ◌∷◌, length, map, refl, sym, ap, ◌∙◌, subst}
+use Rattle.std.proofs.Common.{◌≡◌, ◌⊎◌, inl, inr, Bool, List, Vec, [], ◌∷◌, map, refl, sym, ap, ◌∙◌, subst}
 use Rattle.std.specs.Global.{Global}
 use Rattle.std.specs.List.{All, AllZip}
 use Rattle.std.proofs.lemmas.List.Elements.{All-nil, All-cons}
@@ -240,11 +240,8 @@ module _ (P : Program) (defs defs2 : List PlainInstDef) (sigs sigs2 : List Sig) 
     both_come : (r s : Ruled) → Comes P defs sigs goals exported runs r → Comes P defs2 sigs2 goals exported runs s → OneRuled r s
     both_come (R.Procs q) (R.Procs r) a b = both_kept q r (kept P defs sigs goals exported runs q a) (kept P defs2 sigs2 goals exported runs r b)
     both_come (R.Procs q) (R.Broken v) a b = not_kept q v (kept P defs sigs goals exported runs q a) (broken P defs2 sigs2 goals exported runs v b)
-    both_come (R.Procs q) (R.Unseen u) a b = tt
     both_come (R.Broken v) (R.Procs q) a b = nor_kept q v (broken P defs sigs goals exported runs v a) (kept P defs2 sigs2 goals exported runs q b)
     both_come (R.Broken v) (R.Broken w) a b = both_broken v w (broken P defs sigs goals exported runs v a) (broken P defs2 sigs2 goals exported runs w b)
-    both_come (R.Broken v) (R.Unseen u) a b = tt
-    both_come (R.Unseen u) s a b = tt
 
 -- two answers are one
 pub one-answer : FoundNodes → OneListOfRules → OneAnswer

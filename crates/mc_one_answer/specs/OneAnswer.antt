@@ -39,15 +39,12 @@ pub record RunAlike (q r : PlainProcs) : Type 0 where
       → run_query does (procedure_at q.added) budget height (procedure_at q.added k)
       ≡ run_query does (procedure_at r.added) budget height (procedure_at r.added k)
 
--- Two answers are one. That something isn't seen to hold is no answer.
+-- Two answers are one.
 abbrev pub OneRuled : Ruled → Ruled → Type 0
 OneRuled (R.Procs q) (R.Procs r) = RunAlike q r
 OneRuled (R.Procs q) (R.Broken v) = ⊥
-OneRuled (R.Procs q) (R.Unseen u) = Unit {0}
 OneRuled (R.Broken v) (R.Procs q) = ⊥
 OneRuled (R.Broken v) (R.Broken w) = v.items ≡ w.items
-OneRuled (R.Broken v) (R.Unseen u) = Unit {0}
-OneRuled (R.Unseen u) r = Unit {0}
 
 -- Procedures that fit come of a program's goals, whatever rules of determinism they break.
 pub record ComeToFit (P : Program) (ds : List PlainInstDef) (sigs : List Sig) (goals : List Normal)

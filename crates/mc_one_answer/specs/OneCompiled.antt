@@ -16,7 +16,7 @@ use Rattle.mc_rules.specs.Rules.{Comes}
 use Rattle.mc_rules.specs.declared.rules.Ruled.{Ruled}
 use Rattle.mc_whole_laws.specs.JudgedPrograms.{EachHasValues}
 use Rattle.mc_compile.specs.declared.moded.Moded.{Moded}
-use Rattle.mc_compile.specs.Phases.{Refusal, Breaks, Unbuilt, Then}
+use Rattle.mc_compile.specs.Phases.{Refusal, Breaks, Then}
 use Rattle.mc_compile.specs.Sources.{Sources}
 use Rattle.mc_compile.specs.Reading.{Reads}
 use Rattle.mc_compile.specs.Linking.{PlainNamed, Links}
@@ -74,15 +74,12 @@ pub record OneExecutable (e f : PlainExecutable) : Type 0 where
   pub procs : RunAlike e.procs f.procs
   pub goal : f.goal ≡ e.goal
 
--- Two answers are one. That something isn't seen to hold is no answer.
+-- Two answers are one.
 abbrev pub OneCompiled : (here there : Result PlainExecutable Refusal) → Type 0
 OneCompiled (Ok e) (Ok f) = OneExecutable e f
 OneCompiled (Ok e) (Err (Breaks rules)) = ⊥
-OneCompiled (Ok e) (Err Unbuilt) = Unit {0}
 OneCompiled (Err (Breaks rules)) (Ok f) = ⊥
 OneCompiled (Err (Breaks rules)) (Err (Breaks others)) = others ≡ rules
-OneCompiled (Err (Breaks rules)) (Err Unbuilt) = Unit {0}
-OneCompiled (Err Unbuilt) r = Unit {0}
 
 -- Whatever sources are compiled to, it is one.
 abbrev pub CompiledAreOne : Type 0

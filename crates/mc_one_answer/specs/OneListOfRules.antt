@@ -1,19 +1,15 @@
 -- The rules of modes that a program breaks are one list, whatever nodes are made as goals are put in
 -- order. (Mercury Language Reference Manual: Modes; this project's rules.)
-use Rattle.std.specs.Prelude.{◌≡◌, ◌<◌, ℕ, Bool, List, map, length, None}
+use Rattle.std.specs.Prelude.{◌≡◌, Bool, List}
 use Rattle.mc_source.specs.declared.rule.Broken.{Broken}
-use Rattle.mc_program.specs.Programs.{TypeTerm, Source}
+use Rattle.mc_program.specs.Programs.{TypeTerm}
 use Rattle.mc_program.specs.PlainPrograms.{plain_program}
 use Rattle.mc_program.specs.declared.program.Program.{Program}
-use Rattle.mc_model.specs.PlainGoals.{plain_flat}
 use Rattle.mc_model.specs.declared.flat.Normal.{Normal}
 use Rattle.mc_model.specs.declared.inst.Sig.{Sig}
 use Rattle.mc_accepted.specs.InstRules.{PlainInstDef}
-use Rattle.mc_accepted.specs.Typing.{TypedGoal}
 use Rattle.mc_order_laws.specs.SomeTest.{TypesMet}
 use Rattle.mc_procs.specs.Procedures.{PlainProcs}
-use Rattle.mc_modes.specs.Signatures.{modes_at}
-use Rattle.mc_orders.specs.NormalGoals.{goal_at}
 use Rattle.mc_orders.specs.Numbering.{mode_ids}
 use Rattle.mc_orders.specs.Outcomes.{AreBroken}
 use Rattle.mc_rules.specs.Premises.{Begins, AskedOf}

@@ -19,7 +19,6 @@ over P q = record { program = P; insts = q.insts; preds = q.preds; added = q.add
 abbrev pub ruled_over : Program → Ruled → Ruled
 ruled_over P (R.Procs q) = R.Procs (over P q)
 ruled_over P (R.Broken v) = R.Broken v
-ruled_over P (R.Unseen u) = R.Unseen u
 
 -- Whatever comes of a program comes of each that is one with it, and of goals that are one, too.
 abbrev pub OneComes : Type 0

@@ -1,5 +1,5 @@
 -- What one mode leaves behind.
-use Rattle.std.proofs.Common.{◌≡◌, ◌<◌, ℕ, ◌==◌, Bool, true, false, List, [], ◌∷◌, ◌++◌, length, get_or, inl, inr, Result, Ok, Err, IfOk, refl, sym, ap, subst, ◌∙◌, true≢false}
+use Rattle.std.proofs.Common.{◌≡◌, ◌<◌, ℕ, ◌==◌, Bool, true, false, List, [], ◌∷◌, ◌++◌, length, get_or, inl, inr, Result, Ok, Err, OnOk, refl, sym, ap, subst, ◌∙◌, true≢false}
 use Rattle.std.proofs.Math.Dec.{eqb-suc-zero}
 use Rattle.std.proofs.lemmas.List.{get_or_default}
 use Rattle.mc_source.specs.Rules.{Fault}
@@ -16,7 +16,7 @@ use Rattle.mc_modes.specs.Signatures.{mode_in, no_mode}
 use Rattle.mc_modes.specs.Schedules.{IsScheduled, Schedules}
 use Rattle.mc_modes.specs.declared.arranging.Refusal.{Refusal}
 use Rattle.mc_modes.specs.declared.arranging.Refusal.TheVariants as E
-use Rattle.mc_orders.specs.code.Steps.{Tells, IsNext, AddsOrNot, Steps}
+use Rattle.mc_orders.specs.code.Steps.{Tells, IsNext, Adds, Steps}
 
 pub none_listed : {A : Type 0} (xs : List A) (n : ℕ) → n ≡ length xs → true ≡ (n == 0) → xs ≡ []
 none_listed [] n e t = refl
@@ -35,20 +35,18 @@ pub still_next : (q r : PlainProcs) (g : Normal) → r ≡ with_insts q r.insts 
 still_next q r g e n = subst (λ (x : PlainProcs). IsNext x g) (sym e) n
 
 module _ (sigs : List Sig) (g : Normal) (k : ℕ) (exported : Bool) where
-  pub passed : (q r : PlainProcs) (old : List Broken) (p : Proc) → (old ≡ [] → ⊥) → IsScheduled sigs g k (mode_in sigs g.pred k) q r p → Steps sigs g k exported q r old old true
+  pub passed : (q r : PlainProcs) (old : List Broken) (p : Proc) → (old ≡ [] → ⊥) → IsScheduled sigs g k (mode_in sigs g.pred k) q r p → Steps sigs g k exported q r old old
   passed q r old p some s = inr (inl (record { some_before = some; same = refl; proc = p; scheduled = s }))
 
-  pub came_or_not : {X : Type 0} (b : Result Bool X) (q m r : PlainProcs) (old : List Broken) (p : Proc) → old ≡ [] → IsScheduled sigs g k (mode_in sigs g.pred k) q m p → IfOk b (AddsOrNot exported p m r) → IfOk b (Steps sigs g k exported q r old old)
-  came_or_not (Ok true) q m r old p none s h =
+  pub came : {E : Type 0} (b : Result Unit E) (q m r : PlainProcs) (old : List Broken) (p : Proc) → old ≡ [] → IsScheduled sigs g k (mode_in sigs g.pred k) q m p → OnOk b (Adds exported p m r) → OnOk b (Steps sigs g k exported q r old old)
+  came (Ok u) q m r old p none s h =
       inl (record { none_before = none; none = none; proc = p; found = m; scheduled = s; adds = h })
-  came_or_not (Ok false) q m r old p none s h =
-      record { none_before = none; proc = p; found = m; scheduled = s; adds_none = h }
-  came_or_not (Err e) q m r old p none s h = tt
+  came (Err e) q m r old p none s h = tt
 
   abbrev one_listed : Place → Fault → Broken
   one_listed at told = record { rule = told.0; at = at; what = told.1 }
 
-  pub listed : (q r : PlainProcs) (old new : List Broken) (e : Refusal) (told : Fault) (at : Place) → Schedules sigs g k q r (Err e) → Tells g e told → at ≡ (mode_in sigs g.pred k).at → new ≡ old ++ one_listed at told ∷ [] → Steps sigs g k exported q r old new true
+  pub listed : (q r : PlainProcs) (old new : List Broken) (e : Refusal) (told : Fault) (at : Place) → Schedules sigs g k q r (Err e) → Tells g e told → at ≡ (mode_in sigs g.pred k).at → new ≡ old ++ one_listed at told ∷ [] → Steps sigs g k exported q r old new
   listed q r old new (E.Fault f) told at s t place one =
       inr (inr (record {
         verdict = faulty (plain_fault f);

@@ -1,5 +1,5 @@
 -- One mode of those that are tried in order.
-use Rattle.std.proofs.Common.{◌≡◌, ◌<◌, ◌≤◌, ◌+◌, ℕ, Bool, true, false, List, [], ◌∷◌, ◌++◌, length, take, get_or, sym, ap, subst, ◌∙◌, arith}
+use Rattle.std.proofs.Common.{◌≡◌, ◌<◌, ◌≤◌, ◌+◌, ℕ, Bool, false, List, [], ◌∷◌, ◌++◌, length, take, get_or, sym, ap, subst, ◌∙◌, arith}
 use Rattle.std.proofs.lemmas.List.{take_more, take_all, get_or_read, get_or_default}
 use Rattle.std.proofs.lemmas.List.Elements.{All-get_or, All-same}
 use Rattle.mc_source.specs.declared.rule.Broken.{Broken}
@@ -10,12 +10,11 @@ use Rattle.mc_procs.specs.Procedures.{PlainProcs}
 use Rattle.mc_modes.specs.Signatures.{SigsFit}
 use Rattle.mc_orders.specs.NormalGoals.{no_goal, goal_at, AreNormal}
 use Rattle.mc_orders.specs.Numbering.{mode_ids, IsNumbered}
-use Rattle.mc_orders.specs.Outcomes.{GrownFrom, IsUnfit}
-use Rattle.mc_orders.specs.code.Steps.{CanTry, IsNext, Unfit, Steps, SoFar}
+use Rattle.mc_orders.specs.code.Steps.{CanTry, IsNext, Steps, SoFar}
 use Rattle.mc_orders.specs.declared.modes.ModeId.{ModeId}
 use Rattle.mc_orders.proofs.Ids.{IsMode, are_modes}
 use Rattle.mc_orders.proofs.Grows.{can_try}
-use Rattle.mc_orders.proofs.SoFarMore.{one_more, one_unfit, as_many, is_next}
+use Rattle.mc_orders.proofs.SoFarMore.{one_more, is_next}
 
 -- all modes were tried
 pub all_tried : (sigs : List Sig) (goals : List Normal) (exported : List Bool) (first q : PlainProcs) (all : List ModeId) (i : ℕ) (faults : List Broken) → length all ≤ i → SoFar sigs goals exported first q (take i all) faults → SoFar sigs goals exported first q all faults
@@ -62,23 +61,8 @@ module _ (sigs : List Sig) (goals : List Normal) (exported : List Bool) (first :
     comes_next n none =
         is_next sigs goals exported first q i id g old in_all n id_is (ap (λ (x : Normal). x.pred) goal_is ∙ is_pred) s none
 
-    abbrev Step : PlainProcs → List Broken → Normal → Bool → Type 0
-    Step r new x b = Steps sigs x id.mode (get_or exported id.pred false) q r old new b
-
-    pub goes_on : (r : PlainProcs) (new : List Broken) (b : Bool) → b ≡ true → Step r new g b → SoFar sigs goals exported first r (take (i + 1) all) new
-    goes_on r new b t h =
+    pub goes_on : (r : PlainProcs) (new : List Broken) → Steps sigs g id.mode (get_or exported id.pred false) q r old new → SoFar sigs goals exported first r (take (i + 1) all) new
+    goes_on r new h =
         subst (λ (ids : List ModeId). SoFar sigs goals exported first r ids new) (sym one_further)
         (one_more sigs goals exported first q id (take i all) old is_pred s r new
-        (subst (λ (c : Bool). Step r new (goal_at goals id.pred) c) t (subst (λ (x : Normal). Step r new x b) goal_is h)))
-
-    pub stops : (r : PlainProcs) (new : List Broken) (b : Bool) (k : ℕ) → b ≡ false → k ≡ length r.added → Step r new g b → (k < length all) × IsUnfit sigs goals exported first r (take (k + 1) all) × GrownFrom first r
-    stops r new b k f e h =
-        let u : Unfit sigs (goal_at goals id.pred) id.mode (get_or exported id.pred false) q r old new =
-        subst (λ (c : Bool). Step r new (goal_at goals id.pred) c) f (subst (λ (x : Normal). Step r new x b) goal_is h) in
-        let w = one_unfit sigs goals exported first q id (take i all) old is_pred s r new u in
-        let here : k ≡ i = e ∙ ap length w.1 ∙ as_many sigs goals exported first q all i old in_all s u.none_before in (
-          subst (λ n. n < length all) (sym here) in_all,
-          subst (λ n. IsUnfit sigs goals exported first r (take (n + 1) all)) (sym here)
-              (subst (λ (ids : List ModeId). IsUnfit sigs goals exported first r ids) (sym one_further) w.0),
-          w.2,
-        )
+        (subst (λ (x : Normal). Steps sigs x id.mode (get_or exported id.pred false) q r old new) goal_is h))

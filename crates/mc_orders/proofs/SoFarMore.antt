@@ -20,8 +20,8 @@ use Rattle.mc_modes.specs.Signatures.{mode_in}
 use Rattle.mc_orders.specs.ModeFaults.{rule_of}
 use Rattle.mc_orders.specs.NormalGoals.{goal_at}
 use Rattle.mc_orders.specs.Numbering.{mode_ids, IsNumbered}
-use Rattle.mc_orders.specs.Outcomes.{GrownFrom, Tried, IsTried, AreBroken, IsOrdered, IsUnfit}
-use Rattle.mc_orders.specs.code.Steps.{Came, Passed, Listed, Unfit, Steps, SoFar, exported_as, IsNext}
+use Rattle.mc_orders.specs.Outcomes.{GrownFrom, Tried, IsTried, AreBroken, IsOrdered}
+use Rattle.mc_orders.specs.code.Steps.{Came, Passed, Listed, Steps, SoFar, exported_as, IsNext}
 use Rattle.mc_orders.specs.declared.modes.ModeId.{ModeId}
 use Rattle.mc_orders.proofs.Grows.{grown_none, grown_then, grown_by, grown_same, grown_added}
 
@@ -188,33 +188,10 @@ module _ (sigs : List Sig) (goals : List Normal) (exported : List Bool) where
           ordered = λ e. absurd (not_none old _ (sym c.one_more ∙ e));
         }
 
-    pub one_more : (r : PlainProcs) (new : List Broken) → Steps sigs g id.mode is_out q r old new true → SoFar sigs goals exported first r (ids ++ id ∷ []) new
+    pub one_more : (r : PlainProcs) (new : List Broken) → Steps sigs g id.mode is_out q r old new → SoFar sigs goals exported first r (ids ++ id ∷ []) new
     one_more r new (inl c) = came r new c
     one_more r new (inr (inl c)) = passed r new c
     one_more r new (inr (inr c)) = listed r new c
-
-    pub one_unfit : (r : PlainProcs) (new : List Broken) → Unfit sigs g id.mode is_out q r old new → IsUnfit sigs goals exported first r (ids ++ id ∷ []) × (r.added ≡ q.added) × GrownFrom first r
-    one_unfit r new c =
-        let m = c.scheduled in
-        let b = m.becomes in
-        let found = c.found in
-        let same = c.adds_none.same in
-        let h = grown_same found r same in
-        let all : GrownFrom q r = grown_then q found r (grown_by q found b.others b.grown) h in
-        let added : q.added ≡ r.added = same_added q found b.others ∙ same_added found r same.others in (
-          record {
-            id = id;
-            proc = exported_as is_out c.proc;
-            before = ids;
-            are = refl;
-            came = subst (λ (ps : List Proc). AllZip (IsOrdered sigs goals exported first r) ids ps) added
-                (zip_weaker (IsOrdered sigs goals exported first q) (IsOrdered sigs goals exported first r) ids q.added (ordered_later first q r all) (s.ordered c.none_before));
-            ordered = ordered_one found r c.proc m h;
-            unfit = c.adds_none.unfit;
-          },
-          sym added,
-          grown_then first q r s.grown all,
-        )
 
   -- as many procedures came as modes were tried
   pub as_many : (first q : PlainProcs) (all : List ModeId) (i : ℕ) (old : List Broken) → i < length all → SoFar sigs goals exported first q (take i all) old → old ≡ [] → length q.added ≡ i

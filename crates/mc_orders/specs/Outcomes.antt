@@ -1,10 +1,10 @@
 -- What becomes of the goals of all declared modes. (Mercury Language Reference Manual: Modes; this
 -- project's rules.)
-use Rattle.std.specs.Prelude.{◌≡◌, ◌<◌, Bool, false, List, [], ◌∷◌, ◌++◌, ◌+◌, length, map, take, get_or, All}
+use Rattle.std.specs.Prelude.{◌≡◌, Bool, false, List, [], length, map, get_or, All}
 use Rattle.std.specs.List.{AllZip}
 use Rattle.mc_source.specs.Rules.{first_rules}
 use Rattle.mc_source.specs.declared.rule.Broken.{Broken}
-use Rattle.mc_model.specs.PlainGoals.{plain_flat, plain_proc}
+use Rattle.mc_model.specs.PlainGoals.{plain_flat}
 use Rattle.mc_model.specs.declared.flat.Normal.{Normal}
 use Rattle.mc_model.specs.declared.inst.Sig.{Sig}
 use Rattle.mc_model.specs.declared.sched.Proc.{Proc}
@@ -12,7 +12,6 @@ use Rattle.mc_accepted.specs.Arranged.{Verdict}
 use Rattle.mc_accepted.specs.DeterminismFaults.{by_place}
 use Rattle.mc_insts.specs.Growing.{Grown}
 use Rattle.mc_procs.specs.Procedures.{PlainProcs, source_of}
-use Rattle.mc_procs.specs.Fitting.{ProcedureFits}
 use Rattle.mc_mode_points.specs.declared.state.State.{State}
 use Rattle.mc_modes.specs.Signatures.{mode_in}
 use Rattle.mc_modes.specs.Arrangements.{Becomes}
@@ -76,17 +75,6 @@ module _ (sigs : List Sig) (goals : List Normal) (exported : List Bool) where
     pub is_exported : p.exported ≡ get_or exported id.pred false
     pub ended : GrownFrom after last
 
-  -- The goals of these modes are in their order, and the procedure of the last one doesn't fit; those
-  -- of the others came.
-  pub record IsUnfit (first last : PlainProcs) (ids : List ModeId) : Type 0 where
-    pub id : ModeId
-    pub proc : Proc
-    pub before : List ModeId
-    pub are : ids ≡ before ++ id ∷ []
-    pub came : AllZip (IsOrdered first last) before last.added
-    pub ordered : IsOrdered first last id proc
-    pub unfit : ProcedureFits last (plain_proc proc) → ⊥
-
   abbrev pub Became : (first last : PlainProcs) → Orders → Type 0
   -- each mode has its procedure, and no other came
   Became first last O.All =
@@ -96,6 +84,3 @@ module _ (sigs : List Sig) (goals : List Normal) (exported : List Bool) where
       × AreBroken sigs goals first last (mode_ids first.program sigs) faults
       × (list.items ≡ by_place faults)
       × (list.items ≡ [] → ⊥)
-  Became first last (O.Unfit k) =
-      (k < length (mode_ids first.program sigs))
-      × IsUnfit first last (take (k + 1) (mode_ids first.program sigs))

@@ -22,13 +22,12 @@ pub enum Orders {
     All,
     /// The rules that are broken, in the order of places; at least one.
     Broken(Vec<Broken>),
-    /// A goal is in its order, but its procedure doesn't fit: the number of the first such procedure.
-    Unfit(u32),
 }
 
 /// Puts the goals of all declared modes in their order. Their procedures come in the order of their numbers, each exported
 /// where its predicate is; or the rules are listed that leave goals without an order. Behind the first of these no procedure
-/// comes, but the other goals are tried. Signatures, goals and what is exported go by the numbers of predicates.
+/// comes, but the other goals are tried. Signatures, goals and what is exported go by the numbers of predicates. That each
+/// procedure fits is tested, and the call ends where one didn't.
 pub fn order_goals(
     alloc: Global,
     procs: &mut Procs,
@@ -49,7 +48,7 @@ pub fn order_goals(
     let mut faults = Vec::new(alloc);
     for id in &ids {
         let pred = id.pred as usize;
-        if !try_mode(
+        try_mode(
             alloc,
             procs,
             sigs,
@@ -57,9 +56,7 @@ pub fn order_goals(
             id.mode,
             exported[pred],
             &mut faults,
-        )? {
-            return Ok(Orders::Unfit(procs.count()));
-        }
+        )?;
     }
     if faults.is_empty() {
         return Ok(Orders::All);

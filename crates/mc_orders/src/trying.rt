@@ -1,9 +1,9 @@
-ghost use Rattle.std.specs.Prelude.{◌≡◌, ◌<◌, [], length, IfOk};
-ghost use Rattle.mc_orders.specs.code.Steps.{IsNext, CanTry, IsBody, Steps, AddsOrNot};
+ghost use Rattle.std.specs.Prelude.{◌≡◌, ◌<◌, [], length, OnOk};
+ghost use Rattle.mc_orders.specs.code.Steps.{IsNext, CanTry, IsBody, Steps, Adds};
 
 use crate::faults::rule_of;
 use mc_base::Memory;
-use mc_fitting::procedure_fits;
+use mc_fitting::{procedure_fits, see};
 use mc_model::flat::Normal;
 use mc_model::inst::Sig;
 use mc_model::sched::Proc;
@@ -13,7 +13,7 @@ use mc_source::rule::Broken;
 use std::alloc::Global;
 
 /// Tries a predicate's goal in one of its modes: the rule that it breaks is listed, or, where none was listed before, its
-/// procedure comes where it fits. Whether all is well so far: it isn't where that procedure didn't come.
+/// procedure comes.
 pub(crate) fn try_mode(
     alloc: Global,
     procs: &mut Procs,
@@ -22,16 +22,16 @@ pub(crate) fn try_mode(
     mode: u32,
     exported: bool,
     faults: &mut Vec<Broken>,
-) -> Result<bool, Memory>
+) -> Result<(), Memory>
     requires stands { CanTry sigs.now mode procs.old goal.now }
     requires next { faults.old.items ≡ [] → IsNext procs.old goal.now }
-    ensures { IfOk result (Steps sigs.now goal.now mode exported procs.old procs.new
+    ensures { OnOk result (Steps sigs.now goal.now mode exported procs.old procs.new
         faults.old.items faults.new.items) }
 {
     match schedule(alloc, procs, sigs, goal, mode) {
         Ok(proc) => {
             if !faults.is_empty() {
-                return Ok(true);
+                return Ok(());
             }
             add(alloc, procs, goal, exported, proc)
         }
@@ -39,30 +39,28 @@ pub(crate) fn try_mode(
             let (rule, what) = rule_of(alloc, goal, refusal)?;
             let at = modes_at(sigs, goal.pred)[mode as usize].at;
             faults.push(Broken { rule, at, what })?;
-            Ok(true)
+            Ok(())
         }
     }
 }
 
-/// The next procedure comes, exported or not, where it fits; whether it does.
+/// The next procedure comes, exported or not.
 fn add(
     alloc: Global,
     procs: &mut Procs,
     goal: &Normal,
     exported: bool,
     proc: Proc,
-) -> Result<bool, Memory>
+) -> Result<(), Memory>
     requires pred { proc.pred ≡ goal.now.pred }
     requires there { goal.now.pred < length procs.old.program.preds }
     requires next { IsNext procs.old goal.now }
     requires body { IsBody procs.old goal.now }
-    ensures { IfOk result (AddsOrNot exported proc procs.old procs.new) }
+    ensures { OnOk result (Adds exported proc procs.old procs.new) }
 {
     let mut proc = proc;
     proc.exported = exported;
-    if !procedure_fits(alloc, procs, &proc, &goal.body)? {
-        return Ok(false);
-    }
+    see(procedure_fits(alloc, procs, &proc, &goal.body)?)?;
     let _ = procs.add(proc)?;
-    Ok(true)
+    Ok(())
 }

@@ -49,7 +49,6 @@ module _ (s : Sources) (moded : Moded) (e : PlainExecutable) where
         ap (λ (x : PlainExecutable). x.goal) same ∙ ap (λ q. goal_of s.wants_main q moded.query moded.whole.variables) (sym of),
       )
   ruled_to (R.Broken list) come is = cc
-  ruled_to (R.Unseen u) come is = cc
 
 pub is_built : (s : Sources) (e : PlainExecutable) → Compiles s (Ok e) → IsBuilt s e
 is_built s e (went_on r (went_on {b = named} l (went_on {b = typed} t (went_on {b = checked} c (went_on {b = insts} i (went_on {b = moded} m p)))))) =

@@ -1,5 +1,5 @@
 -- What comes of procedures.
-use Rattle.std.proofs.Common.{◌≡◌, ◌≤◌, ℕ, ◌==◌, Bool, true, false, true≢false, List, Vec, Global, [], ◌∷◌, length, map, refl, sym, ap, subst, ◌∙◌}
+use Rattle.std.proofs.Common.{◌≡◌, ℕ, ◌==◌, Bool, true, false, true≢false, List, Vec, Global, [], ◌∷◌, length, map, refl, sym, ap, subst, ◌∙◌}
 use Rattle.std.specs.Prelude.{Result, Ok, Err, IfOk}
 use Rattle.std.proofs.Math.Dec.{eqb-suc-zero}
 use Rattle.mc_source.specs.declared.rule.Broken.{Broken}
@@ -8,8 +8,7 @@ use Rattle.mc_program.specs.declared.program.Program.{Program}
 use Rattle.mc_model.specs.declared.flat.Normal.{Normal}
 use Rattle.mc_model.specs.declared.inst.Sig.{Sig}
 use Rattle.mc_insts.specs.declared.insts.Insts.{Insts}
-use Rattle.mc_insts.specs.Defining.{Defined, AreSound, IsFault}
-use Rattle.mc_insts.specs.declared.define.InstFault.TheVariants as F
+use Rattle.mc_insts.specs.Defining.{Defined}
 use Rattle.mc_insts.specs.Graphs.{graph_of, count_of}
 use Rattle.mc_insts.specs.Kept.{AreOf}
 use Rattle.mc_procs.specs.Procedures.{PlainProcs}
@@ -25,15 +24,12 @@ use Rattle.mc_accepted.specs.InstRules.{PlainInstDef}
 use Rattle.mc_model.specs.Insts.{Graph}
 use Rattle.mc_rules.specs.Untidy.{AreUntidy}
 use Rattle.mc_rules.specs.Premises.{HasInsts, Begins, AskedOf, TellNumbers, GoalsFitModes}
-use Rattle.mc_rules.specs.Rules.{Ordered, Comes, break_no_rule, break_modes, break_determinism, no_types, no_constructors, no_library, no_exported, no_predicates, no_determinisms, no_numbers, no_goals, no_procedure}
+use Rattle.mc_rules.specs.Rules.{Ordered, Comes, break_no_rule, break_modes, break_determinism}
 use Rattle.mc_rules.specs.code.Judged.{answered, ByDeterminism}
-use Rattle.mc_rules.specs.code.Missing.{IsMissing, IsUnfit}
 use Rattle.mc_rules.specs.declared.judging.Judgement.{Judgement}
 use Rattle.mc_rules.specs.declared.judging.Judgement.TheVariants as J
 use Rattle.mc_rules.specs.declared.rules.Ruled.{Ruled}
 use Rattle.mc_rules.specs.declared.rules.Ruled.TheVariants as R
-use Rattle.mc_rules.specs.declared.rules.Unseen.{Unseen}
-use Rattle.mc_rules.specs.declared.rules.Unseen.TheVariants as U
 
 pub none_listed : {A : Type 0} (xs : List A) (n : ℕ) → n ≡ length xs → true ≡ (n == 0) → xs ≡ []
 none_listed [] n e t = refl
@@ -61,13 +57,6 @@ insts_on P ds I J are graph count has =
       defined = subst (λ (G : Graph). Defined ds 4 G has.nodes) (sym graph) has.defined;
       count = count ∙ has.count;
     }
-
--- a fault is found where definitions aren't sound
-pub free_unsound : (ds : List PlainInstDef) (k : ℕ) → IsFault ds (F.FreeInside k) → AreSound ds (length ds) → ⊥
-free_unsound ds k is sound = (sound k is.0).no_free is.1
-
-pub ring_unsound : (ds : List PlainInstDef) (k : ℕ) → IsFault ds (F.NotFounded k) → AreSound ds (length ds) → ⊥
-ring_unsound ds k is sound = (sound k is.0).founded is.1
 
 pub are_normal : (q : PlainProcs) (sigs : List Sig) (goals : List Normal) → HasNormalGoals q.program goals → GoalsFitModes q sigs goals → AreNormal q sigs goals
 are_normal q sigs goals h f =
@@ -97,20 +86,6 @@ module _ (P : Program) (ds : List PlainInstDef) (sigs : List Sig) (q : PlainProc
       subst (Comes P ds sigs goals exported runs) (sym e)
       (subst (λ (X : Program). Comes X ds sigs goals exported runs r) b.program c)
 
-module _ (P : Program) (ds : List PlainInstDef) (sigs : List Sig) (goals : List Normal) (exported : List Bool) (runs : Bool) where
-  pub one_unfit : (u : Unseen) → IsUnfit P u → Comes P ds sigs goals exported runs (R.Unseen u)
-  one_unfit U.Types isnt = no_types isnt
-  one_unfit U.Constructors isnt = no_constructors isnt
-  one_unfit U.Library isnt = no_library isnt
-  one_unfit U.Exported isnt = absurd isnt
-  one_unfit U.Predicates isnt = absurd isnt
-  one_unfit U.Determinisms isnt = absurd isnt
-  one_unfit U.Definitions isnt = absurd isnt
-  one_unfit U.Insts isnt = absurd isnt
-  one_unfit U.Numbers isnt = absurd isnt
-  one_unfit U.Goals isnt = absurd isnt
-  one_unfit (U.Procedure k) isnt = absurd isnt
-
 module _ (P : Program) (ds : List PlainInstDef) (sigs : List Sig) (goals : List Normal) (exported : List Bool) (runs : Bool) (first : PlainProcs) (begun : Begins P ds sigs first) where
   -- what is said of goals that were put in order
   ordering : {orders : Orders} {last : PlainProcs} → AskedOf first sigs goals exported → Became sigs goals exported first last orders → GrownFrom first last → Ordered P ds sigs goals exported orders last
@@ -122,25 +97,6 @@ module _ (P : Program) (ds : List PlainInstDef) (sigs : List Sig) (goals : List 
       break_no_rule (ordering asked became grown) d.0 d.1 d.2
   all_ordered ordered last (J.Broken list) asked became grown d =
       break_determinism (ordering asked became grown) d.0 d.1 d.3 d.2
-  all_ordered ordered last (J.Unseen u) asked became grown d = absurd d
 
   pub modes_broken : (last : PlainProcs) (list : Vec Broken Global) → AskedOf first sigs goals exported → Became sigs goals exported first last (O.Broken list) → GrownFrom first last → Comes P ds sigs goals exported runs (R.Broken list)
   modes_broken last list asked became grown = break_modes (ordering asked became grown)
-
-  pub procedure_unfit : (last : PlainProcs) (k : ℕ) → AskedOf first sigs goals exported → Became sigs goals exported first last (O.Unfit k) → GrownFrom first last → Comes P ds sigs goals exported runs (R.Unseen (U.Procedure k))
-  procedure_unfit last k asked became grown = no_procedure (ordering asked became grown)
-
-  pub one_missing : (u : Unseen) → IsMissing first sigs goals exported u → Comes P ds sigs goals exported runs (R.Unseen u)
-  one_missing U.Exported isnt =
-      no_exported (subst (λ (Q : Program). length exported ≡ length Q.preds → ⊥) begun.program isnt)
-  one_missing U.Predicates isnt =
-      no_predicates (subst (λ (Q : Program). length sigs ≤ length Q.preds → ⊥) begun.program isnt)
-  one_missing U.Determinisms isnt = no_determinisms isnt
-  one_missing U.Library isnt = absurd isnt
-  one_missing U.Definitions isnt = absurd isnt
-  one_missing U.Insts isnt = absurd isnt
-  one_missing U.Numbers isnt = no_numbers (record { first = first; begins = begun; isnt = isnt })
-  one_missing U.Goals isnt = no_goals (record { first = first; begins = begun; isnt = isnt })
-  one_missing U.Types isnt = absurd isnt
-  one_missing U.Constructors isnt = absurd isnt
-  one_missing (U.Procedure k) isnt = absurd isnt

@@ -1,4 +1,4 @@
--- What is asked of a program before its goals are put in order, and which of it isn't seen to hold.
+-- What is asked of a program before its goals are put in order.
 -- (Mercury Language Reference Manual: Types; Modes; this project's certificates.)
 use Rattle.std.specs.Prelude.{◌≡◌, ◌<◌, ◌≤◌, ◌+◌, ℕ, Bool, true, List, [], length, map, Some, None}
 use Rattle.mc_source.specs.declared.det.Det.{Det}

@@ -1,7 +1,7 @@
 -- What comes of a program: its procedures in their declared modes, or the rules of modes or of
 -- determinism that they break. (Mercury Language Reference Manual: Modes; Determinism; this project's
 -- rules.)
-use Rattle.std.specs.Prelude.{◌≡◌, ◌≤◌, ℕ, Bool, List, Vec, [], length}
+use Rattle.std.specs.Prelude.{◌≡◌, Bool, List, Vec, []}
 use Rattle.std.specs.Global.{Global}
 use Rattle.mc_source.specs.declared.rule.Broken.{Broken}
 use Rattle.mc_program.specs.Values.{Val}
@@ -12,16 +12,11 @@ use Rattle.mc_model.specs.Outcomes.{Outcome}
 use Rattle.mc_model.specs.declared.flat.Normal.{Normal}
 use Rattle.mc_model.specs.declared.inst.Sig.{Sig}
 use Rattle.mc_accepted.specs.DeterminismFaults.{determinism_faults, by_place}
-use Rattle.mc_accepted.specs.Fits.{FitsTypes}
 use Rattle.mc_accepted.specs.InstRules.{PlainInstDef}
 use Rattle.mc_insts.specs.declared.insts.Insts.{Insts}
-use Rattle.mc_insts.specs.Defining.{AreSound}
-use Rattle.mc_insts.specs.Graphs.{graph_of, count_of}
-use Rattle.mc_insts.specs.Programs.{FitsConstructors}
-use Rattle.mc_library_fit.specs.HasLibrary.{HasLibrary}
+use Rattle.mc_insts.specs.Graphs.{graph_of}
 use Rattle.mc_procs.specs.Fitting.{AllFit}
-use Rattle.mc_procs.specs.Procedures.{PlainProcs, parameters_in}
-use Rattle.mc_modes.specs.Signatures.{SigsFit}
+use Rattle.mc_procs.specs.Procedures.{PlainProcs}
 use Rattle.mc_orders.specs.Outcomes.{GrownFrom, Became}
 use Rattle.mc_orders.specs.declared.ordering.Orders.{Orders}
 use Rattle.mc_orders.specs.declared.ordering.Orders.TheVariants as O
@@ -30,11 +25,10 @@ use Rattle.mc_det.specs.Determinisms.{AreDeterminisms, declared_system}
 use Rattle.mc_det.specs.MarkedProcedures.{Inferred, MarksHold, determinisms_of}
 use Rattle.mc_det.specs.PrunedProcedures.{Pruned}
 use Rattle.mc_switch.specs.SwitchedBodies.{Switches}
-use Rattle.mc_rules.specs.Premises.{HasInsts, Begins, TellNumbers, GoalsFitModes, GoalsAreTyped, CommittedAreMany, AskedOf}
+use Rattle.mc_rules.specs.Premises.{HasInsts, Begins, AskedOf}
 use Rattle.mc_rules.specs.Untidy.{AreUntidy}
 use Rattle.mc_rules.specs.declared.rules.Ruled.{Ruled}
 use Rattle.mc_rules.specs.declared.rules.Ruled.TheVariants as R
-use Rattle.mc_rules.specs.declared.rules.Unseen.TheVariants as U
 
 -- bodies are put in switch form and pruned, and then determinisms are inferred, with which they are
 -- marked
@@ -62,16 +56,9 @@ pub record Ordered (P : Program) (ds : List PlainInstDef) (sigs : List Sig) (goa
   pub became : Became sigs goals exported first last orders
   pub grown : GrownFrom first last
 
--- this isn't so where it begins
-pub record IsntAtFirst (P : Program) (ds : List PlainInstDef) (sigs : List Sig) (Holds : PlainProcs → Type 0) : Type 0 where
-  pub first : PlainProcs
-  pub begins : Begins P ds sigs first
-  pub isnt : Holds first → ⊥
-
 -- Procedures come where no rule is broken; they fit one another, as they do where a rule of determinism
 -- is broken. The rule of unique modes is told alone, in the order of places; where it is kept the other
--- rules of modes are, or the first procedure that doesn't fit; and where these are kept rules of
--- determinism. Whatever else is broken, what doesn't hold of the program may be told in their place.
+-- rules of modes are; and where these are kept rules of determinism.
 pub data Comes (P : Program) (ds : List PlainInstDef) (sigs : List Sig) (goals : List Normal) (exported : List Bool)
     (runs : Bool) : Ruled → Type 0 where
   break_no_rule :
@@ -94,38 +81,3 @@ pub data Comes (P : Program) (ds : List PlainInstDef) (sigs : List Sig) (goals :
       → Determined ordered last → FaultsAre runs last list.items → AllFit last
       → (list.items ≡ [] → ⊥)
       → Comes P ds sigs goals exported runs (R.Broken list)
-  no_types :
-      (FitsTypes (plain_program P) (parameters_in P) → ⊥)
-      → Comes P ds sigs goals exported runs (R.Unseen U.Types)
-  no_constructors :
-      (FitsConstructors (plain_program P) → ⊥)
-      → Comes P ds sigs goals exported runs (R.Unseen U.Constructors)
-  no_library :
-      (HasLibrary P → ⊥)
-      → Comes P ds sigs goals exported runs (R.Unseen U.Library)
-  no_exported :
-      (length exported ≡ length P.preds → ⊥)
-      → Comes P ds sigs goals exported runs (R.Unseen U.Exported)
-  no_predicates :
-      (length sigs ≤ length P.preds → ⊥)
-      → Comes P ds sigs goals exported runs (R.Unseen U.Predicates)
-  no_determinisms :
-      (CommittedAreMany sigs → ⊥)
-      → Comes P ds sigs goals exported runs (R.Unseen U.Determinisms)
-  no_definitions :
-      (AreSound ds (length ds) → ⊥)
-      → Comes P ds sigs goals exported runs (R.Unseen U.Definitions)
-  no_insts :
-      {insts : Insts}
-      → HasInsts P ds insts → (SigsFit (count_of insts) sigs → ⊥)
-      → Comes P ds sigs goals exported runs (R.Unseen U.Insts)
-  no_numbers :
-      IsntAtFirst P ds sigs (λ q. TellNumbers q sigs)
-      → Comes P ds sigs goals exported runs (R.Unseen U.Numbers)
-  no_goals :
-      IsntAtFirst P ds sigs (λ q. GoalsFitModes q sigs goals × GoalsAreTyped q.program goals)
-      → Comes P ds sigs goals exported runs (R.Unseen U.Goals)
-  no_procedure :
-      {k : ℕ} {last : PlainProcs}
-      → Ordered P ds sigs goals exported (O.Unfit k) last
-      → Comes P ds sigs goals exported runs (R.Unseen (U.Procedure k))

@@ -1,4 +1,4 @@
 pub mod Committed
 pub mod Judged
-pub mod Missing
+pub mod Fitting
 pub mod Tests

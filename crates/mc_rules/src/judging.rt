@@ -9,8 +9,7 @@ ghost use Rattle.mc_rules.specs.Premises.{Begins, AskedOf};
 ghost use Rattle.mc_rules.specs.Rules.{Comes, Determined};
 ghost use Rattle.mc_rules.specs.code.Judged.{answered, ByDeterminism};
 
-use crate::premises::missing;
-use crate::rules::Unseen;
+use crate::premises::see_asked;
 use mc_base::Memory;
 use mc_det::{infer, prune_goals};
 use mc_det_rules::faults;
@@ -29,11 +28,9 @@ pub(crate) enum Judgement {
     Keeps,
     /// The rules that they break; at least one.
     Broken(Vec<Broken>),
-    /// Something that they need isn't seen to hold.
-    Unseen(Unseen),
 }
 
-/// Tests what is asked of declared modes and goals, lets the procedures come, and judges them.
+/// Sees that what is asked of declared modes and goals holds, lets the procedures come, and judges them.
 pub(crate) fn judged(
     alloc: Global,
     procs: &mut Procs,
@@ -50,10 +47,8 @@ pub(crate) fn judged(
         (λ j. (ds : List PlainInstDef) → Begins procs.old.program ds sigs.now procs.old
         → Comes procs.old.program ds sigs.now goals.now exported.now runs (answered procs.new j)) }
 {
-    match missing(alloc, procs, sigs, goals, exported)? {
-        Some(unseen) => Ok(Judgement::Unseen(unseen)),
-        None => by_order(alloc, procs, sigs, goals, exported, runs),
-    }
+    see_asked(alloc, procs, sigs, goals, exported)?;
+    by_order(alloc, procs, sigs, goals, exported, runs)
 }
 
 /// Puts the goals of all modes in order, and judges the procedures that come.
@@ -79,7 +74,6 @@ fn by_order(
             Ok(judgement)
         }
         Orders::Broken(list) => Ok(Judgement::Broken(list)),
-        Orders::Unfit(k) => Ok(Judgement::Unseen(Unseen::Procedure(k))),
     }
 }
 

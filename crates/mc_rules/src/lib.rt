@@ -10,4 +10,4 @@ mod signatures;
 mod typed;
 mod untidy;
 
-pub use rules::{Ruled, Unseen, procedures};
+pub use rules::{Ruled, procedures};

@@ -1,15 +1,14 @@
-ghost use Rattle.std.specs.Prelude.{◌≡◌, ◌↔◌, IsTrue, IfOk, MatchOption, length};
+ghost use Rattle.std.specs.Prelude.{◌≡◌, ◌↔◌, IsTrue, IfOk, OnOk, length};
 ghost use Rattle.mc_insts.specs.Graphs.{count_of};
 ghost use Rattle.mc_modes.specs.Signatures.{SigsFit};
 ghost use Rattle.mc_rules.specs.Premises.{AskedOf, TellNumbers};
 ghost use Rattle.mc_rules.specs.code.Tests.{FollowOn, number_in};
-ghost use Rattle.mc_rules.specs.code.Missing.{IsMissing};
 
 use crate::determinisms::committed_are_many;
 use crate::goals::goals_fit;
-use crate::rules::Unseen;
 use crate::typed::goals_are_typed;
 use mc_base::Memory;
+use mc_fitting::see;
 use mc_model::flat::Normal;
 use mc_model::inst::Sig;
 use mc_modes::modes_at;
@@ -17,39 +16,26 @@ use mc_orders::{ModeId, mode_ids};
 use mc_procs::Procs;
 use std::alloc::Global;
 
-/// What is asked of declared modes, whose insts are there, and of goals and doesn't hold; None where all of it holds.
-pub(crate) fn missing(
+/// Sees that what is asked of declared modes, whose insts are there, and of goals holds.
+pub(crate) fn see_asked(
     alloc: Global,
     procs: &Procs,
     sigs: &[Sig],
     goals: &[Normal],
     exported: &[bool],
-) -> Result<Option<Unseen>, Memory>
+) -> Result<(), Memory>
     requires as_many { length goals.now ≡ length procs.now.program.preds }
     requires sigs { SigsFit (count_of procs.now.insts) sigs.now }
-    ensures { IfOk result
-        (λ found. MatchOption found (AskedOf procs.now sigs.now goals.now exported.now)
-        (IsMissing procs.now sigs.now goals.now exported.now)) }
+    ensures { OnOk result (AskedOf procs.now sigs.now goals.now exported.now) }
 {
-    if exported.len() != procs.program().preds.len() as usize {
-        return Ok(Some(Unseen::Exported));
-    }
-    if sigs.len() > procs.program().preds.len() as usize {
-        return Ok(Some(Unseen::Predicates));
-    }
-    if !committed_are_many(sigs) {
-        return Ok(Some(Unseen::Determinisms));
-    }
-    if !tell_numbers(alloc, procs, sigs)? {
-        return Ok(Some(Unseen::Numbers));
-    }
-    if !goals_fit(procs, sigs, goals) {
-        return Ok(Some(Unseen::Goals));
-    }
-    if !goals_are_typed(alloc, procs.program(), goals)? {
-        return Ok(Some(Unseen::Goals));
-    }
-    Ok(None)
+    let preds = procs.program().preds.len() as usize;
+    see(exported.len() == preds)?;
+    see(sigs.len() <= preds)?;
+    see(committed_are_many(sigs))?;
+    see(tell_numbers(alloc, procs, sigs)?)?;
+    see(goals_fit(procs, sigs, goals))?;
+    see(goals_are_typed(alloc, procs.program(), goals)?)?;
+    Ok(())
 }
 
 /// Whether each mode tells the number of its procedure.

@@ -79,7 +79,6 @@ pub fn shown(alloc: Global, row: &str) -> Result<Vec<u8>, Memory> {
     match typed(alloc, row) {
         Ok(typed) => put_judged(alloc, &mut out, &typed.named)?,
         Err(CompileFault::Rejected(broken)) => put_rules(alloc, &mut out, broken.as_slice())?,
-        Err(CompileFault::NotBuilt) => out.extend_from_slice(b"not built")?,
         Err(CompileFault::Memory) => out.extend_from_slice(b"memory")?,
     }
     Ok(out)

@@ -9,10 +9,10 @@ use Rattle.mc_outside.specs.declared.traits.FileAnswer.{FileAnswer}
 use Rattle.mc_outside.specs.declared.traits.FileAnswer.TheVariants as A
 use Rattle.mc_model.specs.EventList.{Ends}
 use Rattle.mc_procs.specs.Procedures.{PlainProcs}
-use Rattle.mc_command_line.specs.Words.{Meaning, Query, meaning}
+use Rattle.mc_command_line.specs.Words.{Meaning, meaning}
 use Rattle.mc_command_line.specs.Plain.{plain_bounds}
 use Rattle.mc_command_line.specs.declared.limits.Bounds.{Bounds}
-use Rattle.mc_compile.specs.Phases.{Breaks, Unbuilt}
+use Rattle.mc_compile.specs.Phases.{Breaks}
 use Rattle.mc_compile.specs.Ruling.{PlainExecutable}
 use Rattle.mc_compile.specs.Compiling.{Compiles}
 use Rattle.mc_compile.specs.declared.executable.Executable.{Executable}
@@ -22,7 +22,7 @@ use Rattle.mc_cmd.specs.declared.status.Status.{Status}
 use Rattle.mc_cmd.specs.declared.status.Status.TheVariants as S
 use Rattle.mc_cmd.specs.declared.decision.Decision.{Decision}
 use Rattle.mc_cmd.specs.declared.decision.Decision.TheVariants as D
-use Rattle.mc_cmd.specs.Messages.{usage_line, not_built_line, absent_line, unreadable_line, broken_lines}
+use Rattle.mc_cmd.specs.Messages.{usage_line, absent_line, unreadable_line, broken_lines}
 use Rattle.mc_cmd.specs.Ends.{Outcome, said}
 use Rattle.mc_cmd.specs.Outcome.{files_of, bounds_of, sources_of, run_of_goal, written_goal}
 use Rattle.mc_cmd.specs.Call.{CannotRead, HoldTexts, Lacks, Wrote}
@@ -52,7 +52,6 @@ IsAnswered m e _ = ⊥
 abbrev pub Understood : Meaning → (texts : List (List ℕ)) → Decision → Type 0
 Understood m texts (D.Rejected files broken) =
     (given_names files ≡ files_of m) × Compiles (sources_of m texts) (Err (Breaks broken))
-Understood m texts D.NotBuilt = Compiles (sources_of m texts) (Err Unbuilt)
 Understood m texts D.Checked = IsChecked m texts
 Understood m texts (D.Ran b q goal) = IsRan m texts b q goal
 Understood m texts D.Memory = Unit {0}
@@ -110,7 +109,6 @@ IsDecided words store D.Usage = meaning words ≡ None
 IsDecided words store (D.Absent line) = IsOfFile words store (D.Absent line)
 IsDecided words store (D.Unreadable line) = IsOfFile words store (D.Unreadable line)
 IsDecided words store (D.Rejected files broken) = IsOfTexts words store (D.Rejected files broken)
-IsDecided words store D.NotBuilt = IsOfTexts words store D.NotBuilt
 IsDecided words store D.Checked = IsOfTexts words store D.Checked
 IsDecided words store (D.Ran b q goal) = IsOfTexts words store (D.Ran b q goal)
 IsDecided words store D.Memory = Unit {0}
@@ -132,7 +130,6 @@ told_of D.Usage = said usage_line S.Usage
 told_of (D.Absent line) = said line.items S.Absent
 told_of (D.Unreadable line) = said line.items S.ReadFault
 told_of (D.Rejected files broken) = said (broken_lines (given_names files) broken) S.Rejected
-told_of D.NotBuilt = said not_built_line S.NotBuilt
 told_of D.Checked = said [] S.Done
 told_of (D.Ran b q goal) = written_goal (plain_bounds b) q goal
 told_of D.Memory = said [] S.Memory

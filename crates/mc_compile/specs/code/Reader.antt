@@ -13,7 +13,6 @@ use Rattle.mc_compile.specs.Linking.{IsLibrary, library_behind}
 -- rules that are broken, and why sources aren't compiled
 abbrev pub IsRejected : List Broken → CompileFault → Type 0
 IsRejected broken (C.Rejected bs) = (bs ≡ broken) × (bs ≢ [])
-IsRejected broken C.NotBuilt = ⊥
 IsRejected broken C.Memory = Unit {0}
 
 -- One more file is read. Its items are put behind the others where it breaks no rule.

@@ -1,9 +1,9 @@
 -- What is asked where one mode's goal is tried, and what that leaves behind.
-use Rattle.std.specs.Prelude.{◌≡◌, ◌<◌, ◌⊎◌, ℕ, Bool, true, false, List, [], ◌∷◌, ◌++◌, length, get_or, Some}
+use Rattle.std.specs.Prelude.{◌≡◌, ◌<◌, ◌⊎◌, ℕ, Bool, List, [], ◌∷◌, ◌++◌, length, get_or, Some}
 use Rattle.std.specs.List.{AllZip}
 use Rattle.mc_source.specs.Rules.{Fault}
 use Rattle.mc_source.specs.declared.rule.Broken.{Broken}
-use Rattle.mc_model.specs.PlainGoals.{plain_flat, plain_proc}
+use Rattle.mc_model.specs.PlainGoals.{plain_flat}
 use Rattle.mc_model.specs.declared.flat.Normal.{Normal}
 use Rattle.mc_model.specs.declared.inst.Sig.{Sig}
 use Rattle.mc_model.specs.declared.sched.Proc.{Proc}
@@ -11,7 +11,6 @@ use Rattle.mc_accepted.specs.Arranged.{Verdict, faulty, unmet}
 use Rattle.mc_accepted.specs.Normal.{normal_goal}
 use Rattle.mc_insts.specs.Graphs.{count_of}
 use Rattle.mc_procs.specs.Procedures.{PlainProcs, source_of, insts_of, with_insts, with_proc}
-use Rattle.mc_procs.specs.Fitting.{ProcedureFits}
 use Rattle.mc_mode_points.specs.Answers.{plain_fault}
 use Rattle.mc_mode_points.specs.declared.state.State.{State}
 use Rattle.mc_modes.specs.Signatures.{modes_at, mode_in, SigsFit}
@@ -64,15 +63,6 @@ pub record Adds (exported : Bool) (p : Proc) (q r : PlainProcs) : Type 0 where
   pub same : SameGraph q tested
   pub added : r ≡ with_proc tested (exported_as exported p)
 
--- it doesn't fit
-pub record AddsNone (exported : Bool) (p : Proc) (q r : PlainProcs) : Type 0 where
-  pub same : SameGraph q r
-  pub unfit : ProcedureFits r (plain_proc (exported_as exported p)) → ⊥
-
-abbrev pub AddsOrNot : (exported : Bool) → Proc → (q r : PlainProcs) → (fits : Bool) → Type 0
-AddsOrNot b p q r true = Adds b p q r
-AddsOrNot b p q r false = AddsNone b p q r
-
 module _ (sigs : List Sig) (g : Normal) (k : ℕ) (exported : Bool) (q r : PlainProcs)
     (old new : List Broken) where
   -- its procedure came, where no rule was listed before
@@ -106,17 +96,8 @@ module _ (sigs : List Sig) (g : Normal) (k : ℕ) (exported : Bool) (q r : Plain
         ++ record { rule = told.0; at = (mode_in sigs g.pred k).at; what = told.1 }
         ∷ []
 
-  -- its procedure doesn't fit
-  pub record Unfit : Type 0 where
-    pub none_before : old ≡ []
-    pub proc : Proc
-    pub found : PlainProcs
-    pub scheduled : IsScheduled sigs g k (mode_in sigs g.pred k) q found proc
-    pub adds_none : AddsNone exported proc found r
-
-  abbrev pub Steps : (fits : Bool) → Type 0
-  Steps true = Came ⊎ (Passed ⊎ Listed)
-  Steps false = Unfit
+  abbrev pub Steps : Type 0
+  Steps = Came ⊎ (Passed ⊎ Listed)
 
 -- what is known where the goals of these modes were tried
 pub record SoFar (sigs : List Sig) (goals : List Normal) (exported : List Bool)

@@ -11,11 +11,9 @@ use Rattle.mc_rules.specs.declared.rules.Ruled.TheVariants as R
 abbrev pub answered : PlainProcs → Judgement → Ruled
 answered q J.Keeps = R.Procs q
 answered q (J.Broken list) = R.Broken list
-answered q (J.Unseen u) = R.Unseen u
 
 -- goals that are in order are judged by determinism
 abbrev pub ByDeterminism : (runs : Bool) → (before after : PlainProcs) → Judgement → Type 0
 ByDeterminism runs q r J.Keeps = Determined q r × FaultsAre runs r [] × AllFit r
 ByDeterminism runs q r (J.Broken list) =
     Determined q r × FaultsAre runs r list.items × (list.items ≡ [] → ⊥) × AllFit r
-ByDeterminism runs q r (J.Unseen u) = ⊥

@@ -1,4 +1,4 @@
-use Rattle.mc_cmd.proofs.Calls.{whole, prefixes, puts_defined, unread, done_cause, usage_cause, usage_told, rejected_cause, not_built_cause, absent_cause, absent_lacks, absent_seen, read_cause, read_told, read_seen, write_cause, write_seen, threw_cause, spent_cause, deep_cause}
+use Rattle.mc_cmd.proofs.Calls.{whole, prefixes, puts_defined, unread, done_cause, usage_cause, usage_told, rejected_cause, absent_cause, absent_told, absent_seen, read_cause, read_told, read_seen, write_cause, write_seen, threw_cause, spent_cause, deep_cause}
 use Rattle.mc_cmd.proofs.top.merc.Goals as goal
 
 pub returns-clause-whole_answer : goal.returns-clause-whole_answer
@@ -7,7 +7,7 @@ returns-clause-whole_answer g c =
 
 pub returns-clause-prefix : goal.returns-clause-prefix
 returns-clause-prefix g c =
-    λ held bo be told n o defined k. prefixes _ _ _ _ _ _ _ _ _ c.carry_out.ensures.happened c.at_most_one_answer.ensures held bo be told n o defined k
+    λ held bo be told n o defined. prefixes _ _ _ _ _ _ _ _ _ c.carry_out.ensures.happened c.at_most_one_answer.ensures held bo be told n o defined
 
 pub returns-clause-defined : goal.returns-clause-defined
 returns-clause-defined g c =
@@ -36,7 +36,7 @@ pub returns-clause-absent : goal.returns-clause-absent
 returns-clause-absent g c = λ e. absent_cause _ _ _ _ _ _ _ _ _ c.carry_out.ensures.happened e
 
 pub returns-clause-absent_told : goal.returns-clause-absent_told
-returns-clause-absent_told g c = λ e. absent_lacks _ _ _ _ _ _ _ _ _ c.carry_out.ensures.happened e
+returns-clause-absent_told g c = λ e. absent_told _ _ _ _ _ _ _ _ _ c.carry_out.ensures.happened e
 
 pub returns-clause-absent_seen : goal.returns-clause-absent_seen
 returns-clause-absent_seen g c = λ e. absent_seen _ _ _ _ _ _ _ _ _ c.carry_out.ensures.happened e
@@ -55,9 +55,6 @@ returns-clause-write g c = λ e. write_cause _ _ _ _ _ _ _ _ _ c.carry_out.ensur
 
 pub returns-clause-write_seen : goal.returns-clause-write_seen
 returns-clause-write_seen g c = λ e. write_seen _ _ _ _ _ _ _ _ _ c.carry_out.ensures.happened e
-
-pub returns-clause-not_built : goal.returns-clause-not_built
-returns-clause-not_built g c = λ e. not_built_cause _ _ _ _ _ _ _ _ _ c.carry_out.ensures.happened e
 
 pub returns-clause-threw : goal.returns-clause-threw
 returns-clause-threw g c = λ e. threw_cause _ _ _ _ _ _ _ _ _ c.carry_out.ensures.happened e

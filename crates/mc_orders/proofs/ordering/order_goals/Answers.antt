@@ -6,7 +6,7 @@ use Rattle.mc_orders.specs.Numbering.{mode_ids}
 use Rattle.mc_orders.specs.code.Steps.{SoFar}
 use Rattle.mc_orders.specs.declared.modes.ModeId.{ModeId}
 use Rattle.mc_orders.proofs.OneMode.{some_listed}
-use Rattle.mc_orders.proofs.OneStep.{all_tried, goal_there, exported_there, may_try, comes_next, goes_on, stops}
+use Rattle.mc_orders.proofs.OneStep.{all_tried, goal_there, exported_there, may_try, comes_next, goes_on}
 use Rattle.mc_orders.proofs.SoFarMore.{at_first, some_by_place}
 use Rattle.mc_orders.proofs.ordering.order_goals.Goals as goal
 
@@ -63,29 +63,7 @@ loop-id-preserved c =
     let same = ids_are xs c.in_ok-ids.ids.items c.args.sigs.now c.program.result.now c.args.procs.now.program c.deref-id-items.ensures.value (c.in_ok-ids.ensures {u = tt}) c.program.ensures in
     goes_on c.args.sigs.now c.args.goals.now c.args.exported.now c.args.procs.now xs i none same lt c.requires.goals
     c.loop-id.procs c.index-goals-pred.result c.index-goals-pred.is c.loop-id.faults.items c.loop-id.invariant
-    c.try_mode.new.procs c.try_mode.new.faults.items c.in_ok-try_mode.field-0 c.if-not-branch.false (c.in_ok-try_mode.ensures {u = tt})
-
-pub returns-then-not-branch-clause-became : goal.returns-then-not-branch-clause-became
-returns-then-not-branch-clause-became c =
-    let xs = c.deref-id-items.result.now in
-    let i = c.loop-id.id-index in
-    let lt : i < length xs = omega (arith, c.loop-id-test.true) in
-    let same = ids_are xs c.in_ok-ids.ids.items c.args.sigs.now c.program.result.now c.args.procs.now.program c.deref-id-items.ensures.value (c.in_ok-ids.ensures {u = tt}) c.program.ensures in
-    let s = stops c.args.sigs.now c.args.goals.now c.args.exported.now c.args.procs.now xs i none same lt c.requires.goals
-    c.loop-id.procs c.index-goals-pred.result c.index-goals-pred.is c.loop-id.faults.items c.loop-id.invariant
-    c.try_mode.new.procs c.try_mode.new.faults.items c.in_ok-try_mode.field-0 c.count.result c.if-not-branch.true c.count.ensures (c.in_ok-try_mode.ensures {u = tt}) in
-    (s.0, s.1)
-
-pub returns-then-not-branch-clause-others : goal.returns-then-not-branch-clause-others
-returns-then-not-branch-clause-others c =
-    let xs = c.deref-id-items.result.now in
-    let i = c.loop-id.id-index in
-    let lt : i < length xs = omega (arith, c.loop-id-test.true) in
-    let same = ids_are xs c.in_ok-ids.ids.items c.args.sigs.now c.program.result.now c.args.procs.now.program c.deref-id-items.ensures.value (c.in_ok-ids.ensures {u = tt}) c.program.ensures in
-    let s = stops c.args.sigs.now c.args.goals.now c.args.exported.now c.args.procs.now xs i none same lt c.requires.goals
-    c.loop-id.procs c.index-goals-pred.result c.index-goals-pred.is c.loop-id.faults.items c.loop-id.invariant
-    c.try_mode.new.procs c.try_mode.new.faults.items c.in_ok-try_mode.field-0 c.count.result c.if-not-branch.true c.count.ensures (c.in_ok-try_mode.ensures {u = tt}) in
-    s.2
+    c.try_mode.new.procs c.try_mode.new.faults.items (c.in_ok-try_mode.ensures {u = tt})
 
 pub returns-clause-became : goal.returns-clause-became
 returns-clause-became c =

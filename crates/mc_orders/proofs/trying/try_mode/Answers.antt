@@ -1,6 +1,6 @@
 use Rattle.std.proofs.Common.{get_or}
 use Rattle.mc_modes.specs.Signatures.{modes_at}
-use Rattle.mc_orders.proofs.OneMode.{none_listed, some_listed, declared_at, still_next, passed, came_or_not, listed}
+use Rattle.mc_orders.proofs.OneMode.{none_listed, some_listed, declared_at, still_next, passed, came, listed}
 use Rattle.mc_orders.proofs.trying.try_mode.Goals as goal
 
 pub returns-then-not-is_empty : goal.returns-then-not-is_empty
@@ -16,7 +16,7 @@ add-requires-clause-next c =
 
 pub returns-else-not-is_empty : goal.returns-else-not-is_empty
 returns-else-not-is_empty c =
-    came_or_not c.args.sigs.now c.args.goal.now c.args.mode c.args.exported c.add.result c.args.procs.now c.schedule.new.procs c.add.new.procs c.args.faults.now.items c.in-Ok.proc
+    came c.args.sigs.now c.args.goal.now c.args.mode c.args.exported c.add.result c.args.procs.now c.schedule.new.procs c.add.new.procs c.args.faults.now.items c.in-Ok.proc
     (none_listed c.args.faults.now.items c.args.faults.now.len c.args.faults.now.ok.0 c.if-not-is_empty.ensures)
     c.in-Ok.ensures c.add.ensures
 

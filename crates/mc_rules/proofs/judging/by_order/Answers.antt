@@ -1,7 +1,7 @@
 use Rattle.std.proofs.Common.{subst}
 use Rattle.mc_orders.specs.Outcomes.{Became}
 use Rattle.mc_orders.specs.declared.ordering.Orders.{Orders}
-use Rattle.mc_rules.proofs.Coming.{are_normal, are_numbered, all_ordered, modes_broken, procedure_unfit}
+use Rattle.mc_rules.proofs.Coming.{are_normal, are_numbered, all_ordered, modes_broken}
 use Rattle.mc_rules.proofs.judging.by_order.Goals as goal
 
 pub order_goals-requires-clause-none : goal.order_goals-requires-clause-none
@@ -40,14 +40,4 @@ returns-in-Broken c =
     modes_broken q.program ds c.args.sigs.now c.args.goals.now c.args.exported.now c.args.runs q begun r c.in-Broken.list
     c.requires.asked
     (subst (λ (o : Orders). Became c.args.sigs.now c.args.goals.now c.args.exported.now q r o) c.in-Broken.is c.in_ok-order_goals.ensures.became)
-    c.in_ok-order_goals.ensures.others
-
-pub returns-in-Unfit : goal.returns-in-Unfit
-returns-in-Unfit c =
-    let q = c.args.procs.now in
-    let r = c.order_goals.new.procs in
-    λ ds begun.
-    procedure_unfit q.program ds c.args.sigs.now c.args.goals.now c.args.exported.now c.args.runs q begun r c.in-Unfit.k
-    c.requires.asked
-    (subst (λ (o : Orders). Became c.args.sigs.now c.args.goals.now c.args.exported.now q r o) c.in-Unfit.is c.in_ok-order_goals.ensures.became)
     c.in_ok-order_goals.ensures.others

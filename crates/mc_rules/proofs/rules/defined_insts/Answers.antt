@@ -1,7 +1,6 @@
 use Rattle.std.proofs.Common.{◌≡◌, ℕ, ◌+◌, sym, ap, subst, ◌∙◌}
-use Rattle.mc_insts.specs.Defining.{plain_definitions, bounds_of, Defined, DefinitionsFit, IsFault}
+use Rattle.mc_insts.specs.Defining.{plain_definitions, bounds_of, Defined, DefinitionsFit}
 use Rattle.mc_insts.specs.Graphs.{graph_of, count_of}
-use Rattle.mc_rules.proofs.Coming.{free_unsound, ring_unsound}
 use Rattle.mc_rules.proofs.rules.defined_insts.Goals as goal
 
 pub new-requires : goal.new-requires
@@ -24,13 +23,3 @@ returns-in-Ok c =
       defined = subst (λ (n : ℕ). Defined ds n (graph_of c.define.new.self) c.in-Ok.field-0) four c.in-Ok.ensures.defined;
       count = c.in-Ok.ensures.made ∙ ap (λ n. n + bounds_of ds) four;
     }
-
-pub returns-in-Err-FreeInside : goal.returns-in-Err-FreeInside
-returns-in-Err-FreeInside c =
-    let ds = plain_definitions c.args.defs.now in
-    free_unsound ds c.in-Err-FreeInside.field-0-0 (subst (IsFault ds) c.in-Err-FreeInside.field-0-is c.in-Err-FreeInside.ensures.fault)
-
-pub returns-in-Err-NotFounded : goal.returns-in-Err-NotFounded
-returns-in-Err-NotFounded c =
-    let ds = plain_definitions c.args.defs.now in
-    ring_unsound ds c.in-Err-NotFounded.field-0-0 (subst (IsFault ds) c.in-Err-NotFounded.field-0-is c.in-Err-NotFounded.ensures.fault)

@@ -1,4 +1,4 @@
-use Rattle.std.proofs.Common.{ℕ, [], List, false, IsTrue, sym, subst, ◌∙◌}
+use Rattle.std.proofs.Common.{ℕ, [], List, sym, subst, ◌∙◌}
 use Rattle.mc_source.specs.declared.rule.Broken.{Broken}
 use Rattle.mc_program.specs.PlainPrograms.{plain_program}
 use Rattle.mc_model.specs.Insts.{Graph}
@@ -7,25 +7,16 @@ use Rattle.mc_insts.specs.Graphs.{graph_of}
 use Rattle.mc_modes.specs.Signatures.{SigsFit}
 use Rattle.mc_rules.specs.Untidy.{AreUntidy}
 use Rattle.mc_rules.specs.Premises.{HasInsts}
-use Rattle.mc_rules.specs.Rules.{Comes, break_uniqueness, no_insts}
+use Rattle.mc_rules.specs.Rules.{Comes, break_uniqueness}
 use Rattle.mc_rules.proofs.Coming.{none_listed, some_listed, if_ok, insts_on}
 use Rattle.mc_rules.proofs.rules.over_insts.Goals as goal
-
--- the insts are there, or it is told that they aren't
-pub returns-then-not-signatures_fit : goal.returns-then-not-signatures_fit
-returns-then-not-signatures_fit c =
-    λ ds has.
-    no_insts has
-    (λ f.
-    let x : IsTrue false = c.if-not-signatures_fit.ensures.1 (subst (λ (n : ℕ). SigsFit n c.args.sigs.now) (sym c.count.ensures) f) in
-    cc)
 
 pub untidy_modes-requires-clause-program : goal.untidy_modes-requires-clause-program
 untidy_modes-requires-clause-program c = c.requires.program
 
 pub untidy_modes-requires-clause-sigs : goal.untidy_modes-requires-clause-sigs
 untidy_modes-requires-clause-sigs c =
-    subst (λ (n : ℕ). SigsFit n c.args.sigs.now) c.count.ensures (c.signatures_fit.ensures.0 c.if-not-signatures_fit.false)
+    subst (λ (n : ℕ). SigsFit n c.args.sigs.now) c.count.ensures (c.signatures_fit.ensures.0 (c.in_ok-see.ensures {u = tt}))
 
 pub returns-then-not-is_empty : goal.returns-then-not-is_empty
 returns-then-not-is_empty c =
@@ -39,7 +30,7 @@ of_tidy-requires-clause-program c = c.untidy_modes.ensures.program
 pub of_tidy-requires-clause-sigs : goal.of_tidy-requires-clause-sigs
 of_tidy-requires-clause-sigs c =
     subst (λ (n : ℕ). SigsFit n c.args.sigs.now) (c.count.ensures ∙ sym c.untidy_modes.ensures.count)
-    (c.signatures_fit.ensures.0 c.if-not-signatures_fit.false)
+    (c.signatures_fit.ensures.0 (c.in_ok-see.ensures {u = tt}))
 
 pub of_tidy-requires-clause-tidy : goal.of_tidy-requires-clause-tidy
 of_tidy-requires-clause-tidy c =

@@ -1,17 +1,26 @@
-use Rattle.std.proofs.Common.{Option, MatchOption, subst}
+use Rattle.std.specs.Prelude.{List}
+use Rattle.mc_accepted.specs.InstRules.{PlainInstDef}
 use Rattle.mc_insts.specs.Defining.{plain_definitions}
-use Rattle.mc_rules.specs.code.Missing.{ProgramIsFit, IsUnfit}
-use Rattle.mc_rules.specs.declared.rules.Unseen.{Unseen}
-use Rattle.mc_rules.proofs.Coming.{one_unfit}
+use Rattle.mc_rules.specs.Premises.{HasInsts}
+use Rattle.mc_rules.specs.Rules.{Comes}
+use Rattle.mc_rules.proofs.Coming.{if_ok}
 use Rattle.mc_rules.proofs.rules.procedures.Goals as goal
 
-pub returns-in-Some : goal.returns-in-Some
-returns-in-Some c =
-    let P = c.args.program in
-    one_unfit P (plain_definitions c.args.defs.now) c.args.sigs.now c.args.goals.now c.args.exported.now c.args.runs c.in-Some.unseen
-    (subst (λ (o : Option Unseen). MatchOption o (ProgramIsFit P) (IsUnfit P)) c.in-Some.is (c.in_ok-unseen.ensures {u = tt}))
+pub defined_insts-requires-clause-fits : goal.defined_insts-requires-clause-fits
+defined_insts-requires-clause-fits c = c.in_ok-see_fits.ensures {u = tt}
 
-pub of_fitting-requires-clause-fits : goal.of_fitting-requires-clause-fits
-of_fitting-requires-clause-fits c =
+pub over_insts-requires-clause-fits : goal.over_insts-requires-clause-fits
+over_insts-requires-clause-fits c = c.in_ok-see_fits.ensures {u = tt}
+
+pub over_insts-requires-clause-program : goal.over_insts-requires-clause-program
+over_insts-requires-clause-program c = (c.in_ok-insts.ensures {u = tt}).are_of
+
+pub returns : goal.returns
+returns c =
     let P = c.args.program in
-    subst (λ (o : Option Unseen). MatchOption o (ProgramIsFit P) (IsUnfit P)) c.in-None.is (c.in_ok-unseen.ensures {u = tt})
+    let ds = plain_definitions c.args.defs.now in
+    if_ok c.over_insts.result
+    (λ ruled. (es : List PlainInstDef) → HasInsts P es c.in_ok-insts.insts → Comes P es c.args.sigs.now c.args.goals.now c.args.exported.now c.args.runs ruled)
+    (Comes P ds c.args.sigs.now c.args.goals.now c.args.exported.now c.args.runs)
+    c.over_insts.ensures
+    (λ ruled comes. comes ds (c.in_ok-insts.ensures {u = tt}))
