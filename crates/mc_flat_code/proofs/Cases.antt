@@ -6,7 +6,7 @@ use Rattle.mc_model.specs.Scheduled.{Label, Node, Arms, no_arms, arm_then}
 use Rattle.mc_model.specs.PlainGoals.{plain_arm, arms_of}
 use Rattle.mc_model.specs.declared.sched.Arm.{Arm}
 use Rattle.mc_flat_code.specs.Running.{part_of, label_of, EachBelow, places_of, Lower}
-use Rattle.mc_flat_code.specs.Standing.{At, Holds, Chain, opening, Keyed, Cased}
+use Rattle.mc_flat_code.specs.Standing.{At, Holds, Chain, Opens, Keyed, Cased}
 use Rattle.mc_flat_code.specs.code.Building.{Grows, IsKeyed}
 use Rattle.mc_flat_code.specs.declared.code.Instr.TheVariants as I
 use Rattle.mc_flat_code.proofs.Growth.{continues_same, holds_grows, keyed_grows, chain_grows, grows_then}
@@ -14,13 +14,13 @@ use Rattle.mc_flat_code.specs.declared.code.Part.{Part}
 use Rattle.mc_flat_code.specs.declared.code.Branch.{Branch}
 use Rattle.mc_flat_code.specs.declared.code.Code.{Code}
 
-pub keyed_more : (code : Code) (v : ℕ) (arms : List (Label × Node)) (arm : Label × Node) (bs : List Branch) (b : Branch) (ps : List ℕ) (t : Label) → Keyed code v (arms_of arms) bs ps → opening v arm.1 ≡ Some t → label_of code b.key ≡ Some t → Keyed code v (arms_of (arms ++ arm ∷ [])) (bs ++ b ∷ []) (ps ++ b.place ∷ [])
-keyed_more code v [] arm [] b [] t k o l = ((t, (o, l, refl)), tt)
-keyed_more code v [] arm [] b (p ∷ ps) t k o l = absurd k
-keyed_more code v [] arm (d ∷ bs) b ps t k o l = absurd k
-keyed_more code v (a ∷ arms) arm [] b ps t k o l = absurd k
-keyed_more code v (a ∷ arms) arm (d ∷ bs) b [] t k o l = absurd k
-keyed_more code v (a ∷ arms) arm (d ∷ bs) b (p ∷ ps) t k o l = (k.0, keyed_more code v arms arm bs b ps t k.1 o l)
+pub keyed_more : (code : Code) (v : ℕ) (arms : List (Label × Node)) (arm : Label × Node) (bs : List Branch) (b : Branch) (ps : List ℕ) → Keyed code v (arms_of arms) bs ps → Opens arm.0 v arm.1 → label_of code b.key ≡ Some arm.0 → Keyed code v (arms_of (arms ++ arm ∷ [])) (bs ++ b ∷ []) (ps ++ b.place ∷ [])
+keyed_more code v [] arm [] b [] k o l = ((o, l, refl), tt)
+keyed_more code v [] arm [] b (p ∷ ps) k o l = absurd k
+keyed_more code v [] arm (d ∷ bs) b ps k o l = absurd k
+keyed_more code v (a ∷ arms) arm [] b ps k o l = absurd k
+keyed_more code v (a ∷ arms) arm (d ∷ bs) b [] k o l = absurd k
+keyed_more code v (a ∷ arms) arm (d ∷ bs) b (p ∷ ps) k o l = (k.0, keyed_more code v arms arm bs b ps k.1 o l)
 
 pub keyed_places : (code : Code) (v : ℕ) (arms : Arms) (bs : List Branch) (ps : List ℕ) → Keyed code v arms bs ps → places_of bs ≡ ps
 keyed_places code v no_arms [] [] k = refl
@@ -29,7 +29,7 @@ keyed_places code v no_arms (b ∷ bs) ps k = absurd k
 keyed_places code v (arm_then l n arms) [] ps k = absurd k
 keyed_places code v (arm_then l n arms) (b ∷ bs) [] k = absurd k
 keyed_places code v (arm_then l n arms) (b ∷ bs) (p ∷ ps) k =
-    λ i. k.0.1.2 i ∷ keyed_places code v arms bs ps k.1 i
+    λ i. k.0.2 i ∷ keyed_places code v arms bs ps k.1 i
 
 places_length : (bs : List Branch) → length (places_of bs) ≡ length bs
 places_length [] = refl
@@ -73,15 +73,15 @@ case_chosen first mid new v arms ps part other pc g h c k at =
     }
 
 -- one more arm has its branch
-pub keyed_step : (code : Code) (v : ℕ) (arms : List Arm) (places : List ℕ) (k : ℕ) (arm : Arm) (bs : List Branch) (b : Branch) (t : Label) → k < length arms → length places ≡ length arms → arm ≡ get_or arms k arm → b.place ≡ get_or places k 0 → Keyed code v (arms_of (map plain_arm (take k arms))) bs (take k places) → opening v (plain_arm arm).1 ≡ Some t → label_of code b.key ≡ Some t → Keyed code v (arms_of (map plain_arm (take (k + 1) arms))) (bs ++ b ∷ []) (take (k + 1) places)
-keyed_step code v arms places k arm bs b t h n is place old o l =
+pub keyed_step : (code : Code) (v : ℕ) (arms : List Arm) (places : List ℕ) (k : ℕ) (arm : Arm) (bs : List Branch) (b : Branch) → k < length arms → length places ≡ length arms → arm ≡ get_or arms k arm → b.place ≡ get_or places k 0 → Keyed code v (arms_of (map plain_arm (take k arms))) bs (take k places) → Opens (plain_arm arm).0 v (plain_arm arm).1 → label_of code b.key ≡ Some (plain_arm arm).0 → Keyed code v (arms_of (map plain_arm (take (k + 1) arms))) (bs ++ b ∷ []) (take (k + 1) places)
+keyed_step code v arms places k arm bs b h n is place old o l =
     let a : map plain_arm (take (k + 1) arms) ≡ map plain_arm (take k arms) ++ plain_arm arm ∷ [] =
     ap (map plain_arm) (take_more arms k arm h ∙ ap (λ x. take k arms ++ x ∷ []) (sym is)) ∙ map_push plain_arm (take k arms) arm in
     let p : take (k + 1) places ≡ take k places ++ b.place ∷ [] =
     take_more places k 0 (omega arith) ∙ ap (λ x. take k places ++ x ∷ []) (sym place) in
     subst (λ as2. Keyed code v (arms_of as2) (bs ++ b ∷ []) (take (k + 1) places)) (sym a)
     (subst (λ ps. Keyed code v (arms_of (map plain_arm (take k arms) ++ plain_arm arm ∷ [])) (bs ++ b ∷ []) ps) (sym p)
-    (keyed_more code v (map plain_arm (take k arms)) (plain_arm arm) bs b (take k places) t old o l))
+    (keyed_more code v (map plain_arm (take k arms)) (plain_arm arm) bs b (take k places) old o l))
 
 -- all arms have their branches
 pub keyed_whole : (code : Code) (v : ℕ) (arms : List Arm) (places : List ℕ) (k : ℕ) (bs : List Branch) → k ≡ length arms → length places ≡ length arms → Keyed code v (arms_of (map plain_arm (take k arms))) bs (take k places) → Keyed code v (arms_of (map plain_arm arms)) bs places

@@ -132,7 +132,7 @@ module _ (old new : Code) (g : Grows old new) where
   keyed_grows v (arm_then l n arms) [] ps k = absurd k
   keyed_grows v (arm_then l n arms) (b ∷ bs) [] k = absurd k
   keyed_grows v (arm_then l n arms) (b ∷ bs) (p ∷ ps) k =
-      ((k.0.0, (k.0.1.0, label_grows b.key k.0.0 k.0.1.1, k.0.1.2)), keyed_grows v arms bs ps k.1)
+      ((k.0.0, label_grows b.key l k.0.1, k.0.2), keyed_grows v arms bs ps k.1)
 
   cased_grows : (v : ℕ) (arms : Arms) (ps : List ℕ) (pc : ℕ) → Cased old v arms ps pc → Cased new v arms ps pc
   cased_grows v arms ps pc c =

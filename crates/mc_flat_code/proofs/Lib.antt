@@ -11,3 +11,4 @@ pub mod Views
 pub mod Goals
 pub mod Bodies
 pub mod Mentioning
+pub mod Openings

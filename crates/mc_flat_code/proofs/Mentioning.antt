@@ -1,13 +1,13 @@
 -- What code mentions while it grows.
-use Rattle.std.proofs.Common.{◌≡◌, inl, inr, ℕ, zero, suc, ◌<◌, ◌≤◌, ◌-◌, sym, ap, ◌∙◌, subst, List, [], ◌∷◌, ◌++◌, length, get_or, map, slice_get, Some, None, Result, Ok, Err, OnOk, Vec, Global, if◌then◌else◌, Bool, true, false, nat_eq, arith}
+use Rattle.std.proofs.Common.{◌≡◌, inl, inr, ℕ, zero, suc, ◌<◌, ◌≤◌, ◌-◌, sym, ap, ◌∙◌, subst, List, [], ◌∷◌, ◌++◌, length, get_or, map, slice_get, Result, Ok, Err, OnOk, Vec, Global, arith}
 use Rattle.mc_program.specs.Values.{Val, plain_value}
 use Rattle.mc_program.specs.declared.value.Value.{Value}
-use Rattle.mc_model.specs.Scheduled.{Label, for_symbol, for_constant, Node, node, nodes, Scheduled, Conj, Disj, Switch, Ite, Not, Exists, Assign, Test, Build, Take, Const, TestConst, Call, Apply, Nodes, no_nodes, node_then}
+use Rattle.mc_model.specs.Scheduled.{Label, Node, node, nodes, Scheduled, Conj, Disj, Switch, Ite, Not, Exists, Assign, Test, Build, Take, Const, TestConst, Call, Apply, Nodes, no_nodes, node_then, Arms, no_arms, arm_then}
 use Rattle.mc_model.specs.PlainGoals.{plain_node, plain_arm, plain_proc, arms_of}
 use Rattle.mc_model.specs.declared.sched.Arm.{Arm}
 use Rattle.mc_model.specs.declared.sched.GoalNode.{GoalNode}
 use Rattle.mc_model.specs.declared.sched.Proc.{Proc}
-use Rattle.mc_flat_code.specs.Standing.{opening, opening_of, opening_all}
+use Rattle.mc_flat_code.specs.Standing.{Opens, OpensIn, FirstOpens, FirstArmOpens}
 use Rattle.mc_flat_code.specs.Mentions.{Mention, of_constant, Mentions, MentionsIn, AnyMentions, ArmsMention, BodiesMention, MentionsAt, CodeMentions}
 use Rattle.mc_flat_code.specs.code.Mentioning.{Brings, LabelMentions}
 use Rattle.mc_flat_code.specs.declared.code.Instr.{Instr}
@@ -72,38 +72,38 @@ pub on_brings : {A E : Type 0} (r : Result A E) (a b c : Code) (X Y Z : Mention 
 on_brings (Ok place) a b c X Y Z f g x y = brings_then a b c X Y Z f g x y
 on_brings (Err e) a b c X Y Z f g x y = tt
 
-told : (b : Bool) (l t : Label) → (if b then Some l else None) ≡ Some t → l ≡ t
-told true l t o = cc
-told false l t o = absurd (cc)
-
 pub on_more : {A E : Type 0} (r : Result A E) (a b : Code) (X Y : Mention → Type 0) → OnOk r (Brings a b X) → ((m : Mention) → X m → Y m) → OnOk r (Brings a b Y)
 on_more (Ok place) a b X Y f x = brings_more a b X Y f x
 on_more (Err e) a b X Y f x = tt
 
--- a goal's test is what it mentions
+-- a goal mentions what the test is for that its answers come behind: its first alternative does
 mutual
-  pub opening_mentions : (v : ℕ) (n : Node) (t : Label) (m : Mention) → opening v n ≡ Some t → LabelMentions t m → Mentions n m
-  opening_mentions v (node s changes d pruned) t m o x = of_mentions v s t m o x
+  pub opening_mentions : (l : Label) (v : ℕ) (n : Node) (m : Mention) → Opens l v n → LabelMentions l m → Mentions n m
+  opening_mentions l v (node s changes d pruned) m o x = of_mentions l v s m o x
 
-  of_mentions : (v : ℕ) (s : Scheduled) (t : Label) (m : Mention) → opening_of v s ≡ Some t → LabelMentions t m → MentionsIn s m
-  of_mentions v (Conj ns) t m o x = all_mention v ns t m o x
-  of_mentions v (Disj ns) t m o x = absurd (cc)
-  of_mentions v (Switch y arms) t m o x = absurd (cc)
-  of_mentions v (Ite vs c d e) t m o x = absurd (cc)
-  of_mentions v (Not n) t m o x = absurd (cc)
-  of_mentions v (Exists vs n) t m o x = opening_mentions v n t m o x
-  of_mentions v (Assign y z) t m o x = absurd (cc)
-  of_mentions v (Test y z) t m o x = absurd (cc)
-  of_mentions v (Build y f ys) t m o x = subst (λ l. LabelMentions l m) (sym (told (nat_eq y v) (for_symbol f) t o)) x
-  of_mentions v (Take y f ys) t m o x = subst (λ l. LabelMentions l m) (sym (told (nat_eq y v) (for_symbol f) t o)) x
-  of_mentions v (Const y c) t m o x = subst (λ l. LabelMentions l m) (sym (told (nat_eq y v) (for_constant c) t o)) x
-  of_mentions v (TestConst y c) t m o x = subst (λ l. LabelMentions l m) (sym (told (nat_eq y v) (for_constant c) t o)) x
-  of_mentions v (Call p xs implied last) t m o x = absurd (cc)
-  of_mentions v (Apply op xs ys) t m o x = absurd (cc)
+  of_mentions : (l : Label) (v : ℕ) (s : Scheduled) (m : Mention) → OpensIn l v s → LabelMentions l m → MentionsIn s m
+  of_mentions l v (Conj ns) m o x = opening_first l v ns m o x
+  of_mentions l v (Disj ns) m o x = opening_first l v ns m o.0 x
+  of_mentions l v (Switch y arms) m o x = opening_arm l v arms m o.0 x
+  of_mentions l v (Ite vs c d e) m o x = absurd o
+  of_mentions l v (Not n) m o x = absurd o
+  of_mentions l v (Exists vs n) m o x = opening_mentions l v n m o x
+  of_mentions l v (Assign y z) m o x = absurd o
+  of_mentions l v (Test y z) m o x = absurd o
+  of_mentions l v (Build y f ys) m o x = subst (λ k. LabelMentions k m) o.1 x
+  of_mentions l v (Take y f ys) m o x = subst (λ k. LabelMentions k m) o.1 x
+  of_mentions l v (Const y c) m o x = subst (λ k. LabelMentions k m) o.1 x
+  of_mentions l v (TestConst y c) m o x = subst (λ k. LabelMentions k m) o.1 x
+  of_mentions l v (Call p xs implied last) m o x = absurd o
+  of_mentions l v (Apply op xs ys) m o x = absurd o
 
-  all_mention : (v : ℕ) (ns : Nodes) (t : Label) (m : Mention) → opening_all v ns ≡ Some t → LabelMentions t m → AnyMentions ns m
-  all_mention v no_nodes t m o x = absurd (cc)
-  all_mention v (node_then n ns) t m o x = inl (opening_mentions v n t m o x)
+  opening_first : (l : Label) (v : ℕ) (ns : Nodes) (m : Mention) → FirstOpens l v ns → LabelMentions l m → AnyMentions ns m
+  opening_first l v no_nodes m o x = absurd o
+  opening_first l v (node_then n ns) m o x = inl (opening_mentions l v n m o x)
+
+  opening_arm : (l : Label) (v : ℕ) (arms : Arms) (m : Mention) → FirstArmOpens l v arms → LabelMentions l m → ArmsMention arms m
+  opening_arm l v no_arms m o x = absurd o
+  opening_arm l v (arm_then t n arms) m o x = inl (opening_mentions l v n m o x)
 
 -- a goal of a list is one of its goals
 pub goal_mentions : (goals : List GoalNode) (k : ℕ) (d : GoalNode) (m : Mention) → k < length goals → Mentions (plain_node (get_or goals k d)) m → AnyMentions (nodes (map plain_node goals)) m

@@ -11,7 +11,7 @@ use Rattle.mc_model.specs.Stream as S
 use Rattle.mc_model.specs.Stream.{Bindings, Calls, meet, unify, gather, same_items, made_items, apply_items, pruned_to, stream, stream_of, stream_all, stream_any, stream_arms, ready, enter, leave, body_items, calls}
 use Rattle.mc_flat_code.specs.Ticked.{Ticked, End, Stuck, Answer, events, bind, first, negate, follow}
 use Rattle.mc_flat_code.specs.Running.{TickedCalls, variables_at, value_at, fits, label_of, fits_label, fitting, branch_items, case_items, constant_items, list_of, place_list, body_list, body_at, call_list, IsCode}
-use Rattle.mc_flat_code.specs.Standing.{At, Holds, Chain, opening, Keyed, Cased, Stands, StandsOf, StandsAll, StandsEach, StandsArms, whole_body, StandsFor, StandsForAll}
+use Rattle.mc_flat_code.specs.Standing.{At, Holds, Chain, Opens, Keyed, Cased, Stands, StandsOf, StandsAll, StandsEach, StandsArms, whole_body, StandsFor, StandsForAll}
 use Rattle.mc_flat_code.specs.SourceRuns.{GoalsRunAsSource, BodiesRunAsSource, CallsRunAsSource}
 use Rattle.mc_flat_code.specs.declared.code.Part.{Part}
 use Rattle.mc_flat_code.specs.declared.code.Instr.{Instr}
@@ -72,7 +72,7 @@ module _ (outcome : Builtin → List Val → Outcome) (code : Code) (o : IsCode 
       ∙ sym (bind_append (stream outcome C h n e) (stream_arms outcome C h arms e) (done q))
 
   module _ (v q : ℕ) (e : Bindings) (w : Val) (b : e v ≡ Some w) where
-    pick : (t : Label) (n : Node) (p : ℕ) (branch : Branch) (rest : List ℕ) (all : Items Bindings) → opening v n ≡ Some t → label_of code branch.key ≡ Some t → branch.place ≡ p → done p e ≡ L.bind (stream outcome C h n e) (done q) → all ≡ each_done e rest → (x : Bool) → fits t w ≡ x → L.append (done p e) all ≡ each_done e (if fits_label w (label_of code branch.key) then branch.place ∷ rest else rest)
+    pick : (t : Label) (n : Node) (p : ℕ) (branch : Branch) (rest : List ℕ) (all : Items Bindings) → Opens t v n → label_of code branch.key ≡ Some t → branch.place ≡ p → done p e ≡ L.bind (stream outcome C h n e) (done q) → all ≡ each_done e rest → (x : Bool) → fits t w ≡ x → L.append (done p e) all ≡ each_done e (if fits_label w (label_of code branch.key) then branch.place ∷ rest else rest)
     pick t n p branch rest all op key place d r true f =
         (λ i. L.append (done (sym place i) e) (r i))
         ∙ ap (λ y. each_done e (if y then branch.place ∷ rest else rest)) (sym (ap (fits_label w) key ∙ f))
@@ -88,7 +88,7 @@ module _ (outcome : Builtin → List Val → Outcome) (code : Code) (o : IsCode 
     fitting_done (arm_then l n arms) [] ps k x = absurd k
     fitting_done (arm_then l n arms) (c ∷ bs) [] k x = absurd k
     fitting_done (arm_then l n arms) (c ∷ bs) (p ∷ ps) k x =
-        pick k.0.0 n p c (fitting code w bs) (each_done e ps) k.0.1.0 k.0.1.1 k.0.1.2 x.0 (fitting_done arms bs ps k.1 x.1) (fits k.0.0 w) refl
+        pick l n p c (fitting code w bs) (each_done e ps) k.0.0 k.0.1 k.0.2 x.0 (fitting_done arms bs ps k.1 x.1) (fits l w) refl
 
   branch_done : (other : ℕ) (e : Bindings) (ps : List ℕ) (all : Items Bindings) → all ≡ each_done e ps → done other e ≡ all → events (branch_items go other e ps) ≡ all
   branch_done other e [] all x y = sym x

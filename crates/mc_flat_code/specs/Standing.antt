@@ -1,6 +1,6 @@
 -- Which code stands for a goal, and for a procedure: it does the goal from a place on, and goes on
 -- at another after each answer.
-use Rattle.std.specs.Prelude.{◌≡◌, ◌⊎◌, ℕ, true, false, List, [], ◌∷◌, Option, Some, None, nat_eq, map, length, get_or, if◌then◌else◌}
+use Rattle.std.specs.Prelude.{◌≡◌, ◌⊎◌, ℕ, true, false, List, [], ◌∷◌, Some, map, length, get_or}
 use Rattle.mc_source.specs.Determinism.{inferred, det}
 use Rattle.mc_model.specs.Scheduled.{Label, for_symbol, for_constant, Node, node, Scheduled, Conj, Disj, Switch, Ite, Not, Exists, Assign, Test, Build, Take, Const, TestConst, Call, Apply, Nodes, no_nodes, node_then, Arms, no_arms, arm_then, Procedure}
 use Rattle.mc_model.specs.PlainGoals.{plain_proc}
@@ -29,38 +29,49 @@ Chain code [] pc = At code pc I.Fail
 Chain code (p ∷ ps) pc =
     ((pc ≡ p) × (ps ≡ [])) ⊎ ((r : ℕ) × (At code pc (I.Or p r) × Chain code ps r))
 
--- the test of a variable with which a goal begins, if it begins with one
 abbrev mutual
-  pub opening : ℕ → Node → Option Label
-  opening v (node s changes d pruned) = opening_of v s
+  -- each answer of a goal comes behind a test of this variable for this label
+  pub Opens : Label → ℕ → Node → Type 0
+  Opens l v (node s changes d pruned) = OpensIn l v s
 
-  pub opening_of : ℕ → Scheduled → Option Label
-  opening_of v (Conj ns) = opening_all v ns
-  opening_of v (Disj ns) = None
-  opening_of v (Switch x arms) = None
-  opening_of v (Ite vs c t f) = None
-  opening_of v (Not n) = None
-  opening_of v (Exists vs n) = opening v n
-  opening_of v (Assign x y) = None
-  opening_of v (Test x y) = None
-  opening_of v (Build x f ys) = if nat_eq x v then Some (for_symbol f) else None
-  opening_of v (Take x f ys) = if nat_eq x v then Some (for_symbol f) else None
-  opening_of v (Const x c) = if nat_eq x v then Some (for_constant c) else None
-  opening_of v (TestConst x c) = if nat_eq x v then Some (for_constant c) else None
-  opening_of v (Call p xs implied last) = None
-  opening_of v (Apply op xs ys) = None
+  -- a conjunction begins with such a goal; alternatives are such goals, and there is one
+  pub OpensIn : Label → ℕ → Scheduled → Type 0
+  OpensIn l v (Conj ns) = FirstOpens l v ns
+  OpensIn l v (Disj ns) = FirstOpens l v ns × EachOpens l v ns
+  OpensIn l v (Switch x arms) = FirstArmOpens l v arms × EachArmOpens l v arms
+  OpensIn l v (Ite vs c t f) = ⊥
+  OpensIn l v (Not n) = ⊥
+  OpensIn l v (Exists vs n) = Opens l v n
+  OpensIn l v (Assign x y) = ⊥
+  OpensIn l v (Test x y) = ⊥
+  OpensIn l v (Build x f ys) = (x ≡ v) × (l ≡ for_symbol f)
+  OpensIn l v (Take x f ys) = (x ≡ v) × (l ≡ for_symbol f)
+  OpensIn l v (Const x c) = (x ≡ v) × (l ≡ for_constant c)
+  OpensIn l v (TestConst x c) = (x ≡ v) × (l ≡ for_constant c)
+  OpensIn l v (Call p xs implied last) = ⊥
+  OpensIn l v (Apply op xs ys) = ⊥
 
-  pub opening_all : ℕ → Nodes → Option Label
-  opening_all v no_nodes = None
-  opening_all v (node_then n ns) = opening v n
+  pub FirstOpens : Label → ℕ → Nodes → Type 0
+  FirstOpens l v no_nodes = ⊥
+  FirstOpens l v (node_then n ns) = Opens l v n
 
--- branches are for the tests with which arms begin, and go on where these stand
+  pub EachOpens : Label → ℕ → Nodes → Type 0
+  EachOpens l v no_nodes = Unit {0}
+  EachOpens l v (node_then n ns) = Opens l v n × EachOpens l v ns
+
+  pub FirstArmOpens : Label → ℕ → Arms → Type 0
+  FirstArmOpens l v no_arms = ⊥
+  FirstArmOpens l v (arm_then t n arms) = Opens l v n
+
+  pub EachArmOpens : Label → ℕ → Arms → Type 0
+  EachArmOpens l v no_arms = Unit {0}
+  EachArmOpens l v (arm_then t n arms) = Opens l v n × EachArmOpens l v arms
+
+-- branches are for the labels of arms that open with these, and go on where the arms stand
 abbrev pub Keyed : Code → ℕ → Arms → List Branch → List ℕ → Type 0
 Keyed code v no_arms [] [] = Unit {0}
 Keyed code v (arm_then l n arms) (b ∷ bs) (p ∷ ps) =
-    ((t : Label)
-    × ((opening v n ≡ Some t) × (label_of code b.key ≡ Some t) × (b.place ≡ p)))
-    × Keyed code v arms bs ps
+    (Opens l v n × (label_of code b.key ≡ Some l) × (b.place ≡ p)) × Keyed code v arms bs ps
 Keyed code v _ _ _ = ⊥
 
 -- arms by a case of a variable

@@ -1,4 +1,3 @@
 pub mod Building
-pub mod Openings
 pub mod Bodies
 pub mod Mentioning

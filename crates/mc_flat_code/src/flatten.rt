@@ -1,18 +1,17 @@
 ghost use Rattle.std.specs.Prelude.{◌≡◌, ◌<◌, ◌^◌, ◌+◌, ℕ, List, [], ◌∷◌, ◌++◌, false, map, length, OnOk, IfOk, IfSome};
-ghost use Rattle.mc_model.specs.PlainGoals.{plain_node, plain_sched, plain_arm, plain_proc, arms_of};
+ghost use Rattle.mc_model.specs.PlainGoals.{plain_node, plain_sched, plain_arm, plain_label, plain_proc, arms_of};
 ghost use Rattle.mc_model.specs.Scheduled.{nodes};
 ghost use Rattle.mc_program.specs.Values.{plain_value};
 ghost use Rattle.mc_flat_code.specs.Running.{IsCode, Lower, EachBelow, value_at, label_of};
 ghost use Rattle.mc_flat_code.specs.Standing.{At, Holds, Chain, Cased, Stands, StandsOf, StandsAll, StandsEach, StandsArms, StandsFor};
 ghost use Rattle.mc_flat_code.specs.code.Building.{Grows, Laid, IsKeyed, IsChosen};
-ghost use Rattle.mc_flat_code.specs.code.Openings.{opening_label as told_label};
 ghost use Rattle.mc_flat_code.specs.Mentions.{Mention, of_constant, Mentions, MentionsIn, AnyMentions, ArmsMention, MentionsAt, CodeMentions};
 ghost use Rattle.mc_flat_code.specs.code.Mentioning.{Brings, Nothing, LabelMentions};
 
 use crate::code::{Body, Branch, Code, Instr, Key, Part};
-use crate::opening::{Opening, first_test};
+use crate::opening::opens;
 use mc_base::Memory;
-use mc_model::sched::{Arm, GoalNode, Proc, Sched};
+use mc_model::sched::{Arm, GoalNode, On, Proc, Sched};
 use mc_program::builtin::Builtin;
 use mc_program::copy::copy_value;
 use mc_program::value::Value;
@@ -190,21 +189,22 @@ impl Code {
         Ok(choice)
     }
 
-    /// What a branch is for, by the test with which its arm begins.
-    fn key(&mut self, alloc: Global, test: Opening<'_>) -> Result<Key, Memory>
+    /// What the branch of an arm is for.
+    fn key(&mut self, alloc: Global, on: &On) -> Result<Key, Memory>
         ensures grows { OnOk result (Grows self.old self.new) }
         ensures others { OnOk result (self.new ≡ record self.old { values = self.new.values }) }
-        ensures key { IfOk result (λ key. label_of self.new key ≡ Some (told_label test.entry)) }
+        ensures key { IfOk result (λ key. label_of self.new key ≡ Some (plain_label on.now)) }
         ensures brings { OnOk result (Brings self.old self.new
-            (LabelMentions (told_label test.entry))) }
+            (LabelMentions (plain_label on.now))) }
     {
-        match test {
-            Opening::Symbol(symbol) => Ok(Key::Symbol(symbol)),
-            Opening::Constant(value) => Ok(Key::Constant(self.add_value(alloc, value)?)),
+        match on {
+            On::Symbol(symbol) => Ok(Key::Symbol(*symbol)),
+            On::Const(value) => Ok(Key::Constant(self.add_value(alloc, value)?)),
         }
     }
 
-    /// The branches of arms that go on at these places, if each arm begins with a test of the variable.
+    /// The branches of arms that go on at these places, if each answer of an arm comes behind a test of the variable for
+    /// what the arm is for.
     fn branches_of(
         &mut self,
         alloc: Global,
@@ -225,16 +225,15 @@ impl Code {
             return Err(Memory);
         }
         for k in 0..arms.len() {
-            match first_test(variable, &arms[k].body) {
-                None => return Ok(None),
-                Some(test) => {
-                    let key = self.key(alloc, test)?;
-                    self.branches.push(Branch {
-                        key,
-                        place: places[k],
-                    })?;
-                }
+            let arm = &arms[k];
+            if !opens(variable, &arm.on, &arm.body) {
+                return Ok(None);
             }
+            let key = self.key(alloc, &arm.on)?;
+            self.branches.push(Branch {
+                key,
+                place: places[k],
+            })?;
         }
         Ok(Some(Part {
             start: start as u32,
@@ -242,8 +241,8 @@ impl Code {
         }))
     }
 
-    /// Arms that stand in these places: by the value of the variable, if each begins with a test of it; else they are tried
-    /// one after another.
+    /// Arms that stand in these places: by the value of the variable, if each answer of an arm comes behind the arm's test
+    /// of it; else they are tried one after another.
     fn case(
         &mut self,
         alloc: Global,

@@ -1,61 +1,94 @@
-ghost use Rattle.std.specs.Prelude.{◌≡◌, nat_eq, if◌then◌else◌};
+ghost use Rattle.std.specs.Prelude.{◌≡◌, IsTrue, map};
 ghost use Rattle.mc_program.specs.Values.{plain_value};
-ghost use Rattle.mc_model.specs.Scheduled.{for_symbol, for_constant};
-ghost use Rattle.mc_model.specs.PlainGoals.{plain_node};
-ghost use Rattle.mc_flat_code.specs.Standing.{opening as opening_label};
-ghost use Rattle.mc_flat_code.specs.code.Openings.{label_told};
+ghost use Rattle.mc_model.specs.Scheduled.{for_symbol, for_constant, nodes};
+ghost use Rattle.mc_model.specs.PlainGoals.{plain_label, plain_node, plain_arm, arms_of};
+ghost use Rattle.mc_flat_code.specs.Standing.{Opens, FirstOpens, EachOpens, FirstArmOpens, EachArmOpens};
 
-use mc_model::sched::{GoalNode, Sched};
+use mc_model::sched::{Arm, GoalNode, On, Sched};
+use mc_program::same::same_value;
 use mc_program::value::Value;
 
-/// The test of a variable with which a goal begins: for a constructor, by its symbol, or for a constant.
-#[derive(Clone, Copy)]
-pub enum Opening<'a> {
-    Symbol(u32),
-    Constant(&'a Value),
-}
-
-/// The test of this variable with which a goal begins, if it begins with one.
-pub fn first_test<'a>(variable: u32, goal: &'a GoalNode) -> Option<Opening<'a>>
-    ensures { label_told result ≡ opening_label variable (plain_node goal.now) }
+/// Whether each answer of a goal comes behind a test of this variable for what an arm is for: the goal begins with the
+/// test, or each of its alternatives does.
+#[cycle(opening)]
+pub fn opens(variable: u32, on: &On, goal: &GoalNode) -> bool
+    ensures { IsTrue result → Opens (plain_label on.now) variable (plain_node goal.now) }
 {
     match &goal.goal {
         Sched::Conj(goals) => match goals.as_slice() {
-            [] => None,
-            [first, ..] => first_test(variable, first),
+            [] => false,
+            [first, ..] => opens(variable, on, first),
         },
-        Sched::Some(_, inner) => first_test(variable, inner),
-        Sched::Build(v, symbol, _) => symbol_at(variable, *v, *symbol),
-        Sched::Take(v, symbol, _) => symbol_at(variable, *v, *symbol),
-        Sched::Const(v, value) => constant_at(variable, *v, value),
-        Sched::TestConst(v, value) => constant_at(variable, *v, value),
-        Sched::Disj(_) => None,
-        Sched::Switch(_, _) => None,
-        Sched::Ite(_, _, _, _) => None,
-        Sched::Not(_) => None,
-        Sched::Assign(_, _) => None,
-        Sched::Test(_, _) => None,
-        Sched::Call(_, _, _) => None,
-        Sched::Apply(_, _, _) => None,
+        Sched::Disj(goals) => alternatives_open(variable, on, goals.as_slice()),
+        Sched::Switch(_, arms) => arms_open(variable, on, arms.as_slice()),
+        Sched::Some(_, inner) => opens(variable, on, inner),
+        Sched::Build(v, symbol, _) => *v == variable && is_symbol(on, *symbol),
+        Sched::Take(v, symbol, _) => *v == variable && is_symbol(on, *symbol),
+        Sched::Const(v, value) => *v == variable && is_constant(on, value),
+        Sched::TestConst(v, value) => *v == variable && is_constant(on, value),
+        Sched::Ite(_, _, _, _) => false,
+        Sched::Not(_) => false,
+        Sched::Assign(_, _) => false,
+        Sched::Test(_, _) => false,
+        Sched::Call(_, _, _) => false,
+        Sched::Apply(_, _, _) => false,
     }
 }
 
-fn symbol_at<'a>(variable: u32, tested: u32, symbol: u32) -> Option<Opening<'a>>
-    ensures { label_told result ≡ (if nat_eq tested variable then Some (for_symbol symbol) else None) }
+/// Whether each of these alternatives opens so, and there is one.
+#[cycle(opening)]
+fn alternatives_open(variable: u32, on: &On, goals: &[GoalNode]) -> bool
+    ensures first { IsTrue result
+        → FirstOpens (plain_label on.now) variable (nodes (map plain_node goals.now)) }
+    ensures each { IsTrue result
+        → EachOpens (plain_label on.now) variable (nodes (map plain_node goals.now)) }
 {
-    if tested == variable {
-        Some(Opening::Symbol(symbol))
-    } else {
-        None
+    if goals.is_empty() {
+        return false;
+    }
+    for goal in goals {
+        if !opens(variable, on, goal) {
+            return false;
+        }
+    }
+    true
+}
+
+/// Whether the goal of each of these arms opens so, and there is one.
+#[cycle(opening)]
+fn arms_open(variable: u32, on: &On, arms: &[Arm]) -> bool
+    ensures first { IsTrue result
+        → FirstArmOpens (plain_label on.now) variable (arms_of (map plain_arm arms.now)) }
+    ensures each { IsTrue result
+        → EachArmOpens (plain_label on.now) variable (arms_of (map plain_arm arms.now)) }
+{
+    if arms.is_empty() {
+        return false;
+    }
+    for arm in arms {
+        if !opens(variable, on, &arm.body) {
+            return false;
+        }
+    }
+    true
+}
+
+/// Whether an arm is for this constructor.
+fn is_symbol(on: &On, symbol: u32) -> bool
+    ensures { IsTrue result → plain_label on.now ≡ for_symbol symbol }
+{
+    match on {
+        On::Symbol(wanted) => *wanted == symbol,
+        On::Const(_) => false,
     }
 }
 
-fn constant_at<'a>(variable: u32, tested: u32, value: &'a Value) -> Option<Opening<'a>>
-    ensures { label_told result ≡ (if nat_eq tested variable then Some (for_constant (plain_value value.now)) else None) }
+/// Whether an arm is for this constant.
+fn is_constant(on: &On, value: &Value) -> bool
+    ensures { IsTrue result → plain_label on.now ≡ for_constant (plain_value value.now) }
 {
-    if tested == variable {
-        Some(Opening::Constant(value))
-    } else {
-        None
+    match on {
+        On::Symbol(_) => false,
+        On::Const(wanted) => same_value(wanted, value),
     }
 }

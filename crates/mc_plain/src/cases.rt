@@ -1,4 +1,4 @@
-ghost use Rattle.std.specs.Prelude.{◌≡◌, All, IfOk, IfSome, OnOk, option_map};
+ghost use Rattle.std.specs.Prelude.{◌≡◌, ◌↔◌, IsTrue, All, IfOk, IfSome, OnOk, option_map};
 ghost use Rattle.mc_values.specs.Heap.{IsLive, value_at};
 ghost use Rattle.mc_values.specs.declared.heap.Heap.{Heap as TheHeap};
 ghost use Rattle.mc_values.specs.Parts.{symbol_of};
@@ -108,10 +108,27 @@ fn fits(
         },
         Key::Constant(k) => match constants.get(k as usize) {
             Some(constant) => {
-                let same = heap.equal(value, *constant)?;
+                let same = is_constant(heap, value, *constant)?;
                 Ok(same)
             }
             None => Ok(false),
         },
+    }
+}
+
+/// Whether a value is that of a constant. Of integers there can be a branch for each of a thousand facts, so that they
+/// are compared at once.
+fn is_constant(heap: &Heap, value: Ref, constant: Ref) -> Result<bool, Memory>
+    requires value { IsLive heap.now value }
+    requires constant { IsLive heap.now constant }
+    ensures { IfOk result (λ same. IsTrue same
+        ↔ (value_at heap.now value ≡ value_at heap.now constant)) }
+{
+    match heap.int_at(constant) {
+        Some(wanted) => match heap.int_at(value) {
+            Some(found) => Ok(found == wanted),
+            None => Ok(false),
+        },
+        None => heap.equal(value, constant),
     }
 }

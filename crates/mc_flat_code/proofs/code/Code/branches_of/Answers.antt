@@ -1,12 +1,11 @@
-use Rattle.std.proofs.Common.{◌≡◌, refl, sym, ap, ◌∙◌, [], ◌∷◌, ◌++◌, length, take, get_or, map, append_assoc, length-take, arith}
-use Rattle.mc_model.specs.PlainGoals.{plain_node, plain_arm, arms_of}
+use Rattle.std.proofs.Common.{◌≡◌, refl, sym, ap, ◌∙◌, subst, Some, [], ◌∷◌, ◌++◌, length, take, get_or, map, append_assoc, length-take, arith}
+use Rattle.mc_model.specs.PlainGoals.{plain_node, plain_arm, plain_label, arms_of}
 use Rattle.mc_model.specs.declared.sched.Arm.{Arm}
 use Rattle.mc_model.specs.Scheduled.{Label, Node}
-use Rattle.mc_flat_code.specs.Standing.{opening}
-use Rattle.mc_flat_code.specs.Mentions.{Mention, ArmsMention}
+use Rattle.mc_flat_code.specs.Standing.{Opens}
+use Rattle.mc_flat_code.specs.Mentions.{Mention, Mentions, ArmsMention}
 use Rattle.mc_flat_code.specs.code.Building.{Grows}
 use Rattle.mc_flat_code.specs.code.Mentioning.{LabelMentions}
-use Rattle.mc_flat_code.specs.code.Openings.{opening_label}
 use Rattle.mc_flat_code.specs.declared.code.Branch.{Branch}
 use Rattle.mc_flat_code.specs.declared.code.Code.{Code}
 use Rattle.mc_flat_code.proofs.Growth.{grows_then, keyed_grows, label_grows}
@@ -19,30 +18,31 @@ pub loop-k-preserved : goal.loop-k-preserved
 loop-k-preserved c =
     let key : Code = c.key.new.self in
     let new : Code = record c.key.new.self { branches = c.push.new.self } in
-    let b : Branch = record { key = c.in_ok-key-in-Some.key; place = get_or c.args.places.now c.loop-k.k 0 } in
+    let b : Branch = record { key = c.in_ok-key.key; place = get_or c.args.places.now c.loop-k.k 0 } in
     let keyed = c.loop-k.invariant.keyed in
+    let arm : Arm = c.index-arms-k.result in
     let all : Mention → Type 0 = ArmsMention (arms_of (map plain_arm c.args.arms.now)) in
-    let pushed : Grows key new = branch_grows key c.push.new.self b c.in_ok-push-in-Some.ensures.items in
-    let more : Grows c.loop-k.self new = grows_then c.loop-k.self key new c.in_ok-key-in-Some.ensures.grows pushed in
+    let pushed : Grows key new = branch_grows key c.push.new.self b c.in_ok-push.ensures.items in
+    let more : Grows c.loop-k.self new = grows_then c.loop-k.self key new c.in_ok-key.ensures.grows pushed in
+    let opened : Opens (plain_label arm.on) c.args.variable (plain_node arm.body) = c.opens.ensures c.if-not-opens.false in
     record {
       grows = grows_then c.args.self.now c.loop-k.self new c.loop-k.invariant.grows more;
-      goals = ap (λ k. k.instrs.items) c.in_ok-key-in-Some.ensures.others ∙ c.loop-k.invariant.goals;
+      goals = ap (λ k. k.instrs.items) c.in_ok-key.ensures.others ∙ c.loop-k.invariant.goals;
       brings =
-          brings_then c.args.self.now c.loop-k.self new all (LabelMentions (opening_label c.in-Some.test)) all c.loop-k.invariant.brings
-          (record { only = λ m x. c.in_ok-key-in-Some.ensures.brings.only m x }) (λ m x. x)
+          brings_then c.args.self.now c.loop-k.self new all (LabelMentions (plain_label arm.on)) all c.loop-k.invariant.brings
+          (record { only = λ m x. c.in_ok-key.ensures.brings.only m x }) (λ m x. x)
           (λ m x.
-          arm_mentions c.args.arms.now c.loop-k.k c.index-arms-k.result m c.loop-k-test.true
-          (opening_mentions c.args.variable (plain_node (get_or c.args.arms.now c.loop-k.k c.index-arms-k.result).body) (opening_label c.in-Some.test) m (sym c.in-Some.ensures) x));
+          arm_mentions c.args.arms.now c.loop-k.k arm m c.loop-k-test.true
+          (subst (λ (a : Arm). Mentions (plain_node a.body) m) c.index-arms-k.is (opening_mentions (plain_label arm.on) c.args.variable (plain_node arm.body) m opened x)));
       keyed = (
         keyed.0 ++ b ∷ [],
         (
-          c.in_ok-push-in-Some.ensures.items ∙ ap (λ k. k.branches.items ++ b ∷ []) c.in_ok-key-in-Some.ensures.others
+          c.in_ok-push.ensures.items ∙ ap (λ k. k.branches.items ++ b ∷ []) c.in_ok-key.ensures.others
               ∙ ap (λ l. l ++ b ∷ []) keyed.1.0 ∙ append_assoc c.args.self.now.branches.items keyed.0 (b ∷ []),
-          keyed_step new c.args.variable c.args.arms.now c.args.places.now c.loop-k.k c.index-arms-k.result keyed.0 b (opening_label c.in-Some.test) c.loop-k-test.true c.requires c.index-arms-k.is refl
+          keyed_step new c.args.variable c.args.arms.now c.args.places.now c.loop-k.k arm keyed.0 b c.loop-k-test.true c.requires c.index-arms-k.is refl
               (keyed_grows c.loop-k.self new more c.args.variable (arms_of (map plain_arm (take c.loop-k.k c.args.arms.now))) keyed.0 (take c.loop-k.k c.args.places.now) keyed.1.1)
-              (ap (λ (a : Label × Node). opening c.args.variable a.1) (arm_open c.index-arms-k.result)
-              ∙ ap (λ (a : Arm). opening c.args.variable (plain_node a.body)) c.index-arms-k.is ∙ sym c.in-Some.ensures)
-              (label_grows key new pushed c.in_ok-key-in-Some.key (opening_label c.in-Some.test) c.in_ok-key-in-Some.ensures.key),
+              (subst (λ (a : Label × Node). Opens a.0 c.args.variable a.1) (sym (arm_open arm)) opened)
+              (label_grows key new pushed c.in_ok-key.key (plain_arm arm).0 (c.in_ok-key.ensures.key ∙ ap (λ (a : Label × Node). Some a.0) (sym (arm_open arm)))),
         ),
       );
     }
