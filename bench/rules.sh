@@ -109,6 +109,11 @@ def predicates(n):
                  % (k, k, k, k - 1, k))
     return text
 
+def facts(n, last):
+    """Facts over two of 1,000 constants, and a last clause whose rule ends the check behind a phase."""
+    return (heading() + constants(1000) + ":- pred p(t::out, t::out) is nondet.\n:- pred q(t::in, t::out) is det.\n:- implementation.\n"
+            + "".join("p(c%d, c%d).\n" % (k % 1000, k * 7919 % 1000) for k in range(n)) + last)
+
 def measure(title, text, limit, wanted=0):
     global ok
     name = os.path.join(folder, "m.m")
@@ -122,6 +127,17 @@ def measure(title, text, limit, wanted=0):
     ok = ok and good
     print("%-62s %8d bytes %7.2f s of processor, %7.2f s by the clock, %6.1f MB, status %d%s"
           % (title, len(text), usage.ru_utime, clock, usage.ru_maxrss / 1e3, status, "" if good else "   WANTED: %g s, status %d" % (limit, wanted)))
+    sys.stdout.flush()
+    return usage.ru_utime, usage.ru_maxrss * 1024
+
+def on_top(title, n, below, above, seconds, most):
+    """What the phase between takes of each of n facts."""
+    global ok
+    time_taken, room = above[0] - below[0], (above[1] - below[1]) / n
+    good = time_taken <= seconds and room <= most
+    ok = ok and good
+    print("%-62s %7.2f s of processor, %d bytes a fact%s"
+          % (title, time_taken, room, "" if good else "   WANTED: %g s, %d bytes" % (seconds, most)))
     sys.stdout.flush()
 
 for n in (1000, 2000, 4000):
@@ -142,6 +158,9 @@ measure("200000 disjuncts, the last not opened", unopened(200000), 6)
 measure("60 switches one in another", switched(60), 1)
 measure("4096 candidate variables", candidates(4096), 2)
 measure("200000 facts", rows(200000), 4)
+typed = measure("200000 facts, up to a rule of types", facts(200000, "q(X, Y) :- X = Y, X = 3.\n"), 4, 1)
+moded = measure("200000 facts, up to a rule of modes", facts(200000, "q(X, Y) :- X = X.\n"), 4, 1)
+on_top("their modes, on top of their types", 200000, typed, moded, 1, 300)
 measure("10000 predicates with rules", predicates(10000), 2)
 sys.exit(0 if ok else 1)
 PY
