@@ -11,6 +11,7 @@ ghost use Rattle.mc_check_clause.specs.Fitting.{IsSomeTable, clause_fits};
 ghost use Rattle.mc_check_clause.specs.Checked.{Answers};
 ghost use Rattle.mc_check_clause.specs.code.Made.{IsMade};
 
+use crate::fitting::all_fit;
 use crate::marks::marked;
 use crate::picking::picked;
 use crate::rigid::rigid_count;
@@ -66,7 +67,43 @@ pub fn check_clause(
         → Answers P D clause.now result }
 {
     let steps = walk_steps(alloc, clause)?;
+    check_steps(alloc, signatures, clause, steps.as_slice())
+}
+
+/// The same, where it isn't known whether the clause fits the table. One that doesn't counts as one that finds no room.
+pub fn check_any_clause(
+    alloc: Global,
+    signatures: &Signatures,
+    clause: &UnresolvedClause,
+) -> Result<Resolved, TypeFault>
+    requires table { IsSomeTable signatures.now }
+    ensures { (P : Source) (D : Parameters)
+        → (clause_fits signatures.now clause.now ≡ true
+        → ShowsAll P D signatures.now (steps_of (plain_unresolved_clause clause.now)))
+        → Answers P D clause.now result }
+{
+    let steps = walk_steps(alloc, clause)?;
     let steps = steps.as_slice();
+    if !all_fit(signatures, steps, clause.names.len()) {
+        return Err(TypeFault::Memory);
+    }
+    check_steps(alloc, signatures, clause, steps)
+}
+
+/// The same, of a clause that fits, and whose steps these are.
+fn check_steps(
+    alloc: Global,
+    signatures: &Signatures,
+    clause: &UnresolvedClause,
+    steps: &[WalkStep],
+) -> Result<Resolved, TypeFault>
+    requires table { IsSomeTable signatures.now }
+    requires fits { clause_fits signatures.now clause.now ≡ true }
+    requires steps { map plain_walk_step steps.now ≡ steps_of (plain_unresolved_clause clause.now) }
+    ensures { (P : Source) (D : Parameters)
+        → ShowsAll P D signatures.now (steps_of (plain_unresolved_clause clause.now))
+        → Answers P D clause.now result }
+{
     let vars = clause.names.len() as usize;
     let walk = walked(alloc, signatures, steps, vars)?;
     match resolve_walk(alloc, signatures, &walk, LIMIT)? {
@@ -113,7 +150,7 @@ fn resolve(
         → Shows P D signatures.now (of_head clause.now.pred)
         → IsMade P D clause.now (map plain_walk_step steps.now) choices.now.items types.now.items made) }
 {
-    let picks = pick(alloc, signatures, steps, choices)?;
+    let picks = picked(alloc, signatures, steps, choices.as_slice())?;
     let rigid = head_count(signatures, clause.pred)?;
     let made = resolved_clause(alloc, clause, picks.as_slice())?;
     let flags = marked(alloc, steps, clause.names.len() as usize)?;

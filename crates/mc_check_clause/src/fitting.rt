@@ -22,7 +22,7 @@ pub fn fits(
 }
 
 /// Whether each step fits.
-fn all_fit(signatures: &Signatures, steps: &[WalkStep], names: u32) -> bool
+pub fn all_fit(signatures: &Signatures, steps: &[WalkStep], names: u32) -> bool
     ensures { result ≡ each_fits signatures.now names (map plain_walk_step steps.now) }
 {
     for step in steps {

@@ -11,6 +11,6 @@ mod table;
 mod types;
 mod walking;
 
-pub use checking::{TypeFault, check_clause};
+pub use checking::{TypeFault, check_any_clause, check_clause};
 pub use fitting::fits;
 pub use table::signatures_of;

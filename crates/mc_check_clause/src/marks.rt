@@ -28,7 +28,7 @@ pub fn marked(alloc: Global, steps: &[WalkStep], vars: usize) -> Result<Vec<bool
 {
     let mut marks = Marks::new(alloc, vars)?;
     for step in steps {
-        marks.take_step(alloc, *step)?;
+        marks.take_step(*step)?;
     }
     let Marks { stack: _, flags } = marks;
     Ok(flags)
@@ -50,7 +50,7 @@ impl Marks {
     }
 
     /// Takes a step.
-    fn take_step(&mut self, alloc: Global, step: WalkStep) -> Result<(), Memory>
+    fn take_step(&mut self, step: WalkStep) -> Result<(), Memory>
         ensures { OnOk result (marking self.new
             ≡ after (plain_walk_step step.entry) (marking self.old)) }
     {
@@ -62,21 +62,22 @@ impl Marks {
             WalkStep::Number => self.push_occurrence(),
             WalkStep::Text => self.push_occurrence(),
             WalkStep::Choose(_, arguments) => {
-                self.take(alloc, arguments)?;
+                self.take(arguments);
                 self.push_occurrence()
             }
             WalkStep::Equate => {
-                let sides = self.take(alloc, 2)?;
-                self.unmark(equated(sides.as_slice()));
+                let side = self.equated_side();
+                self.take(2);
+                self.unmark(side);
                 Ok(())
             }
             WalkStep::Call(_, arguments) => {
-                self.take(alloc, arguments)?;
+                self.take(arguments);
                 Ok(())
             }
             WalkStep::CloseHead(_, arguments) => {
-                let tops = self.take(alloc, arguments)?;
-                self.unmark_all(tops.as_slice());
+                self.unmark_topmost(arguments);
+                self.take(arguments);
                 Ok(())
             }
         }
@@ -94,16 +95,21 @@ impl Marks {
         Ok(())
     }
 
-    /// The topmost terms, which are taken off.
-    fn take(&mut self, alloc: Global, count: usize) -> Result<Vec<Top>, Memory>
-        ensures taken { IfOk result (λ tops. tops.items ≡ topmost count self.old.stack.items) }
+    /// Takes off the topmost terms.
+    fn take(&mut self, count: usize)
         ensures left { self.new.stack.items ≡ below count self.old.stack.items }
         ensures flags { self.new.flags.items ≡ self.old.flags.items }
     {
         let from = self.stack.len().saturating_sub(count);
-        let tops = self.stack[from..].to_vec(alloc);
         self.stack.truncate(from);
-        Ok(tops?)
+    }
+
+    /// The side of an equation, whose sides are the topmost terms, that is equated with the other's variable.
+    fn equated_side(&self) -> Top
+        ensures { result ≡ equated (topmost 2 self.now.stack.items) }
+    {
+        let from = self.stack.len().saturating_sub(2);
+        equated(&self.stack[from..])
     }
 
     /// Takes back the flag of an occurrence that is equated with a variable.
@@ -118,13 +124,15 @@ impl Marks {
         }
     }
 
-    /// The same for each argument of a head.
-    fn unmark_all(&mut self, tops: &[Top])
-        ensures flags { self.new.flags.items ≡ all_unmarked tops.now self.old.flags.items }
+    /// The same for the topmost terms, the arguments of a head.
+    fn unmark_topmost(&mut self, count: usize)
+        ensures flags { self.new.flags.items
+            ≡ all_unmarked (topmost count self.old.stack.items) self.old.flags.items }
         ensures stack { self.new.stack.items ≡ self.old.stack.items }
     {
-        for top in tops {
-            self.unmark(*top);
+        for k in self.stack.len().saturating_sub(count)..self.stack.len() {
+            let top = self.stack[k];
+            self.unmark(top);
         }
     }
 }

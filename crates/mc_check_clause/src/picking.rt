@@ -26,10 +26,11 @@ pub fn picked(
         → ShowsAll P D signatures.now (map plain_walk_step steps.now)
         → picks.items ≡ picks_of (tied P D (map plain_walk_step steps.now) vars []) choices.now) }
 {
+    let picks = Vec::with_capacity(alloc, choices.len())?;
     let mut picking = Picking {
         choices,
         height: 0,
-        picks: Vec::new(alloc),
+        picks,
     };
     for step in steps {
         picking.take(signatures, *step)?;

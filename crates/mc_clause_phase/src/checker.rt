@@ -7,7 +7,7 @@ ghost use Rattle.mc_clause_phase.specs.code.Adding.{IsVerdict};
 
 use crate::difference::difference;
 use mc_base::{Memory, Text};
-use mc_check_clause::{TypeFault, check_clause, fits};
+use mc_check_clause::{TypeFault, check_any_clause};
 use mc_clauses::Module;
 use mc_program::program::{Program, Resolved};
 use mc_source::rule::Rule;
@@ -44,10 +44,7 @@ impl Checker<'_> {
             (parameters_in self.now.program.types) clause.now verdict) }
     {
         let alloc = self.at.alloc;
-        if !fits(alloc, &self.signatures, clause)? {
-            return Err(Memory);
-        }
-        match check_clause(alloc, &self.signatures, clause) {
+        match check_any_clause(alloc, &self.signatures, clause) {
             Ok(made) => Ok(Verdict::Typed(made)),
             Err(TypeFault::None) => {
                 let what = Text::new(alloc, b"clause has no typing")?;

@@ -7,3 +7,4 @@ pub mod Properness
 pub mod Stepping
 pub mod Onward
 pub mod Choosing
+pub mod Naming

@@ -4,7 +4,7 @@ use Rattle.mc_check_clause.proofs.Picked.{picks_first, picks_more, picks_whole}
 use Rattle.mc_check_clause.proofs.picking.picked.Goals as goal
 
 pub loop-step-init : goal.loop-step-init
-loop-step-init c = picks_first c.args.signatures.now c.args.steps.now c.args.choices.now (record { choices = c.args.choices; height = 0; picks = c.new.result }) refl c.new.ensures.items refl
+loop-step-init c = picks_first c.args.signatures.now c.args.steps.now c.args.choices.now (record { choices = c.args.choices; height = 0; picks = c.in_ok-picks.picks }) refl c.in_ok-picks.ensures.items refl
 
 pub loop-step-preserved : goal.loop-step-preserved
 loop-step-preserved c = picks_more c.args.signatures.now c.args.steps.now c.args.choices.now c.loop-step.step-index (W.Variable 0) c.loop-step.picking c.take.new.self c.loop-step-test.true c.in_ok-take.ensures c.loop-step.invariant

@@ -1,11 +1,9 @@
-use Rattle.std.proofs.Common.{◌≡◌, ◌∙◌, true, length, ap₂, rules, arith}
-use Rattle.std.proofs.lemmas.Grind.{common_steps}
+use Rattle.std.proofs.Common.{◌∙◌, length, ap₂}
 use Rattle.mc_program.specs.PlainPrograms.{plain_program}
 use Rattle.mc_accepted.specs.Resolving.{steps_of}
 use Rattle.mc_unresolved.specs.Unresolved.{plain_unresolved_clause}
 use Rattle.mc_modules.specs.Linked.{plain_names}
 use Rattle.mc_clauses.specs.Typing.{too_many, has_none, has_two, has_one, difference}
-use Rattle.mc_check_clause.specs.Fitting.{clause_fits}
 use Rattle.mc_check_clause.specs.Tables.{parameters_in}
 use Rattle.mc_check_clause.proofs.WhatFits.{shown_of}
 use Rattle.mc_clause_phase.proofs.checker.Checker.verdict.Goals as goal
@@ -16,12 +14,9 @@ returns-in-Ok c table =
     let clause = c.args.clause.now in
     let P = plain_program checker.program in
     let D = parameters_in checker.program.types in
-    let fits : clause_fits checker.signatures clause ≡ true =
-    first_of (search rules, grind (arith, common_steps))
-    in
     let shows =
     shown_of P D checker.signatures table.shows (length clause.names)
-    (steps_of (plain_unresolved_clause clause)) fits
+    (steps_of (plain_unresolved_clause clause))
     in
     let a = c.in-Ok.ensures P D shows in
     (has_one a.1 a.0.typed, a.0)
@@ -32,12 +27,9 @@ returns-in_ok-what-in-Err-None c table =
     let clause = c.args.clause.now in
     let P = plain_program checker.program in
     let D = parameters_in checker.program.types in
-    let fits : clause_fits checker.signatures clause ≡ true =
-    first_of (search rules, grind (arith, common_steps))
-    in
     let shows =
     shown_of P D checker.signatures table.shows (length clause.names)
-    (steps_of (plain_unresolved_clause clause)) fits
+    (steps_of (plain_unresolved_clause clause))
     in
     let told = rw c.in-Err-None.field-0-is at c.in-Err-None.ensures in
     let a = told P D shows in
@@ -49,12 +41,9 @@ returns-in_ok-what-in-Err-Two c table =
     let clause = c.args.clause.now in
     let P = plain_program checker.program in
     let D = parameters_in checker.program.types in
-    let fits : clause_fits checker.signatures clause ≡ true =
-    first_of (search rules, grind (arith, common_steps))
-    in
     let shows =
     shown_of P D checker.signatures table.shows (length clause.names)
-    (steps_of (plain_unresolved_clause clause)) fits
+    (steps_of (plain_unresolved_clause clause))
     in
     let told = rw c.in-Err-Two.field-0-is at c.in-Err-Two.ensures in
     let a = told P D shows in
@@ -71,12 +60,9 @@ returns-in_ok-what-in-Err-TooMany c table =
     let clause = c.args.clause.now in
     let P = plain_program checker.program in
     let D = parameters_in checker.program.types in
-    let fits : clause_fits checker.signatures clause ≡ true =
-    first_of (search rules, grind (arith, common_steps))
-    in
     let shows =
     shown_of P D checker.signatures table.shows (length clause.names)
-    (steps_of (plain_unresolved_clause clause)) fits
+    (steps_of (plain_unresolved_clause clause))
     in
     let told = rw c.in-Err-TooMany.field-0-is at c.in-Err-TooMany.ensures in
     rw c.in_ok-what-in-Err-TooMany.ensures (too_many (told P D shows))
