@@ -19,7 +19,7 @@ use Rattle.mc_mode_points.specs.States.{point_of}
 use Rattle.mc_mode_points.specs.declared.state.State.{State}
 use Rattle.mc_modes.specs.code.Waiting.{nothing}
 use Rattle.mc_modes.specs.code.Sleeping as S
-use Rattle.mc_modes.specs.code.Sleeping.{Waits, Free, input_is_free, free_beside, free_now, kept_beside, was_found, changed_by, changed_by_each, making_is_mild, call_sleeps, atom_sleeps, is_mild, Asleep}
+use Rattle.mc_modes.specs.code.Sleeping.{Waits, Free, input_is_free, free_beside, free_now, kept_beside, was_found, changed_by, changed_by_each, making_is_mild, call_sleeps, atom_sleeps, may_be_mild, Asleep}
 use Rattle.mc_modes.proofs.Counts.{times-append}
 use Rattle.mc_modes.proofs.MildGoals.{KeptAt, NoneKept, FirstKept, Mild, waiting-is-mild, made-is-mild, constant-is-mild, same-runs, call-runs}
 
@@ -309,7 +309,7 @@ module _ (C : Chosen) (P : Source) (declared : ℕ → List Declared) (T : ℕ �
           inr (k.0, ap (C.over f) (there-are d b i u ys q.0) ∙ k.1))
           (or_cases (list_any (free_beside (free_now s) (vs ++ all)) ys) (was_found s f (map (point_of s.insts.items) ys)) q.1)
 
-      goal-is-mild : (g : Flat_goal) → is_mild P declared g ≡ true → making_is_mild s (vs ++ all) g ≡ true → IsMild vs below total (record { variables = variables_of g; trial = trial Op P declared T g }) (own g)
+      goal-is-mild : (g : Flat_goal) → may_be_mild P declared g ≡ true → making_is_mild s (vs ++ all) g ≡ true → IsMild vs below total (record { variables = variables_of g; trial = trial Op P declared T g }) (own g)
       goal-is-mild (F.Same x y) e m O n b d le i u =
           same-runs C P declared T s (kept (plus vs below total d (own (F.Same x y)))) first x y (none-kept d (x ∷ y ∷ [])) n b le (kept-more d (own (F.Same x y)) b u)
       goal-is-mild (F.Call p xs) e m O n b d le i u =
@@ -332,10 +332,10 @@ module _ (C : Chosen) (P : Source) (declared : ℕ → List Declared) (T : ℕ �
       abbrev GoalsMild : List Flat_goal → Type 0
       GoalsMild gs = (h : Mildly (trials Op P declared T (flats gs))) × ((z : ℕ) → left vs below total (trials Op P declared T (flats gs)) h z ≡ times_in z (changed_by_each gs))
 
-      all-mild : (gs : List Flat_goal) → list_all (is_mild P declared) gs ≡ true → list_all (making_is_mild s (vs ++ all)) gs ≡ true → GoalsMild gs
+      all-mild : (gs : List Flat_goal) → list_all (may_be_mild P declared) gs ≡ true → list_all (making_is_mild s (vs ++ all)) gs ≡ true → GoalsMild gs
       all-mild [] e m = (tt, λ z. refl)
       all-mild (g ∷ gs) e m =
-          let q = and_parts (is_mild P declared g) (list_all (is_mild P declared) gs) e in
+          let q = and_parts (may_be_mild P declared g) (list_all (may_be_mild P declared) gs) e in
           let p = and_parts (making_is_mild s (vs ++ all) g) (list_all (making_is_mild s (vs ++ all)) gs) m in
           let r = all-mild gs q.1 p.1 in
           (((own g, goal-is-mild g q.0 p.0), r.0), λ z. let j = r.1 z in let k = times-append z (changed_by g) (changed_by_each gs) in omega (arith, j, k))
@@ -348,7 +348,7 @@ module _ (C : Chosen) (P : Source) (declared : ℕ → List Declared) (T : ℕ �
           (h : Mildly (trials Op P declared T (flats gs))) × ((z : ℕ) → left vs below total (trials Op P declared T (flats gs)) h z ≡ times_in z (changed_by_each others)) × OneSleeps vs below total (trials Op P declared T (flats gs))
 
       -- the others are mild, and this one sleeps
-      with-sleeper : (gs : List Flat_goal) (k : ℕ) → k < length gs → list_all (is_mild P declared) (remove gs k) ≡ true → list_all (making_is_mild s (vs ++ all)) (remove gs k) ≡ true → GoalSleeps (get_or gs k nothing)
+      with-sleeper : (gs : List Flat_goal) (k : ℕ) → k < length gs → list_all (may_be_mild P declared) (remove gs k) ≡ true → list_all (making_is_mild s (vs ++ all)) (remove gs k) ≡ true → GoalSleeps (get_or gs k nothing)
           → WithSleeper gs (remove gs k)
       with-sleeper [] k h e m o = absurd (omega (arith, h))
       with-sleeper (g ∷ gs) zero h e m o =
@@ -365,7 +365,7 @@ module _ (C : Chosen) (P : Source) (declared : ℕ → List Declared) (T : ℕ �
             inl o,
           )
       with-sleeper (g ∷ gs) (suc k) h e m o =
-          let q = and_parts (is_mild P declared g) (list_all (is_mild P declared) (remove gs k)) e in
+          let q = and_parts (may_be_mild P declared g) (list_all (may_be_mild P declared) (remove gs k)) e in
           let p = and_parts (making_is_mild s (vs ++ all) g) (list_all (making_is_mild s (vs ++ all)) (remove gs k)) m in
           let r = with-sleeper gs k (omega (arith, h)) q.1 p.1 o in (
             ((own g, goal-is-mild g q.0 p.0), r.0),
@@ -377,7 +377,7 @@ module _ (C : Chosen) (P : Source) (declared : ℕ → List Declared) (T : ℕ �
       count-is [] = refl
       count-is (g ∷ gs) = ap suc (count-is gs)
 
-      conjunction-waits : (gs : List Flat_goal) (k : ℕ) → all ≡ changed_by_each (remove gs k) → k < length gs → list_all (is_mild P declared) (remove gs k) ≡ true → list_all (making_is_mild s (vs ++ all)) (remove gs k) ≡ true
+      conjunction-waits : (gs : List Flat_goal) (k : ℕ) → all ≡ changed_by_each (remove gs k) → k < length gs → list_all (may_be_mild P declared) (remove gs k) ≡ true → list_all (making_is_mild s (vs ++ all)) (remove gs k) ≡ true
           → ((O : List ℕ) (n : ℕ) (b : Point ℕ) → first ≤ n → KeptAt s (kept_beside s (vs ++ all)) b → Waits (trial Op P declared T (get_or gs k nothing) O n b))
           → (O : List ℕ) (n : ℕ) (b : Point ℕ) → first ≤ n → KeptAt s (kept_beside s vs) b → Waits (in_turn Op P declared T (count_flat (flats gs)) (trials Op P declared T (flats gs)) O n b)
       conjunction-waits gs k is h e m o O n b le u =

@@ -1,7 +1,7 @@
 -- Waiting goals by their places, and the beginning of goals in turn.
 use Rattle.std.proofs.Common.{◌≡◌, ◌∙◌, ℕ, zero, suc, ◌<◌, ◌≤◌, ◌+◌, true, List, [], ◌∷◌, ◌++◌, map, length, get_or, take, drop, Some, None, refl, sym, ap, ap₂, subst, arith, append-nil, length-append}
 use Rattle.std.specs.List.{remove}
-use Rattle.std.proofs.lemmas.List.{get_or-map, length-map, take_more, take-map, drop-map, map-append}
+use Rattle.std.proofs.lemmas.List.{get_or-map, get_or_default, length-map, take_more, drop_more, take-map, drop-map, map-append}
 use Rattle.mc_program.specs.Programs.{TypeTerm, Source}
 use Rattle.mc_program.specs.declared.program.Program.{Program}
 use Rattle.mc_model.specs.Flat.{Flat_goal, Flat_goals, flats, variables_of, variables_of_all}
@@ -77,6 +77,17 @@ pub place-below : (n : ℕ) (ks : List ℕ) (k : ℕ) → NumbersBelow n ks → 
 place-below n [] k w h = absurd (omega arith)
 place-below n (j ∷ ks) zero w h = w.0
 place-below n (j ∷ ks) (suc k) w h = place-below n ks k w.1 (omega arith)
+
+-- what is read in a place
+pub read-below : (n : ℕ) (ks : List ℕ) (k x : ℕ) → NumbersBelow n ks → k < length ks → x ≡ get_or ks k x → x < n
+read-below n ks k x w h e = subst (λ j. j < n) (sym (e ∙ get_or_default ks k x 0 h)) (place-below n ks k w h)
+
+-- the variables of a goal that waits come before those of the goals behind it
+pub each-from : (gs : List Flat) (ks : List ℕ) (k : ℕ) (d : Flat) → NumbersBelow (length gs) ks → k < length ks
+    → variables_of (plain_flat (get_or gs (get_or ks k 0) d)) ++ variables_of_each (goals_at gs (drop (k + 1) ks)) ≡ variables_of_each (goals_at gs (drop k ks))
+each-from gs ks k d w h =
+    ap (λ g. variables_of g ++ variables_of_each (goals_at gs (drop (k + 1) ks))) (sym (get_or-map plain_flat gs (get_or ks k 0) d nothing (place-below (length gs) ks k w h)))
+    ∙ ap (λ js. variables_of_each (goals_at gs js)) (sym (drop_more ks k 0 h))
 
 -- it fits
 pub placed-fits : (q p : PlainProcs) (s u : State) (gs : List Flat) (ks : List ℕ) (k : ℕ) (d : Flat) → NumbersBelow (length gs) ks → k < length ks → SameState s u → Moved q p s u

@@ -1,5 +1,5 @@
 -- What is known of goals in turn while they run.
-use Rattle.std.proofs.Common.{◌≡◌, ◌∙◌, ℕ, ◌<◌, ◌≤◌, Bool, true, false, true≢false, List, [], ◌∷◌, ◌++◌, map, length, get_or, Option, refl, sym, ap, subst, arith}
+use Rattle.std.proofs.Common.{◌≡◌, ◌∙◌, ℕ, ◌<◌, ◌≤◌, Bool, true, false, true≢false, List, [], ◌∷◌, ◌++◌, map, length, get_or, Option, Some, None, IsSome, OnSome, ◌↔◌, refl, sym, ap, subst, arith}
 use Rattle.std.specs.Bool.{◌==◌}
 use Rattle.std.specs.List.{remove}
 use Rattle.std.proofs.Math.Dec.{eqb-suc-zero}
@@ -41,6 +41,11 @@ some-wait (k ∷ ks) n e t = omega arith
 pub none-wait : (ks : List ℕ) (n : ℕ) → n ≡ length ks → true ≡ (n == 0) → ks ≡ []
 none-wait [] n e t = refl
 none-wait (k ∷ ks) n e t = absurd (true≢false (t ∙ ap (λ k. k == 0) e ∙ eqb-suc-zero (length ks)))
+
+-- a place that is there is taken out
+pub was-removed : (r : Option ℕ) (ks left : List ℕ) (k n : ℕ) → n ≡ length ks → k < length ks → IsSome r ↔ (k < n) → OnSome r (left ≡ remove ks k) → left ≡ remove ks k
+was-removed None ks left k n e h there taken = absurd (true≢false (sym (there.1 (omega arith))))
+was-removed (Some x) ks left k n e h there taken = taken
 
 pub record Turned (sigs : List Sig) (gs : List Flat) (ks : List ℕ) (reachable : Bool) (done : List GoalNode) (fresh : List ℕ) (q p : PlainProcs) (s u : State) : Type 0 where
   pub onward : Onward q p s u

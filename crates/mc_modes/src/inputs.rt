@@ -9,7 +9,7 @@ ghost use Rattle.mc_procs.specs.Procedures.{source_of};
 ghost use Rattle.mc_mode_points.specs.Modes.{declared_mode, never_answers};
 ghost use Rattle.mc_modes.specs.Fitting.{Known};
 ghost use Rattle.mc_modes.specs.Signatures.{declared_in};
-ghost use Rattle.mc_modes.specs.code.Sleeping.{call_sleeps, call_returns, is_mild, input_is_free, free_beside, free_now};
+ghost use Rattle.mc_modes.specs.code.Sleeping.{call_sleeps, call_returns, may_be_mild, input_is_free, free_beside, free_now};
 
 use crate::atoms::modes_at;
 use mc_mode_points::{State, has};
@@ -163,9 +163,9 @@ fn call_returns(procs: &Procs, sigs: &[Sig], pred: u32) -> bool
 
 /// Whether a goal either waits or runs to a reachable end, as an equation of variables does and a call that comes back;
 /// but equations with constructors and constants have to be looked at beside the others.
-pub fn is_mild(procs: &Procs, sigs: &[Sig], goal: &Flat) -> bool
+pub fn may_be_mild(procs: &Procs, sigs: &[Sig], goal: &Flat) -> bool
     requires { Known procs.now.program (plain_flat goal.now) }
-    ensures { IsTrue result → is_mild (source_of procs.now) (declared_in sigs.now) (plain_flat goal.now) ≡ true }
+    ensures { IsTrue result → may_be_mild (source_of procs.now) (declared_in sigs.now) (plain_flat goal.now) ≡ true }
 {
     match goal {
         Flat::Same(_, _) => true,

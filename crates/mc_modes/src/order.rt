@@ -37,6 +37,7 @@ use mc_model::inst::{InstId, Sig};
 use mc_model::sched::{GoalNode, Sched};
 use mc_procs::Procs;
 use std::alloc::Global;
+use std::collections::VecDeque;
 
 /// Tries a goal: what it is in its order, or the rule that it breaks. After a fault the state is as before.
 #[cycle(order)]
@@ -189,21 +190,21 @@ fn first_ready(
     sigs: &[Sig],
     state: &mut State,
     goals: &[Flat],
-    waiting: &[usize],
+    waiting: &VecDeque<usize>,
 ) -> Result<Found, Memory>
     requires stands { Stands procs.old state.old }
     requires sigs { SigsFit (count_of procs.old.insts) sigs.now }
     requires fits { GoalsFit procs.old state.old (flats (map plain_flat goals.now)) }
-    requires waiting { NumbersBelow (length goals.now) waiting.now }
-    requires counted { Counted (variables_of_each (goals_at goals.now waiting.now)) state.old }
-    ensures does { IfOk result (Finds sigs.now (goals_at goals.now waiting.now) procs.old procs.new
-        state.old state.new) }
-    ensures alike { IfOk result (FoundAlike (goals_at goals.now waiting.now) state.new) }
+    requires waiting { NumbersBelow (length goals.now) waiting.now.items }
+    requires counted { Counted (variables_of_each (goals_at goals.now waiting.now.items)) state.old }
+    ensures does { IfOk result (Finds sigs.now (goals_at goals.now waiting.now.items) procs.old
+        procs.new state.old state.new) }
+    ensures alike { IfOk result (FoundAlike (goals_at goals.now waiting.now.items) state.new) }
     ensures kept { OnErr result (OnlyGrown procs.old procs.new) }
 {
     let mut found = None;
     for place in 0..waiting.len() {
-        let goal = goal_at(goals, waiting[place]);
+        let goal = goal_at(goals, waiting, place);
         if !sleeps(alloc, procs, sigs, state, &[], goal)? {
             match try_among(alloc, procs, sigs, state, goal) {
                 Ok(part) => return Ok(Found::Ready(place, part)),

@@ -7,9 +7,9 @@ ghost use Rattle.mc_procs.specs.Procedures.{source_of};
 ghost use Rattle.mc_modes.specs.Fitting.{GoalFits, GoalsFit, AllKnown};
 ghost use Rattle.mc_modes.specs.Signatures.{declared_in};
 ghost use Rattle.mc_modes.specs.code.Waiting.{nothing};
-ghost use Rattle.mc_modes.specs.code.Sleeping.{Asleep, is_mild, changed_by_each};
+ghost use Rattle.mc_modes.specs.code.Sleeping.{Asleep, may_be_mild, changed_by_each};
 
-use crate::inputs::{call_sleeps, is_free, is_mild, one_is_free};
+use crate::inputs::{call_sleeps, is_free, may_be_mild, one_is_free};
 use crate::makings::{changed_beside, is_one_too_many, makings_are_mild};
 use mc_base::{Memory, Row};
 use mc_mode_points::State;
@@ -165,19 +165,19 @@ fn sleeps_among(
     sleeps(alloc, procs, sigs, state, &changed, &goals[place])
 }
 
-/// The first place, from one on, of a goal that isn't mild, or of one equation with a constructor or constant too many;
-/// the number of goals where there is none.
+/// The first place, from one on, of a goal that can't be mild, or of one equation with a constructor or constant too
+/// many; the number of goals where there is none.
 fn first_wild(procs: &Procs, sigs: &[Sig], goals: &[Flat], from: usize) -> usize
     requires known { AllKnown procs.now.program (flats (map plain_flat goals.now)) }
     requires from { from ≤ length goals.now }
     ensures place { result ≤ length goals.now }
     ensures mild { (j : ℕ) → from ≤ j → j < result
-        → is_mild (source_of procs.now) (declared_in sigs.now) (get_or (map plain_flat goals.now) j nothing) ≡ true }
+        → may_be_mild (source_of procs.now) (declared_in sigs.now) (get_or (map plain_flat goals.now) j nothing) ≡ true }
 {
     let mut makings = 0;
     for place in from..goals.len() {
         let goal = &goals[place];
-        if is_one_too_many(goal, &mut makings) || !is_mild(procs, sigs, goal) {
+        if is_one_too_many(goal, &mut makings) || !may_be_mild(procs, sigs, goal) {
             return place;
         }
     }

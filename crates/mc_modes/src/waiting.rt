@@ -1,4 +1,4 @@
-ghost use Rattle.std.specs.Prelude.{◌≡◌, ◌<◌, ◌+◌, ◌++◌, ◌^◌, ℕ, length, get_or, slice_index_or, map, IfOk, OnOk};
+ghost use Rattle.std.specs.Prelude.{◌≡◌, ◌<◌, ◌+◌, ◌++◌, ◌^◌, ℕ, length, get_or, slice_index, slice_index_or, map, IfOk, OnOk};
 ghost use Rattle.mc_model.specs.Scheduled.{nodes, Conj};
 ghost use Rattle.mc_model.specs.PlainGoals.{plain_node};
 ghost use Rattle.mc_accepted.specs.Ordered.{times_in};
@@ -15,6 +15,7 @@ use mc_mode_points::{Failed, Mark, ModeFault, Part, State};
 use mc_model::flat::Flat;
 use mc_model::sched::{GoalNode, Sched};
 use std::alloc::Global;
+use std::collections::VecDeque;
 
 /// What a pass over the waiting goals of a conjunction finds: the place of the first that runs, with what it is then; or
 /// none, with the first fault of one that isn't only waiting itself.
@@ -24,13 +25,14 @@ pub enum Found {
     NoneReady(Option<ModeFault>),
 }
 
-/// The places of so many goals.
-pub fn places(alloc: Global, many: usize) -> Result<Vec<usize>, Memory>
+/// The places of so many goals. A queue, since mostly the first that waits is the next that runs: to take it moves none
+/// of the others.
+pub fn places(alloc: Global, many: usize) -> Result<VecDeque<usize>, Memory>
     ensures { IfOk result (λ places. places.items ≡ below many) }
 {
-    let mut places = Vec::with_capacity(alloc, many)?;
+    let mut places = VecDeque::with_capacity(alloc, many)?;
     for k in 0..many {
-        places.push(k)?;
+        places.push_back(k)?;
     }
     Ok(places)
 }
@@ -45,22 +47,29 @@ pub fn note(first: &mut Option<ModeFault>, fault: ModeFault)
     *first = Some(fault);
 }
 
-/// The goal in a place.
-pub fn goal_at(goals: &[Flat], place: usize) -> &Flat
-    requires { place < length goals.now }
-    ensures { result.now ≡ slice_index_or goals.now place result.now }
+/// The waiting goal in this place.
+pub fn goal_at<'a>(goals: &'a [Flat], waiting: &VecDeque<usize>, place: usize) -> &'a Flat
+    requires place { place < length waiting.now.items }
+    requires waiting { NumbersBelow (length goals.now) waiting.now.items }
+    ensures { result.now
+        ≡ slice_index_or goals.now (slice_index waiting.now.items place) result.now }
 {
-    &goals[place]
+    &goals[waiting[place]]
 }
 
-/// The variables of the goals in these places.
-fn variables_at(alloc: Global, goals: &[Flat], places: &[usize]) -> Result<Vec<u32>, Memory>
-    requires { NumbersBelow (length goals.now) places.now }
-    ensures { IfOk result (λ list. list.items ≡ variables_of_each (goals_at goals.now places.now)) }
+/// The variables of the waiting goals.
+fn variables_at(
+    alloc: Global,
+    goals: &[Flat],
+    waiting: &VecDeque<usize>,
+) -> Result<Vec<u32>, Memory>
+    requires { NumbersBelow (length goals.now) waiting.now.items }
+    ensures { IfOk result (λ list. list.items
+        ≡ variables_of_each (goals_at goals.now waiting.now.items)) }
 {
     let mut list = Vec::new(alloc);
-    for k in places {
-        push_variables(&mut list, &goals[*k])?;
+    for place in 0..waiting.len() {
+        push_variables(&mut list, goal_at(goals, waiting, place))?;
     }
     Ok(list)
 }
@@ -70,15 +79,15 @@ pub fn stuck(
     alloc: Global,
     state: &State,
     goals: &[Flat],
-    waiting: &[usize],
+    waiting: &VecDeque<usize>,
     found: Option<ModeFault>,
 ) -> Result<ModeFault, Memory>
-    requires places { NumbersBelow (length goals.now) waiting.now }
-    requires few { length waiting.now < 2 ^ 32 }
+    requires places { NumbersBelow (length goals.now) waiting.now.items }
+    requires few { length waiting.now.items < 2 ^ 32 }
     requires variables { NumbersBelow (length state.now.insts.items)
-        (variables_of_each (goals_at goals.now waiting.now)) }
+        (variables_of_each (goals_at goals.now waiting.now.items)) }
     ensures { IfOk result (λ fault. IsStuck (point_of state.now.insts.items)
-        (goals_at goals.now waiting.now) found fault) }
+        (goals_at goals.now waiting.now.items) found fault) }
 {
     match found {
         Some(fault) => Ok(fault),

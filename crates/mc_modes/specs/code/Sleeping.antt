@@ -96,16 +96,16 @@ module _ (P : Source) (declared : ℕ → List Declared) where
   call_returns (Some op) p = not (is_zero (builtin_most op))
 
   -- a goal that waits, or runs to a reachable end, if it is no making that isn't mild
-  abbrev pub is_mild : Flat_goal → Bool
-  is_mild (F.Same x y) = true
-  is_mild (F.Call p xs) = call_returns (P.preds p).builtin p
-  is_mild (F.Made x s ys) = true
-  is_mild (F.Is x v) = true
-  is_mild (F.And gs) = false
-  is_mild (F.Or gs) = false
-  is_mild (F.If vs g h k) = false
-  is_mild (F.Not g) = false
-  is_mild (F.Exists vs g) = false
+  abbrev pub may_be_mild : Flat_goal → Bool
+  may_be_mild (F.Same x y) = true
+  may_be_mild (F.Call p xs) = call_returns (P.preds p).builtin p
+  may_be_mild (F.Made x s ys) = true
+  may_be_mild (F.Is x v) = true
+  may_be_mild (F.And gs) = false
+  may_be_mild (F.Or gs) = false
+  may_be_mild (F.If vs g h k) = false
+  may_be_mild (F.Not g) = false
+  may_be_mild (F.Exists vs g) = false
 
   -- A goal sleeps at a state as long as the state's variables but these are as they are there: an atom; a
   -- goal around one that sleeps; a condition, or a first branch, that does; and a conjunction of mild
@@ -124,7 +124,7 @@ module _ (P : Source) (declared : ℕ → List Declared) where
         → Asleep s vs (F.Or (flat_then g gs))
     among :
         {vs : List ℕ} (gs : List Flat_goal) (k : ℕ) → k < length gs
-        → list_all is_mild (remove gs k) ≡ true
+        → list_all may_be_mild (remove gs k) ≡ true
         → list_all (making_is_mild s (vs ++ changed_by_each (remove gs k))) (remove gs k) ≡ true
         → Asleep s (vs ++ changed_by_each (remove gs k)) (get_or gs k nothing)
         → Asleep s vs (F.And (flats gs))

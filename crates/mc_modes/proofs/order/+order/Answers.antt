@@ -31,10 +31,11 @@ use Rattle.mc_modes.proofs.Passing.{passed-all}
 use Rattle.mc_modes.proofs.Placing.{place-below, placed-fits, placed-counted, goals-long, goals-later}
 use Rattle.mc_modes.proofs.Scanning.{same-trans, found-on, found-asleep, passed-with, found-ready, found-alike}
 use Rattle.mc_modes.proofs.Settling.{goes-settles, settled-does, goes-as}
-use Rattle.mc_modes.proofs.Taking.{some-wait, none-wait, Turned, turned-begins, turned-counted, turned-on, turned-breaks, turned-runs, turned-alike}
+use Rattle.mc_modes.proofs.Taking.{some-wait, none-wait, was-removed, Turned, turned-begins, turned-counted, turned-on, turned-breaks, turned-runs, turned-alike}
 use Rattle.mc_modes.proofs.Turning.{each-below}
 use Rattle.mc_modes.proofs.Ways.{count-same, conjunction-between, conjunction-runs, conjunction-fails, runs-between, breaks-between, by-leaving, by-entering, runs-wrapped}
 use Rattle.std.proofs.lemmas.List.{drop_more, drop_all, get_or-map, length-map}
+use Rattle.std.proofs.lemmas.List.Edits.{length-remove}
 use Rattle.mc_model.specs.declared.sched.Sched as D
 use Rattle.mc_procs.proofs.Views.{plain_sched-Disj, plain_sched-Conj}
 use Rattle.mc_modes.proofs.Branches.{goal-below}
@@ -424,18 +425,8 @@ first_ready-loop-place-init t c = record {
   so = λ first O C T w v. refl;
 }
 
-pub first_ready-goal_at-goal-requires : goal.first_ready-goal_at-goal-requires
-first_ready-goal_at-goal-requires t c =
-    let q = c.args.procs.now in
-    let s = c.args.state.now in
-    let p = c.loop-place.procs in
-    let u = c.loop-place.state in
-    let i = c.loop-place.invariant in
-    let gs = c.args.goals.now in
-    let ks = c.args.waiting.now in
-    let k = c.loop-place.place in
-    let h : k < length ks = omega (arith, c.loop-place-test.true) in
-    place-below (length gs) ks k c.requires.waiting h
+pub first_ready-goal_at-goal-requires-clause-place : goal.first_ready-goal_at-goal-requires-clause-place
+first_ready-goal_at-goal-requires-clause-place t c = omega (arith, c.loop-place-test.true, c.args.waiting.now.ok.0)
 
 pub first_ready-returns-in-Err-Memory-clause-kept : goal.first_ready-returns-in-Err-Memory-clause-kept
 first_ready-returns-in-Err-Memory-clause-kept t c =
@@ -451,9 +442,9 @@ first_ready-returns-in-Ok-clause-does t c =
     let u = c.loop-place.state in
     let i = c.loop-place.invariant in
     let gs = c.args.goals.now in
-    let ks = c.args.waiting.now in
+    let ks = c.args.waiting.now.items in
     let k = c.loop-place.place in
-    let h : k < length ks = omega (arith, c.loop-place-test.true) in
+    let h : k < length ks = omega (arith, c.loop-place-test.true, c.args.waiting.now.ok.0) in
     let x = c.goal_at-goal.result.now in
     let is = c.goal_at-goal.ensures in
     found-ready c.args.sigs.now gs ks k x q p c.try_among.new.procs s u c.try_among.new.state h c.requires.waiting is i.same i.moved c.requires.counted c.loop-place.found i.so c.in-Ok.part c.requires.stands c.in-Ok.ensures.does
@@ -466,9 +457,9 @@ first_ready-returns-in-Ok-clause-alike t c =
     let u = c.loop-place.state in
     let i = c.loop-place.invariant in
     let gs = c.args.goals.now in
-    let ks = c.args.waiting.now in
+    let ks = c.args.waiting.now.items in
     let k = c.loop-place.place in
-    let h : k < length ks = omega (arith, c.loop-place-test.true) in
+    let h : k < length ks = omega (arith, c.loop-place-test.true, c.args.waiting.now.ok.0) in
     let x = c.goal_at-goal.result.now in
     let is = c.goal_at-goal.ensures in
     found-alike c.args.sigs.now gs ks k x q p c.try_among.new.procs s u c.try_among.new.state h c.requires.waiting is i.same i.moved c.requires.counted c.loop-place.found i.so c.in-Ok.part c.in-Ok.ensures.alike
@@ -481,9 +472,9 @@ first_ready-sleeps-requires t c =
     let u = c.loop-place.state in
     let i = c.loop-place.invariant in
     let gs = c.args.goals.now in
-    let ks = c.args.waiting.now in
+    let ks = c.args.waiting.now.items in
     let k = c.loop-place.place in
-    let h : k < length ks = omega (arith, c.loop-place-test.true) in
+    let h : k < length ks = omega (arith, c.loop-place-test.true, c.args.waiting.now.ok.0) in
     let x = c.goal_at-goal.result.now in
     let is = c.goal_at-goal.ensures in
     subst (λ (y : Flat). GoalFits p u (plain_flat y)) (sym is) (placed-fits q p s u gs ks k x c.requires.waiting h i.same i.moved c.requires.fits)
@@ -496,9 +487,9 @@ first_ready-loop-place-preserved t c =
     let u = c.loop-place.state in
     let i = c.loop-place.invariant in
     let gs = c.args.goals.now in
-    let ks = c.args.waiting.now in
+    let ks = c.args.waiting.now.items in
     let k = c.loop-place.place in
-    let h : k < length ks = omega (arith, c.loop-place-test.true) in
+    let h : k < length ks = omega (arith, c.loop-place-test.true, c.args.waiting.now.ok.0) in
     let x = c.goal_at-goal.result.now in
     let is = c.goal_at-goal.ensures in
     elim c.if-not-branch.branch [
@@ -527,9 +518,9 @@ first_ready-returns-clause-does t c =
     let u = c.loop-place.state in
     let i = c.loop-place.invariant in
     let gs = c.args.goals.now in
-    let ks = c.args.waiting.now in
+    let ks = c.args.waiting.now.items in
     let k = c.loop-place.place in
-    let h : length (goals_at gs ks) ≤ k = omega (arith, c.loop-place-test.false, goals-long gs ks) in
+    let h : length (goals_at gs ks) ≤ k = omega (arith, c.loop-place-test.false, c.args.waiting.now.ok.0, goals-long gs ks) in
     passed-all c.args.sigs.now (goals_at gs ks) k c.loop-place.found q p s u h i.so i.same i.moved
 
 pub in_turn-turns-init : goal.in_turn-turns-init
@@ -557,11 +548,32 @@ in_turn-turns-preserved t c =
     let k = c.in-Ready.place in
     let part = c.in-Ready.part in
     let o = c.in_ok-reachable-in-Ready.ensures in
-    let d : IsReady c.args.sigs.now (goals_at gs c.deref.result.now) p r u t k part = rw c.in-Ready.is at c.in_ok-place.ensures.does in
-    let a : FreshAlike (get_or (goals_at gs c.deref.result.now) k nothing) t part = rw c.in-Ready.is at c.in_ok-place.ensures.alike in
+    let d : IsReady c.args.sigs.now (goals_at gs ks) p r u t k part = rw c.in-Ready.is at c.in_ok-place.ensures.does in
+    let a : FreshAlike (get_or (goals_at gs ks) k nothing) t part = rw c.in-Ready.is at c.in_ok-place.ensures.alike in
+    let short : k < length ks = omega (arith, d.place, goals-long gs ks) in
     let e : Entered part.freshened.items t v = entered-as t v part.freshened.items part.freshened.items refl o.insts o.log o.types o.nodes o.len o.counts in
     turned-on c.args.sigs.now gs ks c.turns.done.items c.turns.fresh.items q p s u j r t v k part c.remove.new.self.items c.taken.new.done.items c.taken.new.fresh.items c.in_ok-reachable-in-Ready.reachable c.requires.counted
-    (subst (λ l. IsReady c.args.sigs.now (goals_at gs l) p r u t k part) c.deref.ensures.value d) (subst (λ l. FreshAlike (get_or (goals_at gs l) k nothing) t part) c.deref.ensures.value a) e c.remove.ensures.items o.done o.fresh o.reachable
+    d a e (was-removed c.remove.result ks c.remove.new.self.items k c.turns.waiting.len c.turns.waiting.ok.0 short c.remove.ensures.variant c.remove.ensures.items) o.done o.fresh o.reachable
+
+pub in_turn-turns-smaller : goal.in_turn-turns-smaller
+in_turn-turns-smaller t c =
+    let p = c.turns.procs in
+    let u = c.turns.state in
+    let gs = c.args.goals.now in
+    let ks = c.turns.waiting.items in
+    let r = c.first_ready.new.procs in
+    let v = c.first_ready.new.state in
+    let k = c.in-Ready.place in
+    let d : IsReady c.args.sigs.now (goals_at gs ks) p r u v k c.in-Ready.part = rw c.in-Ready.is at c.in_ok-place.ensures.does in
+    let short : k < length ks = omega (arith, d.place, goals-long gs ks) in
+    let left = was-removed c.remove.result ks c.remove.new.self.items k c.turns.waiting.len c.turns.waiting.ok.0 short c.remove.ensures.variant c.remove.ensures.items in
+    omega (arith, ap length left, length-remove ks k short)
+
+pub in_turn-stuck-requires-clause-places : goal.in_turn-stuck-requires-clause-places
+in_turn-stuck-requires-clause-places t c = c.turns.invariant.places
+
+pub in_turn-stuck-requires-clause-few : goal.in_turn-stuck-requires-clause-few
+in_turn-stuck-requires-clause-few t c = omega (arith, c.turns.invariant.few, c.requires.few)
 
 pub in_turn-stuck-requires-clause-variables : goal.in_turn-stuck-requires-clause-variables
 in_turn-stuck-requires-clause-variables t c =
@@ -575,10 +587,9 @@ in_turn-stuck-requires-clause-variables t c =
     let r = c.first_ready.new.procs in
     let t = c.first_ready.new.state in
     let j : Turned c.args.sigs.now gs ks true c.turns.done.items c.turns.fresh.items q p s u = subst (λ b. Turned c.args.sigs.now gs ks b c.turns.done.items c.turns.fresh.items q p s u) c.turns-test.true i in
-    let n : NoneIsReady c.args.sigs.now (goals_at gs c.deref.result.now) p r u t c.in-NoneReady.found = rw c.in-NoneReady.is at c.in_ok-place.ensures.does in
-    subst (λ l. NumbersBelow (length t.insts.items) (variables_of_each (goals_at gs l))) (sym c.deref-in-NoneReady.ensures.value)
-    (subst (λ x. NumbersBelow x (variables_of_each (goals_at gs ks))) (sym n.same.count)
-    (each-below (length u.insts.items) gs ks i.places (below-more (length s.insts.items) (length u.insts.items) (variables_of_all (flats (map plain_flat gs))) i.onward.more c.requires.fits.variables)))
+    let n : NoneIsReady c.args.sigs.now (goals_at gs ks) p r u t c.in-NoneReady.found = rw c.in-NoneReady.is at c.in_ok-place.ensures.does in
+    subst (λ x. NumbersBelow x (variables_of_each (goals_at gs ks))) (sym n.same.count)
+    (each-below (length u.insts.items) gs ks i.places (below-more (length s.insts.items) (length u.insts.items) (variables_of_all (flats (map plain_flat gs))) i.onward.more c.requires.fits.variables))
 
 pub in_turn-returns-in-NoneReady-clause-kept : goal.in_turn-returns-in-NoneReady-clause-kept
 in_turn-returns-in-NoneReady-clause-kept t c =
@@ -587,7 +598,7 @@ in_turn-returns-in-NoneReady-clause-kept t c =
     let r = c.first_ready.new.procs in
     let u = c.turns.state in
     let v = c.first_ready.new.state in
-    let n : NoneIsReady c.args.sigs.now (goals_at c.args.goals.now c.deref.result.now) p r u v c.in-NoneReady.found = rw c.in-NoneReady.is at c.in_ok-place.ensures.does in
+    let n : NoneIsReady c.args.sigs.now (goals_at c.args.goals.now c.turns.waiting.items) p r u v c.in-NoneReady.found = rw c.in-NoneReady.is at c.in_ok-place.ensures.does in
     only_grown_trans q p r (nodes_grown q p c.args.state.now.nodes u.nodes c.turns.invariant.onward.moved.nodes) (nodes_grown p r u.nodes v.nodes n.moved.nodes)
 
 pub in_turn-returns-in-NoneReady-clause-does : goal.in_turn-returns-in-NoneReady-clause-does
@@ -602,14 +613,12 @@ in_turn-returns-in-NoneReady-clause-does t c =
     let r = c.first_ready.new.procs in
     let t = c.first_ready.new.state in
     let j : Turned c.args.sigs.now gs ks true c.turns.done.items c.turns.fresh.items q p s u = subst (λ b. Turned c.args.sigs.now gs ks b c.turns.done.items c.turns.fresh.items q p s u) c.turns-test.true i in
-    let n : NoneIsReady c.args.sigs.now (goals_at gs c.deref.result.now) p r u t c.in-NoneReady.found = rw c.in-NoneReady.is at c.in_ok-place.ensures.does in
-    let m : NoneIsReady c.args.sigs.now (goals_at gs ks) p r u t c.in-NoneReady.found = subst (λ l. NoneIsReady c.args.sigs.now (goals_at gs l) p r u t c.in-NoneReady.found) c.deref.ensures.value n in
+    let n : NoneIsReady c.args.sigs.now (goals_at gs ks) p r u t c.in-NoneReady.found = rw c.in-NoneReady.is at c.in_ok-place.ensures.does in
     let w = c.leave.new.self in
     let k = c.leave.ensures in
     let f = c.in_ok-fault-in-NoneReady.fault in
-    let l : Left c.turns.fresh.items t w = left-as t w _ c.turns.fresh.items c.deref-in-NoneReady-2.ensures.value k.insts k.log k.types k.nodes k.len k.counts in
-    turned-breaks c.args.sigs.now gs ks c.turns.done.items c.turns.fresh.items q p s u j r t w c.in-NoneReady.found f c.requires.counted (some-wait ks c.turns.waiting.len c.turns.waiting.ok.0 c.if-not-is_empty.ensures) m
-    (subst (λ x. IsStuck (point_of t.insts.items) (goals_at gs x) c.in-NoneReady.found f) c.deref-in-NoneReady.ensures.value c.in_ok-fault-in-NoneReady.ensures) l
+    let l : Left c.turns.fresh.items t w = left-as t w _ c.turns.fresh.items c.deref.ensures.value k.insts k.log k.types k.nodes k.len k.counts in
+    turned-breaks c.args.sigs.now gs ks c.turns.done.items c.turns.fresh.items q p s u j r t w c.in-NoneReady.found f c.requires.counted (some-wait ks c.turns.waiting.len c.turns.waiting.ok.0 c.if-not-is_empty.ensures) n c.in_ok-fault-in-NoneReady.ensures l
 
 pub in_turn-returns-clause-does : goal.in_turn-returns-clause-does
 in_turn-returns-clause-does t c =
@@ -794,7 +803,7 @@ in_turn-first_ready-requires t c =
     let i = c.turns.invariant in
     let gs = c.args.goals.now in
     let ks = c.turns.waiting.items in
-    (omega (arith, d), (i.onward.moved.stands, ((sigs-moved q p s u c.args.sigs.now i.onward.moved c.requires.sigs), ((goals-later q p s u (flats (map plain_flat gs)) i.onward.more i.onward.moved c.requires.fits), ((subst (NumbersBelow (length gs)) (sym c.deref.ensures.value) i.places), (subst (λ l. Counted (variables_of_each (goals_at gs l)) u) (sym c.deref.ensures.value) (turned-counted c.args.sigs.now gs ks c.turns.reachable c.turns.done.items c.turns.fresh.items q p s u i c.requires.counted)))))))
+    (omega (arith, d), (i.onward.moved.stands, ((sigs-moved q p s u c.args.sigs.now i.onward.moved c.requires.sigs), ((goals-later q p s u (flats (map plain_flat gs)) i.onward.more i.onward.moved c.requires.fits), (i.places, (turned-counted c.args.sigs.now gs ks c.turns.reachable c.turns.done.items c.turns.fresh.items q p s u i c.requires.counted))))))
 
 pub first_ready-try_among-requires : goal.first_ready-try_among-requires
 first_ready-try_among-requires t c =
@@ -805,9 +814,9 @@ first_ready-try_among-requires t c =
     let u = c.loop-place.state in
     let i = c.loop-place.invariant in
     let gs = c.args.goals.now in
-    let ks = c.args.waiting.now in
+    let ks = c.args.waiting.now.items in
     let k = c.loop-place.place in
-    let h : k < length ks = omega (arith, c.loop-place-test.true) in
+    let h : k < length ks = omega (arith, c.loop-place-test.true, c.args.waiting.now.ok.0) in
     let x = c.goal_at-goal.result.now in
     let is = c.goal_at-goal.ensures in
     let l = place-below (length gs) ks k c.requires.waiting h in

@@ -18,7 +18,7 @@ decreases-in_turn-turns l = length l.waiting.items
 
 abbrev pub invariant-first_ready-loop-place : goal.invariant-first_ready-loop-place
 invariant-first_ready-loop-place l =
-    let gs = goals_at l.goals l.waiting in
+    let gs = goals_at l.goals l.waiting.items in
     record {
       same : SameState l.fn.state l.state;
       moved : Moved l.fn.procs l.procs l.fn.state l.state;

@@ -9,7 +9,7 @@ use Rattle.mc_model.specs.declared.flat.Flat.{Flat, size-Flat}
 use Rattle.mc_procs.specs.Procedures.{source_of}
 use Rattle.mc_modes.specs.Signatures.{declared_in}
 use Rattle.mc_modes.specs.code.Waiting.{nothing}
-use Rattle.mc_modes.specs.code.Sleeping.{Asleep, is_mild, making_is_mild, atom, negated, quantified, in_condition, among, free_beside, free_now, changed_by_each}
+use Rattle.mc_modes.specs.code.Sleeping.{Asleep, may_be_mild, making_is_mild, atom, negated, quantified, in_condition, among, free_beside, free_now, changed_by_each}
 use Rattle.mc_modes.proofs.Halves.{condition-fits, quantified-fits}
 use Rattle.mc_modes.proofs.Sleepers.{both-true, sleeps-by, or-first, all-but, goal-is, goal-in, some-there, mild-beside}
 use Rattle.mc_modes.proofs.Views.{flat-not, flat-some, flat-same, flat-made, flat-call}
@@ -106,7 +106,7 @@ one_sleeps-returns-then-wild-goals t c =
     let beside = c.args.others.now ++ changed_by_each (remove gs wild) in
     let long = length-map c.args.goals.now plain_flat in
     let h : wild < length gs = omega (arith, c.if-wild-goals.true, long) in
-    let mild = all-but (is_mild P declared) nothing gs wild (λ j l n. mild-beside (is_mild P declared) nothing gs wild more j c.first_wild-wild.ensures.mild c.first_wild.ensures.mild n (omega (arith, l, c.if-first_wild-goals.false, long))) in
+    let mild = all-but (may_be_mild P declared) nothing gs wild (λ j l n. mild-beside (may_be_mild P declared) nothing gs wild more j c.first_wild-wild.ensures.mild c.first_wild.ensures.mild n (omega (arith, l, c.if-first_wild-goals.false, long))) in
     sleeps-by c.makings_are_mild.result _ (Asleep P declared s c.args.others.now (F.And (flats gs)))
     (λ makings. among gs wild h mild (all-but (making_is_mild s beside) nothing gs wild (λ j l n. makings j (omega (arith, l, long)) n)) (c.in_ok-sleeps_among.ensures c.if-not-branch.false)) c.makings_are_mild.ensures
 
@@ -132,7 +132,7 @@ one_sleeps-returns-then-branch t c =
     let beside = c.args.others.now ++ changed_by_each (remove gs k) in
     let long = length-map c.args.goals.now plain_flat in
     let h : k < length gs = omega (arith, c.loop-place-test.true, long) in
-    let mild = all-but (is_mild P declared) nothing gs k (λ j l n. c.first_wild-wild.ensures.mild j (omega arith) (omega (arith, l, c.if-wild-goals.false, long))) in
+    let mild = all-but (may_be_mild P declared) nothing gs k (λ j l n. c.first_wild-wild.ensures.mild j (omega arith) (omega (arith, l, c.if-wild-goals.false, long))) in
     sleeps-by c.makings_are_mild-then-branch.result _ (Asleep P declared s c.args.others.now (F.And (flats gs)))
     (λ makings. among gs k h mild (all-but (making_is_mild s beside) nothing gs k (λ j l n. makings j (omega (arith, l, long)) n)) (c.in_ok-sleeps_among-2.ensures c.if-branch.true)) c.makings_are_mild-then-branch.ensures
 
