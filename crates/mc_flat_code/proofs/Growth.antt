@@ -153,8 +153,9 @@ module _ (old new : Code) (g : Grows old new) where
   mutual
     pub stands_grows : (n : Node) (q pc : ℕ) → Stands old n q pc → Stands new n q pc
     stands_grows (node s changes d false) q pc x = of_grows s q pc x
-    stands_grows (node s changes d true) q pc x =
-        (x.0, (at_grows pc (I.Once x.0 q) x.1.0, of_grows s 0 x.0 x.1.1))
+    stands_grows (node s changes d true) q pc (inl x) =
+        inl (x.0, (at_grows pc (I.Once x.0 q) x.1.0, of_grows s 0 x.0 x.1.1))
+    stands_grows (node s changes d true) q pc (inr x) = inr (x.0, of_grows s q pc x.1)
 
     pub of_grows : (s : Scheduled) (q pc : ℕ) → StandsOf old s q pc → StandsOf new s q pc
     of_grows (Conj ns) q pc x = all_grows ns q pc x

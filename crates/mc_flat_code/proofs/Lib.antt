@@ -2,6 +2,7 @@ pub mod EventLaws
 pub mod TickLaws
 pub mod Places
 pub mod Alternatives
+pub mod OneAnswer
 pub mod Source
 pub mod Growth
 pub mod Building
@@ -12,3 +13,4 @@ pub mod Goals
 pub mod Bodies
 pub mod Mentioning
 pub mod Openings
+pub mod Marked

@@ -151,10 +151,13 @@ module _ (outcome : Builtin → List Val → Outcome) (code : Code) (o : IsCode 
   mutual
     pub goes : (n : Node) (q pc : ℕ) → Stands code n q pc → (e : Bindings) → done pc e ≡ L.bind (stream outcome C h n e) (done q)
     goes (node s changes d false) q pc x e = goes_of s q pc x e
-    goes (node s changes d true) q pc x e =
+    goes (node s changes d true) q pc (inl x) e =
         at_events pc (I.Once x.0 q) x.1.0 e ∙ events_bind (first (go x.0 e)) (go q)
         ∙ ap (λ l. L.bind l (done q)) (events_first (go x.0 e))
         ∙ ap (λ l. L.bind (L.first l) (done q)) (ends (stream_of outcome C h s e) (done x.0 e) (goes_of s 0 x.0 x.1.1 e))
+    goes (node s changes d true) q pc (inr x) e =
+        goes_of s q pc x.1 e
+        ∙ ap (λ l. L.bind l (done q)) (sym (x.0 outcome C h e))
 
     goes_of : (s : Scheduled) (q pc : ℕ) → StandsOf code s q pc → (e : Bindings) → done pc e ≡ L.bind (stream_of outcome C h s e) (done q)
     goes_of (Conj ns) q pc x e = goes_all ns q pc x e

@@ -1,8 +1,13 @@
 -- Which code stands for a goal, and for a procedure: it does the goal from a place on, and goes on
 -- at another after each answer.
 use Rattle.std.specs.Prelude.{◌≡◌, ◌⊎◌, ℕ, true, false, List, [], ◌∷◌, Some, map, length, get_or}
+use Rattle.mc_program.specs.Values.{Val}
+use Rattle.mc_program.specs.declared.builtin.Builtin.{Builtin}
 use Rattle.mc_source.specs.Determinism.{inferred, det}
 use Rattle.mc_model.specs.Scheduled.{Label, for_symbol, for_constant, Node, node, Scheduled, Conj, Disj, Switch, Ite, Not, Exists, Assign, Test, Build, Take, Const, TestConst, Call, Apply, Nodes, no_nodes, node_then, Arms, no_arms, arm_then, Procedure}
+use Rattle.mc_model.specs.Outcomes.{Outcome}
+use Rattle.mc_model.specs.EventList.{first}
+use Rattle.mc_model.specs.Stream.{Bindings, Calls, stream_of}
 use Rattle.mc_model.specs.PlainGoals.{plain_proc}
 use Rattle.mc_model.specs.declared.sched.Proc.{Proc}
 use Rattle.mc_flat_code.specs.Running.{IsWithin, part_of, instr_at, value_at, label_of, body_at}
@@ -67,6 +72,13 @@ abbrev mutual
   EachArmOpens l v no_arms = Unit {0}
   EachArmOpens l v (arm_then t n arms) = Opens l v n × EachArmOpens l v arms
 
+-- a goal's events end behind its first answer, whatever calls and builtins do: it leaves nothing to
+-- be tried
+abbrev pub AnswersOnce : Scheduled → Type 0
+AnswersOnce s =
+    (outcome : Builtin → List Val → Outcome) (C : Calls) (h : ℕ) (e : Bindings)
+    → first (stream_of outcome C h s e) ≡ stream_of outcome C h s e
+
 -- branches are for the labels of arms that open with these, and go on where the arms stand
 abbrev pub Keyed : Code → ℕ → Arms → List Branch → List ℕ → Type 0
 Keyed code v no_arms [] [] = Unit {0}
@@ -85,11 +97,13 @@ pub record Cased (code : Code) (v : ℕ) (arms : Arms) (ps : List ℕ) (pc : ℕ
   pub chain : Chain code ps other
 
 abbrev mutual
-  -- the code does a goal from the second place on, and goes on at the first
+  -- the code does a goal from the second place on, and goes on at the first; a pruned goal is left
+  -- behind its first answer, and one that leaves nothing to be tried may run in place
   pub Stands : Code → Node → (to from : ℕ) → Type 0
   Stands code (node s changes d false) q pc = StandsOf code s q pc
   Stands code (node s changes d true) q pc =
-      (a : ℕ) × (At code pc (I.Once a q) × StandsOf code s 0 a)
+      ((a : ℕ) × (At code pc (I.Once a q) × StandsOf code s 0 a))
+      ⊎ (AnswersOnce s × StandsOf code s q pc)
 
   pub StandsOf : Code → Scheduled → (to from : ℕ) → Type 0
   StandsOf code (Conj ns) q pc = StandsAll code ns q pc

@@ -1,3 +1,4 @@
 pub mod Building
 pub mod Bodies
 pub mod Mentioning
+pub mod Answering

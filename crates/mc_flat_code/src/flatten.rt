@@ -9,6 +9,7 @@ ghost use Rattle.mc_flat_code.specs.Mentions.{Mention, of_constant, Mentions, Me
 ghost use Rattle.mc_flat_code.specs.code.Mentioning.{Brings, Nothing, LabelMentions};
 
 use crate::code::{Body, Branch, Code, Instr, Key, Part};
+use crate::once::is_left;
 use crate::opening::opens;
 use mc_base::Memory;
 use mc_model::sched::{Arm, GoalNode, On, Proc, Sched};
@@ -279,7 +280,7 @@ impl Code {
         ensures stands { IfOk result (λ place. Stands self.new (plain_node goal.now) next place) }
         ensures brings { OnOk result (Brings self.old self.new (Mentions (plain_node goal.now))) }
     {
-        if goal.pruned {
+        if is_left(goal) {
             let inner = self.scheduled(alloc, &goal.goal, END)?;
             return self.add(Instr::Once(inner, next));
         }

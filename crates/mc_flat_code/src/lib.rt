@@ -4,6 +4,7 @@
 pub mod code;
 mod flatten;
 mod law;
+mod once;
 mod opening;
 mod program;
 mod reading;

@@ -86,14 +86,14 @@ negation-returns-clause-stands t c =
     (λ place l at.
     (c.in_ok-inner.inner, (at, stands_grows c.node.new.self new l.grows (plain_node c.args.goal.now) 0 c.in_ok-inner.inner c.in_ok-inner.ensures.stands)))
 
-pub node-returns-then-goal-clause-stands : goal.node-returns-then-goal-clause-stands
-node-returns-then-goal-clause-stands t c =
+pub node-returns-then-is_left-clause-stands : goal.node-returns-then-is_left-clause-stands
+node-returns-then-is_left-clause-stands t c =
     let new : Code = c.add.new.self in
     let g : GoalNode = c.args.goal.now in
     ok_by c.add.result (λ place. Laid c.scheduled.new.self new place) (λ place. At new place (I.Once c.in_ok-inner.inner c.args.next)) (λ place. Stands new (plain_node g) c.args.next place) c.add.ensures.laid c.add.ensures.at
     (λ place l at.
-    subst (λ n. Stands new n c.args.next place) (sym (node_open g ∙ ap (λ b. node (plain_sched g.goal) g.changes g.det b) c.if-goal.true))
-    (c.in_ok-inner.inner, (at, of_grows c.scheduled.new.self new l.grows (plain_sched g.goal) 0 c.in_ok-inner.inner c.in_ok-inner.ensures.stands)))
+    subst (λ n. Stands new n c.args.next place) (sym (node_open g ∙ ap (λ b. node (plain_sched g.goal) g.changes g.det b) (c.is_left.ensures.yes c.if-is_left.true)))
+    (inl (c.in_ok-inner.inner, (at, of_grows c.scheduled.new.self new l.grows (plain_sched g.goal) 0 c.in_ok-inner.inner c.in_ok-inner.ensures.stands))))
 
 pub scheduled-returns-in_ok-else_part-in-Ite-clause-stands : goal.scheduled-returns-in_ok-else_part-in-Ite-clause-stands
 scheduled-returns-in_ok-else_part-in-Ite-clause-stands t c =
@@ -181,8 +181,8 @@ pub negation-returns-clause-brings : goal.negation-returns-clause-brings
 negation-returns-clause-brings t c =
     on_brings c.add.result c.args.self.now c.node.new.self c.add.new.self (Mentions (plain_node c.args.goal.now)) Nothing (Mentions (plain_node c.args.goal.now)) c.in_ok-inner.ensures.brings c.add.ensures.brings (λ m x. x) (λ m x. absurd x)
 
-pub node-returns-then-goal-clause-brings : goal.node-returns-then-goal-clause-brings
-node-returns-then-goal-clause-brings t c =
+pub node-returns-then-is_left-clause-brings : goal.node-returns-then-is_left-clause-brings
+node-returns-then-is_left-clause-brings t c =
     on_brings c.add.result c.args.self.now c.scheduled.new.self c.add.new.self (MentionsIn (plain_sched c.args.goal.now.goal)) Nothing (Mentions (plain_node c.args.goal.now)) c.in_ok-inner.ensures.brings c.add.ensures.brings
     (λ m x. subst (λ n. Mentions n m) (sym (node_open c.args.goal.now)) x) (λ m x. absurd x)
 

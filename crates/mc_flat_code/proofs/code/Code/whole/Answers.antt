@@ -1,4 +1,4 @@
-use Rattle.std.proofs.Common.{[], subst, sym}
+use Rattle.std.proofs.Common.{[], subst, sym, inl}
 use Rattle.mc_source.specs.Determinism.{inferred, det}
 use Rattle.mc_model.specs.Scheduled.{node, Exists}
 use Rattle.mc_model.specs.PlainGoals.{plain_node}
@@ -19,7 +19,7 @@ returns-then-is_committed-clause-stands c =
     ok_by c.add.result (λ place. Laid c.node.new.self new place) (λ place. At new place (I.Once c.in_ok-begin.begin 0)) (λ place. Stands new (node (Exists [] (plain_node c.args.body.now)) [] (inferred det) c.args.is_committed) 0 place) c.add.ensures.laid c.add.ensures.at
     (λ place l at.
     subst (λ b. Stands new (node (Exists [] (plain_node c.args.body.now)) [] (inferred det) b) 0 place) (sym c.if-is_committed.true)
-    (c.in_ok-begin.begin, (at, stands_grows c.node.new.self new l.grows (plain_node c.args.body.now) 0 c.in_ok-begin.begin c.in_ok-begin.ensures.stands)))
+    (inl (c.in_ok-begin.begin, (at, stands_grows c.node.new.self new l.grows (plain_node c.args.body.now) 0 c.in_ok-begin.begin c.in_ok-begin.ensures.stands))))
 
 pub returns-then-is_committed-clause-brings : goal.returns-then-is_committed-clause-brings
 returns-then-is_committed-clause-brings c =
