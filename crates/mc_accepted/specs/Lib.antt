@@ -2,6 +2,7 @@ pub mod Accepted
 pub mod Arranged
 pub mod BuiltinFits
 pub mod BuiltinTypes
+pub mod Calls
 pub mod Chosen
 pub mod Determined
 pub mod DeterminismFaults

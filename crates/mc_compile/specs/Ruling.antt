@@ -122,7 +122,7 @@ executable wants_main moded (R.Procs procs) =
 executable wants_main moded (R.Broken list) = Err (Breaks list.items)
 
 -- The phase of procedures: each mode's goal in its one order, with its determinism, unless they break
--- a rule of modes (M8, M1 to M4) or of determinism (E1 to E4, U1).
+-- a rule of modes (M1 to M4, M8) or of determinism (E1 to E4, U1).
 pub record Procedures (sources : Sources) (moded : Moded) (result : Result PlainExecutable Refusal)
     : Type 0 where
   pub ruled : Ruled

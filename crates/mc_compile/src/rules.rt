@@ -30,8 +30,8 @@ use std::alloc::Global;
 ///
 /// # Errors
 ///
-/// `Rejected` with the rules of insts (M6, M7) that items break; else with those of modes (M8, and then M1 to M4) that
-/// declared modes break; else with those of determinism (E1 to E4 and U1) that procedures break.
+/// `Rejected` with the rules of insts (M6, M7) that items break; else with those of modes (M1 to M4, M8) that declared
+/// modes break; else with those of determinism (E1 to E4 and U1) that procedures break.
 pub fn rules(
     alloc: Global,
     checked: Checked,

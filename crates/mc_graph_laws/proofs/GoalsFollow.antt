@@ -11,6 +11,7 @@ use Rattle.mc_accepted.specs.Ordered.{Insts, change_at}
 use Rattle.mc_accepted.specs.Accepted.{entered}
 use Rattle.mc_accepted.specs.Determined.{insts_after}
 use Rattle.mc_accepted.specs.Typing.{TypedGoal}
+use Rattle.mc_accepted.specs.Calls.{CallsOnly}
 use Rattle.mc_accepted.specs.Unmarked.{unmarked}
 use Rattle.mc_accepted.specs.Arranged.{Declared, Verdict, in_order, faulty, unmet, Arranged, alone, nodes_before, test_nodes, with_change, changes_from, changing, trial, first_unmet, unless_unmet, judged, entry, arrange}
 use Rattle.mc_accepted.specs.Chosen.{Chosen, of_nodes, other_node}
@@ -182,7 +183,7 @@ entry-is C P declared T [] is = refl
 entry-is C P declared T (y ∷ ys) [] = refl
 entry-is C P declared T (y ∷ ys) (i ∷ is) = ap (entering y i) (entry-is C P declared T ys is)
 
-module _ (P : Source) (declared other : ℕ → List Declared) (T : ℕ → TypeTerm) (first : ℕ) (R : TypeTerm → ℕ → ℕ → Type 0) (C E : Chosen) (rel : Related (of_nodes C) (of_nodes E) R P) (dec : DeclaredRelated (of_nodes C) (of_nodes E) R P declared other) where
+module _ (P : Source) (Counts : ℕ → Type 0) (declared other : ℕ → List Declared) (T : ℕ → TypeTerm) (first : ℕ) (R : TypeTerm → ℕ → ℕ → Type 0) (C E : Chosen) (rel : Related (of_nodes C) (of_nodes E) R P) (dec : DeclaredRelated (of_nodes C) (of_nodes E) R P Counts declared other) where
   unless-goal : (g x : Node) (o : Option ℕ) → unless_unmet g o ≡ in_order x → g ≡ x
   unless-goal g x None e = ap goal_in e
   unless-goal g x (Some k) e = absurd (cc e)
@@ -208,21 +209,21 @@ module _ (P : Source) (declared other : ℕ → List Declared) (T : ℕ → Type
   entry-follows next xs is js v le ri =
       subst (λ a. InstsFollow P T first R a (entered xs js)) (entry-is C P declared T xs is)
       (subst (λ a. InstsFollow P T first R (entry (of_nodes C) P declared T xs is) a) (entry-is E P other T xs js)
-      (insts-follow P T first R C E rel next (entry (of_nodes C) P declared T xs is) (entry (of_nodes E) P other T xs js) (entry-related (of_nodes C) (of_nodes E) R P declared other T first rel dec next xs is js le v ri)))
+      (insts-follow P T first R C E rel next (entry (of_nodes C) P declared T xs is) (entry (of_nodes E) P other T xs js) (entry-related (of_nodes C) (of_nodes E) R P Counts declared other T first rel dec next xs is js le v ri)))
 
-  pub order-follows : (next : ℕ) (xs is ls js ms : List ℕ) (g : Flat_goal) (x y : Node) → TypedGoal P T g → Below first (variables_of g) → Below first xs → first ≤ next → NodesRelated (of_nodes C) (of_nodes E) R is js (map T xs) →
+  pub order-follows : (next : ℕ) (xs is ls js ms : List ℕ) (g : Flat_goal) (x y : Node) → CallsOnly Counts g → TypedGoal P T g → Below first (variables_of g) → Below first xs → first ≤ next → NodesRelated (of_nodes C) (of_nodes E) R is js (map T xs) →
       arrange (of_nodes C) P declared T next xs is ls g ≡ in_order x → arrange (of_nodes E) P other T next xs js ms g ≡ in_order y → Follows P T first R (entered xs is) (entered xs js) x y
-  order-follows next xs is ls js ms g x y t w v le ri p q =
+  order-follows next xs is ls js ms g x y a t w v le ri p q =
       subst (λ a. Follows P T first R a (entered xs js) x y) (entry-is C P declared T xs is)
       (subst (λ a. Follows P T first R (entry (of_nodes C) P declared T xs is) a x y) (entry-is E P other T xs js)
       (judged-follow next xs ls ms (entry (of_nodes C) P declared T xs is) (entry (of_nodes E) P other T xs js) (trial (of_nodes C) P declared T g xs next (entry (of_nodes C) P declared T xs is)) (trial (of_nodes E) P other T g xs next (entry (of_nodes E) P other T xs js)) x y le
-      (entry-related (of_nodes C) (of_nodes E) R P declared other T first rel dec next xs is js le v ri)
-      (goal-match (of_nodes C) (of_nodes E) R P declared other T first rel dec (AllRun P T first R C E rel) (OneRuns P T first R C E rel) (follow-closed P T first R C E rel) g t w xs next (entry (of_nodes C) P declared T xs is) (entry (of_nodes E) P other T xs js) le
-      (entry-related (of_nodes C) (of_nodes E) R P declared other T first rel dec next xs is js le v ri)) p q))
+      (entry-related (of_nodes C) (of_nodes E) R P Counts declared other T first rel dec next xs is js le v ri)
+      (goal-match (of_nodes C) (of_nodes E) R P Counts declared other T first rel dec (AllRun P T first R C E rel) (OneRuns P T first R C E rel) (follow-closed P T first R C E rel) g a t w xs next (entry (of_nodes C) P declared T xs is) (entry (of_nodes E) P other T xs js) le
+      (entry-related (of_nodes C) (of_nodes E) R P Counts declared other T first rel dec next xs is js le v ri)) p q))
 
 pub orders-follow : OrdersFollow
-orders-follow P D m n G H C E declared other T types apart here there dec next xs is ls js ms g t w v ri x y p q =
+orders-follow P D m n G H C E counts declared other T types apart here there dec next xs is ls js ms g a t w v ri x y p q =
     let rel = nodes-related P D m n G H C E types apart here there in (
-      entry-follows P declared other T next (MeanOne P m G n H) C E rel dec next xs is js v (le_refl next) ri,
-      order-follows P declared other T next (MeanOne P m G n H) C E rel dec next xs is ls js ms g x y t w v (le_refl next) ri p q,
+      entry-follows P (λ p. counts p ≡ true) declared other T next (MeanOne P m G n H) C E rel dec next xs is js v (le_refl next) ri,
+      order-follows P (λ p. counts p ≡ true) declared other T next (MeanOne P m G n H) C E rel dec next xs is ls js ms g x y a t w v (le_refl next) ri p q,
     )

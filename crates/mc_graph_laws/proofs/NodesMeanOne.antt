@@ -685,5 +685,5 @@ module _ (P : Source) (D : Parameters) (m n : ℕ) (G H : Graph) (C E : Chosen) 
       }
 
 pub one-order-over-nodes : OneOrderOverNodes
-one-order-over-nodes P D m n G H C E declared other T types apart here there dec next xs is ls js ms g t w v ri rl p q =
-    one-verdict (of_nodes C) (of_nodes E) (MeanOne P m G n H) P declared other T next (nodes-related P D m n G H C E types apart here there) dec next xs is ls js ms g t w v (le_refl next) ri rl p q
+one-order-over-nodes P D m n G H C E counts declared other T types apart here there dec next xs is ls js ms g a t w v ri rl p q =
+    one-verdict (of_nodes C) (of_nodes E) (MeanOne P m G n H) P (λ p. counts p ≡ true) declared other T next (nodes-related P D m n G H C E types apart here there) dec next xs is ls js ms g a t w v (le_refl next) ri rl p q

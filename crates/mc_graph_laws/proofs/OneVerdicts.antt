@@ -6,6 +6,7 @@ use Rattle.mc_program.specs.Programs.{TypeTerm, Source}
 use Rattle.mc_model.specs.Flat.{Flat_goal, variables_of}
 use Rattle.mc_model.specs.Scheduled.{Node, Conj, Disj, Ite, Not, Exists, Nodes, no_nodes, node_then}
 use Rattle.mc_accepted.specs.Typing.{TypedGoal}
+use Rattle.mc_accepted.specs.Calls.{CallsOnly}
 use Rattle.mc_accepted.specs.Unmarked.{unmarked, unmarked_node, unmarked_nodes}
 use Rattle.mc_accepted.specs.Arranged.{Operations, Declared, faulty, lacks, alone, nodes_before, Point, Arranged, trial, first_unmet, unless_unmet, judged, entry, arrange}
 use Rattle.mc_graph_laws.specs.Related.{Below, OneVerdict, Related, DeclaredRelated, NodesRelated}
@@ -55,8 +56,8 @@ module _ {I J : Type 0} (Op : Operations I) (Oq : Operations J) (R : TypeTerm �
         ite_never = λ vs b c g k g' k' o p n w x z. ap₂ (λ l m. node_then (unmarked (Ite vs l (unmarked (Conj no_nodes)) m)) no_nodes) x z.2;
       }
 
-module _ {I J : Type 0} (Op : Operations I) (Oq : Operations J) (R : TypeTerm → I → J → Type 0) (P : Source) (declared other : ℕ → List Declared) (T : ℕ → TypeTerm) (first : ℕ)
-    (rel : Related Op Oq R P) (dec : DeclaredRelated Op Oq R P declared other) where
+module _ {I J : Type 0} (Op : Operations I) (Oq : Operations J) (R : TypeTerm → I → J → Type 0) (P : Source) (Counts : ℕ → Type 0) (declared other : ℕ → List Declared) (T : ℕ → TypeTerm) (first : ℕ)
+    (rel : Related Op Oq R P) (dec : DeclaredRelated Op Oq R P Counts declared other) where
   entry-own : (xs is js : List ℕ) → NodesRelated Op Oq R is js (map T xs) → OwnRelated Op Oq R P T first (entry Op P declared T xs is) (entry Oq P other T xs js)
   entry-own [] is js r = λ x lt. rel.free (T x)
   entry-own (y ∷ ys) [] [] r = λ x lt. rel.free (T x)
@@ -111,8 +112,8 @@ module _ {I J : Type 0} (Op : Operations I) (Oq : Operations J) (R : TypeTerm �
       at (Some l) = refl
 
   -- Where no inst is lacking, a goal has one order over both, but for changes and marks, or one fault.
-  pub one-verdict : (next : ℕ) (xs is ls js ms : List ℕ) (g : Flat_goal) → TypedGoal P T g → Below first (variables_of g) → Below first xs → first ≤ next → NodesRelated Op Oq R is js (map T xs) → NodesRelated Op Oq R ls ms (map T xs) →
+  pub one-verdict : (next : ℕ) (xs is ls js ms : List ℕ) (g : Flat_goal) → CallsOnly Counts g → TypedGoal P T g → Below first (variables_of g) → Below first xs → first ≤ next → NodesRelated Op Oq R is js (map T xs) → NodesRelated Op Oq R ls ms (map T xs) →
       (arrange Op P declared T next xs is ls g ≡ faulty lacks → ⊥) → (arrange Oq P other T next xs js ms g ≡ faulty lacks → ⊥) → OneVerdict (arrange Op P declared T next xs is ls g) (arrange Oq P other T next xs js ms g)
-  one-verdict next xs is ls js ms g t w v le ri rl p q =
+  one-verdict next xs is ls js ms g a t w v le ri rl p q =
       judged-one next xs ls ms (entry Op P declared T xs is) (entry Oq P other T xs js) (trial Op P declared T g xs next (entry Op P declared T xs is)) (trial Oq P other T g xs next (entry Oq P other T xs js)) v rl
-      (goal-match Op Oq R P declared other T first rel dec (SameAll Op Oq R P T first) (SameOne Op Oq R P T first) (unmarked-closed Op Oq R P T first) g t w xs next (entry Op P declared T xs is) (entry Oq P other T xs js) le (entry-related next xs is js le v ri)) p q
+      (goal-match Op Oq R P Counts declared other T first rel dec (SameAll Op Oq R P T first) (SameOne Op Oq R P T first) (unmarked-closed Op Oq R P T first) g a t w xs next (entry Op P declared T xs is) (entry Oq P other T xs js) le (entry-related next xs is js le v ri)) p q

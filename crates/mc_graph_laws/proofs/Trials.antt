@@ -15,6 +15,7 @@ use Rattle.mc_model.specs.Scheduled.{Node, Scheduled, Conj, Disj, Ite, Not, Exis
 use Rattle.mc_model.specs.Stream.{is_bound}
 use Rattle.mc_accepted.specs.Ordered.{Mode, is_state, modes_of, builtin_most, implied_places, times_in}
 use Rattle.mc_accepted.specs.Typing.{constructor_types, ConstantOf, TypedGoal, TypedGoals}
+use Rattle.mc_accepted.specs.Calls.{CallsOnly, AllCallOnly}
 use Rattle.mc_accepted.specs.Unmarked.{unmarked}
 use Rattle.mc_accepted.specs.Least.{least}
 use Rattle.mc_accepted.specs.Arranged.{Operations, Declared, Fault, waits, negated_binds, branches_differ, lacks, one, alone, changing, two_goals, count_flat, fresh_at, tests_at, test_nodes, with_fresh, Point, with_inst, Arranged, runs, breaks, Trial, Waiting, Picked, Branches, variables_of_waiting, or_first, picked, pick, behind, goes_on, with_branch, and_branches, no_branch, each_branch, unless, wrapped, free_at, wait, stuck, in_turn, atom, assigned, same, taken, built, took, take, made, constant, is_input, usable, input_after, after_call, after, implied_in, better, best, called, applying, applied_with, call_of, binds, differs, is_there, joined_at, or_free, merged, merges, those_in, branched, conditional, negation, trial, trials}
@@ -89,8 +90,8 @@ implied-outputs k (m ∷ ms) (x ∷ xs) f =
     at false e false true p q l = ((λ i. e), outputs-with (suc k) k ms (implied_places (suc k) ms xs f) (le_refl (suc k)) p)
     at false e false false p q l = ((λ i. e), q)
 
-module _ {I J : Type 0} (Op : Operations I) (Oq : Operations J) (R : TypeTerm → I → J → Type 0) (P : Source) (declared other : ℕ → List Declared) (T : ℕ → TypeTerm) (first : ℕ)
-    (rel : Related Op Oq R P) (dec : DeclaredRelated Op Oq R P declared other)
+module _ {I J : Type 0} (Op : Operations I) (Oq : Operations J) (R : TypeTerm → I → J → Type 0) (P : Source) (Counts : ℕ → Type 0) (declared other : ℕ → List Declared) (T : ℕ → TypeTerm) (first : ℕ)
+    (rel : Related Op Oq R P) (dec : DeclaredRelated Op Oq R P Counts declared other)
     (All : Point I → Point J → Nodes → Nodes → Option (Point I) → Option (Point J) → Type 0) (One : Point I → Point J → Node → Node → Option (Point I) → Option (Point J) → Type 0) (closed : Closed Op Oq R P T first All One) where
   abbrev PR : Point I → Point J → Type 0
   PR b c = OwnRelated Op Oq R P T first b c
@@ -458,14 +459,14 @@ module _ {I J : Type 0} (Op : Operations I) (Oq : Operations J) (R : TypeTerm �
       (closed.tests l d e ts k))
       k ll
 
-  call-match : (o : Option Builtin) (p : ℕ) (σ : ℕ → TypeTerm) (xs : List ℕ) (n : ℕ) (b : Point I) (c : Point J) → (P.preds p).builtin ≡ o → map T xs ≡ map (instance_of σ) (P.preds p).types → Below first xs → first ≤ n → FP n b c →
+  call-match : (o : Option Builtin) (p : ℕ) (σ : ℕ → TypeTerm) (xs : List ℕ) (n : ℕ) (b : Point I) (c : Point J) → Counts p → (P.preds p).builtin ≡ o → map T xs ≡ map (instance_of σ) (P.preds p).types → Below first xs → first ≤ n → FP n b c →
       M n b c (call_of Op P declared T o p xs n b) (call_of Oq P other T o p xs n c)
-  call-match None p σ xs n b c q e w ln h =
+  call-match None p σ xs n b c a q e w ln h =
       called-match (best Op P declared T (declared p) xs b) (best Oq P other T (other p) xs c) xs n b c (best-alike (declared p) (other p) xs b c w modes h.own) w ln h
     where
       modes : EachModeRelated Op Oq R (declared p) (other p) (map T xs)
-      modes = subst (λ ts. EachModeRelated Op Oq R (declared p) (other p) ts) (sym e) (dec.modes p σ q)
-  call-match (Some op) p σ xs n b c q e w ln h =
+      modes = subst (λ ts. EachModeRelated Op Oq R (declared p) (other p) ts) (sym e) (dec.modes p σ a q)
+  call-match (Some op) p σ xs n b c a q e w ln h =
       matched-if n b c (usable Op P declared T xs (modes_of op) xs b) (usable Oq P other T xs (modes_of op) xs c) _ _ _ _ (usable-same xs (modes_of op) (modes_of op) xs b c w modes h.own)
       (subst (λ (is : List ℕ). M n b c (applied_with Op P declared T (implied_in Op P declared T (modes_of op) xs b) op xs n b) (applied_with Oq P other T is op xs n c)) (implied-in-same (modes_of op) (modes_of op) xs b c w modes h.own)
       (applied-match (implied_in Op P declared T (modes_of op) xs b) op xs n b c (implied-outputs 0 (modes_of op) xs (λ x. Op.is_bound (b x))) modes w ln h))
@@ -786,28 +787,28 @@ module _ {I J : Type 0} (Op : Operations I) (Oq : Operations J) (R : TypeTerm �
       (λ us xs ys m d e l lm r. in-turn-match k xs ys l (O ++ us) m d e (le_trans ln lm) r) (pick-match [] vs [] ws O n b c ln h no_more a))
 
   mutual
-    pub goal-match : (g : Flat_goal) → TypedGoal P T g → Below first (variables_of g) → TM (trial Op P declared T g) (trial Oq P other T g)
-    goal-match (F.Same x y) t w O n b c ln h = atom-match (x ∷ y ∷ []) n b c _ _ w h.own (same-match x y n b c t (w x (inl refl)) (w y (inr (inl refl))) ln h)
-    goal-match (F.Made x s ys) t w O n b c ln h = atom-match (x ∷ ys) n b c _ _ w h.own (made-match x s ys n b c t w ln h)
-    goal-match (F.Is x v) t w O n b c ln h = atom-match (x ∷ []) n b c _ _ w h.own (constant-match x v n b c t.1 (w x (inl refl)) ln h)
-    goal-match (F.Call p xs) t w O n b c ln h = atom-match xs n b c _ _ w h.own (call-match (P.preds p).builtin p t.0 xs n b c refl t.1 w ln h)
-    goal-match (F.And gs) t w O n b c ln h =
+    pub goal-match : (g : Flat_goal) → CallsOnly Counts g → TypedGoal P T g → Below first (variables_of g) → TM (trial Op P declared T g) (trial Oq P other T g)
+    goal-match (F.Same x y) a t w O n b c ln h = atom-match (x ∷ y ∷ []) n b c _ _ w h.own (same-match x y n b c t (w x (inl refl)) (w y (inr (inl refl))) ln h)
+    goal-match (F.Made x s ys) a t w O n b c ln h = atom-match (x ∷ ys) n b c _ _ w h.own (made-match x s ys n b c t w ln h)
+    goal-match (F.Is x v) a t w O n b c ln h = atom-match (x ∷ []) n b c _ _ w h.own (constant-match x v n b c t.1 (w x (inl refl)) ln h)
+    goal-match (F.Call p xs) a t w O n b c ln h = atom-match xs n b c _ _ w h.own (call-match (P.preds p).builtin p t.0 xs n b c a refl t.1 w ln h)
+    goal-match (F.And gs) a t w O n b c ln h =
         conj-match n b c (in_turn Op P declared T (count_flat gs) (trials Op P declared T gs) O n b) (in_turn Oq P other T (count_flat gs) (trials Oq P other T gs) O n c) ln h
-        (in-turn-match (count_flat gs) (trials Op P declared T gs) (trials Oq P other T gs) (goals-match gs t w) O n b c ln h)
-    goal-match (F.Or gs) t w O n b c ln h =
+        (in-turn-match (count_flat gs) (trials Op P declared T gs) (trials Oq P other T gs) (goals-match gs a t w) O n b c ln h)
+    goal-match (F.Or gs) a t w O n b c ln h =
         branched-match n n None Disj Disj (variables_of_all gs) O b c (EB b c) (each_branch Op (trials Op P declared T gs) O n b) (each_branch Oq (trials Oq P other T gs) O n c) ln (le_refl n) w h (λ ks ls o p m e q. closed.disj b c ks ls o p m e q)
-        (each-branch-match (trials Op P declared T gs) (trials Oq P other T gs) O n b c ln h (goals-match gs t w))
-    goal-match (F.If vs g h k) t w O n b c ln r =
+        (each-branch-match (trials Op P declared T gs) (trials Oq P other T gs) O n b c ln h (goals-match gs a t w))
+    goal-match (F.If vs g h k) a t w O n b c ln r =
         conditional-match n vs (without (free_in g) vs) (variables_of (F.If vs g h k)) O b c (trial Op P declared T g (O ++ (without (free_in g) vs ++ variables_of h)) n b) (trial Oq P other T g (O ++ (without (free_in g) vs ++ variables_of h)) n c)
         (trial Op P declared T h) (trial Op P declared T k) (trial Oq P other T h) (trial Oq P other T k) (O ++ variables_of g) O ln
         (λ x i. w x (in-condition vs g h k x (free-among g x (from_without x (free_in g) vs i)))) w r
-        (goal-match h t.1 (λ x i. w x (in-then vs g h k x i))) (goal-match k t.2 (λ x i. w x (in-else vs g h k x i)))
-        (goal-match g t.0 (λ x i. w x (in-condition vs g h k x i)) (O ++ (without (free_in g) vs ++ variables_of h)) n b c ln r)
-    goal-match (F.Not g) t w O n b c ln h =
-        negation-match n (free_in g) b c (trial Op P declared T g (O ++ free_in g) n b) (trial Oq P other T g (O ++ free_in g) n c) ln (λ x i. w x (free-among g x i)) h (goal-match g t w (O ++ free_in g) n b c ln h)
-    goal-match (F.Exists vs g) t w O n b c ln h =
-        exists-match n vs b c (trial Op P declared T g O n b) (trial Oq P other T g O n c) ln h (goal-match g t (λ x i. w x (in_right x vs (variables_of g) i)) O n b c ln h)
+        (goal-match h a.1 t.1 (λ x i. w x (in-then vs g h k x i))) (goal-match k a.2 t.2 (λ x i. w x (in-else vs g h k x i)))
+        (goal-match g a.0 t.0 (λ x i. w x (in-condition vs g h k x i)) (O ++ (without (free_in g) vs ++ variables_of h)) n b c ln r)
+    goal-match (F.Not g) a t w O n b c ln h =
+        negation-match n (free_in g) b c (trial Op P declared T g (O ++ free_in g) n b) (trial Oq P other T g (O ++ free_in g) n c) ln (λ x i. w x (free-among g x i)) h (goal-match g a t w (O ++ free_in g) n b c ln h)
+    goal-match (F.Exists vs g) a t w O n b c ln h =
+        exists-match n vs b c (trial Op P declared T g O n b) (trial Oq P other T g O n c) ln h (goal-match g a t (λ x i. w x (in_right x vs (variables_of g) i)) O n b c ln h)
 
-    goals-match : (gs : Flat_goals) → TypedGoals P T gs → Below first (variables_of_all gs) → AM (trials Op P declared T gs) (trials Oq P other T gs)
-    goals-match no_flat t w = no_more
-    goals-match (flat_then g gs) t w = one_more refl (λ x i. w x (in_left x (variables_of g) (variables_of_all gs) i)) (goal-match g t.0 (λ x i. w x (in_left x (variables_of g) (variables_of_all gs) i))) (goals-match gs t.1 (λ x i. w x (in_right x (variables_of g) (variables_of_all gs) i)))
+    goals-match : (gs : Flat_goals) → AllCallOnly Counts gs → TypedGoals P T gs → Below first (variables_of_all gs) → AM (trials Op P declared T gs) (trials Oq P other T gs)
+    goals-match no_flat a t w = no_more
+    goals-match (flat_then g gs) a t w = one_more refl (λ x i. w x (in_left x (variables_of g) (variables_of_all gs) i)) (goal-match g a.0 t.0 (λ x i. w x (in_left x (variables_of g) (variables_of_all gs) i))) (goals-match gs a.1 t.1 (λ x i. w x (in_right x (variables_of g) (variables_of_all gs) i)))

@@ -1,7 +1,7 @@
 -- Goals of which one follows the other: they are one but for the insts that they change, and at
 -- each goal the insts before and after it mean one thing in both. (Mercury Language Reference
 -- Manual: Modes; this project's form of scheduled goals.)
-use Rattle.std.specs.Prelude.{◌≡◌, ℕ, ◌<◌, List, map, Bool, Some}
+use Rattle.std.specs.Prelude.{◌≡◌, ℕ, ◌<◌, List, map, Bool, true, Some}
 use Rattle.mc_program.specs.Values.{Val}
 use Rattle.mc_program.specs.Programs.{TypeTerm, Source}
 use Rattle.mc_source.specs.declared.det.Det.{Det}
@@ -15,6 +15,7 @@ use Rattle.mc_accepted.specs.MergedArms.{takes_constants}
 use Rattle.mc_model.specs.Insts.{Graph}
 use Rattle.mc_model.specs.Flat.{Flat_goal, variables_of}
 use Rattle.mc_accepted.specs.Accepted.{entered}
+use Rattle.mc_accepted.specs.Calls.{CallsOnly}
 use Rattle.mc_accepted.specs.Arranged.{Declared, in_order, arrange}
 use Rattle.mc_accepted.specs.Chosen.{Chosen, of_nodes}
 use Rattle.mc_accepted.specs.Fits.{FitsTypes}
@@ -104,16 +105,18 @@ module _ (P : Source) (T : ℕ → TypeTerm) (first : ℕ) where
           → ConstantOf v t → R t i j
           → takes_constants (S.insts i) ≡ takes_constants (U.insts j)
 
--- Two orders of a goal, over the nodes of two graphs, are one but for the insts that goals change;
--- these mean one thing, and so do the insts at a call.
+-- Two orders of a goal, over the nodes of two graphs, are one but for the insts that goals change,
+-- where the insts of modes of what the goal calls mean one thing; these mean one thing, and so do the
+-- insts at a call.
 abbrev pub OrdersFollow : Type 0
 OrdersFollow =
     (P : Source) (D : Parameters) (m n : ℕ) (G H : Graph) (C E : Chosen)
-    (declared other : ℕ → List Declared) (T : ℕ → TypeTerm)
+    (counts : ℕ → Bool) (declared other : ℕ → List Declared) (T : ℕ → TypeTerm)
     → FitsTypes P D → NamedApart P → Finds P m G C → Finds P n H E
-    → DeclaredRelated (of_nodes C) (of_nodes E) (MeanOne P m G n H) P declared other
+    → DeclaredRelated (of_nodes C) (of_nodes E) (MeanOne P m G n H) P (λ p. counts p ≡ true) declared
+    other
     → (next : ℕ) (head first last starts ends : List ℕ) (g : Flat_goal)
-    → TypedGoal P T g → Below next (variables_of g) → Below next head
+    → CallsOnly (λ p. counts p ≡ true) g → TypedGoal P T g → Below next (variables_of g) → Below next head
     → NodesRelated (of_nodes C) (of_nodes E) (MeanOne P m G n H) first starts (map T head)
     → (x y : Node) → arrange (of_nodes C) P declared T next head first last g ≡ in_order x
     → arrange (of_nodes E) P other T next head starts ends g ≡ in_order y

@@ -1,6 +1,6 @@
 -- Nodes of two graphs of insts that mean one thing at a type: they allow the same, at every depth.
 -- (Mercury Language Reference Manual: Modes, insts; this project's profile of uniqueness.)
-use Rattle.std.specs.Prelude.{◌≡◌, ◌≢◌, ◌↔◌, ℕ, ◌<◌, List, [], ◌∷◌, map, Some, true}
+use Rattle.std.specs.Prelude.{◌≡◌, ◌≢◌, ◌↔◌, ℕ, ◌<◌, Bool, List, [], ◌∷◌, map, Some, true}
 use Rattle.mc_program.specs.Programs.{TypeTerm, state_type, Source}
 use Rattle.mc_model.specs.Insts.{free, bound, Graph}
 use Rattle.mc_model.specs.Lists.{is_in}
@@ -14,6 +14,7 @@ use Rattle.mc_accepted.specs.Fits.{FitsInsts, FitsTypes}
 use Rattle.mc_accepted.specs.ProperTypes.{Parameters}
 use Rattle.mc_accepted.specs.InOrder.{SameName}
 use Rattle.mc_accepted.specs.Typing.{TypedGoal}
+use Rattle.mc_accepted.specs.Calls.{CallsOnly}
 use Rattle.mc_accepted.specs.Arranged.{Declared, faulty, lacks, arrange}
 use Rattle.mc_accepted.specs.Chosen.{Chosen, of_nodes}
 use Rattle.mc_insts.specs.Merging.{OneAllows}
@@ -79,16 +80,17 @@ pub record MeanOne (P : Source) (m : ℕ) (G : Graph) (n : ℕ) (H : Graph) (t :
   pub same : (path : Path) (e : Tip) → Allows P G path e i t ↔ Allows P H path e j t
 
 -- One order whatever the graph: where no node is lacking, a goal has one order over the nodes of
--- two graphs, but for changes and marks, or one fault. The insts of the modes mean one thing in both
--- graphs, whatever their numbers.
+-- two graphs, but for changes and marks, or one fault. The insts of the modes of what it calls mean
+-- one thing in both graphs, whatever their numbers.
 abbrev pub OneOrderOverNodes : Type 0
 OneOrderOverNodes =
     (P : Source) (D : Parameters) (m n : ℕ) (G H : Graph) (C E : Chosen)
-    (declared other : ℕ → List Declared) (T : ℕ → TypeTerm)
+    (counts : ℕ → Bool) (declared other : ℕ → List Declared) (T : ℕ → TypeTerm)
     → FitsTypes P D → NamedApart P → Finds P m G C → Finds P n H E
-    → DeclaredRelated (of_nodes C) (of_nodes E) (MeanOne P m G n H) P declared other
+    → DeclaredRelated (of_nodes C) (of_nodes E) (MeanOne P m G n H) P (λ p. counts p ≡ true) declared
+    other
     → (next : ℕ) (head first last starts ends : List ℕ) (g : Flat_goal)
-    → TypedGoal P T g → Below next (variables_of g) → Below next head
+    → CallsOnly (λ p. counts p ≡ true) g → TypedGoal P T g → Below next (variables_of g) → Below next head
     → NodesRelated (of_nodes C) (of_nodes E) (MeanOne P m G n H) first starts (map T head)
     → NodesRelated (of_nodes C) (of_nodes E) (MeanOne P m G n H) last ends (map T head)
     → arrange (of_nodes C) P declared T next head first last g ≢ faulty lacks

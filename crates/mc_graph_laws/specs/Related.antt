@@ -110,11 +110,12 @@ module _ {I J : Type 0} (Op : Operations I) (Other : Operations J)
   EachModeRelated (d ∷ ds) (e ∷ es) ts = DeclaredAlike d e ts × EachModeRelated ds es ts
   EachModeRelated _ _ _ = ⊥
 
-  -- the insts of modes mean one thing at each instance of the predicates' types
-  pub record DeclaredRelated (P : Source) (declared other : ℕ → List Declared) : Type 0 where
+  -- the insts of modes of the predicates that count mean one thing at each instance of their types
+  pub record DeclaredRelated (P : Source) (Counts : ℕ → Type 0) (declared other : ℕ → List Declared)
+      : Type 0 where
     pub modes :
         (p : ℕ) (σ : ℕ → TypeTerm)
-        → (P.preds p).builtin ≡ None
+        → Counts p → (P.preds p).builtin ≡ None
         → EachModeRelated (declared p) (other p) (map (instance_of σ) (P.preds p).types)
     pub builtins :
         (p : ℕ) (op : Builtin) (σ : ℕ → TypeTerm)

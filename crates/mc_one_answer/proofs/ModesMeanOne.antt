@@ -1,5 +1,6 @@
 -- Insts that definitions define mean one thing in two graphs, and so do the insts of declared modes.
 use Rattle.std.proofs.Common.{◌≡◌, inl, ℕ, zero, suc, ◌+◌, ◌<◌, List, [], ◌∷◌, ◌++◌, map, get_or, Option, refl, sym, ap, ◌∙◌, subst, arith}
+use Rattle.std.specs.List.{All}
 use Rattle.std.proofs.Math.Nat.{lt_of_lt_of_le}
 use Rattle.mc_source.specs.Rules.{Fault, broken_at}
 use Rattle.mc_source.specs.declared.rule.Broken.{Broken}
@@ -9,7 +10,9 @@ use Rattle.mc_program.specs.declared.builtin.Builtin.{Builtin}
 use Rattle.mc_program.specs.declared.builtin.Builtin.TheVariants as B
 use Rattle.mc_program.specs.declared.program.Program.{Program}
 use Rattle.mc_model.specs.Insts.{Graph}
+use Rattle.mc_model.specs.PlainGoals.{plain_flat}
 use Rattle.mc_model.specs.Types.{instance_of}
+use Rattle.mc_model.specs.declared.flat.Normal.{Normal}
 use Rattle.mc_model.specs.declared.inst.ModeDecl.{ModeDecl}
 use Rattle.mc_model.specs.declared.inst.Sig.{Sig}
 use Rattle.mc_accepted.specs.BuiltinTypes.{Library_types, builtin_types}
@@ -21,9 +24,11 @@ use Rattle.mc_insts.specs.declared.insts.Insts.{Insts}
 use Rattle.mc_insts.specs.Graphs.{graph_of, count_of}
 use Rattle.mc_insts.specs.Growing.{Grown}
 use Rattle.mc_procs.specs.Named.{NumbersBelow}
-use Rattle.mc_procs.specs.Procedures.{PlainProcs}
+use Rattle.mc_procs.specs.Procedures.{PlainProcs, insts_of}
 use Rattle.mc_mode_points.specs.Modes.{never_answers, declared_mode, ModesFit}
-use Rattle.mc_modes.specs.Signatures.{modes_at, no_mode, SigsFit}
+use Rattle.mc_modes.specs.Signatures.{modes_at, mode_in, no_mode, SigsFit}
+use Rattle.mc_orders.specs.NormalGoals.{goal_at}
+use Rattle.mc_orders.specs.declared.modes.ModeId.{ModeId}
 use Rattle.mc_order_laws.proofs.TidyInsts.{tidy-at-instances}
 use Rattle.mc_graph_laws.specs.FaultLaws.{InstAlike}
 use Rattle.mc_graph_laws.specs.Nodes.{MeanOne}
@@ -31,9 +36,10 @@ use Rattle.mc_graph_laws.specs.Related.{BoundAlike, NodesRelated, ModesRelated, 
 use Rattle.mc_graph_laws.proofs.AlikeInsts.{same-bound}
 use Rattle.mc_graph_laws.proofs.NodesMeanOne.{free-one, ground-one, unique-one, gone-one}
 use Rattle.mc_rules.specs.Premises.{HasInsts, Begins}
-use Rattle.mc_rules.specs.Untidy.{ModeIsTidy, TidySays, is_tidy, is_untidy, ModesSay, no_mode as no_mode_says, mode_then, AreUntidy, no_predicate, predicate_then}
+use Rattle.mc_rules.specs.Untidy.{ModeIsTidy, TidySays, is_tidy, is_untidy, ModesSay, no_mode as no_mode_says, mode_then, AreUntidy, no_predicate, predicate_then, AllTidy, TidyAt, OverTidy}
+use Rattle.mc_rules.proofs.Asking.{only_all, tidy_in}
 use Rattle.mc_one_answer.specs.ModesMeanOne.{AreOne, NodesAreOne, DefinedMeanOne, EachIsOne, EachModeIsOne, SigsAreOne, ArePlaced, ModesAreOne, ModesMeanOne}
-use Rattle.mc_one_answer.proofs.SigsAreOne.{modes_one}
+use Rattle.mc_one_answer.proofs.SigsAreOne.{modes_one, mode_one}
 use Rattle.mc_one_answer.proofs.GraphsAlike.{allows-on, tidy-back, graphs-alike}
 
 -- ---- insts that definitions define
@@ -76,25 +82,21 @@ no-second [] ys e = e
 no-second (x ∷ xs) ys e = cc
 
 module _ (P : Source) (G : Graph) where
-  abbrev AllTidy : List TypeTerm → List ModeDecl → Type 0
-  AllTidy ts [] = Unit {0}
-  AllTidy ts (m ∷ ms) = ModeIsTidy P G ts m × AllTidy ts ms
-
   one-tidy : (ts : List TypeTerm) (m : ModeDecl) (f : Option Fault) → TidySays P G ts m f → broken_at m.at f ≡ [] → ModeIsTidy P G ts m
   one-tidy ts m f (is_tidy t) e = t
   one-tidy ts m f (is_untidy n) e = cc
 
-  modes-tidy : (ts : List TypeTerm) (ms : List ModeDecl) (bs : List Broken) → ModesSay P G ts ms bs → bs ≡ [] → AllTidy ts ms
+  modes-tidy : (ts : List TypeTerm) (ms : List ModeDecl) (bs : List Broken) → ModesSay P G ts ms bs → bs ≡ [] → AllTidy P G ts ms
   modes-tidy ts ms bs no_mode_says e = tt
   modes-tidy ts ms bs (mode_then {m = m} {ms = rest} {f = f} {bs = cs} says later) e =
       (one-tidy ts m f says (no-first (broken_at m.at f) cs e), modes-tidy ts rest cs later (no-second (broken_at m.at f) cs e))
 
-  all-tidy : (n : ℕ) (sigs : List Sig) (bs : List Broken) → ArePlaced n sigs → AreUntidy P G sigs bs → bs ≡ [] → (p : ℕ) → AllTidy (P.preds (n + p)).types (modes_at sigs p)
+  all-tidy : (n : ℕ) (sigs : List Sig) (bs : List Broken) → ArePlaced n sigs → AreUntidy P G sigs bs → bs ≡ [] → (p : ℕ) → AllTidy P G (P.preds (n + p)).types (modes_at sigs p)
   all-tidy n sigs bs placed no_predicate e p = tt
   all-tidy n sigs bs placed (predicate_then {s = s} {ss = ss} {bs = here} {cs = rest} says later) e zero =
-      subst (λ q. AllTidy (P.preds q).types s.modes) (placed.0 ∙ (let z : n ≡ n + 0 = omega arith in z)) (modes-tidy (P.preds s.pred).types s.modes here says (no-first here rest e))
+      subst (λ q. AllTidy P G (P.preds q).types s.modes) (placed.0 ∙ (let z : n ≡ n + 0 = omega arith in z)) (modes-tidy (P.preds s.pred).types s.modes here says (no-first here rest e))
   all-tidy n sigs bs placed (predicate_then {s = s} {ss = ss} {bs = here} {cs = rest} says later) e (suc p) =
-      subst (λ q. AllTidy (P.preds q).types (modes_at ss p)) (let z : suc n + p ≡ n + suc p = omega arith in z) (all-tidy (suc n) ss rest placed.1 later (no-second here rest e) p)
+      subst (λ q. AllTidy P G (P.preds q).types (modes_at ss p)) (let z : suc n + p ≡ n + suc p = omega arith in z) (all-tidy (suc n) ss rest placed.1 later (no-second here rest e) p)
 
 -- ---- insts of declared modes
 module _ (P : Program) (K L : Insts) (C E : Chosen) where
@@ -195,15 +197,31 @@ module _ (P : Program) (K L : Insts) (C E : Chosen) where
       each-one σ ms ns ts h.1 fit.1 there.1 tidy.1,
     )
 
-    initial-one : (ms ns : List ModeDecl) (ts : List TypeTerm) (k : ℕ) → EachModeIsOne One ms ns → ModesFit count ms → ModesFit many ns → AllTidy S G ts ms
-        → Nodes (get_or ms k no_mode).first (get_or ns k no_mode).first ts × Nodes (get_or ms k no_mode).last (get_or ns k no_mode).last ts
-    initial-one [] [] ts k h fit there tidy = (tt, tt)
-    initial-one [] (n ∷ ns) ts k h fit there tidy = absurd h
-    initial-one (m ∷ ms) [] ts k h fit there tidy = absurd h
-    initial-one (m ∷ ms) (n ∷ ns) ts zero h fit there tidy = (nodes-one m.first n.first ts h.0.first fit.0.first there.0.first tidy.0.0, nodes-one m.last n.last ts h.0.last fit.0.last there.0.last tidy.0.1)
-    initial-one (m ∷ ms) (n ∷ ns) ts (suc k) h fit there tidy = initial-one ms ns ts k h.1 fit.1 there.1 tidy.1
+-- the insts of each mode are there
+fits-in : (n : ℕ) (ms : List ModeDecl) (k : ℕ) → ModesFit n ms → NumbersBelow n (get_or ms k no_mode).first × NumbersBelow n (get_or ms k no_mode).last
+fits-in n [] k fit = (tt, tt)
+fits-in n (m ∷ ms) zero fit = (fit.0.first, fit.0.last)
+fits-in n (m ∷ ms) (suc k) fit = fits-in n ms k fit.1
 
-module _ (P : Program) (ds es : List PlainInstDef) (sigs others : List Sig) (first other : PlainProcs) (K L : Insts) (same : SigsAreOne (NodesAreOne P ds es) sigs others) (placed : ArePlaced 0 sigs) (here : Begins P ds sigs first) (there : Begins P es others other)
+-- ---- where no mode is untidy, all goals are over tidy modes
+module _ (P : Program) (ds : List PlainInstDef) (sigs : List Sig) (q : PlainProcs) (placed : ArePlaced 0 sigs) (here : Begins P ds sigs [] q) where
+  pub everywhere : (p : ℕ) → TidyAt (plain_program P) (insts_of q) sigs p
+  everywhere p =
+      subst (λ n. AllTidy (plain_program P) (insts_of q) ((plain_program P).preds n).types (modes_at sigs p)) (let e : 0 + p ≡ p = omega arith in e)
+      (all-tidy (plain_program P) (insts_of q) 0 sigs [] placed here.told refl p)
+
+  pub mode-everywhere : (p k : ℕ) → ModeIsTidy (plain_program P) (insts_of q) ((plain_program P).preds p).types (mode_in sigs p k)
+  mode-everywhere p k = tidy_in (plain_program P) (insts_of q) ((plain_program P).preds p).types (modes_at sigs p) k (everywhere p)
+
+  pub all-over : (goals : List Normal) (ids : List ModeId) → All (OverTidy (plain_program P) (insts_of q) sigs goals) ids
+  all-over goals ids k d lt =
+      let id = get_or ids k d in
+      record {
+        own = mode-everywhere id.pred id.mode;
+        called = only_all (TidyAt (plain_program P) (insts_of q) sigs) everywhere (plain_flat (goal_at goals id.pred).body);
+      }
+
+module _ (P : Program) (ds es : List PlainInstDef) (sigs others : List Sig) (untidy told : List Broken) (first other : PlainProcs) (K L : Insts) (same : SigsAreOne (NodesAreOne P ds es) sigs others) (here : Begins P ds sigs untidy first) (there : Begins P es others told other)
     (fit : SigsFit (count_of first.insts) sigs) (fit_there : SigsFit (count_of other.insts) others) (on : Grown (plain_program P) first.insts K) (also : Grown (plain_program P) other.insts L) (C E : Chosen) where
   abbrev Q : Source
   Q = plain_program P
@@ -225,9 +243,6 @@ module _ (P : Program) (ds es : List PlainInstDef) (sigs others : List Sig) (fir
 
   one : (i j : ℕ) (t : TypeTerm) → Nodes-one i j → i < c → j < e → Tidy Q G i t → AreOne P K L t i j
   one i j t h lt less tidy = h.one first.insts other.insts K L here.insts there.insts on also lt less t tidy
-
-  tidy : (p : ℕ) → AllTidy Q G (Q.preds p).types (modes_at sigs p)
-  tidy p = subst (λ q. AllTidy Q G (Q.preds q).types (modes_at sigs p)) (let e : 0 + p ≡ p = omega arith in e) (all-tidy Q G 0 sigs [] placed here.tidy refl p)
 
   -- builtin nodes grow as others do
   abbrev H : Graph
@@ -258,18 +273,22 @@ module _ (P : Program) (ds es : List PlainInstDef) (sigs others : List Sig) (fir
       given P K L C E (λ t. grown-one 0 0 t (free-one Q c e G H many many_there here.insts.are_of.insts there.insts.are_of.insts t)) (λ t. grown-one 1 1 t (ground-one Q c e G H many many_there here.insts.are_of.insts there.insts.are_of.insts t))
       (grown-one 2 2 state_type (unique-one Q c e G H many many_there here.insts.are_of.insts there.insts.are_of.insts)) (grown-one 3 3 state_type (gone-one Q c e G H many many_there here.insts.are_of.insts there.insts.are_of.insts)) T σ op
 
-  modes-are-one : ModesAreOne P sigs others K L C E
+  modes-are-one : ModesAreOne P sigs others G K L C E
   modes-are-one =
       record {
         declared = record {
-          modes = λ p σ none. each-one P K L C E Nodes-one alike G c e one σ (modes_at sigs p) (modes_at others p) (Q.preds p).types (modes_one Nodes-one sigs others p same) (fit p) (fit_there p) (tidy p);
+          modes = λ p σ tidy none. each-one P K L C E Nodes-one alike G c e one σ (modes_at sigs p) (modes_at others p) (Q.preds p).types (modes_one Nodes-one sigs others p same) (fit p) (fit_there p) tidy;
           builtins = λ p op σ e.
               subst (λ ts. ModesRelated (of_nodes C) (of_nodes E) (AreOne P K L) (modes_of op) (modes_of op) (map (instance_of σ) ts)) (sym (here.library.1 p op e).1)
               (given-one here.library.0 σ op);
         };
-        initial = λ p k. (initial-one P K L C E Nodes-one alike G c e one (modes_at sigs p) (modes_at others p) (Q.preds p).types k (modes_one Nodes-one sigs others p same) (fit p) (fit_there p) (tidy p)).0;
-        final = λ p k. (initial-one P K L C E Nodes-one alike G c e one (modes_at sigs p) (modes_at others p) (Q.preds p).types k (modes_one Nodes-one sigs others p same) (fit p) (fit_there p) (tidy p)).1;
+        initial = λ p k tidy.
+            nodes-one P K L C E Nodes-one alike G c e one (mode_in sigs p k).first (mode_in others p k).first (Q.preds p).types (mode_one Nodes-one sigs others p k same).first
+            (fits-in c (modes_at sigs p) k (fit p)).0 (fits-in e (modes_at others p) k (fit_there p)).0 tidy.0;
+        final = λ p k tidy.
+            nodes-one P K L C E Nodes-one alike G c e one (mode_in sigs p k).last (mode_in others p k).last (Q.preds p).types (mode_one Nodes-one sigs others p k same).last
+            (fits-in c (modes_at sigs p) k (fit p)).1 (fits-in e (modes_at others p) k (fit_there p)).1 tidy.1;
       }
 
 pub modes-mean-one : ModesMeanOne
-modes-mean-one P ds es sigs others first other K L same placed here there fit fit_there on also C E = modes-are-one P ds es sigs others first other K L same placed here there fit fit_there on also C E
+modes-mean-one P ds es sigs others untidy told first other K L same here there fit fit_there on also C E = modes-are-one P ds es sigs others untidy told first other K L same here there fit fit_there on also C E

@@ -1,5 +1,5 @@
 -- What comes of a program comes of each that is one with it.
-use Rattle.std.proofs.Common.{◌≡◌, ℕ, ◌<◌, ◌≤◌, Bool, List, [], ◌∷◌, map, length, get_or, Option, Some, None, refl, sym, ap, ap₂, ◌∙◌, subst, false}
+use Rattle.std.proofs.Common.{◌≡◌, ◌↔◌, ℕ, ◌<◌, ◌≤◌, Bool, List, [], ◌∷◌, map, length, get_or, Option, Some, None, refl, sym, ap, ap₂, ◌∙◌, subst, false}
 use Rattle.std.proofs.Math.Path.{fun_ext}
 use Rattle.std.specs.List.{All, AllZip}
 use Rattle.mc_source.specs.Rules.{first_rules, Fault}
@@ -12,6 +12,7 @@ use Rattle.mc_program.specs.declared.builtin.Builtin.{Builtin}
 use Rattle.mc_program.specs.declared.program.Program.{Program}
 use Rattle.mc_program.specs.declared.ty.Ty.{Ty}
 use Rattle.mc_model.specs.Flat.{Flat_goal}
+use Rattle.mc_model.specs.Insts.{Graph}
 use Rattle.mc_model.specs.Lists.{from}
 use Rattle.mc_model.specs.Good.{System}
 use Rattle.mc_model.specs.Outcomes.{Outcome}
@@ -22,6 +23,7 @@ use Rattle.mc_model.specs.declared.inst.Sig.{Sig}
 use Rattle.mc_model.specs.declared.sched.GoalNode.{GoalNode}
 use Rattle.mc_model.specs.declared.sched.Proc.{Proc}
 use Rattle.mc_accepted.specs.Accepted.{entered, KeepsDeterminism}
+use Rattle.mc_accepted.specs.Calls.{CallsOnly}
 use Rattle.mc_accepted.specs.Arranged.{Verdict, arrange, trial, entry, in_order}
 use Rattle.mc_accepted.specs.Chosen.{Chosen, of_nodes}
 use Rattle.mc_accepted.specs.Determined.{nothing_known}
@@ -61,7 +63,7 @@ use Rattle.mc_det.specs.Pruned.{pruned_body}
 use Rattle.mc_det.specs.PrunedProcedures.{FollowDeclared, Pruned}
 use Rattle.mc_rules.specs.Premises.{HasInsts, Begins, TellNumbers, GoalsFitModes, GoalsAreTyped, AskedOf}
 use Rattle.mc_rules.specs.Rules.{Comes, Determined, FaultsAre, Ordered, break_no_rule, break_uniqueness, break_modes, break_determinism}
-use Rattle.mc_rules.specs.Untidy.{AreUntidy}
+use Rattle.mc_rules.specs.Untidy.{AreUntidy, TidyAt, OverTidy, AreAsked, no_more, asked as asked_mode, passed}
 use Rattle.mc_rules.specs.declared.rules.Ruled.{Ruled}
 use Rattle.mc_one_answer.specs.OneProgram.{over, ruled_over, OneComes}
 use Rattle.mc_one_answer.proofs.SamePrograms.{Same, back, same-of, SameGoal, back-goal, same-goal, of-goal, grown, numbered, all_fit, suits, stands, has_library, normal_fits}
@@ -297,17 +299,17 @@ module _ (P Q : Program) (same : Same P Q) (ds : List PlainInstDef) (sigs : List
       let A : Source → Type 0 = λ S. AreOf S I in
       record { are_of = subst A same.source h.are_of; nodes = h.nodes; defined = h.defined; count = h.count }
 
-  is-first : (q : PlainProcs) → Begins Q ds sigs q → Same P q.program
-  is-first q h = subst (Same P) (sym h.program) same
+  is-first : (bs : List Broken) (q : PlainProcs) → Begins Q ds sigs bs q → Same P q.program
+  is-first bs q h = subst (Same P) (sym h.program) same
 
-  begins : (q : PlainProcs) → Begins Q ds sigs q → Begins P ds sigs (over P q)
-  begins q h =
-      let A : Source → Type 0 = λ S. AreUntidy S (insts_of q) sigs [] in
+  begins : (bs : List Broken) (q : PlainProcs) → Begins Q ds sigs bs q → Begins P ds sigs bs (over P q)
+  begins bs q h =
+      let A : Source → Type 0 = λ S. AreUntidy S (insts_of q) sigs bs in
       record {
         program = refl;
         library = has_library P Q same h.library;
         insts = has_insts q.insts h.insts;
-        tidy = subst A same.source h.tidy;
+        told = subst A same.source h.told;
         preds = h.preds ∙ ap (map (λ (m : ModeId). m.pred)) (numbered P Q same sigs);
         none = h.none;
       }
@@ -344,17 +346,37 @@ module _ (P Q : Program) (same : Same P Q) (ds : List PlainInstDef) (sigs : List
         goals_typed = goals_typed gs hs one h.goals_typed;
       }
 
+-- ---- modes whose goals are tried where some mode is untidy
+module _ (P Q : Program) (same : Same P Q) (sigs : List Sig) (gs hs : List Normal) (one : SameGoals gs hs) (G : Graph) where
+  over_tidy : (id : ModeId) → OverTidy (plain_program P) G sigs hs id ↔ OverTidy (plain_program P) G sigs gs id
+  over_tidy id =
+      let A : Flat_goal → Type 0 = CallsOnly (TidyAt (plain_program P) G sigs) in (
+        λ o. record { own = o.own; called = of-goal (goal_at gs id.pred) (goal_at hs id.pred) (one id.pred) (λ ts vs b. A b) o.called },
+        λ o. record { own = o.own; called = of-goal (goal_at hs id.pred) (goal_at gs id.pred) (back-goals gs hs one id.pred) (λ ts vs b. A b) o.called },
+      )
+
+  asked_of : (ids xs : List ModeId) → AreAsked (plain_program P) G sigs hs ids xs → AreAsked (plain_program P) G sigs gs ids xs
+  asked_of [] [] no_more = no_more
+  asked_of [] (x ∷ xs) h = elim h [ ]
+  asked_of (id ∷ ids) (x ∷ xs) (asked_mode a h) = asked_mode ((over_tidy id).0 a) (asked_of ids xs h)
+  asked_of (id ∷ ids) xs (passed a h) = passed (λ o. a ((over_tidy id).1 o)) (asked_of ids xs h)
+
+  asked_modes : (xs : List ModeId) → AreAsked (plain_program Q) G sigs hs (mode_ids Q sigs) xs → AreAsked (plain_program P) G sigs gs (mode_ids P sigs) xs
+  asked_modes xs h =
+      let A : Source → Type 0 = λ S. AreAsked S G sigs hs (mode_ids Q sigs) xs in
+      subst (λ (ids : List ModeId). AreAsked (plain_program P) G sigs gs ids xs) (numbered P Q same sigs) (asked_of (mode_ids Q sigs) xs (subst A same.source h))
+
 -- ---- what comes
 module _ (P Q : Program) (same : Same P Q) (ds : List PlainInstDef) (sigs : List Sig) (gs hs : List Normal) (one : SameGoals gs hs) (exported : List Bool) (runs : Bool) where
   last-is : (o : Orders) (q : PlainProcs) → Ordered Q ds sigs hs exported o q → Is P q
-  last-is o q h = is-too P h.first q h.grown.program (is-first P Q same ds sigs h.first h.begins)
+  last-is o q h = is-too P h.first q h.grown.program (is-first P Q same ds sigs [] h.first h.begins)
 
   in-order : (o : Orders) (q : PlainProcs) → Ordered Q ds sigs hs exported o q → Ordered P ds sigs gs exported o (over P q)
   in-order o q h =
-      let is = is-first P Q same ds sigs h.first h.begins in
+      let is = is-first P Q same ds sigs [] h.first h.begins in
       record {
         first = over P h.first;
-        begins = begins P Q same ds sigs h.first h.begins;
+        begins = begins P Q same ds sigs [] h.first h.begins;
         asked = asked P h.first.program is ds sigs gs hs one exported h.first h.asked;
         became = became P sigs gs hs one exported h.first q o is (last-is o q h) h.became;
         grown = grown_from P h.first q is h.grown;
@@ -365,9 +387,10 @@ module _ (P Q : Program) (same : Same P Q) (ds : List PlainInstDef) (sigs : List
       let i = last-is O.All o came in
       let j = last_is P o l i is in
       break_no_rule (in-order O.All o came) (determined P o l i is) (faults_are P runs l [] j none) (all_fit P l.program j l fit)
-  comes (break_uniqueness {insts = I} {untidy = u} has says e some) =
-      let A : Source → Type 0 = λ S. AreUntidy S (graph_of I) sigs u in
-      break_uniqueness (has_insts P Q same ds sigs I has) (subst A same.source says) e some
+  comes (break_uniqueness {first = q} {last = l} {untidy = u} {faults = fs} {ids = is} begun some premises are_asked broken e) =
+      let first = is-first P Q same ds sigs u q begun in
+      break_uniqueness (begins P Q same ds sigs u q begun) some (asked P q.program first ds sigs gs hs one exported q premises)
+      (asked_modes P Q same sigs gs hs one (insts_of q) is are_asked) (are_broken P sigs gs hs one q l is fs first broken) e
   comes (break_modes {last = l} {list = list} came) = break_modes (in-order (O.Broken list) l came)
   comes (break_determinism {ordered = o} {last = l} {list = list} came is faults fit some) =
       let i = last-is O.All o came in

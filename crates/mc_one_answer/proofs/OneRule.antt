@@ -37,7 +37,7 @@ use Rattle.mc_orders.specs.ModeFaults.{rule_of}
 use Rattle.mc_orders.specs.NormalGoals.{goal_at}
 use Rattle.mc_orders.specs.Outcomes.{Tried, IsTried, broken_rules}
 use Rattle.mc_orders.specs.declared.modes.ModeId.{ModeId}
-use Rattle.mc_orders.proofs.Ids.{IsMode, are_modes}
+use Rattle.mc_orders.specs.Numbering.{IsMode}
 use Rattle.mc_order_laws.specs.SomeTest.{TypesMet}
 use Rattle.mc_order_laws.proofs.NothingLacks.{never-lacks}
 use Rattle.mc_graph_laws.specs.Related.{OneVerdict, Related, NodesRelated}
@@ -46,14 +46,15 @@ use Rattle.mc_graph_laws.proofs.NodesMeanOne.{nodes-related}
 use Rattle.mc_graph_laws.proofs.OneVerdicts.{one-verdict}
 use Rattle.mc_fitting.specs.TypedGoals.{IsTyped}
 use Rattle.mc_rules.specs.Premises.{Begins, AskedOf, GoalsAreTyped}
+use Rattle.mc_rules.specs.Untidy.{TidyAt, OverTidy}
 use Rattle.mc_rule_laws.proofs.BodyOrders.{same_types}
 use Rattle.mc_one_answer.specs.FoundNodes.{joins_some, FoundNodes}
-use Rattle.mc_one_answer.specs.ModesMeanOne.{AreOne, NodesAreOne, SigsAreOne, ArePlaced, ModesAreOne}
+use Rattle.mc_one_answer.specs.ModesMeanOne.{AreOne, NodesAreOne, SigsAreOne, ModesAreOne}
 use Rattle.mc_one_answer.specs.OneListOfRules.{OneListOfRules}
 use Rattle.mc_one_answer.proofs.FoundNodes.{in-numbers}
 use Rattle.mc_one_answer.proofs.ModesMeanOne.{modes-mean-one}
 use Rattle.mc_one_answer.proofs.NamedApart.{named-apart}
-use Rattle.mc_one_answer.proofs.SigsAreOne.{mode_one, ids_one}
+use Rattle.mc_one_answer.proofs.SigsAreOne.{mode_one}
 
 -- ---- one verdict breaks one rule
 pub one-rule : (n : ℕ) (names : List (List ℕ)) (v w : Verdict) → OneVerdict v w → rule_of n names v ≡ rule_of n names w
@@ -182,17 +183,20 @@ related-some P K L C E r =
       fits = r.fits;
     }
 
-module _ (found : FoundNodes) (P : Program) (ds es : List PlainInstDef) (sigs modes : List Sig) (goals : List Normal) (exported : List Bool) (first other : PlainProcs) (same : SigsAreOne (NodesAreOne P ds es) sigs modes) (placed : ArePlaced 0 sigs)
-    (met : (t : TypeTerm) → TypesMet (plain_program P) t) (here : Begins P ds sigs first) (there : Begins P es modes other) (asked : AskedOf first sigs goals exported) (asked_too : AskedOf other modes goals exported) where
-  one-verdict-told : (id : ModeId) → IsMode P sigs id → (v w : Verdict) → IsTold found P sigs goals met id first.insts v → IsTold found P modes goals met id other.insts w → OneVerdict v w
-  one-verdict-told id is v w x y =
+module _ (found : FoundNodes) (P : Program) (ds es : List PlainInstDef) (sigs modes : List Sig) (goals : List Normal) (exported : List Bool) (untidy told : List Broken) (first other : PlainProcs) (same : SigsAreOne (NodesAreOne P ds es) sigs modes)
+    (met : (t : TypeTerm) → TypesMet (plain_program P) t) (here : Begins P ds sigs untidy first) (there : Begins P es modes told other) (asked : AskedOf first sigs goals exported) (asked_too : AskedOf other modes goals exported) where
+  abbrev Over : ModeId → Type 0
+  Over id = OverTidy (plain_program P) (insts_of first) sigs goals id
+
+  one-verdict-told : (id : ModeId) → IsMode P sigs id → Over id → (v w : Verdict) → IsTold found P sigs goals met id first.insts v → IsTold found P modes goals met id other.insts w → OneVerdict v w
+  one-verdict-told id is tidy v w x y =
       subst (λ z. OneVerdict z w) x.verdict
       (subst (λ z. OneVerdict (arranged found P sigs goals met id x.choice) z) y.verdict
-      (one-verdict (of_nodes x.choice) (of_nodes y.choice) (AreOne P x.insts y.insts) (plain_program P) (declared_in sigs) (declared_in modes) (W.type_in g.var_types) n
+      (one-verdict (of_nodes x.choice) (of_nodes y.choice) (AreOne P x.insts y.insts) (plain_program P) (TidyAt (plain_program P) (insts_of first) sigs) (declared_in sigs) (declared_in modes) (W.type_in g.var_types) n
       (related-some P x.insts y.insts x.choice y.choice
       (nodes-related (plain_program P) (parameters_in P) (count_of x.insts) (count_of y.insts) (graph_of x.insts) (graph_of y.insts) (joins_some x.choice) (joins_some y.choice) x.types (named-apart (plain_program P) here.insts.are_of.fits) x.finds y.finds))
-      are.declared n g.head m.first m.last l.first l.last (plain_flat g.body) types.body (in-numbers n (variables_of (plain_flat g.body)) fits.variables) (in-numbers n g.head fits.head) (le_refl n)
-      (at_head m.first l.first (are.initial id.pred id.mode)) (at_head m.last l.last (are.final id.pred id.mode)) (λ e. x.enough (sym x.verdict ∙ e)) (λ e. y.enough (sym y.verdict ∙ e))))
+      are.declared n g.head m.first m.last l.first l.last (plain_flat g.body) tidy.called types.body (in-numbers n (variables_of (plain_flat g.body)) fits.variables) (in-numbers n g.head fits.head) (le_refl n)
+      (at_head m.first l.first (are.initial id.pred id.mode tidy.own)) (at_head m.last l.last (are.final id.pred id.mode tidy.own)) (λ e. x.enough (sym x.verdict ∙ e)) (λ e. y.enough (sym y.verdict ∙ e))))
     where
       g : Normal
       g = goal_at goals id.pred
@@ -214,41 +218,42 @@ module _ (found : FoundNodes) (P : Program) (ds es : List PlainInstDef) (sigs mo
       types : IsTyped (plain_program P) id.pred g
       types = subst (λ (X : Program). GoalsAreTyped X goals) here.program asked.goals_typed id.pred is.pred is.no_builtin
 
-      are : ModesAreOne P sigs modes x.insts y.insts x.choice y.choice
-      are = modes-mean-one P ds es sigs modes first other x.insts y.insts same placed here there asked.insts_there asked_too.insts_there x.grown y.grown x.choice y.choice
+      are : ModesAreOne P sigs modes (insts_of first) x.insts y.insts x.choice y.choice
+      are = modes-mean-one P ds es sigs modes untidy told first other x.insts y.insts same here there asked.insts_there asked_too.insts_there x.grown y.grown x.choice y.choice
 
       at_head : (is js : List ℕ) → NodesRelated (of_nodes x.choice) (of_nodes y.choice) (AreOne P x.insts y.insts) is js ((plain_program P).preds id.pred).types
           → NodesRelated (of_nodes x.choice) (of_nodes y.choice) (AreOne P x.insts y.insts) is js (map (W.type_in g.var_types) g.head)
       at_head is js r = subst (λ ts. NodesRelated (of_nodes x.choice) (of_nodes y.choice) (AreOne P x.insts y.insts) is js ts) (sym types.head) r
 
   -- ---- lists of rules
-  told-in : (all : List Sig) (defs : List PlainInstDef) (from last : PlainProcs) (t : Tried) → Begins P defs all from → IsTried all goals from last t → IsTold found P all goals met t.id from.insts t.verdict
-  told-in all defs from last t begins is =
+  told-in : (all : List Sig) (defs : List PlainInstDef) (bs : List Broken) (from last : PlainProcs) (t : Tried) → Begins P defs all bs from → IsTried all goals from last t → IsTold found P all goals met t.id from.insts t.verdict
+  told-in all defs bs from last t begins is =
       told-of found P all goals met t.id is.before is.after from.insts is.end t.verdict (is.begun.program ∙ begins.program)
       (subst (λ (X : Program). Grown (plain_program X) from.insts is.before.insts) begins.program is.begun.grown) is.becomes
 
-  same-rules : (last also : PlainProcs) (ts us : List Tried) → map (λ (t : Tried). t.id) ts ≡ map (λ (t : Tried). t.id) us → All (IsMode P sigs) (map (λ (t : Tried). t.id) ts)
+  same-rules : (last also : PlainProcs) (ts us : List Tried) → map (λ (t : Tried). t.id) ts ≡ map (λ (t : Tried). t.id) us → All (IsMode P sigs) (map (λ (t : Tried). t.id) ts) → All Over (map (λ (t : Tried). t.id) ts)
       → All (IsTried sigs goals first last) ts → All (IsTried modes goals other also) us → broken_rules sigs goals ts ≡ broken_rules modes goals us
-  same-rules last also [] [] e are x y = refl
-  same-rules last also [] (u ∷ us) e are x y = cc
-  same-rules last also (t ∷ ts) [] e are x y = cc
-  same-rules last also (t ∷ ts) (u ∷ us) e are x y =
+  same-rules last also [] [] e are tidy x y = refl
+  same-rules last also [] (u ∷ us) e are tidy x y = cc
+  same-rules last also (t ∷ ts) [] e are tidy x y = cc
+  same-rules last also (t ∷ ts) (u ∷ us) e are tidy x y =
       let ids : List Tried → List ModeId = map (λ (t : Tried). t.id) in
       let eq : t.id ≡ u.id = cc in
       let rest : ids ts ≡ ids us = cc in
       let is : IsMode P sigs t.id = All-head (IsMode P sigs) t.id (ids ts) are in
-      let one : OneVerdict t.verdict u.verdict = one-verdict-told t.id is t.verdict u.verdict (told-in sigs ds first last t here (All-head (IsTried sigs goals first last) t ts x))
-      (subst (λ i. IsTold found P modes goals met i other.insts u.verdict) (sym eq) (told-in modes es other also u there (All-head (IsTried modes goals other also) u us y))) in
+      let one : OneVerdict t.verdict u.verdict = one-verdict-told t.id is (All-head Over t.id (ids ts) tidy) t.verdict u.verdict (told-in sigs ds untidy first last t here (All-head (IsTried sigs goals first last) t ts x))
+      (subst (λ i. IsTold found P modes goals met i other.insts u.verdict) (sym eq) (told-in modes es told other also u there (All-head (IsTried modes goals other also) u us y))) in
       let broken : ModeId → Verdict → List Broken = λ i v. broken_at (mode_in modes i.pred i.mode).at (rule_of (length (goal_at goals i.pred).head) (goal_at goals i.pred).var_names v) in
       ap₂ (λ (bs cs : List Broken). bs ++ cs)
       (ap (broken_at (mode_in sigs t.id.pred t.id.mode).at) (one-rule (length (goal_at goals t.id.pred).head) (goal_at goals t.id.pred).var_names t.verdict u.verdict one)
       ∙ (ap (λ (at : Place). broken_at at (rule_of (length (goal_at goals t.id.pred).head) (goal_at goals t.id.pred).var_names u.verdict)) (sym (mode_one (NodesAreOne P ds es) sigs modes t.id.pred t.id.mode same).at)
       ∙ ap (λ i. broken i u.verdict) eq))
-      (same-rules last also ts us rest (All-tail (IsMode P sigs) t.id (ids ts) are) (All-tail (IsTried sigs goals first last) t ts x) (All-tail (IsTried modes goals other also) u us y))
+      (same-rules last also ts us rest (All-tail (IsMode P sigs) t.id (ids ts) are) (All-tail Over t.id (ids ts) tidy) (All-tail (IsTried sigs goals first last) t ts x) (All-tail (IsTried modes goals other also) u us y))
 
 pub one-list-of-rules : FoundNodes → OneListOfRules
-one-list-of-rules found P ds es sigs modes goals exported first other last also faults others same placed met here there asked asked_too x y =
+one-list-of-rules found P ds es sigs modes goals exported untidy told first other last also ids faults others same met here there asked asked_too are tidy x y =
     x.rules
-    ∙ same-rules found P ds es sigs modes goals exported first other same placed met here there asked asked_too last also x.tried y.tried (x.ids_are ∙ (sym (ids_one (NodesAreOne P ds es) P sigs modes same) ∙ sym y.ids_are))
-    (subst (λ is. All (IsMode P sigs) is) (sym x.ids_are) (are_modes P sigs)) x.each y.each
+    ∙ same-rules found P ds es sigs modes goals exported untidy told first other same met here there asked asked_too last also x.tried y.tried (x.ids_are ∙ sym y.ids_are)
+    (subst (λ is. All (IsMode P sigs) is) (sym x.ids_are) are)
+    (subst (λ is. All (OverTidy (plain_program P) (insts_of first) sigs goals) is) (sym x.ids_are) tidy) x.each y.each
     ∙ sym y.rules

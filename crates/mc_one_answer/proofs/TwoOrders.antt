@@ -40,11 +40,10 @@ use Rattle.mc_modes.specs.Schedules.{IsScheduled, NormalFits}
 use Rattle.mc_modes.specs.Signatures.{declared_in, mode_in, modes_at, no_mode}
 use Rattle.mc_modes.specs.Tries.{Suits, with_types}
 use Rattle.mc_orders.specs.NormalGoals.{goal_at}
-use Rattle.mc_orders.specs.Numbering.{mode_ids}
+use Rattle.mc_orders.specs.Numbering.{IsMode, mode_ids}
 use Rattle.mc_orders.specs.Outcomes.{IsOrdered}
 use Rattle.mc_orders.specs.declared.modes.ModeId.{ModeId}
 use Rattle.mc_orders.specs.declared.ordering.Orders.TheVariants as O
-use Rattle.mc_orders.proofs.Ids.{IsMode}
 use Rattle.mc_graph_laws.specs.Follows.{InstsFollow, Follows}
 use Rattle.mc_graph_laws.specs.Nodes.{Finds, MeanOne}
 use Rattle.mc_graph_laws.specs.Related.{Related, NodesRelated}
@@ -52,6 +51,8 @@ use Rattle.mc_graph_laws.proofs.GoalsFollow.{entry-follows, order-follows}
 use Rattle.mc_graph_laws.proofs.NodesMeanOne.{nodes-related}
 use Rattle.mc_whole.specs.Goals.{HasNormalGoals}
 use Rattle.mc_rules.specs.Rules.{Determined, Ordered}
+use Rattle.mc_rules.specs.Untidy.{TidyAt}
+use Rattle.mc_rules.proofs.Asking.{only_all}
 use Rattle.mc_rule_laws.proofs.BodyOrders.{same_types}
 use Rattle.mc_rule_laws.proofs.LastGraph.{stands_later, agrees_earlier, program_kept, graph_grown}
 use Rattle.mc_rule_laws.proofs.Listed.{from_many}
@@ -59,7 +60,7 @@ use Rattle.mc_rule_laws.proofs.OfModes.{as_many, id_at, last_program, no_id, ord
 use Rattle.mc_one_answer.specs.FoundNodes.{joins_some, FoundNodes}
 use Rattle.mc_one_answer.specs.ModesMeanOne.{AreOne, NodesAreOne, SigsAreOne, ArePlaced, ModesAreOne}
 use Rattle.mc_one_answer.proofs.FoundNodes.{in-numbers}
-use Rattle.mc_one_answer.proofs.ModesMeanOne.{modes-mean-one}
+use Rattle.mc_one_answer.proofs.ModesMeanOne.{everywhere, mode-everywhere, modes-mean-one}
 use Rattle.mc_one_answer.proofs.NamedApart.{named-apart}
 use Rattle.mc_one_answer.proofs.OneRule.{types-kept, related-some}
 use Rattle.mc_one_answer.proofs.SigsAreOne.{ids_one}
@@ -214,6 +215,9 @@ module _ (found : FoundNodes) (outcome : Builtin → List Val → Outcome) (P : 
     abbrev m2 : ModeDecl
     m2 = mode_in sigs2 id.pred id.mode
 
+    abbrev Calling : ℕ → Type 0
+    Calling = TidyAt (plain_program P) (insts_of came1.first) sigs
+
     is_mode : IsMode P sigs id
     is_mode = id_at P sigs k lt
 
@@ -231,9 +235,9 @@ module _ (found : FoundNodes) (outcome : Builtin → List Val → Outcome) (P : 
     finds_there : Finds (plain_program P) (count_of l2.insts) (insts_of l2) (joins_some there.choice)
     finds_there = subst (λ (X : Program). Finds (plain_program X) (count_of l2.insts) (insts_of l2) (joins_some there.choice)) program2 there.finds
 
-    modes : ModesAreOne P sigs sigs2 l1.insts l2.insts here.choice there.choice
+    modes : ModesAreOne P sigs sigs2 (insts_of came1.first) l1.insts l2.insts here.choice there.choice
     modes =
-        modes-mean-one P defs defs2 sigs sigs2 came1.first came2.first l1.insts l2.insts one_sigs placed came1.begins came2.begins came1.asked.insts_there came2.asked.insts_there
+        modes-mean-one P defs defs2 sigs sigs2 [] [] came1.first came2.first l1.insts l2.insts one_sigs came1.begins came2.begins came1.asked.insts_there came2.asked.insts_there
         (its_growth found P defs sigs goals exported types_met o1 l1 came1 is1 fit1) (its_growth found P defs2 sigs2 goals exported types_met o2 l2 came2 is2 fit2) here.choice there.choice
 
     related : Related (of_nodes here.choice) (of_nodes there.choice) (AreOne P l1.insts l2.insts) (plain_program P)
@@ -261,7 +265,7 @@ module _ (found : FoundNodes) (outcome : Builtin → List Val → Outcome) (P : 
         ap₂ (λ (a b : Bool). a || b) (sym (finds_here.dies i r.0.here) ∙ (related.dead t i j r.0 ∙ finds_there.dies j r.0.there)) (dead_alike is js ts (omega (arith, l)) r.1)
 
     finals_alike : list_any (λ i. is_dead (insts_of l1 i)) m.last ≡ list_any (λ i. is_dead (insts_of l2 i)) m2.last
-    finals_alike = dead_alike m.last m2.last ((plain_program P).preds id.pred).types as_many_finals (modes.final id.pred id.mode)
+    finals_alike = dead_alike m.last m2.last ((plain_program P).preds id.pred).types as_many_finals (modes.final id.pred id.mode (mode-everywhere P defs sigs came1.first placed came1.begins id.pred id.mode))
 
     -- ---- the orders follow
     fits_here : FitsProcedure (begun outcome P defs sigs goals exported normal_goals named_apart types_met o1 l1 came1 is1 fit1) (parameters_of l1) (plain_proc (p1 k e))
@@ -294,7 +298,7 @@ module _ (found : FoundNodes) (outcome : Builtin → List Val → Outcome) (P : 
         ∙ ap (λ (p : ℕ). ((plain_program P).preds p).types) (its_pred outcome P defs sigs goals exported normal_goals named_apart types_met o1 l1 came1 is1 fit1 k e lt)))
 
     initials : NodesRelated (of_nodes here.choice) (of_nodes there.choice) (AreOne P l1.insts l2.insts) m.first m2.first (map (typing k e) g.head)
-    initials = subst (NodesRelated (of_nodes here.choice) (of_nodes there.choice) (AreOne P l1.insts l2.insts) m.first m2.first) (sym head_types) (modes.initial id.pred id.mode)
+    initials = subst (NodesRelated (of_nodes here.choice) (of_nodes there.choice) (AreOne P l1.insts l2.insts) m.first m2.first) (sym head_types) (modes.initial id.pred id.mode (mode-everywhere P defs sigs came1.first placed came1.begins id.pred id.mode))
 
     abbrev Q : Source
     Q = source_of l1
@@ -319,7 +323,7 @@ module _ (found : FoundNodes) (outcome : Builtin → List Val → Outcome) (P : 
         subst (λ (X : Program). InstsFollow (plain_program X) (typing k e) (length g.var_types) (Mean X) start begin) (sym program1)
         (subst (λ (b : Insts). InstsFollow (plain_program P) (typing k e) (length g.var_types) (Mean P) b begin) starts
         (subst (λ (c : Insts). InstsFollow (plain_program P) (typing k e) (length g.var_types) (Mean P) (entered g.head m.first) c) begins
-        (entry-follows (plain_program P) (declared_in sigs) (declared_in sigs2) (typing k e) (length g.var_types) (Mean P) here.choice there.choice related modes.declared (length g.var_types) g.head m.first m2.first (in-numbers (length g.var_types) g.head in_first.head) (le_refl (length g.var_types)) initials)))
+        (entry-follows (plain_program P) Calling (declared_in sigs) (declared_in sigs2) (typing k e) (length g.var_types) (Mean P) here.choice there.choice related modes.declared (length g.var_types) g.head m.first m2.first (in-numbers (length g.var_types) g.head in_first.head) (le_refl (length g.var_types)) initials)))
 
     abbrev Arranged : List Sig → ModeDecl → Chosen → Source → GoalNode → Type 0
     Arranged ss mode C X body = arrange (of_nodes C) X (declared_in ss) (typing k e) (length g.var_types) g.head mode.first mode.last (plain_flat g.body) ≡ in_order (plain_node body)
@@ -346,8 +350,8 @@ module _ (found : FoundNodes) (outcome : Builtin → List Val → Outcome) (P : 
         subst (λ (X : Program). Follows (plain_program X) (typing k e) (length g.var_types) (Mean X) start begin (plain_node (p1 k e).body) (plain_node (p2 k e).body)) (sym program1)
         (subst (λ (b : Insts). Follows (plain_program P) (typing k e) (length g.var_types) (Mean P) b begin (plain_node (p1 k e).body) (plain_node (p2 k e).body)) starts
         (subst (λ (c : Insts). Follows (plain_program P) (typing k e) (length g.var_types) (Mean P) (entered g.head m.first) c (plain_node (p1 k e).body) (plain_node (p2 k e).body)) begins
-        (order-follows (plain_program P) (declared_in sigs) (declared_in sigs2) (typing k e) (length g.var_types) (Mean P) here.choice there.choice related modes.declared (length g.var_types) g.head m.first m.last m2.first m2.last (plain_flat g.body) (plain_node (p1 k e).body) (plain_node (p2 k e).body)
-        typed_goal (in-numbers (length g.var_types) (variables_of (plain_flat g.body)) in_first.variables) (in-numbers (length g.var_types) g.head in_first.head) (le_refl (length g.var_types)) initials order_here order_there)))
+        (order-follows (plain_program P) Calling (declared_in sigs) (declared_in sigs2) (typing k e) (length g.var_types) (Mean P) here.choice there.choice related modes.declared (length g.var_types) g.head m.first m.last m2.first m2.last (plain_flat g.body) (plain_node (p1 k e).body) (plain_node (p2 k e).body)
+        (only_all Calling (everywhere P defs sigs came1.first placed came1.begins) (plain_flat g.body)) typed_goal (in-numbers (length g.var_types) (variables_of (plain_flat g.body)) in_first.variables) (in-numbers (length g.var_types) g.head in_first.head) (le_refl (length g.var_types)) initials order_here order_there)))
 
   abbrev last_in : List Sig → ModeId → List ℕ
   last_in ss i = (mode_in ss i.pred i.mode).last

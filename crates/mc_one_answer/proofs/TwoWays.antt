@@ -1,5 +1,5 @@
 -- What comes of a program in two ways is one.
-use Rattle.std.proofs.Common.{◌≡◌, ◌⊎◌, inl, inr, Bool, List, Vec, [], ◌∷◌, map, refl, sym, ap, ◌∙◌, subst}
+use Rattle.std.proofs.Common.{◌≡◌, ◌⊎◌, inl, inr, Bool, List, Vec, [], ◌∷◌, ◌++◌, map, refl, sym, ap, ap₂, ◌∙◌, subst}
 use Rattle.std.specs.Global.{Global}
 use Rattle.std.specs.List.{All, AllZip}
 use Rattle.std.proofs.lemmas.List.Elements.{All-nil, All-cons}
@@ -23,28 +23,32 @@ use Rattle.mc_insts.specs.declared.insts.Insts.{Insts}
 use Rattle.mc_insts.specs.Graphs.{graph_of}
 use Rattle.mc_order_laws.specs.SomeTest.{TypesMet}
 use Rattle.mc_procs.specs.Fitting.{AllFit}
-use Rattle.mc_procs.specs.Procedures.{PlainProcs}
-use Rattle.mc_orders.specs.Numbering.{mode_ids}
+use Rattle.mc_procs.specs.Procedures.{PlainProcs, insts_of}
+use Rattle.mc_orders.specs.Numbering.{IsMode, mode_ids}
 use Rattle.mc_orders.specs.Outcomes.{Tried, IsTried, broken_rules, AreBroken, IsOrdered}
 use Rattle.mc_orders.specs.declared.modes.ModeId.{ModeId}
 use Rattle.mc_orders.specs.declared.ordering.Orders.{Orders}
 use Rattle.mc_orders.specs.declared.ordering.Orders.TheVariants as O
 use Rattle.mc_whole.specs.Goals.{HasNormalGoals}
-use Rattle.mc_rules.specs.Premises.{HasInsts}
+use Rattle.mc_orders.proofs.Ids.{are_modes}
+use Rattle.mc_rules.specs.Premises.{HasInsts, Begins, AskedOf}
 use Rattle.mc_rules.specs.Rules.{Comes, Determined, FaultsAre, Ordered, break_no_rule, break_uniqueness, break_modes, break_determinism}
-use Rattle.mc_rules.specs.Untidy.{AreUntidy}
+use Rattle.mc_rules.specs.Untidy.{AreUntidy, AreAsked}
 use Rattle.mc_rules.specs.declared.rules.Ruled.{Ruled}
 use Rattle.mc_rules.specs.declared.rules.Ruled.TheVariants as R
+use Rattle.mc_rules.proofs.Asking.{asked_over, asked_among}
 use Rattle.mc_rule_laws.proofs.OfModes.{last_program}
 use Rattle.mc_one_answer.specs.FoundNodes.{FoundNodes}
 use Rattle.mc_one_answer.specs.ModesMeanOne.{NodesAreOne, SigsAreOne, ArePlaced}
 use Rattle.mc_one_answer.specs.OneListOfRules.{OneListOfRules}
 use Rattle.mc_one_answer.specs.OneAnswer.{RunAlike, OneRuled, ComeToFit, AreNamedApart, OneAnswer}
+use Rattle.mc_one_answer.proofs.ModesMeanOne.{all-over}
+use Rattle.mc_one_answer.proofs.SigsAreOne.{ids_one}
 use Rattle.mc_one_answer.proofs.SamePrograms.{one-value}
 use Rattle.mc_one_answer.proofs.OrderTypes.{types_are_one}
 use Rattle.mc_one_answer.proofs.TwoOrders.{orders_are_one}
 use Rattle.mc_one_answer.proofs.TwoRuns.{OrdersAreOne, one_list, one_main, one_run}
-use Rattle.mc_one_answer.proofs.Untidied.{untidy_alike}
+use Rattle.mc_one_answer.proofs.Untidied.{untidy_alike, asked_alike}
 
 -- ---- goals in order break no rule
 module _ (sigs : List Sig) (goals : List Normal) (exported : List Bool) (first last : PlainProcs) where
@@ -91,12 +95,17 @@ module _ (P : Program) (defs : List PlainInstDef) (sigs : List Sig) (goals : Lis
     pub fit : AllFit last
 
   record BreaksUniqueness (list : Vec Broken Global) : Type 0 where
-    pub insts : Insts
-    pub has : HasInsts P defs insts
+    pub first : PlainProcs
+    pub last : PlainProcs
     pub untidy : List Broken
-    pub says : AreUntidy (plain_program P) (graph_of insts) sigs untidy
-    pub same : list.items ≡ by_place untidy
+    pub faults : List Broken
+    pub ids : List ModeId
+    pub begins : Begins P defs sigs untidy first
     pub some : untidy ≡ [] → ⊥
+    pub premises : AskedOf first sigs goals exported
+    pub are_asked : AreAsked (plain_program P) (insts_of first) sigs goals (mode_ids P sigs) ids
+    pub broken : AreBroken sigs goals first last ids faults
+    pub same : list.items ≡ by_place (untidy ++ faults)
 
   record BreaksModes (list : Vec Broken Global) : Type 0 where
     pub last : PlainProcs
@@ -114,7 +123,8 @@ module _ (P : Program) (defs : List PlainInstDef) (sigs : List Sig) (goals : Lis
   kept last (break_no_rule {ordered = o} came determined none fit) = record { ordered = o; came = came; determined = determined; faults_are = none; fit = fit }
 
   broken : (list : Vec Broken Global) → Coming (R.Broken list) → Breaks list
-  broken list (break_uniqueness {insts = i} {untidy = u} has says same some) = inl (record { insts = i; has = has; untidy = u; says = says; same = same; some = some })
+  broken list (break_uniqueness {first = q} {last = l} {untidy = u} {faults = fs} {ids = is} begins some premises are_asked broke same) =
+      inl (record { first = q; last = l; untidy = u; faults = fs; ids = is; begins = begins; some = some; premises = premises; are_asked = are_asked; broken = broke; same = same })
   broken list (break_modes {last = l} came) = inr (inl (record { last = l; came = came }))
   broken list (break_determinism {ordered = o} {last = l} came determined faults fit some) =
       inr (inr (record { last = l; judged = record { ordered = o; came = came; determined = determined; faults_are = faults; fit = fit }; some = some }))
@@ -150,21 +160,37 @@ module _ (P : Program) (defs defs2 : List PlainInstDef) (sigs sigs2 : List Sig) 
   one_untidy I J xs ys here there a b = untidy_alike P defs defs2 I J here there sigs sigs2 xs ys one_sigs a b
 
   not_untidy : (list : Vec Broken Global) (o : Orders) (q : PlainProcs) → UntidyHere list → There o q → ⊥
-  not_untidy list o q b came = b.some (one_untidy b.insts came.first.insts b.untidy [] b.has came.begins.insts b.says came.begins.tidy)
+  not_untidy list o q b came = b.some (one_untidy b.first.insts came.first.insts b.untidy [] b.begins.insts came.begins.insts b.begins.told came.begins.told)
 
   nor_untidy : (list : Vec Broken Global) (o : Orders) (q : PlainProcs) → UntidyThere list → Here o q → ⊥
-  nor_untidy list o q b came = b.some (sym (one_untidy came.first.insts b.insts [] b.untidy came.begins.insts b.has came.begins.tidy b.says))
-
-  both_untidy : (v w : Vec Broken Global) → UntidyHere v → UntidyThere w → v.items ≡ w.items
-  both_untidy v w a b = a.same ∙ (ap by_place (one_untidy a.insts b.insts a.untidy b.untidy a.has b.has a.says b.says) ∙ sym b.same)
+  nor_untidy list o q b came = b.some (sym (one_untidy came.first.insts b.first.insts [] b.untidy came.begins.insts b.begins.insts came.begins.told b.begins.told))
 
   -- ---- goals in order break no rule, and those that break one break one list
+  same_ids : mode_ids P sigs2 ≡ mode_ids P sigs
+  same_ids = ids_one (NodesAreOne P defs defs2) P sigs sigs2 one_sigs
+
   module _ (rules : OneListOfRules) (placed : ArePlaced 0 sigs) (met : (t : TypeTerm) → TypesMet (plain_program P) t) where
+    -- where some mode is untidy, the same goals are tried
+    both_untidy : (v w : Vec Broken Global) → UntidyHere v → UntidyThere w → v.items ≡ w.items
+    both_untidy v w a b =
+        let asked_there = subst (λ (is : List ModeId). AreAsked (plain_program P) (insts_of b.first) sigs2 goals is b.ids) same_ids b.are_asked in
+        let one_ids : a.ids ≡ b.ids =
+        asked_alike P defs defs2 a.first.insts b.first.insts a.begins.insts b.begins.insts sigs sigs2 goals (mode_ids P sigs) a.ids b.ids one_sigs a.are_asked asked_there in
+        let one_told : a.untidy ≡ b.untidy = one_untidy a.first.insts b.first.insts a.untidy b.untidy a.begins.insts b.begins.insts a.begins.told b.begins.told in
+        let one_faults : a.faults ≡ b.faults =
+        rules P defs defs2 sigs sigs2 goals exported a.untidy b.untidy a.first b.first a.last b.last a.ids a.faults b.faults one_sigs met a.begins b.begins a.premises b.premises
+        (asked_among (plain_program P) (insts_of a.first) sigs goals (IsMode P sigs) (mode_ids P sigs) a.ids a.are_asked (are_modes P sigs))
+        (asked_over (plain_program P) (insts_of a.first) sigs goals (mode_ids P sigs) a.ids a.are_asked) a.broken
+        (subst (λ (is : List ModeId). AreBroken sigs2 goals b.first b.last is b.faults) (sym one_ids) b.broken) in
+        a.same ∙ (ap by_place (ap₂ (λ (xs ys : List Broken). xs ++ ys) one_told one_faults) ∙ sym b.same)
+
     one_list_told : (o p : Orders) (q r : PlainProcs) (came : Here o q) (also : There p r) (xs ys : List Broken) → AreBroken sigs goals came.first q (mode_ids came.first.program sigs) xs → AreBroken sigs2 goals also.first r (mode_ids also.first.program sigs2) ys → xs ≡ ys
     one_list_told o p q r came also xs ys f g =
-        rules P defs defs2 sigs sigs2 goals exported came.first also.first q r xs ys one_sigs placed met came.begins also.begins came.asked also.asked
+        rules P defs defs2 sigs sigs2 goals exported [] [] came.first also.first q r (mode_ids P sigs) xs ys one_sigs met came.begins also.begins came.asked also.asked
+        (are_modes P sigs) (all-over P defs sigs came.first placed came.begins goals (mode_ids P sigs))
         (subst (λ (X : Program). AreBroken sigs goals came.first q (mode_ids X sigs) xs) came.begins.program f)
-        (subst (λ (X : Program). AreBroken sigs2 goals also.first r (mode_ids X sigs2) ys) also.begins.program g)
+        (subst (λ (is : List ModeId). AreBroken sigs2 goals also.first r is ys) same_ids
+        (subst (λ (X : Program). AreBroken sigs2 goals also.first r (mode_ids X sigs2) ys) also.begins.program g))
 
     one_mode_list : (v w : Vec Broken Global) (q r : PlainProcs) → Here (O.Broken v) q → There (O.Broken w) r → v.items ≡ w.items
     one_mode_list v w q r came also =
@@ -227,7 +253,7 @@ module _ (P : Program) (defs defs2 : List PlainInstDef) (sigs sigs2 : List Sig) 
     nor_kept l v (inr (inr a)) b = a.some (one_fault_list a.last l v.items [] a.judged b)
 
     both_broken : (v w : Vec Broken Global) → BreaksHere v → BreaksThere w → v.items ≡ w.items
-    both_broken v w (inl a) (inl b) = both_untidy v w a b
+    both_broken v w (inl a) (inl b) = both_untidy rules placed met v w a b
     both_broken v w (inl a) (inr (inl b)) = absurd (not_untidy v (O.Broken w) b.last a b.came)
     both_broken v w (inl a) (inr (inr b)) = absurd (not_untidy v O.All b.judged.ordered a b.judged.came)
     both_broken v w (inr (inl a)) (inl b) = absurd (nor_untidy w (O.Broken v) a.last b a.came)

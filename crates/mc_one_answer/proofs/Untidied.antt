@@ -1,4 +1,5 @@
--- What is told of declared modes by the rule of unique modes is one, whatever graph insts are defined in.
+-- What is told of declared modes by the rule of unique modes is one, whatever graph insts are defined in; and so are the
+-- modes whose goals are tried where some break it.
 use Rattle.std.proofs.Common.{◌≡◌, ◌↔◌, ℕ, List, [], ◌∷◌, ◌++◌, Option, refl, sym, ap, ap₂, ◌∙◌, subst}
 use Rattle.mc_source.specs.declared.place.Place.{Place}
 use Rattle.mc_source.specs.declared.rule.Broken.{Broken}
@@ -7,15 +8,22 @@ use Rattle.mc_program.specs.Programs.{TypeTerm, Source}
 use Rattle.mc_program.specs.PlainPrograms.{plain_program}
 use Rattle.mc_program.specs.declared.program.Program.{Program}
 use Rattle.mc_model.specs.Insts.{Graph}
+use Rattle.mc_model.specs.PlainGoals.{plain_flat}
+use Rattle.mc_model.specs.declared.flat.Normal.{Normal}
 use Rattle.mc_model.specs.declared.inst.ModeDecl.{ModeDecl}
 use Rattle.mc_model.specs.declared.inst.Sig.{Sig}
 use Rattle.mc_accepted.specs.InstRules.{PlainInstDef}
 use Rattle.mc_accepted.specs.Tidy.{Tidy, EachTidy}
 use Rattle.mc_insts.specs.declared.insts.Insts.{Insts}
 use Rattle.mc_insts.specs.Graphs.{graph_of}
+use Rattle.mc_modes.specs.Signatures.{modes_at, mode_in}
+use Rattle.mc_orders.specs.NormalGoals.{goal_at}
+use Rattle.mc_orders.specs.declared.modes.ModeId.{ModeId}
 use Rattle.mc_rules.specs.Premises.{HasInsts}
-use Rattle.mc_rules.specs.Untidy.{ModeIsTidy, TidySays, is_tidy, is_untidy, ModesSay, no_mode, mode_then, AreUntidy, no_predicate, predicate_then}
+use Rattle.mc_rules.specs.Untidy.{ModeIsTidy, TidySays, is_tidy, is_untidy, ModesSay, no_mode, mode_then, AreUntidy, no_predicate, predicate_then, AllTidy, TidyAt, OverTidy, AreAsked, no_more, asked, passed}
+use Rattle.mc_rules.proofs.Asking.{only_on}
 use Rattle.mc_one_answer.specs.ModesMeanOne.{NodesAreOne, EachIsOne, ModeIsOne, EachModeIsOne, SigsAreOne}
+use Rattle.mc_one_answer.proofs.SigsAreOne.{modes_one, mode_one}
 
 module _ (P : Source) (G H : Graph) (One : ℕ → ℕ → Type 0) (same : (i j : ℕ) → One i j → (t : TypeTerm) → Tidy P G i t ↔ Tidy P H j t) where
   each_on : (is js : List ℕ) (ts : List TypeTerm) → EachIsOne One is js → EachTidy P G is ts ↔ EachTidy P H js ts
@@ -55,8 +63,42 @@ module _ (P : Source) (G H : Graph) (One : ℕ → ℕ → Type 0) (same : (i j 
   one_untidy (s ∷ ss) (u ∷ us) bs cs w (predicate_then {bs = ws} {cs = xs} a h) (predicate_then {bs = ys} {cs = zs} b k) =
       ap₂ (λ (first rest : List Broken). first ++ rest) (modes_say (P.preds s.pred).types s.modes u.modes ws ys w.1 a (subst (λ (p : ℕ). ModesSay P H (P.preds p).types u.modes ys) w.0 b)) (one_untidy ss us xs zs w.2 h k)
 
+  -- ---- modes whose goals are tried
+  all_on : (ts : List TypeTerm) (ms ns : List ModeDecl) → EachModeIsOne One ms ns → AllTidy P G ts ms ↔ AllTidy P H ts ns
+  all_on ts [] [] w = ((λ x. tt), (λ x. tt))
+  all_on ts [] (n ∷ ns) w = absurd w
+  all_on ts (m ∷ ms) [] w = absurd w
+  all_on ts (m ∷ ms) (n ∷ ns) w =
+      let s = mode_on ts m n w.0 in
+      let r = all_on ts ms ns w.1 in
+      ((λ x. (s.0 x.0, r.0 x.1)), (λ x. (s.1 x.0, r.1 x.1)))
+
+  module _ (ss us : List Sig) (one : SigsAreOne One ss us) (goals : List Normal) where
+    tidy_at_on : (p : ℕ) → TidyAt P G ss p ↔ TidyAt P H us p
+    tidy_at_on p = all_on (P.preds p).types (modes_at ss p) (modes_at us p) (modes_one One ss us p one)
+
+    over_on : (id : ModeId) → OverTidy P G ss goals id ↔ OverTidy P H us goals id
+    over_on id =
+        let body = plain_flat (goal_at goals id.pred).body in
+        let m = mode_on (P.preds id.pred).types (mode_in ss id.pred id.mode) (mode_in us id.pred id.mode) (mode_one One ss us id.pred id.mode one) in (
+          λ o. record { own = m.0 o.own; called = only_on (TidyAt P G ss) (TidyAt P H us) (λ p. (tidy_at_on p).0) body o.called },
+          λ o. record { own = m.1 o.own; called = only_on (TidyAt P H us) (TidyAt P G ss) (λ p. (tidy_at_on p).1) body o.called },
+        )
+
+    asked_on : (ids xs ys : List ModeId) → AreAsked P G ss goals ids xs → AreAsked P H us goals ids ys → xs ≡ ys
+    asked_on [] xs ys no_more no_more = refl
+    asked_on (id ∷ ids) xs ys (asked {is = is} a h) (asked {is = js} b k) = ap (λ (l : List ModeId). id ∷ l) (asked_on ids is js h k)
+    asked_on (id ∷ ids) xs ys (asked a h) (passed b k) = absurd (b ((over_on id).0 a))
+    asked_on (id ∷ ids) xs ys (passed a h) (asked b k) = absurd (a ((over_on id).1 b))
+    asked_on (id ∷ ids) xs ys (passed a h) (passed b k) = asked_on ids xs ys h k
+
 -- so it is where nodes are one by their definitions
 pub untidy_alike : (P : Program) (ds es : List PlainInstDef) (I J : Insts) → HasInsts P ds I → HasInsts P es J → (sigs others : List Sig) (bs cs : List Broken) → SigsAreOne (NodesAreOne P ds es) sigs others
     → AreUntidy (plain_program P) (graph_of I) sigs bs → AreUntidy (plain_program P) (graph_of J) others cs → bs ≡ cs
 untidy_alike P ds es I J here other sigs others bs cs same a b =
     one_untidy (plain_program P) (graph_of I) (graph_of J) (NodesAreOne P ds es) (λ i j h t. h.tidy I J here other t) sigs others bs cs same a b
+
+pub asked_alike : (P : Program) (ds es : List PlainInstDef) (I J : Insts) → HasInsts P ds I → HasInsts P es J → (sigs others : List Sig) (goals : List Normal) (ids xs ys : List ModeId) → SigsAreOne (NodesAreOne P ds es) sigs others
+    → AreAsked (plain_program P) (graph_of I) sigs goals ids xs → AreAsked (plain_program P) (graph_of J) others goals ids ys → xs ≡ ys
+asked_alike P ds es I J here other sigs others goals ids xs ys same a b =
+    asked_on (plain_program P) (graph_of I) (graph_of J) (NodesAreOne P ds es) (λ i j h t. h.tidy I J here other t) sigs others same goals ids xs ys a b

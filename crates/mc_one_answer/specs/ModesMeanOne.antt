@@ -1,8 +1,10 @@
 -- Insts that definitions define, and those of declared modes, in two graphs: they mean one thing. (Mercury Language Reference Manual: Modes, insts.)
 use Rattle.std.specs.Prelude.{◌≡◌, ◌↔◌, ℕ, suc, ◌<◌, List, [], ◌∷◌}
+use Rattle.mc_source.specs.declared.rule.Broken.{Broken}
 use Rattle.mc_program.specs.Programs.{TypeTerm}
 use Rattle.mc_program.specs.PlainPrograms.{plain_program}
 use Rattle.mc_program.specs.declared.program.Program.{Program}
+use Rattle.mc_model.specs.Insts.{Graph}
 use Rattle.mc_model.specs.declared.inst.ModeDecl.{ModeDecl}
 use Rattle.mc_model.specs.declared.inst.Sig.{Sig}
 use Rattle.mc_accepted.specs.Chosen.{Chosen, of_nodes}
@@ -17,6 +19,7 @@ use Rattle.mc_graph_laws.specs.Related.{NodesRelated, DeclaredRelated}
 use Rattle.mc_graph_laws.specs.Nodes.{MeanOne}
 use Rattle.mc_graph_laws.specs.FaultLaws.{InstAlike}
 use Rattle.mc_rules.specs.Premises.{HasInsts, Begins}
+use Rattle.mc_rules.specs.Untidy.{ModeIsTidy, TidyAt}
 
 -- nodes of two graphs that mean one thing at a type
 abbrev pub AreOne : Program → (here there : Insts) → TypeTerm → (i j : ℕ) → Type 0
@@ -70,28 +73,31 @@ abbrev pub ArePlaced : (first : ℕ) → List Sig → Type 0
 ArePlaced n [] = Unit {0}
 ArePlaced n (s ∷ ss) = (s.pred ≡ n) × ArePlaced (suc n) ss
 
--- the insts of declared modes mean one thing, at the predicates' types and at each instance of them
-pub record ModesAreOne (P : Program) (sigs others : List Sig) (K L : Insts) (C E : Chosen)
-    : Type 0 where
+-- The insts of a declared mode that is tidy in a graph mean one thing, at the predicate's types; and
+-- where all modes of a predicate are, theirs do so at each instance of the types.
+pub record ModesAreOne (P : Program) (sigs others : List Sig) (G : Graph) (K L : Insts)
+    (C E : Chosen) : Type 0 where
   pub declared :
-      DeclaredRelated (of_nodes C) (of_nodes E) (AreOne P K L) (plain_program P) (declared_in sigs)
-      (declared_in others)
+      DeclaredRelated (of_nodes C) (of_nodes E) (AreOne P K L) (plain_program P)
+      (TidyAt (plain_program P) G sigs) (declared_in sigs) (declared_in others)
   pub initial :
       (p k : ℕ)
+      → ModeIsTidy (plain_program P) G ((plain_program P).preds p).types (mode_in sigs p k)
       → NodesRelated (of_nodes C) (of_nodes E) (AreOne P K L) (mode_in sigs p k).first
       (mode_in others p k).first ((plain_program P).preds p).types
   pub final :
       (p k : ℕ)
+      → ModeIsTidy (plain_program P) G ((plain_program P).preds p).types (mode_in sigs p k)
       → NodesRelated (of_nodes C) (of_nodes E) (AreOne P K L) (mode_in sigs p k).last
       (mode_in others p k).last ((plain_program P).preds p).types
 
--- So it is wherever goals are put in order from the beginning on, where modes break no rule.
+-- So it is wherever goals are tried from the beginning on, whatever other modes are untidy.
 abbrev pub ModesMeanOne : Type 0
 ModesMeanOne =
-    (P : Program) (ds es : List PlainInstDef) (sigs others : List Sig) (first other : PlainProcs)
-    (K L : Insts)
+    (P : Program) (ds es : List PlainInstDef) (sigs others : List Sig) (untidy told : List Broken)
+    (first other : PlainProcs) (K L : Insts)
     → SigsAreOne (NodesAreOne P ds es) sigs others
-    → ArePlaced 0 sigs → Begins P ds sigs first → Begins P es others other
+    → Begins P ds sigs untidy first → Begins P es others told other
     → SigsFit (count_of first.insts) sigs → SigsFit (count_of other.insts) others
     → Grown (plain_program P) first.insts K → Grown (plain_program P) other.insts L
-    → (C E : Chosen) → ModesAreOne P sigs others K L C E
+    → (C E : Chosen) → ModesAreOne P sigs others (graph_of first.insts) K L C E

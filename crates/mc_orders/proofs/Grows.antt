@@ -18,11 +18,11 @@ use Rattle.mc_mode_points.proofs.Found.{grown-refl, grown-trans}
 use Rattle.mc_modes.specs.Fitting.{Known}
 use Rattle.mc_modes.specs.Signatures.{modes_at, mode_in, SigsFit}
 use Rattle.mc_modes.specs.Schedules.{NormalFits}
+use Rattle.mc_orders.specs.Numbering.{IsMode}
 use Rattle.mc_orders.specs.NormalGoals.{goal_at, IsNormal, AreNormal}
 use Rattle.mc_orders.specs.Outcomes.{GrownFrom}
 use Rattle.mc_orders.specs.code.Steps.{IsBody, CanTry, SameGraph}
 use Rattle.mc_orders.specs.declared.modes.ModeId.{ModeId}
-use Rattle.mc_orders.proofs.Ids.{IsMode}
 
 pub grown_none : (q : PlainProcs) → GrownFrom q q
 grown_none q = record { program = refl; preds = refl; grown = grown-refl (source_of q) q.insts }

@@ -11,7 +11,7 @@ use Rattle.mc_program.specs.declared.program.Program.{Program}
 use Rattle.mc_model.specs.Lists.{from}
 use Rattle.mc_model.specs.declared.inst.Sig.{Sig}
 use Rattle.mc_modes.specs.Signatures.{modes_at}
-use Rattle.mc_orders.specs.Numbering.{ids_of, unless_builtin, ids_at, mode_ids}
+use Rattle.mc_orders.specs.Numbering.{ids_of, unless_builtin, ids_at, IsMode, mode_ids}
 use Rattle.mc_orders.specs.declared.modes.ModeId.{ModeId}
 
 from_more : (n k : ℕ) → from n (suc k) ≡ from n k ++ (n + k) ∷ []
@@ -78,12 +78,6 @@ without_pred P sigs k p b xs ys l is e t i h =
     no_more [] = refl
     no_more (z ∷ zs) = ap (λ (l : List ModeId). z ∷ l) (no_more zs)
 
--- each is a mode of a predicate that is no builtin
-pub record IsMode (P : Program) (sigs : List Sig) (m : ModeId) : Type 0 where
-  pub pred : m.pred < length P.preds
-  pub no_builtin : ((plain_program P).preds m.pred).builtin ≡ None
-  pub mode : m.mode < length (modes_at sigs m.pred)
-
 each_from : (Q : ℕ → Type 0) (n k : ℕ) → ((j : ℕ) → n ≤ j → j < n + k → Q j) → All Q (from n k)
 each_from Q n zero h = All-nil Q
 each_from Q n (suc k) h =
@@ -100,6 +94,7 @@ unless_each : (Q : ModeId → Type 0) (o : Option Builtin) (ids : List ModeId) �
 unless_each Q (Some op) ids h = All-nil Q
 unless_each Q None ids h = h refl
 
+-- each is a mode of a predicate that is no builtin
 pub are_modes : (P : Program) (sigs : List Sig) → All (IsMode P sigs) (mode_ids P sigs)
 are_modes P sigs =
     each_flat (IsMode P sigs) (ids_at P sigs) 0 (length P.preds)

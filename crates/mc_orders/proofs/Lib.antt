@@ -3,3 +3,4 @@ pub mod Grows
 pub mod OneMode
 pub mod SoFarMore
 pub mod OneStep
+pub mod Listing

@@ -9,10 +9,10 @@ use Rattle.mc_insts.specs.Graphs.{count_of}
 use Rattle.mc_procs.specs.Procedures.{PlainProcs}
 use Rattle.mc_modes.specs.Signatures.{SigsFit}
 use Rattle.mc_orders.specs.NormalGoals.{no_goal, goal_at, AreNormal}
-use Rattle.mc_orders.specs.Numbering.{mode_ids, IsNumbered}
+use Rattle.mc_orders.specs.Numbering.{IsMode, mode_ids, IsNumbered}
 use Rattle.mc_orders.specs.code.Steps.{CanTry, IsNext, Steps, SoFar}
 use Rattle.mc_orders.specs.declared.modes.ModeId.{ModeId}
-use Rattle.mc_orders.proofs.Ids.{IsMode, are_modes}
+use Rattle.mc_orders.proofs.Ids.{are_modes}
 use Rattle.mc_orders.proofs.Grows.{can_try}
 use Rattle.mc_orders.proofs.SoFarMore.{one_more, is_next}
 

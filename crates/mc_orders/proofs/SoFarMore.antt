@@ -73,13 +73,28 @@ module _ (sigs : List Sig) (goals : List Normal) where
   tried_later first q r g t i =
       record { before = i.before; after = i.after; end = i.end; begun = i.begun; becomes = i.becomes; ended = grown_then i.after q r i.ended g }
 
-  abbrev at_place : Tried → Place
+  abbrev pub at_place : Tried → Place
   at_place t = (mode_in sigs t.id.pred t.id.mode).at
 
-  abbrev rule_at : Tried → Option Fault
+  abbrev pub rule_at : Tried → Option Fault
   rule_at t = rule_of (length (goal_at goals t.id.pred).head) (goal_at goals t.id.pred).var_names t.verdict
 
-  broken_more : (first q r : PlainProcs) (ids : List ModeId) (old new : List Broken) (t : Tried) → GrownFrom q r → AreBroken sigs goals first q ids old → IsTried sigs goals first r t → new ≡ old ++ broken_at (at_place t) (rule_at t) → AreBroken sigs goals first r (ids ++ t.id ∷ []) new
+  -- what becomes of the goal of a mode
+  pub tried_one : (first q : PlainProcs) (id : ModeId) → GrownFrom first q → (goal_at goals id.pred).pred ≡ id.pred → (found r : PlainProcs) (end : State) (v : Verdict) →
+      Becomes sigs (goal_at goals id.pred).var_types (goal_at goals id.pred).head (mode_in sigs (goal_at goals id.pred).pred id.mode).first (mode_in sigs (goal_at goals id.pred).pred id.mode).last (plain_flat (goal_at goals id.pred).body) q found end v →
+      GrownFrom found r → IsTried sigs goals first r (record { id = id; verdict = v })
+  tried_one first q id grown is_pred found r end v b h =
+      let g = goal_at goals id.pred in
+      record {
+        before = q;
+        after = found;
+        end = end;
+        begun = grown;
+        becomes = subst (λ k. Becomes sigs g.var_types g.head (mode_in sigs k id.mode).first (mode_in sigs k id.mode).last (plain_flat g.body) q found end v) is_pred b;
+        ended = h;
+      }
+
+  pub broken_more : (first q r : PlainProcs) (ids : List ModeId) (old new : List Broken) (t : Tried) → GrownFrom q r → AreBroken sigs goals first q ids old → IsTried sigs goals first r t → new ≡ old ++ broken_at (at_place t) (rule_at t) → AreBroken sigs goals first r (ids ++ t.id ∷ []) new
   broken_more first q r ids old new t g b i e =
       record {
         tried = b.tried ++ t ∷ [];
@@ -123,17 +138,6 @@ module _ (sigs : List Sig) (goals : List Normal) (exported : List Bool) where
           ended = h;
         }
 
-    tried_one : (found r : PlainProcs) (end : State) (v : Verdict) → Becomes sigs g.var_types g.head (mode_in sigs g.pred id.mode).first (mode_in sigs g.pred id.mode).last (plain_flat g.body) q found end v → GrownFrom found r → IsTried sigs goals first r (record { id = id; verdict = v })
-    tried_one found r end v b h =
-        record {
-          before = q;
-          after = found;
-          end = end;
-          begun = s.grown;
-          becomes = subst (λ k. Becomes sigs g.var_types g.head (mode_in sigs k id.mode).first (mode_in sigs k id.mode).last (plain_flat g.body) q found end v) is_pred b;
-          ended = h;
-        }
-
     came : (r : PlainProcs) (new : List Broken) → Came sigs g id.mode is_out q r old new → SoFar sigs goals exported first r (ids ++ id ∷ []) new
     came r new c =
         let m = c.scheduled in
@@ -149,7 +153,7 @@ module _ (sigs : List Sig) (goals : List Normal) (exported : List Bool) where
         record {
           grown = grown_then first q r s.grown all;
           broken = broken_more sigs goals first q r ids old new t all s.broken
-              (tried_one found r m.end (in_order (plain_node c.proc.body)) b h)
+              (tried_one sigs goals first q id s.grown is_pred found r m.end (in_order (plain_node c.proc.body)) b h)
               (c.none ∙ sym c.none_before ∙ sym (append-nil old));
           ordered = λ _.
               subst (λ (ps : List Proc). AllZip (IsOrdered sigs goals exported first r) (ids ++ id ∷ []) ps) (sym (ap (λ (x : PlainProcs). x.added) c.adds.added))
@@ -168,7 +172,7 @@ module _ (sigs : List Sig) (goals : List Normal) (exported : List Bool) where
         record {
           grown = grown_then first q r s.grown all;
           broken = broken_more sigs goals first q r ids old new t all s.broken
-              (tried_one r r m.end (in_order (plain_node c.proc.body)) b (grown_none r))
+              (tried_one sigs goals first q id s.grown is_pred r r m.end (in_order (plain_node c.proc.body)) b (grown_none r))
               (c.same ∙ sym (append-nil old));
           ordered = λ e. absurd (c.some_before (sym c.same ∙ e));
         }
@@ -181,7 +185,7 @@ module _ (sigs : List Sig) (goals : List Normal) (exported : List Bool) where
         record {
           grown = grown_then first q r s.grown all;
           broken = broken_more sigs goals first q r ids old new t all s.broken
-              (tried_one r r c.end c.verdict b (grown_none r))
+              (tried_one sigs goals first q id s.grown is_pred r r c.end c.verdict b (grown_none r))
               (c.one_more
               ∙ ap (λ k. old ++ broken_at (mode_in sigs k id.mode).at (Some c.told)) is_pred
               ∙ ap (λ (o : Option Fault). old ++ broken_at (mode_in sigs id.pred id.mode).at o) c.rule);

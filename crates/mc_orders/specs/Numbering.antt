@@ -1,6 +1,6 @@
 -- Declared modes in the order in which their procedures are numbered. (Mercury Language Reference
 -- Manual: Modes, a predicate's modes; this project's certificates.)
-use Rattle.std.specs.Prelude.{◌≡◌, ℕ, List, [], length, map, Some, None, Option}
+use Rattle.std.specs.Prelude.{◌≡◌, ◌<◌, ℕ, List, [], length, map, Some, None, Option}
 use Rattle.std.specs.List.{flat_map}
 use Rattle.mc_program.specs.PlainPrograms.{plain_program}
 use Rattle.mc_program.specs.declared.builtin.Builtin.{Builtin}
@@ -23,6 +23,12 @@ abbrev pub ids_at : Program → List Sig → (predicate : ℕ) → List ModeId
 ids_at P sigs p =
     unless_builtin ((plain_program P).preds p).builtin
     (ids_of p (from 0 (length (modes_at sigs p))))
+
+-- a mode of a predicate that is no builtin
+pub record IsMode (P : Program) (sigs : List Sig) (m : ModeId) : Type 0 where
+  pub pred : m.pred < length P.preds
+  pub no_builtin : ((plain_program P).preds m.pred).builtin ≡ None
+  pub mode : m.mode < length (modes_at sigs m.pred)
 
 -- predicates in order, and modes in order within one
 abbrev pub mode_ids : Program → List Sig → List ModeId

@@ -1,6 +1,6 @@
 -- What becomes of the goals of all declared modes. (Mercury Language Reference Manual: Modes; this
 -- project's rules.)
-use Rattle.std.specs.Prelude.{◌≡◌, Bool, false, List, [], length, map, get_or, All}
+use Rattle.std.specs.Prelude.{◌≡◌, ◌++◌, Bool, false, List, [], length, map, get_or, All}
 use Rattle.std.specs.List.{AllZip}
 use Rattle.mc_source.specs.Rules.{first_rules}
 use Rattle.mc_source.specs.declared.rule.Broken.{Broken}
@@ -62,6 +62,15 @@ module _ (sigs : List Sig) (goals : List Normal) where
     pub ids_are : map (λ (t : Tried). t.id) tried ≡ ids
     pub each : All (IsTried first last) tried
     pub rules : faults ≡ broken_rules tried
+
+  -- the rules that the goals of these modes break come behind others, and no procedure comes
+  pub record ListsBehind (first last : PlainProcs) (ids : List ModeId) (before after : List Broken)
+      : Type 0 where
+    pub grown : GrownFrom first last
+    pub none : last.added ≡ first.added
+    pub rules : List Broken
+    pub broken : AreBroken first last ids rules
+    pub behind : after ≡ before ++ rules
 
 module _ (sigs : List Sig) (goals : List Normal) (exported : List Bool) where
   -- the procedure of the mode, exported where its predicate is

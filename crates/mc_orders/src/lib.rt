@@ -9,4 +9,4 @@ mod texts;
 mod trying;
 
 pub use modes::{ModeId, mode_ids};
-pub use ordering::{Orders, order_goals};
+pub use ordering::{Orders, list_faults, order_goals};

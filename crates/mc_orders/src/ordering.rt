@@ -1,11 +1,11 @@
-ghost use Rattle.std.specs.Prelude.{◌≡◌, [], length, IfOk};
+ghost use Rattle.std.specs.Prelude.{◌≡◌, [], length, All, IfOk, OnOk};
 ghost use Rattle.mc_insts.specs.Graphs.{count_of};
 ghost use Rattle.mc_modes.specs.Signatures.{SigsFit};
-ghost use Rattle.mc_orders.specs.Numbering.{IsNumbered};
+ghost use Rattle.mc_orders.specs.Numbering.{IsMode, IsNumbered};
 ghost use Rattle.mc_orders.specs.NormalGoals.{AreNormal};
-ghost use Rattle.mc_orders.specs.Outcomes.{GrownFrom, Became};
+ghost use Rattle.mc_orders.specs.Outcomes.{GrownFrom, ListsBehind, Became};
 
-use crate::modes::mode_ids;
+use crate::modes::{ModeId, mode_ids};
 use crate::trying::try_mode;
 use mc_base::Memory;
 use mc_model::flat::Normal;
@@ -63,4 +63,28 @@ pub fn order_goals(
     }
     sort_by_place(&mut faults)?;
     Ok(Orders::Broken(faults))
+}
+
+/// Tries the goals of these modes where some rule is listed already. The rules that leave goals without an order come behind
+/// it, in the order of the modes; no procedure comes.
+pub fn list_faults(
+    alloc: Global,
+    procs: &mut Procs,
+    sigs: &[Sig],
+    goals: &[Normal],
+    ids: &[ModeId],
+    faults: &mut Vec<Broken>,
+) -> Result<(), Memory>
+    requires some { faults.old.items ≡ [] → ⊥ }
+    requires sigs { SigsFit (count_of procs.old.insts) sigs.now }
+    requires ids { All (IsMode procs.old.program sigs.now) ids.now }
+    requires goals { AreNormal procs.old sigs.now goals.now }
+    ensures { OnOk result
+        (ListsBehind sigs.now goals.now procs.old procs.new ids.now faults.old.items faults.new.items) }
+{
+    for id in ids {
+        let goal = &goals[id.pred as usize];
+        try_mode(alloc, procs, sigs, goal, id.mode, false, faults)?;
+    }
+    Ok(())
 }

@@ -14,11 +14,11 @@ use Rattle.mc_accepted.specs.InstRules.{PlainInstDef}
 use Rattle.mc_procs.specs.Procedures.{PlainProcs}
 use Rattle.mc_modes.specs.Signatures.{modes_at, mode_in}
 use Rattle.mc_orders.specs.NormalGoals.{goal_at}
-use Rattle.mc_orders.specs.Numbering.{ids_of, unless_builtin, ids_at, mode_ids}
+use Rattle.mc_orders.specs.Numbering.{ids_of, unless_builtin, ids_at, IsMode, mode_ids}
 use Rattle.mc_orders.specs.Outcomes.{IsOrdered}
 use Rattle.mc_orders.specs.declared.modes.ModeId.{ModeId}
 use Rattle.mc_orders.specs.declared.ordering.Orders.TheVariants as O
-use Rattle.mc_orders.proofs.Ids.{IsMode, are_modes}
+use Rattle.mc_orders.proofs.Ids.{are_modes}
 use Rattle.mc_det.specs.Determinisms.{as_declared, declared_procedure}
 use Rattle.mc_whole.specs.Goals.{HasNormalGoals}
 use Rattle.mc_rules.specs.Premises.{TellNumbers}

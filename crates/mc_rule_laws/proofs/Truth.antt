@@ -37,10 +37,9 @@ use Rattle.mc_procs.specs.Procedures.{PlainProcs, as_system, parameters_of, sour
 use Rattle.mc_modes.specs.Signatures.{declared_in, mode_in}
 use Rattle.mc_modes.specs.Schedules.{NormalFits}
 use Rattle.mc_orders.specs.NormalGoals.{goal_at}
-use Rattle.mc_orders.specs.Numbering.{mode_ids}
+use Rattle.mc_orders.specs.Numbering.{IsMode, mode_ids}
 use Rattle.mc_orders.specs.declared.modes.ModeId.{ModeId}
 use Rattle.mc_orders.specs.declared.ordering.Orders.TheVariants as O
-use Rattle.mc_orders.proofs.Ids.{IsMode}
 use Rattle.mc_skeletons.specs.Least.{assigned}
 use Rattle.mc_det.specs.Determinisms.{declared_system}
 use Rattle.mc_det.specs.MarkedProcedures.{determinisms_of}

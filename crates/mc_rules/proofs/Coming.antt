@@ -43,10 +43,10 @@ pub if_ok : {T E : Type 0} (r : Result T E) (P Q : T → Type 0) → IfOk r P �
 if_ok (Ok x) P Q h f = f x h
 if_ok (Err e) P Q h f = tt
 
-pub begins : (P : Program) (ds : List PlainInstDef) (sigs : List Sig) (insts : Insts) (q : PlainProcs) → q ≡ record { program = P; insts = insts; preds = map (λ (m : ModeId). m.pred) (mode_ids P sigs); added = [] } → HasLibrary P → HasInsts P ds insts → AreUntidy (plain_program P) (graph_of insts) sigs [] → Begins P ds sigs q
-begins P ds sigs insts q e library has tidy =
-    subst (λ (r : PlainProcs). Begins P ds sigs r) (sym e)
-    (record { program = refl; library = library; insts = has; tidy = tidy; preds = refl; none = refl })
+pub begins : (P : Program) (ds : List PlainInstDef) (sigs : List Sig) (untidy : List Broken) (insts : Insts) (q : PlainProcs) → q ≡ record { program = P; insts = insts; preds = map (λ (m : ModeId). m.pred) (mode_ids P sigs); added = [] } → HasLibrary P → HasInsts P ds insts → AreUntidy (plain_program P) (graph_of insts) sigs untidy → Begins P ds sigs untidy q
+begins P ds sigs untidy insts q e library has told =
+    subst (λ (r : PlainProcs). Begins P ds sigs untidy r) (sym e)
+    (record { program = refl; library = library; insts = has; told = told; preds = refl; none = refl })
 
 -- insts that only know more types
 pub insts_on : (P : Program) (ds : List PlainInstDef) (I J : Insts) → AreOf (plain_program P) J → graph_of J ≡ graph_of I → count_of J ≡ count_of I → HasInsts P ds I → HasInsts P ds J
@@ -74,9 +74,9 @@ pub are_numbered : (q : PlainProcs) (sigs : List Sig) → q.preds ≡ map (λ (m
 are_numbered q sigs preds t = record { preds = preds; procs = t }
 
 -- where a program's procedures begin, the program is theirs
-module _ (P : Program) (ds : List PlainInstDef) (sigs : List Sig) (q : PlainProcs) (b : Begins P ds sigs q) where
-  pub begins_itself : Begins q.program ds sigs q
-  begins_itself = subst (λ (X : Program). Begins X ds sigs q) (sym b.program) b
+module _ (P : Program) (ds : List PlainInstDef) (sigs : List Sig) (q : PlainProcs) (b : Begins P ds sigs [] q) where
+  pub begins_itself : Begins q.program ds sigs [] q
+  begins_itself = subst (λ (X : Program). Begins X ds sigs [] q) (sym b.program) b
 
   pub goals_there : (goals : List Normal) → HasNormalGoals P goals → HasNormalGoals q.program goals
   goals_there goals h = subst (λ (X : Program). HasNormalGoals X goals) (sym b.program) h
@@ -86,7 +86,7 @@ module _ (P : Program) (ds : List PlainInstDef) (sigs : List Sig) (q : PlainProc
       subst (Comes P ds sigs goals exported runs) (sym e)
       (subst (λ (X : Program). Comes X ds sigs goals exported runs r) b.program c)
 
-module _ (P : Program) (ds : List PlainInstDef) (sigs : List Sig) (goals : List Normal) (exported : List Bool) (runs : Bool) (first : PlainProcs) (begun : Begins P ds sigs first) where
+module _ (P : Program) (ds : List PlainInstDef) (sigs : List Sig) (goals : List Normal) (exported : List Bool) (runs : Bool) (first : PlainProcs) (begun : Begins P ds sigs [] first) where
   -- what is said of goals that were put in order
   ordering : {orders : Orders} {last : PlainProcs} → AskedOf first sigs goals exported → Became sigs goals exported first last orders → GrownFrom first last → Ordered P ds sigs goals exported orders last
   ordering asked became grown =

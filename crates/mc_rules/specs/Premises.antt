@@ -3,6 +3,7 @@
 use Rattle.std.specs.Prelude.{◌≡◌, ◌<◌, ◌≤◌, ◌+◌, ℕ, Bool, true, List, [], length, map, Some, None}
 use Rattle.mc_source.specs.declared.det.Det.{Det}
 use Rattle.mc_source.specs.declared.det.Most.TheVariants as M
+use Rattle.mc_source.specs.declared.rule.Broken.{Broken}
 use Rattle.mc_program.specs.PlainPrograms.{plain_program}
 use Rattle.mc_program.specs.declared.program.Program.{Program}
 use Rattle.mc_model.specs.Lists.{from}
@@ -30,14 +31,14 @@ pub record HasInsts (P : Program) (ds : List PlainInstDef) (insts : Insts) : Typ
   pub defined : Defined ds 4 (graph_of insts) nodes
   pub count : count_of insts ≡ 4 + bounds_of ds
 
--- where it begins: a program that has the library, with the insts of its modes, which are tidy, and with
--- no procedure of them yet
-pub record Begins (P : Program) (ds : List PlainInstDef) (sigs : List Sig) (q : PlainProcs)
-    : Type 0 where
+-- where it begins: a program that has the library, with the insts of its modes, of which those that
+-- are untidy are told, and with no procedure of them yet
+pub record Begins (P : Program) (ds : List PlainInstDef) (sigs : List Sig) (untidy : List Broken)
+    (q : PlainProcs) : Type 0 where
   pub program : q.program ≡ P
   pub library : HasLibrary P
   pub insts : HasInsts P ds q.insts
-  pub tidy : AreUntidy (plain_program P) (insts_of q) sigs []
+  pub told : AreUntidy (plain_program P) (insts_of q) sigs untidy
   pub preds : q.preds ≡ map (λ (m : ModeId). m.pred) (mode_ids P sigs)
   pub none : q.added ≡ []
 

@@ -1,7 +1,7 @@
 -- What comes of a program: its procedures in their declared modes, or the rules of modes or of
 -- determinism that they break. (Mercury Language Reference Manual: Modes; Determinism; this project's
 -- rules.)
-use Rattle.std.specs.Prelude.{◌≡◌, Bool, List, Vec, []}
+use Rattle.std.specs.Prelude.{◌≡◌, ◌++◌, Bool, List, Vec, []}
 use Rattle.std.specs.Global.{Global}
 use Rattle.mc_source.specs.declared.rule.Broken.{Broken}
 use Rattle.mc_program.specs.Values.{Val}
@@ -13,11 +13,11 @@ use Rattle.mc_model.specs.declared.flat.Normal.{Normal}
 use Rattle.mc_model.specs.declared.inst.Sig.{Sig}
 use Rattle.mc_accepted.specs.DeterminismFaults.{determinism_faults, by_place}
 use Rattle.mc_accepted.specs.InstRules.{PlainInstDef}
-use Rattle.mc_insts.specs.declared.insts.Insts.{Insts}
-use Rattle.mc_insts.specs.Graphs.{graph_of}
 use Rattle.mc_procs.specs.Fitting.{AllFit}
-use Rattle.mc_procs.specs.Procedures.{PlainProcs}
-use Rattle.mc_orders.specs.Outcomes.{GrownFrom, Became}
+use Rattle.mc_procs.specs.Procedures.{PlainProcs, insts_of}
+use Rattle.mc_orders.specs.Numbering.{mode_ids}
+use Rattle.mc_orders.specs.Outcomes.{GrownFrom, AreBroken, Became}
+use Rattle.mc_orders.specs.declared.modes.ModeId.{ModeId}
 use Rattle.mc_orders.specs.declared.ordering.Orders.{Orders}
 use Rattle.mc_orders.specs.declared.ordering.Orders.TheVariants as O
 use Rattle.mc_skeletons.specs.Least.{assigned}
@@ -25,8 +25,8 @@ use Rattle.mc_det.specs.Determinisms.{AreDeterminisms, declared_system}
 use Rattle.mc_det.specs.MarkedProcedures.{Inferred, MarksHold, determinisms_of}
 use Rattle.mc_det.specs.PrunedProcedures.{Pruned}
 use Rattle.mc_switch.specs.SwitchedBodies.{Switches}
-use Rattle.mc_rules.specs.Premises.{HasInsts, Begins, AskedOf}
-use Rattle.mc_rules.specs.Untidy.{AreUntidy}
+use Rattle.mc_rules.specs.Premises.{Begins, AskedOf}
+use Rattle.mc_rules.specs.Untidy.{AreAsked}
 use Rattle.mc_rules.specs.declared.rules.Ruled.{Ruled}
 use Rattle.mc_rules.specs.declared.rules.Ruled.TheVariants as R
 
@@ -51,14 +51,16 @@ FaultsAre runs q faults =
 pub record Ordered (P : Program) (ds : List PlainInstDef) (sigs : List Sig) (goals : List Normal) (exported : List Bool)
     (orders : Orders) (last : PlainProcs) : Type 0 where
   pub first : PlainProcs
-  pub begins : Begins P ds sigs first
+  pub begins : Begins P ds sigs [] first
   pub asked : AskedOf first sigs goals exported
   pub became : Became sigs goals exported first last orders
   pub grown : GrownFrom first last
 
 -- Procedures come where no rule is broken; they fit one another, as they do where a rule of determinism
--- is broken. The rule of unique modes is told alone, in the order of places; where it is kept the other
--- rules of modes are; and where these are kept rules of determinism.
+-- is broken. Where some mode breaks the rule of unique modes, each that does is told, and with them the
+-- rules that goals break in modes that keep it, where they call only predicates whose modes all keep it,
+-- in the order of places; where none does, the rules of all modes are; and where these are kept rules of
+-- determinism.
 pub data Comes (P : Program) (ds : List PlainInstDef) (sigs : List Sig) (goals : List Normal) (exported : List Bool)
     (runs : Bool) : Ruled → Type 0 where
   break_no_rule :
@@ -67,9 +69,12 @@ pub data Comes (P : Program) (ds : List PlainInstDef) (sigs : List Sig) (goals :
       → Determined ordered last → FaultsAre runs last [] → AllFit last
       → Comes P ds sigs goals exported runs (R.Procs last)
   break_uniqueness :
-      {insts : Insts} {untidy : List Broken} {list : Vec Broken Global}
-      → HasInsts P ds insts → AreUntidy (plain_program P) (graph_of insts) sigs untidy
-      → list.items ≡ by_place untidy → (untidy ≡ [] → ⊥)
+      {first last : PlainProcs} {untidy faults : List Broken} {ids : List ModeId}
+      {list : Vec Broken Global}
+      → Begins P ds sigs untidy first → (untidy ≡ [] → ⊥) → AskedOf first sigs goals exported
+      → AreAsked (plain_program P) (insts_of first) sigs goals (mode_ids P sigs) ids
+      → AreBroken sigs goals first last ids faults
+      → list.items ≡ by_place (untidy ++ faults)
       → Comes P ds sigs goals exported runs (R.Broken list)
   break_modes :
       {last : PlainProcs} {list : Vec Broken Global}

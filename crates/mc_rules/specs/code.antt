@@ -1,3 +1,4 @@
+pub mod Asked
 pub mod Committed
 pub mod Judged
 pub mod Fitting

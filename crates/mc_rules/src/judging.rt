@@ -44,7 +44,7 @@ pub(crate) fn judged(
     requires preds { procs.old.preds ≡ map (λ (m : ModeId). m.pred) (mode_ids procs.old.program sigs.now) }
     requires none { procs.old.added ≡ [] }
     ensures { IfOk result
-        (λ j. (ds : List PlainInstDef) → Begins procs.old.program ds sigs.now procs.old
+        (λ j. (ds : List PlainInstDef) → Begins procs.old.program ds sigs.now [] procs.old
         → Comes procs.old.program ds sigs.now goals.now exported.now runs (answered procs.new j)) }
 {
     see_asked(alloc, procs, sigs, goals, exported)?;
@@ -65,7 +65,7 @@ fn by_order(
     requires preds { procs.old.preds ≡ map (λ (m : ModeId). m.pred) (mode_ids procs.old.program sigs.now) }
     requires none { procs.old.added ≡ [] }
     ensures { IfOk result
-        (λ j. (ds : List PlainInstDef) → Begins procs.old.program ds sigs.now procs.old
+        (λ j. (ds : List PlainInstDef) → Begins procs.old.program ds sigs.now [] procs.old
         → Comes procs.old.program ds sigs.now goals.now exported.now runs (answered procs.new j)) }
 {
     match order_goals(alloc, procs, sigs, goals, exported)? {

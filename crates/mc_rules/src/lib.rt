@@ -1,6 +1,7 @@
 //! The procedures of a program in its declared modes, or the rules of modes and of determinism that they break.
 #![tactic(auto)]
 
+mod asked;
 mod determinisms;
 mod goals;
 mod judging;

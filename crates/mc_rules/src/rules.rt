@@ -1,4 +1,4 @@
-ghost use Rattle.std.specs.Prelude.{◌≡◌, List, [], map, IfOk, OnOk};
+ghost use Rattle.std.specs.Prelude.{◌≡◌, Bool, List, [], map, IfOk, OnOk};
 ghost use Rattle.mc_program.specs.PlainPrograms.{plain_program};
 ghost use Rattle.mc_orders.specs.Numbering.{mode_ids};
 ghost use Rattle.mc_orders.specs.declared.modes.ModeId.{ModeId};
@@ -16,7 +16,9 @@ ghost use Rattle.mc_rules.specs.Rules.{Comes};
 ghost use Rattle.mc_rules.specs.code.Judged.{answered};
 ghost use Rattle.mc_rules.specs.code.Fitting.{ProgramIsFit};
 
+use crate::asked::asked_modes;
 use crate::judging::{Judgement, judged};
+use crate::premises::see_asked;
 use crate::signatures::signatures_fit;
 use crate::untidy::untidy_modes;
 use mc_base::{Memory, Row};
@@ -25,7 +27,7 @@ use mc_insts::{InstDef, Insts};
 use mc_library_fit::library_fits;
 use mc_model::flat::Normal;
 use mc_model::inst::Sig;
-use mc_orders::mode_ids;
+use mc_orders::{list_faults, mode_ids};
 use mc_places::sort_by_place;
 use mc_procs::Procs;
 use mc_program::program::Program;
@@ -42,8 +44,9 @@ pub enum Ruled {
 }
 
 /// The procedures of a program in its declared modes: their goals in order, in switch form and pruned, their determinisms
-/// inferred. Or the rules that they break: that of unique modes (M8), else those of modes (M1 to M4) where there are any,
-/// else those of determinism and of io (E1 to E4, U1). The insts of modes are the builtin ones and those that the
+/// inferred. Or the rules that they break: those of modes (M1 to M4, M8) where there are any, else those of determinism and
+/// of io (E1 to E4, U1). Where some mode breaks that of unique modes (M8), a goal is tried only in modes that keep it, and only
+/// where it calls no predicate with a mode that breaks it. The insts of modes are the builtin ones and those that the
 /// definitions define behind them. Signatures, goals and what is exported go by the numbers of predicates; `runs` tells
 /// whether `main` is asked for.
 ///
@@ -103,12 +106,49 @@ fn over_insts(
 {
     see(signatures_fit(insts.count(), sigs))?;
     let mut insts = insts;
-    let mut untidy = untidy_modes(alloc, &program, &mut insts, sigs)?;
-    if !untidy.is_empty() {
-        sort_by_place(&mut untidy)?;
-        return Ok(Ruled::Broken(untidy));
+    let untidy = untidy_modes(alloc, &program, &mut insts, sigs)?;
+    if untidy.is_empty() {
+        return of_tidy(alloc, program, insts, sigs, goals, exported, runs);
     }
-    of_tidy(alloc, program, insts, sigs, goals, exported, runs)
+    of_untidy(alloc, program, insts, sigs, goals, exported, untidy)
+}
+
+/// The rules that are broken where some modes break that of unique modes: theirs, and those of goals that are over tidy
+/// modes alone.
+fn of_untidy(
+    alloc: Global,
+    program: Program,
+    insts: Insts,
+    sigs: &[Sig],
+    goals: &[Normal],
+    exported: &[bool],
+    untidy: Vec<Broken>,
+) -> Result<Ruled, Memory>
+    requires fits { ProgramIsFit program }
+    requires goals { HasNormalGoals program goals.now }
+    requires program { AreOf (plain_program program) insts }
+    requires sigs { SigsFit (count_of insts) sigs.now }
+    requires untidy { AreUntidy (plain_program program) (graph_of insts) sigs.now untidy.items }
+    requires some { untidy.items ≡ [] → ⊥ }
+    ensures { IfOk result
+        (λ ruled. (runs : Bool) (ds : List PlainInstDef) → HasInsts program ds insts
+        → Comes program ds sigs.now goals.now exported.now runs ruled) }
+{
+    let mut insts = insts;
+    let asked = asked_modes(alloc, &program, &mut insts, sigs, goals)?;
+    let mut procs = first_procs(alloc, program, insts, sigs)?;
+    see_asked(alloc, &procs, sigs, goals, exported)?;
+    let mut faults = untidy;
+    list_faults(
+        alloc,
+        &mut procs,
+        sigs,
+        goals,
+        asked.as_slice(),
+        &mut faults,
+    )?;
+    sort_by_place(&mut faults)?;
+    Ok(Ruled::Broken(faults))
 }
 
 /// What comes of a program that fits, with its insts, over which its modes are tidy.

@@ -45,7 +45,7 @@ pub(crate) fn untidy_modes(
 }
 
 /// The types of a predicate's arguments.
-fn types_of(program: &Program, number: u32) -> &[Ty]
+pub(crate) fn types_of(program: &Program, number: u32) -> &[Ty]
     ensures { map plain_type result.now ≡ ((plain_program program.now).preds number).types }
 {
     match program.preds.as_slice().get(number as usize) {
@@ -95,7 +95,7 @@ fn outside_io(alloc: Global, mode: &ModeDecl) -> Result<Broken, Memory>
 }
 
 /// Whether the insts of a mode are tidy at these types.
-fn mode_is_tidy(
+pub(crate) fn mode_is_tidy(
     alloc: Global,
     program: &Program,
     insts: &mut Insts,

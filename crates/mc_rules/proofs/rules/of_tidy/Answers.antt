@@ -35,7 +35,7 @@ pub returns : goal.returns
 returns c =
     λ ds has.
     let q = c.in_ok-procs.procs in
-    let begun = begins c.args.program ds c.args.sigs.now c.args.insts q (c.in_ok-procs.ensures {u = tt}) c.requires.fits.2 has c.requires.tidy in
+    let begun = begins c.args.program ds c.args.sigs.now [] c.args.insts q (c.in_ok-procs.ensures {u = tt}) c.requires.fits.2 has c.requires.tidy in
     comes c.args.program ds c.args.sigs.now q begun c.args.goals.now c.args.exported.now c.args.runs
     (answered c.judged.new.procs c.in_ok-judgement.judgement) c.answered.result
     c.answered.ensures (c.in_ok-judgement.ensures {u = tt} ds (begins_itself c.args.program ds c.args.sigs.now q begun))
