@@ -12,7 +12,7 @@ absent_line file = codes "merc: no file " ++ (file ++ codes "\n")
 abbrev pub unreadable_line : List ℕ → List ℕ
 unreadable_line file = codes "merc: cannot read " ++ (file ++ codes "\n")
 
--- the line of a broken rule; what isn't in a file is in the query
+-- the line of a broken rule; what isn't in a given file is told as the query's
 abbrev pub broken_line : (files : List (List ℕ)) → Broken → List ℕ
 broken_line files b =
     broken_text (slice_index_or files b.at.file (codes "query")) b.at.line b.rule b.what

@@ -27,7 +27,8 @@ use std::alloc::Global;
 /// answers of a query on `out`, one line each, or what `main` writes, or on `err` the line of each broken rule, or one
 /// line that says why nothing is answered, and answers how it ended.
 ///
-/// The first put that fails ends the call with `WriteFault`, and nothing more is put. `Memory` ends the call at once.
+/// The first put that fails ends the call with `WriteFault`, and nothing more is put. `Memory` ends the call at once. (Of
+/// puts behind a failed one the clauses say only that all is a front part.)
 pub fn merc<F: Files, I: Source, O: Sink, E: Sink>(
     alloc: Global,
     words: &Vec<String>,
@@ -36,8 +37,8 @@ pub fn merc<F: Files, I: Source, O: Sink, E: Sink>(
     out: &mut O,
     err: &mut E,
 ) -> Status
-    // Where the store tells what it holds and the sinks what was written, no count of faults rose and memory
-    // sufficed, the bytes on `out`, those on `err` and the status are the defined ones.
+    // Where the store tells what it holds and the sinks what was written, no count of faults rose and the status
+    // isn't `Memory`, the bytes on `out`, those on `err` and the status are the defined ones.
     ensures whole_answer { (held : Held) (before_out before_err : List ℕ)
         → Told (F.held files.old) held (O.written out.old) before_out (E.written err.old) before_err
         → NoneRose (F.faults files.old) (F.faults files.new) (O.faults out.old) (O.faults out.new)
@@ -45,7 +46,7 @@ pub fn merc<F: Files, I: Source, O: Sink, E: Sink>(
         → result ≢ Status.Memory
         → AnswersWhole (map string_bytes words.now.items) held before_out before_err result
         (O.written out.new) (E.written err.new) }
-    // Where a sink failed or memory was wanting, each sink was given a front part of the defined bytes, which are one
+    // Where a sink failed or the status is `Memory`, each sink was given a front part of the defined bytes, which are one
     // answer at most.
     ensures prefix { (held : Held) (before_out before_err : List ℕ)
         → Told (F.held files.old) held (O.written out.old) before_out (E.written err.old) before_err
@@ -63,7 +64,8 @@ pub fn merc<F: Files, I: Source, O: Sink, E: Sink>(
         ⊎ ((result ≡ Status.Memory)
         × (Wrote (O.written out.old) (O.written out.new) []
         × Wrote (E.written err.old) (E.written err.new) [])) }
-    // Where a file could not be read, nothing was put on `out`, and on `err` a front part of its line.
+    // Where a file could not be read, nothing was put on `out`, and on `err` a front part of the line of one of the
+    // files.
     ensures unreadable { (m : Meaning) → meaning (map string_bytes words.now.items) ≡ Some m
         → F.faults files.old < F.faults files.new
         → Wrote (O.written out.old) (O.written out.new) []
@@ -72,7 +74,7 @@ pub fn merc<F: Files, I: Source, O: Sink, E: Sink>(
     // and is true in the completion, success counts obey determinism, where a run ends that isn't committed to one answer
     // each assignment that isn't answered is false, and what `main` has written at its end is what its last state has gained.
     ensures truth { (s : Sources) (e : PlainExecutable) → Compiles s (Ok e) → IsTrueExecutable e }
-    // Done comes only where the sources compile, and the run of the query, or of `main`, ends.
+    // Done comes only where the sources compile, and the run of the query, or of `main`, where one is run, ends.
     ensures done { result ≡ Status.Done
         → OfSources (map string_bytes words.now.items) (F.held files.old) RunsToEnd }
     // Usage comes only where the words mean no command, and it comes there, or a fault does.
@@ -89,16 +91,17 @@ pub fn merc<F: Files, I: Source, O: Sink, E: Sink>(
         → OfFiles (map string_bytes words.now.items)
         (SaidAbsent (F.held files.old) (O.written out.old) (O.written out.new)
         (E.written err.old) (E.written err.new)) }
-    // No absent file is passed over.
+    // No answer that a file is absent is passed over.
     ensures absent_seen { F.absents files.old < F.absents files.new
         → (result ≡ Status.Absent) ⊎ ((result ≡ Status.WriteFault) ⊎ (result ≡ Status.Memory)) }
-    // ReadFault comes only where a read failed in this call, and its whole line was put, and nothing else.
+    // ReadFault comes only where a read failed in this call, and the whole line of one of the files was put, and
+    // nothing else.
     ensures read { result ≡ Status.ReadFault → Rose (F.faults files.old) (F.faults files.new) }
     ensures read_told { result ≡ Status.ReadFault
         → OfFiles (map string_bytes words.now.items)
         (SaidUnreadable (F.held files.old) (O.written out.old) (O.written out.new)
         (E.written err.old) (E.written err.new)) }
-    // No file that can't be read is passed over.
+    // No read that failed is passed over.
     ensures read_seen { F.faults files.old < F.faults files.new
         → (result ≡ Status.ReadFault) ⊎ ((result ≡ Status.WriteFault) ⊎ (result ≡ Status.Memory)) }
     // WriteFault comes exactly where a put failed in this call.
