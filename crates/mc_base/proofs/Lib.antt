@@ -1,3 +1,4 @@
 pub mod Booleans
 pub mod NameSetLaws
 mod NameSetViews
+pub mod Joining

@@ -71,7 +71,7 @@ fn read_file<F: Files>(alloc: Global, name: &str, files: &mut F) -> Result<Given
     };
     Ok(Given {
         name: Text::new(alloc, name.as_bytes())?,
-        bytes: Text::from_vec(bytes),
+        bytes: Text::of(alloc, bytes)?,
     })
 }
 

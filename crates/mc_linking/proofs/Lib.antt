@@ -1,5 +1,6 @@
 mod Blamed
 mod Counts
+mod Found
 mod ItemLists
 mod Kept
 mod ModulesSeen

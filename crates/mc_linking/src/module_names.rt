@@ -107,7 +107,7 @@ impl ModuleNames {
     fn put(&mut self, name: Text, number: u32) -> Result<(), Memory>
         ensures { OnOk result (number_of self.new ≡ put_name (Some name) number (number_of self.old)) }
     {
-        self.numbers.insert(name.into_vec(), number)?;
+        self.numbers.insert(name.into_vec()?, number)?;
         Ok(())
     }
 

@@ -9,6 +9,6 @@ pub returns : goal.returns
 returns c =
     same_functions _ _
     (λ w. ap (λ es. number_of (entries_of vec_name es) w) c.in_ok-insert.ensures.entries
-    ∙ number_of-insert vec_name _ (λ x y. refl) c.self.inside.numbers.entries c.into_vec.result c.args.number w
-    ∙ ap (λ n. cond (bytes_eq w n) (Some c.args.number) (number_of (entries_of vec_name c.self.inside.numbers.entries) w)) c.into_vec.ensures.items
+    ∙ number_of-insert vec_name _ (λ x y. refl) c.self.inside.numbers.entries c.in_ok-into_vec.field-0 c.args.number w
+    ∙ ap (λ n. cond (bytes_eq w n) (Some c.args.number) (number_of (entries_of vec_name c.self.inside.numbers.entries) w)) c.in_ok-into_vec.ensures.items
     ∙ ap (λ s. cond (bytes_eq w c.args.name) (Some c.args.number) (number_of s w)) c.self.view_is)
