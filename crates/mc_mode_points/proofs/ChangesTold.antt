@@ -19,6 +19,9 @@ rest-since log k xs h =
     take_all (length xs - k) (drop k xs) (omega (arith, length-drop k xs))
     ∙ ⊎_elim (λ (l : length xs < log). drop_all k xs (omega arith) ∙ sym (drop_all log xs (omega arith))) (λ (l : log ≤ length xs). let e : k ≡ log = omega arith in ap (λ n. drop n xs) e) (cases_lt (length xs) log)
 
+pub latest-since : {A : Type 0} (log k : ℕ) (ys xs : List A) → ys ≡ xs → k ≡ min log (length xs) → take (length ys - k) (drop k ys) ≡ drop log xs
+latest-since log k ys xs e h = ap (λ zs. take (length zs - k) (drop k zs)) e ∙ rest-since log k xs h
+
 -- What isn't of a variable can be passed over.
 rewound-filter : (p : ℕ × ℕ → Bool) (x : ℕ) → ((e : ℕ × ℕ) → e.0 ≡ x → p e ≡ true) → (es : List (ℕ × ℕ)) (b : Point ℕ) → rewound (filter p es) b x ≡ rewound es b x
 rewound-filter p x h [] b = refl
@@ -39,7 +42,7 @@ rewound-sorted es fs h b x =
     sym (rewound-filter p x (ties-self x) fs b)
     ∙ (ap (λ ds. rewound ds b x) (h (x, 0)) ∙ rewound-filter p x (ties-self x) es b)
 
-within-at : (n : ℕ) (es : List (ℕ × ℕ)) → LogWithin n es → (k : ℕ) (d : ℕ × ℕ) → k < length es → (get_or es k d).0 < n
+pub within-at : (n : ℕ) (es : List (ℕ × ℕ)) → LogWithin n es → (k : ℕ) (d : ℕ × ℕ) → k < length es → (get_or es k d).0 < n
 within-at n [] w k d h = absurd (omega arith)
 within-at n (e ∷ es) w zero d h = w.0
 within-at n (e ∷ es) w (suc k) d h = within-at n es w.1 k d (omega arith)

@@ -24,4 +24,5 @@ pub mod OneOrMany
 pub mod EndColumns
 pub mod EndsMerged
 pub mod ChangesTold
+pub mod InOrder
 pub mod Growths

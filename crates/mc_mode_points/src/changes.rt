@@ -1,4 +1,5 @@
 ghost use Rattle.std.specs.Prelude.{◌≡◌, ◌<◌, ◌∷◌, ◌++◌, [], ℕ, length, map, drop, IfOk, OnOk};
+ghost use Rattle.std.specs.Bool.{OnTrue};
 ghost use Rattle.std.specs.List.{All};
 ghost use Rattle.std.specs.List.Sorted.{IsNonDecreasingBy};
 ghost use Rattle.mc_model.specs.Scheduled.{nodes, node_then, no_nodes};
@@ -26,6 +27,20 @@ fn only(row: Row<GoalNode>) -> GoalNode
         Some(goal) => goal,
         None => unreachable!(),
     }
+}
+
+/// Whether insts that were replaced stand in order of variables.
+fn are_in_order(replaced: &[(u32, InstId)]) -> bool
+    ensures { OnTrue result (IsNonDecreasingBy (λ e. e.0) replaced.now) }
+{
+    let mut last = 0;
+    for e in replaced {
+        if e.0 < last {
+            return false;
+        }
+        last = e.0;
+    }
+    true
 }
 
 impl State {
@@ -58,6 +73,32 @@ impl State {
         Ok(())
     }
 
+    /// What variables have other insts than before these were replaced: each with the inst that it has now, in order of
+    /// variables.
+    fn changes_of(
+        &self,
+        alloc: Global,
+        replaced: &[(u32, InstId)],
+    ) -> Result<Row<(u32, InstId)>, Memory>
+        requires within { All (λ e. e.0 < length self.now.insts.items) replaced.now }
+        requires sorted { IsNonDecreasingBy (λ e. e.0) replaced.now }
+        ensures { IfOk result (λ row. row ≡ changes_from other_node 0 (length self.now.insts.items)
+            (rewound replaced.now (point_of self.now.insts.items)) (point_of self.now.insts.items)) }
+    {
+        let mut changes = Vec::with_capacity(alloc, replaced.len())?;
+        // Variables below this one are done: of several insts of one variable that were replaced, the first counts.
+        let mut next: usize = 0;
+        for (x, was) in replaced {
+            if (*x as usize) < next {
+                continue;
+            }
+            self.tell(&mut changes, *x, *was)?;
+            next = *x as usize + 1;
+        }
+        let row = Row::of(changes)?;
+        Ok(row)
+    }
+
     /// What variables have other insts than when the log had this length: each with the inst that it has now, in order of
     /// variables.
     pub fn changes_since(&self, alloc: Global, log: usize) -> Result<Row<(u32, InstId)>, Memory>
@@ -66,18 +107,14 @@ impl State {
             → row ≡ changes_from other_node 0 (length self.now.insts.items) (point_of s.insts.items)
             (point_of self.now.insts.items)) }
     {
-        let replaced = self.replaced_since(alloc, log)?;
-        let mut changes = Vec::new(alloc);
-        // Variables below this one are done: of several insts of one variable that were replaced, the first counts.
-        let mut next: usize = 0;
-        for (x, was) in &replaced {
-            if (*x as usize) < next {
-                continue;
-            }
-            self.tell(&mut changes, *x, *was)?;
-            next = *x as usize + 1;
+        let start = log.min(self.log.len());
+        let latest = &self.log[start..];
+        if are_in_order(latest) {
+            let row = self.changes_of(alloc, latest)?;
+            return Ok(row);
         }
-        let row = Row::of(changes)?;
+        let replaced = self.replaced_since(alloc, log)?;
+        let row = self.changes_of(alloc, replaced.as_slice())?;
         Ok(row)
     }
 

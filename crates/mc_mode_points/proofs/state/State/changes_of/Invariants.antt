@@ -3,13 +3,13 @@ use Rattle.mc_accepted.specs.Arranged.{changes_from}
 use Rattle.mc_accepted.specs.Chosen.{other_node}
 use Rattle.mc_mode_points.specs.States.{point_of, rewound}
 use Rattle.mc_mode_points.proofs.ChangesTold.{DoneBelow}
-use Rattle.mc_mode_points.proofs.state.State.changes_since.Given as goal
+use Rattle.mc_mode_points.proofs.state.State.changes_of.Given as goal
 
 abbrev pub invariant-loop-x : goal.invariant-loop-x
 invariant-loop-x l =
     let now = point_of l.self.insts.items in
     record {
-      told : l.changes.items ≡ changes_from other_node 0 l.next (rewound l.x-items now) now;
+      told : l.changes.items ≡ changes_from other_node 0 l.next (rewound l.replaced now) now;
       there : l.next ≤ length l.self.insts.items;
-      done : DoneBelow l.next l.x-index l.x-items;
+      done : DoneBelow l.next l.x-index l.replaced;
     }
