@@ -41,6 +41,15 @@ not_free i = twice (nat_eq i 0)
 eq_self : (x : ℕ) → nat_eq x x ≡ true
 eq_self x = eq-eqb x x refl
 
+-- one of the changes of some kind, by their variables
+pub any_given : (p : ℕ → Bool) (q : ℕ × ℕ → Bool) (cs : List (ℕ × ℕ)) → list_any (λ (e : ℕ × ℕ). q e && p e.0) cs ≡ list_any p (map (λ (e : ℕ × ℕ). e.0) (filter q cs))
+any_given p q [] = refl
+any_given p q (e ∷ cs) = at (q e) (any_given p q cs)
+  where
+    at : (t : Bool) → list_any (λ (e : ℕ × ℕ). q e && p e.0) cs ≡ list_any p (map (λ (e : ℕ × ℕ). e.0) (filter q cs)) → ((t && p e.0) || list_any (λ (e : ℕ × ℕ). q e && p e.0) cs) ≡ list_any p (map (λ (e : ℕ × ℕ). e.0) (if t then e ∷ filter q cs else filter q cs))
+    at true r = ap (λ (s : Bool). p e.0 || s) r
+    at false r = r
+
 -- one that occurs in a list, and is bound there
 found_in_list : (Q : List ℕ) (b c : Insts) (x : ℕ) → not (nat_eq (times_in x Q) 0) ≡ true → (not (is_bound (b x)) && is_bound (c x)) ≡ true → binds_one Q b c ≡ true
 found_in_list [] b c x n e = absurd (true≢false (sym n))

@@ -55,6 +55,7 @@ fn skeleton_of(alloc: Global, procs: &Procs, p: &Proc) -> Result<Row<Step>, Memo
         point: Point::entered(alloc, variables, p.head.as_slice(), p.first.as_slice())?,
         known: Vec::new(alloc),
         steps: Vec::new(alloc),
+        found: Vec::new(alloc),
     };
     walk.goal(alloc, &p.body, procs, p.var_types.as_slice())?;
     Row::of(walk.steps)

@@ -18,6 +18,6 @@ mod walk;
 pub use inference::determinisms;
 pub use law::{least_by_skeletons, marks_are_kept, pruned_keep_marks, skeletons_tell};
 pub use mark::{copy_changes, copy_on};
-pub use point::Point;
+pub use point::{Point, emptied};
 pub use procedures::{infer, replace_all, with_body};
 pub use pruned::prune_goals;

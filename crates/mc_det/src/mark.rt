@@ -14,6 +14,7 @@ ghost use Rattle.mc_det.specs.code.Walks.{typed, bounds_in, Ready, InSystems};
 ghost use Rattle.mc_det.specs.code.Marks.{Stays, IsTold, under, mark_of, switched, all_told, any_told, arms_told};
 
 use crate::facts::{Fact, has_constant, last_fact};
+use crate::point::emptied;
 use crate::walk::{
     DET, ERRONEOUS, FAILURE, SEMIDET, Walk, arm_is_named, builtin_determinism, is_named,
     misses_symbol, take_determinism, uncommitted,
@@ -138,10 +139,7 @@ pub fn copy_changes(
 ) -> Result<Row<(u32, InstId)>, Memory>
     ensures { IfOk result (λ copy. copy ≡ changes.now) }
 {
-    let mut copy = Vec::new(alloc);
-    for change in changes.as_slice() {
-        copy.push(*change)?;
-    }
+    let copy = Vec::from_slice(alloc, changes.as_slice())?;
     Row::of(copy)
 }
 
@@ -441,14 +439,15 @@ impl<'a> Walk<'a> {
             ≡ marked_all (under dets.now S) (typed types.now) (insts_in self.old.point) (known_in
             self.old.known.items) (nodes (map plain_node goals.now)))) }
     {
-        let mut found = Vec::new(alloc);
-        let mut copies = Vec::new(alloc);
+        let mut found = emptied(alloc, &mut self.found);
+        let mut copies = Vec::with_capacity(alloc, goals.len())?;
         for goal in goals {
             is_named(procs, types, goals, goal);
             copies.push(self.marked(alloc, goal, dets, procs, types)?)?;
             self.enter(goal, &mut found, procs, types)?;
         }
-        self.point.undo(found);
+        self.point.undo_all(&mut found);
+        self.found = found;
         Row::of(copies)
     }
 
@@ -470,7 +469,7 @@ impl<'a> Walk<'a> {
             ≡ marked_each (under dets.now S) (typed types.now) (insts_in self.old.point) (known_in
             self.old.known.items) (nodes (map plain_node goals.now)))) }
     {
-        let mut copies = Vec::new(alloc);
+        let mut copies = Vec::with_capacity(alloc, goals.len())?;
         for goal in goals {
             is_named(procs, types, goals, goal);
             copies.push(self.marked(alloc, goal, dets, procs, types)?)?;
@@ -498,7 +497,7 @@ impl<'a> Walk<'a> {
             ≡ marked_arms (under dets.now S) (typed types.now) (insts_in self.old.point) (known_in
             self.old.known.items) x (arms_of (map plain_arm arms.now)))) }
     {
-        let mut copies = Vec::new(alloc);
+        let mut copies = Vec::with_capacity(alloc, arms.len())?;
         for arm in arms {
             arm_is_named(procs, types, arms, arm);
             self.known.push(Fact {

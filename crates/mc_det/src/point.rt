@@ -8,6 +8,7 @@ use mc_base::Memory;
 use mc_model::inst::InstId;
 use std::alloc::Global;
 use std::marker::Model;
+use std::mem;
 
 /// A point of a body: the insts of its variables there.
 #[derive(Drop)]
@@ -112,10 +113,26 @@ impl Point {
     pub fn undo(&mut self, mut found: Vec<(u32, InstId)>)
         ensures { self.new ≡ undone found.items self.old }
     {
-        while let Some(change) = last_of(&mut found) {
+        self.undo_all(&mut found);
+    }
+
+    /// The point as it was before changes that found this, which are taken off the list.
+    pub fn undo_all(&mut self, found: &mut Vec<(u32, InstId)>)
+        ensures { self.new ≡ undone found.old.items self.old }
+    {
+        while let Some(change) = last_of(found) {
             self.put(change.0, change.1);
         }
     }
+}
+
+/// An empty list, in the room of one that is done with.
+pub fn emptied<T: Drop>(alloc: Global, done: &mut Vec<T>) -> Vec<T>
+    ensures { result.items ≡ [] }
+{
+    let mut list = mem::replace(done, Vec::new(alloc));
+    list.clear();
+    list
 }
 
 /// Takes the last change off.

@@ -66,6 +66,7 @@ fn marked_body(alloc: Global, procs: &Procs, p: &Proc, dets: &[Det]) -> Result<G
         point: Point::entered(alloc, variables, p.head.as_slice(), p.first.as_slice())?,
         known: Vec::new(alloc),
         steps: Vec::new(alloc),
+        found: Vec::new(alloc),
     };
     walk.marked(alloc, &p.body, dets, procs, p.var_types.as_slice())
 }

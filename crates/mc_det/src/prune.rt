@@ -1,4 +1,4 @@
-ghost use Rattle.std.specs.Prelude.{◌≡◌, ◌++◌, ◌<◌, ℕ, List, Bool, length, map, false, nat_eq, not, ◌||◌, ◌&&◌, IfOk, OnOk};
+ghost use Rattle.std.specs.Prelude.{◌≡◌, ◌++◌, ◌<◌, ℕ, List, Bool, length, map, get_or, false, nat_eq, not, ◌||◌, ◌&&◌, IfOk, OnOk};
 ghost use Rattle.std.specs.List.{list_any};
 ghost use Rattle.mc_program.specs.Programs.{variable_type};
 ghost use Rattle.mc_program.specs.Values.{plain_value};
@@ -6,7 +6,7 @@ ghost use Rattle.mc_source.specs.Determinism.{is_zero};
 ghost use Rattle.mc_model.specs.Scheduled.{nodes, Conj, Disj, Switch, Ite, Not, Exists, Build, Take, Const, TestConst, Call, Apply};
 ghost use Rattle.mc_model.specs.PlainGoals.{plain_node, plain_sched, plain_arm, arms_of};
 ghost use Rattle.mc_model.specs.Stream.{is_bound};
-ghost use Rattle.mc_accepted.specs.Ordered.{binds_one, builtin_most, variables_of_node, variables_of_nodes};
+ghost use Rattle.mc_accepted.specs.Ordered.{binds_one, builtin_most, change_at, variables_of_node, variables_of_nodes};
 ghost use Rattle.mc_accepted.specs.Determined.{insts_after, excludes};
 ghost use Rattle.mc_accepted.specs.MergedArms.{takes_constants};
 ghost use Rattle.mc_insts.specs.Graphs.{count_of};
@@ -15,11 +15,11 @@ ghost use Rattle.mc_procs.specs.Procedures.{insts_of};
 ghost use Rattle.mc_det.specs.Pruned.{then_reached};
 ghost use Rattle.mc_det.specs.code.Points.{insts_in, undone};
 ghost use Rattle.mc_det.specs.code.Walks.{bounds_in, Ready};
-ghost use Rattle.mc_det.specs.code.Prunes.{Counted, HasCounted, free_outside, InDeclared, Keeps, IsNode, IsGoal, AreRun, AreTried, AreChosen, IsWithin, IsBeside, IsThen, never_declared};
+ghost use Rattle.mc_det.specs.code.Prunes.{Counted, HasCounted, is_free_outside, InDeclared, Keeps, IsNode, IsGoal, AreRun, AreTried, AreChosen, IsWithin, IsBeside, IsThen, never_declared};
 
 use crate::mark::{copy_changes, copy_on};
 use crate::outside::Outside;
-use crate::point::Point;
+use crate::point::{Point, emptied};
 use crate::symbols::allows;
 use crate::variables::{variables_of, variables_of_all};
 use crate::walk::{arm_is_named, is_named};
@@ -34,12 +34,15 @@ use mc_program::value::Value;
 use mc_source::det::{Det, Most};
 use std::alloc::Global;
 
-/// A walk that prunes a body's goals: the insts at the point where it is, and how often each variable occurs outside the
-/// goal at hand.
+/// A walk that prunes a body's goals: the insts at the point where it is, how often each variable occurs outside the goal
+/// at hand, and room for what changes found and for the variables of goals.
 #[derive(Drop)]
 pub(crate) struct Pruning {
     pub(crate) point: Point,
     pub(crate) outside: Outside,
+    pub(crate) found: Vec<(u32, InstId)>,
+    pub(crate) all: Vec<u32>,
+    pub(crate) own: Vec<u32>,
 }
 
 /// A goal whose parts have marks, and whether the point after it is unreachable.
@@ -304,27 +307,36 @@ fn is_whole(i: InstId) -> bool
     i == 1 || i == 2 || i == 3
 }
 
-impl Pruning {
-    /// The variables among these changes that are free at the point and occur outside.
-    fn free_outside(&self, alloc: Global, changes: &[(u32, InstId)]) -> Result<Vec<u32>, Memory>
-        ensures { IfOk result (λ xs. xs.items
-            ≡ free_outside self.now.point self.now.outside changes.now) }
-    {
-        let mut free = Vec::new(alloc);
-        for change in changes {
-            if self.point.get(change.0) == 0 && self.outside.has(change.0) {
-                free.push(change.0)?;
-            }
+/// The inst of a variable after changes, which was this one before; of one that stands twice among them the first place
+/// counts.
+fn inst_after(changes: &[(u32, InstId)], x: u32, before: InstId) -> InstId
+    ensures { result ≡ change_at x changes.now before }
+{
+    for change in changes {
+        if change.0 == x {
+            return change.1;
         }
-        Ok(free)
+    }
+    before
+}
+
+impl Pruning {
+    /// Whether a variable is free at the point and occurs outside, and these changes bind it.
+    fn is_given(&self, changes: &[(u32, InstId)], x: u32) -> bool
+        ensures { result ≡ (nat_eq (insts_in self.now.point x) 0 && not (nat_eq (get_or self.now.outside x 0) 0))
+            && is_bound (change_at x changes.now (insts_in self.now.point x)) }
+    {
+        let before = self.point.get(x);
+        before == 0 && self.outside.has(x) && inst_after(changes, x, before) != 0
     }
 
-    /// Whether one of these variables is bound at the point.
-    fn one_bound(&self, variables: &[u32]) -> bool
-        ensures { result ≡ list_any (λ x. is_bound (insts_in self.now.point x)) variables.now }
+    /// Whether one of these changes binds a variable that is free at the point and occurs outside.
+    fn one_given(&self, changes: &[(u32, InstId)]) -> bool
+        ensures { result ≡ list_any (λ change. is_free_outside self.now.point self.now.outside change
+            && is_bound (change_at change.0 changes.now (insts_in self.now.point change.0))) changes.now }
     {
-        for x in variables {
-            if self.point.get(*x) != 0 {
+        for change in changes {
+            if self.is_given(changes, change.0) {
                 return true;
             }
         }
@@ -391,27 +403,14 @@ impl Pruning {
     }
 
     /// Whether a goal binds a variable that occurs outside it.
-    fn binds_outside(
-        &mut self,
-        alloc: Global,
-        goal: &GoalNode,
-        procs: &Procs,
-        types: &[Ty],
-    ) -> Result<bool, Memory>
-        requires ready { Ready procs.now types.now self.old.point }
-        requires count { length self.old.outside ≡ length types.now }
+    fn binds_outside(&self, goal: &GoalNode, procs: &Procs, types: &[Ty]) -> bool
+        requires count { length self.now.outside ≡ length types.now }
         requires named { Named (bounds_in procs.now (length types.now)) (plain_node goal.now) }
-        ensures keeps { OnOk result (Keeps self.old self.new) }
-        ensures binds { IfOk result (λ b. (Q : List ℕ) → Counted Q self.old.outside
-            → b ≡ binds_one Q (insts_in self.old.point)
-            (insts_after (plain_node goal.now) (insts_in self.old.point))) }
+        ensures { (Q : List ℕ) → Counted Q self.now.outside → result ≡ binds_one Q (insts_in self.now.point)
+            (insts_after (plain_node goal.now) (insts_in self.now.point)) }
     {
-        let free = self.free_outside(alloc, goal.changes.as_slice())?;
-        let mut found = Vec::new(alloc);
-        self.enter(goal, &mut found, procs, types)?;
-        let binds = self.one_bound(free.as_slice());
-        self.point.undo(found);
-        Ok(binds)
+        let _ = (procs.count(), types.len());
+        self.one_given(goal.changes.as_slice())
     }
 }
 
@@ -433,7 +432,7 @@ impl Pruning {
         ensures pruned { IfOk result (λ part. IsNode procs.now types.now self.old (plain_node goal.now) part) }
     {
         let part = self.pruned_sched(alloc, &goal.goal, procs, types)?;
-        let binds = self.binds_outside(alloc, goal, procs, types)?;
+        let binds = self.binds_outside(goal, procs, types);
         let changes = copy_changes(alloc, &goal.changes)?;
         Ok(with_mark(part, changes, goal.det, binds))
     }
@@ -508,10 +507,10 @@ impl Pruning {
         ensures pruned { IfOk result (λ parts. AreRun procs.now types.now self.old (nodes (map
             plain_node goals.now)) parts) }
     {
-        let all = variables_of_all(alloc, goals)?;
+        let all = variables_of_all(alloc, &mut self.all, goals)?;
         self.outside.enter(all.as_slice())?;
-        let mut found = Vec::new(alloc);
-        let mut nodes = Vec::new(alloc);
+        let mut found = emptied(alloc, &mut self.found);
+        let mut nodes = Vec::with_capacity(alloc, goals.len())?;
         let mut never_end = false;
         for goal in goals {
             is_named(procs, types, goals, goal);
@@ -520,8 +519,10 @@ impl Pruning {
             never_end = either(never_end, part.never_ends);
             nodes.push(part.node)?;
         }
-        self.point.undo(found);
+        self.point.undo_all(&mut found);
+        self.found = found;
         self.outside.leave(all.as_slice());
+        self.all = all;
         Ok(PrunedNodes {
             nodes: Row::of(nodes)?,
             never_end,
@@ -545,7 +546,7 @@ impl Pruning {
         ensures pruned { IfOk result (λ parts. AreTried procs.now types.now self.old (nodes (map
             plain_node goals.now)) parts) }
     {
-        let mut nodes = Vec::new(alloc);
+        let mut nodes = Vec::with_capacity(alloc, goals.len())?;
         let mut never_end = true;
         for goal in goals {
             is_named(procs, types, goals, goal);
@@ -576,7 +577,7 @@ impl Pruning {
         ensures pruned { IfOk result (λ parts. AreChosen procs.now types.now self.old (arms_of (map
             plain_arm arms.now)) parts) }
     {
-        let mut copies = Vec::new(alloc);
+        let mut copies = Vec::with_capacity(alloc, arms.len())?;
         let mut never_end = true;
         for arm in arms {
             arm_is_named(procs, types, arms, arm);
@@ -610,10 +611,11 @@ impl Pruning {
         ensures pruned { IfOk result (λ part. IsWithin procs.now types.now self.old (plain_node
             goal.now) part) }
     {
-        let own = variables_of(alloc, goal)?;
+        let own = variables_of(alloc, &mut self.own, goal)?;
         self.outside.leave(own.as_slice());
         let part = self.pruned(alloc, goal, procs, types)?;
         self.outside.enter(own.as_slice())?;
+        self.own = own;
         Ok(part)
     }
 
@@ -634,10 +636,11 @@ impl Pruning {
         ensures pruned { IfOk result (λ part. IsBeside procs.now types.now self.old (plain_node
             other.now) (plain_node goal.now) part) }
     {
-        let beside = variables_of(alloc, other)?;
+        let beside = variables_of(alloc, &mut self.own, other)?;
         self.outside.enter(beside.as_slice())?;
         let part = self.pruned(alloc, goal, procs, types)?;
         self.outside.leave(beside.as_slice());
+        self.own = beside;
         Ok(part)
     }
 

@@ -55,6 +55,9 @@ fn pruned_body(alloc: Global, procs: &Procs, p: &Proc) -> Result<GoalNode, Memor
     let mut pruning = Pruning {
         point: Point::entered(alloc, variables, p.head.as_slice(), p.first.as_slice())?,
         outside: Outside::none(alloc, variables)?,
+        found: Vec::new(alloc),
+        all: Vec::new(alloc),
+        own: Vec::new(alloc),
     };
     pruning.outside.enter(p.head.as_slice())?;
     let part = pruning.pruned(alloc, &p.body, procs, p.var_types.as_slice())?;

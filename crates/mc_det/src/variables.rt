@@ -3,25 +3,34 @@ ghost use Rattle.mc_model.specs.Scheduled.{nodes};
 ghost use Rattle.mc_model.specs.PlainGoals.{plain_node, plain_sched, plain_arm, arms_of};
 ghost use Rattle.mc_accepted.specs.Ordered.{variables_of_node, variables_of_scheduled, variables_of_nodes, variables_of_arms};
 
+use crate::point::emptied;
 use mc_base::Memory;
 use mc_model::sched::{Arm, GoalNode, Sched};
 use std::alloc::Global;
 
-/// The variables of a goal, each as often as it stands there.
-pub(crate) fn variables_of(alloc: Global, goal: &GoalNode) -> Result<Vec<u32>, Memory>
+/// The variables of a goal, each as often as it stands there, in the room of a list that is done with.
+pub(crate) fn variables_of(
+    alloc: Global,
+    done: &mut Vec<u32>,
+    goal: &GoalNode,
+) -> Result<Vec<u32>, Memory>
     ensures { IfOk result (λ vs. vs.items ≡ variables_of_node (plain_node goal.now)) }
 {
-    let mut variables = Vec::new(alloc);
+    let mut variables = emptied(alloc, done);
     put_node(&mut variables, goal)?;
     Ok(variables)
 }
 
-/// The variables of goals.
-pub(crate) fn variables_of_all(alloc: Global, goals: &[GoalNode]) -> Result<Vec<u32>, Memory>
+/// The variables of goals, in the room of a list that is done with.
+pub(crate) fn variables_of_all(
+    alloc: Global,
+    done: &mut Vec<u32>,
+    goals: &[GoalNode],
+) -> Result<Vec<u32>, Memory>
     ensures { IfOk result
         (λ vs. vs.items ≡ variables_of_nodes (nodes (map plain_node goals.now))) }
 {
-    let mut variables = Vec::new(alloc);
+    let mut variables = emptied(alloc, done);
     put_nodes(&mut variables, goals)?;
     Ok(variables)
 }

@@ -12,7 +12,7 @@ ghost use Rattle.mc_det.specs.code.Facts.{known_in};
 ghost use Rattle.mc_det.specs.code.Walks.{typed, bounds_in, Ready, IsAmong, missed, times, InSystems, PutSteps, Puts};
 
 use crate::facts::{Fact, has_constant, has_symbol, last_fact};
-use crate::point::Point;
+use crate::point::{Point, emptied};
 use crate::symbols::{allows, is_alone, misses};
 use crate::tested::is_tested;
 use mc_base::Memory;
@@ -26,13 +26,14 @@ use mc_skeletons::Step;
 use mc_source::det::{Det, Most};
 use std::alloc::Global;
 
-/// A walk over a body, which puts down its steps: the insts at the point where it is, what the arms around it tell, and
-/// the steps so far.
+/// A walk over a body, which puts down its steps: the insts at the point where it is, what the arms around it tell, the
+/// steps so far, and room for what changes found.
 #[derive(Drop)]
 pub(crate) struct Walk<'a> {
     pub(crate) point: Point,
     pub(crate) known: Vec<Fact<'a>>,
     pub(crate) steps: Vec<Step>,
+    pub(crate) found: Vec<(u32, InstId)>,
 }
 
 pub(crate) const DET: Det = Det {
@@ -323,13 +324,14 @@ impl<'a> Walk<'a> {
         ensures { OnOk result (Puts procs.now self.old self.new
             (λ S b known. skeleton_all S (typed types.now) b known (nodes (map plain_node goals.now)))) }
     {
-        let mut found = Vec::new(alloc);
+        let mut found = emptied(alloc, &mut self.found);
         for goal in goals {
             is_named(procs, types, goals, goal);
             self.goal(alloc, goal, procs, types)?;
             self.enter(goal, &mut found, procs, types)?;
         }
-        self.point.undo(found);
+        self.point.undo_all(&mut found);
+        self.found = found;
         self.put_fixed(DET)?;
         self.put_times(goals.len(), Step::Conj)
     }

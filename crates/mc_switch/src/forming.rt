@@ -23,18 +23,20 @@ use crate::parts::{
     test_part, with_changes,
 };
 use mc_base::{Memory, Row};
-use mc_det::{Point, copy_changes, copy_on};
+use mc_det::{Point, copy_changes, copy_on, emptied};
 use mc_model::inst::InstId;
 use mc_model::sched::{Arm, GoalNode, Sched};
 use mc_procs::Procs;
 use mc_program::ty::Ty;
 use std::alloc::Global;
 
-/// A walk over a body that makes its switch form: the insts at the point where it is, and those that were merged.
+/// A walk over a body that makes its switch form: the insts at the point where it is, those that were merged, and room for
+/// what changes found.
 #[derive(Drop)]
 pub(crate) struct Forming {
     pub(crate) point: Point,
     pub(crate) merger: Merger,
+    pub(crate) found: Vec<(u32, InstId)>,
 }
 
 impl Forming {
@@ -53,6 +55,7 @@ impl Forming {
             ≡ (λ x. change_at x changes.now (inst_in self.old.point x))) }
         ensures found { OnOk result (undone found.new.items self.new.point
             ≡ undone found.old.items self.old.point) }
+        ensures room { self.new.found ≡ self.old.found }
     {
         self.point.enter(changes.as_slice(), found)
     }
@@ -236,8 +239,8 @@ impl Forming {
             (nodes (map plain_node goals.now)) parts) }
         ensures grew { OnlyGrew procs.old procs.new }
     {
-        let mut found = Vec::new(alloc);
-        let mut nodes = Vec::new(alloc);
+        let mut found = emptied(alloc, &mut self.found);
+        let mut nodes = Vec::with_capacity(alloc, goals.len())?;
         let mut never_end = false;
         for goal in goals {
             let part = self.formed(alloc, goal, forms, procs, types)?;
@@ -245,7 +248,8 @@ impl Forming {
             never_end = either(never_end, part.never_ends);
             nodes.push(part.node)?;
         }
-        self.point.undo(found);
+        self.point.undo_all(&mut found);
+        self.found = found;
         Ok(FormedNodes {
             nodes: Row::of(nodes)?,
             never_end,
@@ -293,7 +297,7 @@ impl Forming {
             (arms_of (map plain_arm arms.now)) parts) }
         ensures grew { OnlyGrew procs.old procs.new }
     {
-        let mut copies = Vec::new(alloc);
+        let mut copies = Vec::with_capacity(alloc, arms.len())?;
         let mut never_end = true;
         for arm in arms {
             let part = self.formed(alloc, &arm.body, false, procs, types)?;

@@ -102,6 +102,7 @@ fn formed_body(alloc: Global, procs: &mut Procs, p: &Proc) -> Result<GoalNode, M
     let mut forming = Forming {
         point,
         merger: Merger::new(alloc),
+        found: Vec::new(alloc),
     };
     let part = forming.formed(alloc, &p.body, true, procs, &p.var_types)?;
     Ok(part.node)

@@ -22,7 +22,7 @@ pub returns : goal.returns
 returns c =
     let q = c.args.procs.now in
     let p = c.args.p.now in
-    let a : Walk = record { point = c.in_ok-entered.field-0; known = c.new.result; steps = c.new-2.result } in
+    let a : Walk = record { point = c.in_ok-entered.field-0; known = c.new.result; steps = c.new-2.result; found = c.new-3.result } in
     if_ok_as c.of.result (λ steps. steps ≡ c.goal.new.self.steps.items) (λ steps. InSystems q (λ S. steps ≡ skeleton_of S (plain_proc p)))
     (λ steps e outcome.
     e

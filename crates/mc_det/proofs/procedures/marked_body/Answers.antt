@@ -26,7 +26,7 @@ returns c =
     let q = c.args.procs.now in
     let p = c.args.p.now in
     let ds = c.args.dets.now in
-    let a : Walk = record { point = c.in_ok-entered.field-0; known = c.new.result; steps = c.new-2.result } in
+    let a : Walk = record { point = c.in_ok-entered.field-0; known = c.new.result; steps = c.new-2.result; found = c.new-3.result } in
     if_ok_as c.marked.result
     (λ body. InSystems q (λ S. plain_node body ≡ marked (under ds S) (typed c.as_slice-3.result.now) (insts_in a.point) (known_in a.known.items) (plain_node p.body)))
     (λ body. InSystems q (λ S. plain_node body ≡ marked_body (under ds S) (plain_proc p)))

@@ -20,7 +20,7 @@ pub returns : goal.returns
 returns c =
     let q = c.args.procs.now in
     let p = c.args.p.now in
-    let a : Pruning = record { point = c.in_ok-entered.field-0; outside = c.enter.new.self } in
+    let a : Pruning = record { point = c.in_ok-entered.field-0; outside = c.enter.new.self; found = c.new.result; all = c.new-2.result; own = c.new-3.result } in
     let more : More p.head c.in_ok-none.field-0 a.outside =
     subst (λ (vs : List ℕ). More vs c.in_ok-none.field-0 a.outside) c.as_slice-3.ensures.items (c.in_ok-enter.ensures.count, c.in_ok-enter.ensures.more) in
     whole_pruned q c.as_slice-4.result.now a p c.in_ok-part.part c.as_slice-4.ensures.items

@@ -38,11 +38,11 @@ pruned-returns t c =
     let m : Pruning = c.pruned_sched.new.self in
     let g : GoalNode = c.args.goal.now in
     record {
-      keeps = keeps_both a m c.binds_outside.new.self c.in_ok-part.ensures.keeps c.in_ok-binds.ensures.keeps;
+      keeps = c.in_ok-part.ensures.keeps;
       pruned = record {
         made = λ Q h.
-            node_pruned q types a g c.with_mark.result.node c.in_ok-part.part c.in_ok-binds.binds c.with_mark.ensures.goal (c.with_mark.ensures.changes ∙ c.in_ok-changes.ensures) c.with_mark.ensures.det c.with_mark.ensures.mark c.in_ok-part.ensures.pruned Q h
-            (binds_from_start a m (plain_node g) c.in_ok-binds.binds c.in_ok-part.ensures.keeps c.in_ok-binds.ensures.binds Q h);
+            node_pruned q types a g c.with_mark.result.node c.in_ok-part.part c.binds_outside-binds.result c.with_mark.ensures.goal (c.with_mark.ensures.changes ∙ c.in_ok-changes.ensures) c.with_mark.ensures.det c.with_mark.ensures.mark c.in_ok-part.ensures.pruned Q h
+            (binds_from_start a m (plain_node g) c.binds_outside-binds.result c.in_ok-part.ensures.keeps c.binds_outside-binds.ensures Q h);
         never = node_never q types a g c.in_ok-part.part c.with_mark.result c.with_mark.ensures.never c.in_ok-part.ensures.pruned;
       };
     }
@@ -57,7 +57,7 @@ pruned_within-returns t c =
     let q = c.args.procs.now in
     let types = c.args.types.now in
     let a : Pruning = c.args.self.now in
-    let m : Pruning = record { point = a.point; outside = c.leave.new.self } in
+    let m : Pruning = record a { outside = c.leave.new.self; own = c.variables_of.new.done } in
     let n = plain_node c.args.goal.now in
     let own : c.as_slice.result.now ≡ variables_of_node n = c.as_slice.ensures.value ∙ c.in_ok-own.ensures in
     let fewer : Fewer (variables_of_node n) a.outside m.outside = subst (λ (vs : List ℕ). Fewer vs a.outside m.outside) own (c.leave.ensures.count, c.leave.ensures.fewer) in
@@ -79,7 +79,7 @@ pruned_beside-returns t c =
     let q = c.args.procs.now in
     let types = c.args.types.now in
     let a : Pruning = c.args.self.now in
-    let m : Pruning = record { point = a.point; outside = c.enter.new.self } in
+    let m : Pruning = record a { outside = c.enter.new.self; own = c.variables_of.new.done } in
     let n = plain_node c.args.goal.now in
     let other = plain_node c.args.other.now in
     let more : More (variables_of_node other) a.outside m.outside = subst (λ (vs : List ℕ). More vs a.outside m.outside) (c.as_slice.ensures.value ∙ c.in_ok-beside.ensures) (c.in_ok-enter.ensures.count, c.in_ok-enter.ensures.more) in
@@ -145,16 +145,16 @@ pruned_conj-loop-goal-init t c =
     let types = c.args.types.now in
     let gs : List GoalNode = c.args.goals.now in
     let a : Pruning = c.args.self.now in
-    let l : Pruning = record { point = a.point; outside = c.enter.new.self } in
+    let l : Pruning = record a { outside = c.enter.new.self; all = c.variables_of_all.new.done; found = c.emptied-found.new.done } in
     let more : More (of_goals gs) a.outside l.outside =
     subst (λ (vs : List ℕ). More vs a.outside l.outside) (c.as_slice.ensures.value ∙ c.in_ok-all.ensures) (c.in_ok-enter.ensures.count, c.in_ok-enter.ensures.more) in
     record {
       ready = c.requires.ready;
       count = c.in_ok-enter.ensures.count ∙ c.requires.count;
-      undone = ap (λ (fs : List (ℕ × ℕ)). undone fs a.point) c.new-found.ensures.items;
+      undone = ap (λ (fs : List (ℕ × ℕ)). undone fs a.point) c.emptied-found.ensures;
       more = more;
       so_far =
-          subst (λ (ns : List GoalNode). RunSoFar q types a l gs 0 ns false) (sym c.new-nodes.ensures.items)
+          subst (λ (ns : List GoalNode). RunSoFar q types a l gs 0 ns false) (sym c.in_ok-nodes.ensures.items)
           (run_begun q types a gs l refl (λ Q h. counted_more Q (of_goals gs) a.outside l.outside more h));
     }
 
@@ -198,7 +198,7 @@ pruned_conj-returns-clause-keeps t c =
     let fewer : Fewer (of_goals gs) l.outside c.leave.new.self =
     subst (λ (vs : List ℕ). Fewer vs l.outside c.leave.new.self) (c.as_slice-2.ensures.value ∙ c.in_ok-all.ensures) (c.leave.ensures.count, c.leave.ensures.fewer) in
     record {
-      point = c.undo.ensures ∙ c.loop-goal.invariant.undone;
+      point = c.undo_all.ensures ∙ c.loop-goal.invariant.undone;
       outside = more_and_back (of_goals gs) a.outside l.outside c.leave.new.self c.loop-goal.invariant.more fewer;
     }
 

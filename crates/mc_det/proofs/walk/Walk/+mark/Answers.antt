@@ -80,7 +80,7 @@ marked_conj-returns t c =
     let a : Walk = c.args.self.now in
     let l : Walk = c.loop-goal.self in
     record {
-      stays = on_ok_as c.of.result _ (record { point = c.undo.ensures ∙ c.loop-goal.invariant.undone; known = c.loop-goal.invariant.known });
+      stays = on_ok_as c.of.result _ (record { point = c.undo_all.ensures ∙ c.loop-goal.invariant.undone; known = c.loop-goal.invariant.known });
       marked =
           if_ok_as c.of.result _ (λ copies. InSystems q (λ S. nodes (map plain_node copies) ≡ marked_all (under ds S) (typed types) (insts_in a.point) (known_in a.known.items) (nodes (map plain_node gs))))
           (λ copies is outcome.
@@ -139,7 +139,7 @@ marked_arms-loop-arm-preserved t c =
     let r : Arm = c.arm-item.result in
     let a : Walk = c.args.self.now in
     let l : Walk = c.loop-arm.self in
-    let w : Walk = record { point = l.point; known = c.push.new.self; steps = l.steps } in
+    let w : Walk = record l { known = c.push.new.self } in
     let m : Walk = c.marked.new.self in
     let copy : Arm = record { on = c.in_ok-copy_on.field-0; body = c.in_ok-body.body } in
     record {

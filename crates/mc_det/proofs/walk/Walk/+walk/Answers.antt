@@ -150,11 +150,11 @@ conj-returns t c =
     let gs = c.args.goals.now in
     let a : Walk = c.args.self.now in
     let l : Walk = c.loop-goal.self in
-    let m : Walk = record { point = c.undo.new.self; known = l.known; steps = l.steps } in
+    let m : Walk = record l { point = c.undo_all.new.self; found = c.undo_all.new.found } in
     on_ok_weaker c.put_times.result
     (λ p.
     ends q a m c.put_fixed.new.self c.put_times.new.self (fixed det) (times (length gs) T.Conj) (λ S b kn. skeleton_all S (typed types) b kn (nodes (map plain_node gs)))
-    (c.undo.ensures ∙ c.loop-goal.invariant.undone) c.loop-goal.invariant.known c.in_ok-put_fixed.ensures p
+    (c.undo_all.ensures ∙ c.loop-goal.invariant.undone) c.loop-goal.invariant.known c.in_ok-put_fixed.ensures p
     (λ outcome.
     all_done (as_system outcome q) (typed types) (insts_in l.point) (known_in a.known.items) gs c.loop-goal.goal-index l.steps.items
     (a.steps.items ++ skeleton_all (as_system outcome q) (typed types) (insts_in a.point) (known_in a.known.items) (nodes (map plain_node gs)))
@@ -201,7 +201,7 @@ arms-loop-arm-preserved t c =
     let r : Arm = c.arm-item.result in
     let a : Walk = c.args.self.now in
     let l : Walk = c.loop-arm.self in
-    let w : Walk = record { point = l.point; known = c.push.new.self; steps = l.steps } in
+    let w : Walk = record l { known = c.push.new.self } in
     let m : Walk = c.goal.new.self in
     record {
       ready = ready_same q types l.point m.point c.in_ok-goal.ensures.point c.loop-arm.invariant.ready;
@@ -240,7 +240,7 @@ then-returns t c =
     let a : Walk = c.args.self.now in
     let b : Walk = c.enter.new.self in
     let d : Walk = c.goal.new.self in
-    let e : Walk = record { point = c.undo.new.self; known = d.known; steps = d.steps } in
+    let e : Walk = record d { point = c.undo.new.self } in
     then_put q types a b d e c.args.condition.now c.args.then_part.now c.in_ok-enter.ensures.known c.in_ok-enter.ensures.steps c.in_ok-enter.ensures.insts c.in_ok-goal.ensures
     (c.undo.ensures ∙ ap (undone c.enter.new.found.items) c.in_ok-goal.ensures.point ∙ c.in_ok-enter.ensures.found ∙ ap (λ (l : List (ℕ × ℕ)). undone l a.point) c.new-found.ensures.items)
     refl refl

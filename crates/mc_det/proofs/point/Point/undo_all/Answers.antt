@@ -1,7 +1,7 @@
 use Rattle.std.proofs.Common.{List, ℕ, ap, sym, ◌∙◌}
 use Rattle.mc_det.specs.code.Points.{undone}
 use Rattle.mc_det.proofs.Entering.{undone_more}
-use Rattle.mc_det.proofs.point.Point.undo.Goals as goal
+use Rattle.mc_det.proofs.point.Point.undo_all.Goals as goal
 
 pub loop-change-preserved : goal.loop-change-preserved
 loop-change-preserved c =

@@ -1,6 +1,6 @@
 use Rattle.std.proofs.Common.{◌≡◌, vec_len}
 use Rattle.mc_det.specs.code.Points.{undone}
-use Rattle.mc_det.proofs.point.Point.undo.Given as goal
+use Rattle.mc_det.proofs.point.Point.undo_all.Given as goal
 
 abbrev pub invariant-loop-change : goal.invariant-loop-change
 invariant-loop-change l = undone l.found.items l.self ≡ undone l.fn.found.items l.fn.self
