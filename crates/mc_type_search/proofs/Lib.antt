@@ -7,4 +7,4 @@ pub mod Pigeons
 pub mod Roots
 pub mod Progress
 pub mod Generals
-pub mod Copies
+pub mod RootTable

@@ -1,3 +1,4 @@
 pub mod Passed
 pub mod Standing
 pub mod Found
+pub mod RootTable

@@ -1,82 +1,60 @@
 ghost use Rattle.std.specs.Prelude.{◌≡◌, ◌<◌, ◌≤◌, ◌+◌, ℕ, [], ◌∷◌, ◌++◌, length, slice_index_or, IfOk};
-ghost use Rattle.mc_type_graph.specs.Shapes.{Shape};
-ghost use Rattle.mc_type_graph.specs.Holds.{Holds, InOrder, cell_at};
-ghost use Rattle.mc_type_search.specs.Writing.{written, StandsAt, AllStand};
+ghost use Rattle.mc_type_graph.specs.Holds.{InOrder};
+ghost use Rattle.mc_type_search.specs.Writing.{StandsAt, AllStand};
+ghost use Rattle.mc_type_search.specs.code.RootTable.{AreRoots};
 
 use crate::written_types::Written;
 use mc_base::Memory;
-use mc_type_graph::{Cell, Graph, root};
+use mc_type_graph::{Cell, Graph};
 use std::alloc::Global;
+
+/// The root of each cell, the lowest place that it is joined with, from the lowest cell up. A walk from each cell to its
+/// root could be as long as there are cells.
+fn all_roots(alloc: Global, g: &Graph) -> Result<Vec<usize>, Memory>
+    requires { InOrder g.now.cells.items }
+    ensures { IfOk result (λ roots. AreRoots g.now.cells.items (length g.now.cells.items) roots.items) }
+{
+    let mut roots = Vec::new(alloc);
+    for at in 0..g.cells.len() {
+        let root = match g.cells[at] {
+            Cell::Same(lower) => roots[lower],
+            _ => at,
+        };
+        roots.push(root)?;
+    }
+    Ok(roots)
+}
 
 /// The type at a place. One that is nested deeper than the depth, or has more parts than the budget, counts as one
 /// that finds no room.
-pub fn write_type(
+fn write_type(
     alloc: Global,
     g: &Graph,
+    roots: &[usize],
     at: usize,
     depth: usize,
     budget: &mut usize,
 ) -> Result<Written, Memory>
     requires place { at < length g.now.cells.items }
     requires in_order { InOrder g.now.cells.items }
+    requires roots { AreRoots g.now.cells.items (length g.now.cells.items) roots.now }
     ensures { IfOk result (λ w. StandsAt g.now.cells.items at w) }
 {
     if depth == 0 || *budget == 0 {
         return Err(Memory);
     }
     *budget -= 1;
-    let at = root(g, at);
-    match g.cells[at] {
-        Cell::Free => Ok(Written::Free(at)),
+    let root = roots[at];
+    match g.cells[root] {
+        Cell::Free => Ok(Written::Free(root)),
         Cell::Same(_) => unreachable!(),
         Cell::Named(n) => Ok(Written::Named(n)),
         Cell::Rigid(n) => Ok(Written::Rigid(n)),
         Cell::App(f, x) => {
-            let left = write_type(alloc, g, f, depth - 1, budget)?;
-            let right = write_type(alloc, g, x, depth - 1, budget)?;
+            let left = write_type(alloc, g, roots, f, depth - 1, budget)?;
+            let right = write_type(alloc, g, roots, x, depth - 1, budget)?;
             Ok(Written::App(Box::new(alloc, left)?, Box::new(alloc, right)?))
         }
-    }
-}
-
-/// A copy of a type that was written out. It takes as much of the budget as that one did, and is nested no deeper.
-fn copied(alloc: Global, original: &Written, budget: &mut usize) -> Result<Written, Memory>
-    ensures { (ρ : ℕ → Shape) → IfOk result (λ copy. written ρ copy ≡ written ρ original.now) }
-{
-    if *budget == 0 {
-        return Err(Memory);
-    }
-    *budget -= 1;
-    match original {
-        Written::Free(place) => Ok(Written::Free(*place)),
-        Written::Rigid(n) => Ok(Written::Rigid(*n)),
-        Written::Named(n) => Ok(Written::Named(*n)),
-        Written::App(f, x) => {
-            let left = copied(alloc, f, budget)?;
-            let right = copied(alloc, x, budget)?;
-            Ok(Written::App(Box::new(alloc, left)?, Box::new(alloc, right)?))
-        }
-    }
-}
-
-/// The type at a place, where those at the lower ones are written. A place that is joined with a lower one takes a copy
-/// of the type there, since the walk to its root can be as long as there are places.
-fn next_type(
-    alloc: Global,
-    g: &Graph,
-    at: usize,
-    types: &[Written],
-    depth: usize,
-    budget: &mut usize,
-) -> Result<Written, Memory>
-    requires place { at < length g.now.cells.items }
-    requires in_order { InOrder g.now.cells.items }
-    requires lower { AllStand g.now.cells.items at types.now }
-    ensures { IfOk result (λ w. StandsAt g.now.cells.items at w) }
-{
-    match g.cells[at] {
-        Cell::Same(lower) => copied(alloc, &types[lower], budget),
-        _ => write_type(alloc, g, at, depth, budget),
     }
 }
 
@@ -92,9 +70,10 @@ pub fn write_types(
     requires in_order { InOrder g.now.cells.items }
     ensures { IfOk result (λ ws. AllStand g.now.cells.items count ws.items) }
 {
+    let roots = all_roots(alloc, g)?;
     let mut types = Vec::new(alloc);
     for at in 0..count {
-        types.push(next_type(alloc, g, at, &types, depth, budget)?)?;
+        types.push(write_type(alloc, g, &roots, at, depth, budget)?)?;
     }
     Ok(types)
 }
