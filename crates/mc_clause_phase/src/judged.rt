@@ -5,6 +5,9 @@ ghost use Rattle.mc_decl_syntax.specs.Plain.{plain_item};
 ghost use Rattle.mc_items.specs.Files.{plain_entry};
 ghost use Rattle.mc_defs_uses.specs.Clauses.{clause_of};
 ghost use Rattle.mc_modules.specs.Linked.{Linked, plain_names};
+ghost use Rattle.mc_state_variables.specs.Numbered.{numbered_clause};
+ghost use Rattle.mc_unresolved.specs.Unresolved.{plain_unresolved_clause};
+ghost use Rattle.mc_clauses.specs.Unresolved.{unresolved_clause};
 ghost use Rattle.mc_check_clause.specs.Fitting.{IsSomeTable};
 ghost use Rattle.mc_clauses.specs.Typing.{number_among, clause_predicate, module_clauses};
 ghost use Rattle.mc_clause_phase.specs.Items.{clause_item as item_of, query_item};
@@ -20,7 +23,7 @@ use mc_program::program::Resolved;
 use mc_source::name::Candidate;
 use mc_source::place::Place;
 use mc_source::rule::Broken;
-use mc_state_variables::{numbered_clause, numbered_goal};
+use mc_state_variables::{numbered_clause, numbered_goal, stays_as_written};
 use mc_term_data::Term;
 use mc_unresolved::UnresolvedClause;
 use std::alloc::Global;
@@ -138,8 +141,7 @@ impl Judged {
             ∷ [])
             self.old self.new) }
     {
-        let numbered = numbered_clause(checker.at.alloc, term)?;
-        let clause = unresolved_clause(&checker.at, pred, at, &numbered)?;
+        let clause = unresolved_of(checker, pred, at, term)?;
         let verdict = checker.verdict(&clause)?;
         self.put(pred, at, verdict)?;
         Ok(())
@@ -169,6 +171,29 @@ impl Judged {
         self.put(pred, at, verdict)?;
         Ok(())
     }
+}
+
+// A clause before its names are resolved, its state variables written out. A fact that has none is taken as it stands,
+// since to write it out would only copy it.
+fn unresolved_of(
+    checker: &Checker<'_>,
+    pred: u32,
+    at: Place,
+    term: &Term,
+) -> Result<UnresolvedClause, Memory>
+    ensures clause { IfOk result (λ made. plain_unresolved_clause made
+        ≡ (unresolved_clause (plain_names checker.now.at.names.now) checker.now.at.own pred
+        (numbered_clause (plain_term term.now))).clause) }
+    ensures names { IfOk result (λ made. made.names
+        ≡ (unresolved_clause (plain_names checker.now.at.names.now) checker.now.at.own pred
+        (numbered_clause (plain_term term.now))).names) }
+    ensures place { IfOk result (λ made. made.place ≡ at) }
+{
+    if stays_as_written(term) {
+        return unresolved_clause(&checker.at, pred, at, term);
+    }
+    let numbered = numbered_clause(checker.at.alloc, term)?;
+    unresolved_clause(&checker.at, pred, at, &numbered)
 }
 
 // The number of what an item is a clause of, which its own module declares.

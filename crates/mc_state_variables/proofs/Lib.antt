@@ -8,4 +8,5 @@ pub mod Lists
 mod Orders
 pub mod Sets
 mod ShortParts
+pub mod Stateless
 mod Written

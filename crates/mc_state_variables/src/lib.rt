@@ -6,6 +6,7 @@ mod branches;
 mod clause;
 mod conditions;
 mod examples;
+mod facts;
 mod goals;
 mod held;
 mod names;
@@ -19,3 +20,4 @@ mod updates;
 
 pub use clause::{numbered_clause, numbered_goal};
 pub use examples::written_out;
+pub use facts::stays_as_written;

@@ -14,13 +14,9 @@ returns c l seen k =
     let own = checker.at.own in
     let t = plain_term c.args.term.now in
     let same :
-    unresolved_clause (plain_names checker.at.names.now) own c.args.pred
-    (plain_term c.in_ok-numbered.numbered)
+    unresolved_clause (plain_names checker.at.names.now) own c.args.pred (numbered_clause t)
     ≡ unresolved_clause l own c.args.pred (numbered_clause t) =
-    ap
-    (λ (m : Linked).
-    unresolved_clause m own c.args.pred (plain_term c.in_ok-numbered.numbered)) k.names
-    ∙ ap (unresolved_clause l own c.args.pred) c.in_ok-numbered.ensures
+    ap (λ (m : Linked). unresolved_clause m own c.args.pred (numbered_clause t)) k.names
     in
     adds_one l seen
     (clause_item l (record { own = own; pred = c.args.pred; term = t; at = c.args.at }))
