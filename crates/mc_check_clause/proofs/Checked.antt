@@ -10,13 +10,14 @@ use Rattle.mc_accepted.specs.Resolving.{Step, Unresolved_clause, terms_steps, go
 use Rattle.mc_accepted.specs.MostGeneral.{rigid_count, generalised, type_at, MostGeneral}
 use Rattle.mc_source.specs.declared.name.Candidate.{Candidate}
 use Rattle.mc_type_search.specs.declared.signature.Signature.{Signature}
+use Rattle.mc_type_search.specs.declared.outcome.Outcome.{Outcome}
 use Rattle.mc_type_search.specs.declared.outcome.Outcome.TheVariants as O
 use Rattle.mc_type_search.specs.declared.written_types.Written.{Written, Free}
 use Rattle.mc_typecheck.specs.Ties.{of_head, declared, tied, picks_of, Declared}
 use Rattle.mc_typecheck.specs.Searched.{VariablesBelow, plain_signature}
 use Rattle.mc_typecheck.specs.WrittenTypes.{type_written, AreTypes}
-use Rattle.mc_typecheck.specs.Outcomes.{ClauseSays}
-use Rattle.mc_typecheck.specs.Walked.{IsAt, WasWalked, Shows, ShowsAll, after_all, start, entry}
+use Rattle.mc_typecheck.specs.Outcomes.{IsOnly, ClauseSays}
+use Rattle.mc_typecheck.specs.Walked.{Stand, IsAt, WasWalked, Shows, ShowsAll, after_all, start, entry}
 use Rattle.mc_typecheck.specs.declared.table.Signatures.{Signatures}
 use Rattle.mc_typecheck.specs.declared.walk.Walk.{Walk}
 use Rattle.mc_unresolved.specs.Unresolved.{plain_unresolved_clause}
@@ -28,11 +29,12 @@ use Rattle.mc_made_types.specs.MadeTypes.{AreVariableTypes}
 use Rattle.mc_made_types.proofs.Generals.{types_are_general}
 use Rattle.mc_check_clause.specs.VariableTypes.{ArePlain}
 use Rattle.mc_check_clause.specs.code.Marking.{first_marking, after_all as all_marked}
-use Rattle.mc_check_clause.specs.code.Shown.{AreShown}
+use Rattle.mc_check_clause.specs.Fitting.{IsSomeTable, clause_fits}
 use Rattle.mc_check_clause.specs.Checked.{Answers}
 use Rattle.mc_check_clause.specs.code.Made.{IsMade}
 use Rattle.mc_check_clause.proofs.ProperVariables.{are_proper}
 use Rattle.mc_check_clause.proofs.Marking.{clause_marked}
+use Rattle.mc_check_clause.proofs.WhatFits.{below_of, are_shown}
 use Rattle.mc_check_clause.specs.declared.checking.TypeFault.{TypeFault}
 use Rattle.mc_check_clause.specs.declared.checking.TypeFault.TheVariants as F
 
@@ -142,28 +144,39 @@ variable_types P D clause picks vars ws ts are plain =
 
 -- THE WALK
 
-module _ (t : Signatures) (clause : UnresolvedClause) (steps : List WalkStep) (are : map plain_walk_step steps ≡ steps_of (plain_unresolved_clause clause)) (vars : ℕ) (all : vars ≡ length clause.names) (own : VariablesBelow (length clause.names) (steps_of (plain_unresolved_clause clause))) (walk : Walk) (walked : (P : Source) (D : Parameters) → ShowsAll P D t (map plain_walk_step steps) → IsAt P D t walk (after_all P D (map plain_walk_step steps) (start vars))) where
+module _ (t : Signatures) (clause : UnresolvedClause) (steps : List WalkStep) (are : map plain_walk_step steps ≡ steps_of (plain_unresolved_clause clause)) (vars : ℕ) (all : vars ≡ length clause.names) (fits : clause_fits t clause ≡ true) where
   abbrev whole : List Step
   whole = steps_of (plain_unresolved_clause clause)
 
   pub own_below : VariablesBelow vars whole
-  own_below = let Q : ℕ → Type 0 = λ n. VariablesBelow n whole in subst Q (sym all) own
+  own_below = let Q : ℕ → Type 0 = λ n. VariablesBelow n whole in subst Q (sym all) (below_of t (length clause.names) whole fits)
 
-  pub walked_at : (P : Source) (D : Parameters) → ShowsAll P D t whole → IsAt P D t walk (after_all P D whole (start vars))
-  walked_at P D shows =
-      let Q : List Step → Type 0 = λ xs. IsAt P D t walk (after_all P D xs (start vars)) in
+  -- where any walk of these steps stands
+  pub walked_at : (At : Source → Parameters → Stand → Type 0) → ((P : Source) (D : Parameters) → ShowsAll P D t (map plain_walk_step steps) → At P D (after_all P D (map plain_walk_step steps) (start vars))) → (P : Source) (D : Parameters) → ShowsAll P D t whole → At P D (after_all P D whole (start vars))
+  walked_at At walked P D shows =
+      let Q : List Step → Type 0 = λ xs. At P D (after_all P D xs (start vars)) in
       let R : List Step → Type 0 = λ xs. ShowsAll P D t xs in
       subst Q are (walked P D (subst R (sym are) shows))
 
-  pub was_walked : AreShown t whole → WasWalked t walk
-  was_walked s = record {
-    vars = vars;
-    source = s.source;
-    parameters = s.parameters;
-    steps = whole;
-    own = own_below;
-    stands = walked_at s.source s.parameters s.shows;
-  }
+  module _ (walk : Walk) (walked : (P : Source) (D : Parameters) → ShowsAll P D t (map plain_walk_step steps) → IsAt P D t walk (after_all P D (map plain_walk_step steps) (start vars))) where
+    stands : (P : Source) (D : Parameters) → ShowsAll P D t whole → IsAt P D t walk (after_all P D whole (start vars))
+    stands = walked_at (λ P D s. IsAt P D t walk s) walked
+
+    pub was_walked : IsSomeTable t → WasWalked t walk
+    was_walked table =
+        let s = are_shown t (length clause.names) whole table fits in
+        record {
+          vars = vars;
+          source = s.source;
+          parameters = s.parameters;
+          steps = whole;
+          own = own_below;
+          stands = stands s.source s.parameters s.shows;
+        }
+
+    -- what a search over the walk says of the clause
+    pub searched : (limit : ℕ) (outcome : Outcome) → ((P : Source) (D : Parameters) (clause : Unresolved_clause) (vars : ℕ) → VariablesBelow vars (steps_of clause) → IsAt P D t walk (after_all P D (steps_of clause) (start vars)) → ClauseSays P D clause limit vars outcome) → (P : Source) (D : Parameters) → ShowsAll P D t whole → ClauseSays P D (plain_unresolved_clause clause) limit vars outcome
+    searched limit outcome says P D shows = says P D (plain_unresolved_clause clause) vars own_below (stands P D shows)
 
 pub shown_steps : (P : Source) (D : Parameters) (t : Signatures) (clause : UnresolvedClause) (steps : List WalkStep) → map plain_walk_step steps ≡ steps_of (plain_unresolved_clause clause) → ShowsAll P D t (steps_of (plain_unresolved_clause clause)) → ShowsAll P D t (map plain_walk_step steps)
 shown_steps P D t clause steps are shows = let Q : List Step → Type 0 = λ xs. ShowsAll P D t xs in subst Q (sym are) shows
@@ -182,18 +195,17 @@ module _ (P : Source) (D : Parameters) (clause : UnresolvedClause) (steps : List
       let Q : List Candidate → List Candidate → Type 0 = λ a b. FirstTwo P D (plain_unresolved_clause clause) a b in
       (subst (λ a. Q a second) (sym (e1 ∙ same_picks v.items vars refl)) (subst (λ b. Q (ties_for vars v.items) b) (sym (e2 ∙ same_picks w.items vars refl)) h.0), h.1)
 
-  pub answered_one : (v : Vec ℕ Global) (types : Vec Written Global) (made : Resolved) → IsMade P D clause (map plain_walk_step steps) v.items types.items made → ClauseSays P D (plain_unresolved_clause clause) assignments_limit vars (O.One v types) → Answers P D clause (Ok made)
-  answered_one v types made m h =
+  pub answered_one : (picks : List Candidate) (types : List Written) (made : Resolved) → IsMade P clause (map plain_walk_step steps) picks types made → IsOnly P D (plain_unresolved_clause clause) assignments_limit vars picks types → Answers P D clause (Ok made)
+  answered_one picks types made m h =
       let w = h.0 in
       let plain_clause' = plain_unresolved_clause clause in
       let n = length clause.names in
-      let picks : picks_of (tied P D (map plain_walk_step steps) n []) v.items ≡ w.picks = same_picks v.items n (sym all) ∙ sym h.1 in
       let ts = map plain_type made.var_types in
-      let Q : ℕ → Type 0 = λ k. AreTypes P D (steps_of plain_clause') k w.picks types.items in
-      let S : List Bool → Type 0 = λ bs. ArePlain (rigid_count (P.preds clause.pred).types) (kept bs types.items) ts in
+      let Q : ℕ → Type 0 = λ k. AreTypes P D (steps_of plain_clause') k w.picks types in
+      let S : List Bool → Type 0 = λ bs. ArePlain (rigid_count (P.preds clause.pred).types) (kept bs types) ts in
       let flags : (all_marked (map plain_walk_step steps) (first_marking n)).flags ≡ replicate n true ++ makes plain_clause' = ap (λ (xs : List Step). (all_marked xs (first_marking n)).flags) are ∙ clause_marked plain_clause' n in
-      let types_are = variable_types P D plain_clause' w.picks n types.items ts (subst Q all h.2) (subst S flags m.are_plain) in
-      let form : plain_clause made.clause ≡ resolved plain_clause' w.picks = m.form ∙ ap (resolved plain_clause') picks in (
+      let types_are = variable_types P D plain_clause' w.picks n types ts (subst Q all h.2) (subst S flags m.are_plain) in
+      let form : plain_clause made.clause ≡ resolved plain_clause' w.picks = m.form ∙ ap (resolved plain_clause') (sym h.1) in (
         record {
           typed = w;
           form = form;
@@ -208,6 +220,11 @@ module _ (P : Source) (D : Parameters) (clause : UnresolvedClause) (steps : List
         },
         h.3,
       )
+
+  pub answered_choices : (v : Vec ℕ Global) (types : Vec Written Global) (picks : List Candidate) (made : Resolved) → picks ≡ picks_of (tied P D (map plain_walk_step steps) vars []) v.items → IsMade P clause (map plain_walk_step steps) picks types.items made → ClauseSays P D (plain_unresolved_clause clause) assignments_limit vars (O.One v types) → Answers P D clause (Ok made)
+  answered_choices v types picks made e m h =
+      let Q : List Candidate → Type 0 = λ cs. IsOnly P D (plain_unresolved_clause clause) assignments_limit vars cs types.items in
+      answered_one picks types.items made m (subst Q (sym (e ∙ same_picks v.items vars refl)) h)
 
 pub answered_memory : (P : Source) (D : Parameters) (clause : UnresolvedClause) (e : TypeFault) → e ≡ F.Memory → Answers P D clause (Err e)
 answered_memory P D clause e is = let Q : TypeFault → Type 0 = λ x. Answers P D clause (Err x) in subst Q (sym is) tt

@@ -6,27 +6,28 @@ use Rattle.mc_accepted.specs.ProperTypes.{Parameters}
 use Rattle.mc_accepted.specs.Resolving.{Step}
 use Rattle.mc_unresolved.specs.Steps.{plain_walk_step}
 use Rattle.mc_unresolved.specs.declared.steps.WalkStep.{WalkStep}
-use Rattle.mc_typecheck.specs.Walked.{IsAt, Takes, ShowsAll, after_all, start}
+use Rattle.mc_typecheck.specs.Walked.{Stand, ShowsStep, ShowsAll, after, after_all, start}
 use Rattle.mc_typecheck.specs.declared.table.Signatures.{Signatures}
-use Rattle.mc_typecheck.specs.declared.walk.Walk.{Walk}
-use Rattle.mc_typecheck.proofs.Onward.{at_more}
+use Rattle.mc_typecheck.proofs.Onward.{stands_more}
 
--- so far the walk stands where the steps that were taken lead
-abbrev pub WalkedSoFar : Signatures → List WalkStep → (vars k : ℕ) → Walk → Type 0
-WalkedSoFar t steps vars k w =
-    (P : Source) (D : Parameters)
-    → ShowsAll P D t (map plain_walk_step steps)
-    → IsAt P D t w (after_all P D (take k (map plain_walk_step steps)) (start vars))
+-- whatever is known of a walk where it stands
+module _ {W : Type 0} (At : Source → Parameters → W → Stand → Type 0) (t : Signatures) (steps : List WalkStep) (vars : ℕ) where
+  abbrev walk : List Step
+  walk = map plain_walk_step steps
 
-pub walked_more : (t : Signatures) (steps : List WalkStep) (vars k : ℕ) (d : WalkStep) (w w' : Walk) → k < length steps → Takes t w w' (plain_walk_step (get_or steps k d)) → WalkedSoFar t steps vars k w → WalkedSoFar t steps vars (k + 1) w'
-walked_more t steps vars k d w w' lt takes so = λ P D shows.
-    let Q : Step → Type 0 = λ x. Takes t w w' x in
-    let long = length-map steps plain_walk_step in
-    at_more P D t w w' (map plain_walk_step steps) k (plain_walk_step d) (start vars) (omega (arith, lt, long)) shows
-    (subst Q (sym (get_or-map plain_walk_step steps k d (plain_walk_step d) lt)) takes) (so P D shows)
+  -- so far the walk stands where the steps that were taken lead
+  abbrev pub SoFar : ℕ → W → Type 0
+  SoFar k w = (P : Source) (D : Parameters) → ShowsAll P D t (map plain_walk_step steps) → At P D w (after_all P D (take k (map plain_walk_step steps)) (start vars))
 
-pub walked_whole : (t : Signatures) (steps : List WalkStep) (vars k : ℕ) (w : Walk) (P : Source) (D : Parameters) → length steps ≡ k → WalkedSoFar t steps vars k w → ShowsAll P D t (map plain_walk_step steps) → IsAt P D t w (after_all P D (map plain_walk_step steps) (start vars))
-walked_whole t steps vars k w P D e so shows =
-    let long = length-map steps plain_walk_step in
-    let Q : List Step → Type 0 = λ xs. IsAt P D t w (after_all P D xs (start vars)) in
-    subst Q (take_all k (map plain_walk_step steps) (omega (arith, e, long))) (so P D shows)
+  pub taken_more : (k : ℕ) (d : WalkStep) (w w' : W) → k < length steps → ((P : Source) (D : Parameters) (s : Stand) → ShowsStep P D t (plain_walk_step (get_or steps k d)) → At P D w s → At P D w' (after P D (plain_walk_step (get_or steps k d)) s)) → SoFar k w → SoFar (k + 1) w'
+  taken_more k d w w' lt takes so = λ P D shows.
+      let Q : Step → Type 0 = λ x. (s : Stand) → ShowsStep P D t x → At P D w s → At P D w' (after P D x s) in
+      let long = length-map steps plain_walk_step in
+      stands_more P D (At P D w) (At P D w') t walk k (plain_walk_step d) (start vars) (omega (arith, lt, long)) shows
+      (subst Q (sym (get_or-map plain_walk_step steps k d (plain_walk_step d) lt)) (takes P D)) (so P D shows)
+
+  pub taken_whole : (k : ℕ) (w : W) (P : Source) (D : Parameters) → length steps ≡ k → SoFar k w → ShowsAll P D t (map plain_walk_step steps) → At P D w (after_all P D (map plain_walk_step steps) (start vars))
+  taken_whole k w P D e so shows =
+      let long = length-map steps plain_walk_step in
+      let Q : List Step → Type 0 = λ xs. At P D w (after_all P D xs (start vars)) in
+      subst Q (take_all k walk (omega (arith, e, long))) (so P D shows)

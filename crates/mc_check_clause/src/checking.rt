@@ -16,7 +16,7 @@ use crate::marks::marked;
 use crate::picking::picked;
 use crate::rigid::rigid_count;
 use crate::types::types_of;
-use crate::walking::walked;
+use crate::walking::{named_walk, walked};
 use mc_base::{Copied, Memory, Row};
 use mc_program::program::Resolved;
 use mc_source::name::Candidate;
@@ -105,6 +105,31 @@ fn check_steps(
         → Answers P D clause.now result }
 {
     let vars = clause.names.len() as usize;
+    match named_walk(alloc, signatures, steps, vars)? {
+        Some(walk) => {
+            let picks = walk.resolution();
+            let made = resolve(alloc, signatures, clause, steps, picks, &walk.types)?;
+            Ok(made)
+        }
+        None => search_steps(alloc, signatures, clause, steps),
+    }
+}
+
+/// The same, by a search.
+fn search_steps(
+    alloc: Global,
+    signatures: &Signatures,
+    clause: &UnresolvedClause,
+    steps: &[WalkStep],
+) -> Result<Resolved, TypeFault>
+    requires table { IsSomeTable signatures.now }
+    requires fits { clause_fits signatures.now clause.now ≡ true }
+    requires steps { map plain_walk_step steps.now ≡ steps_of (plain_unresolved_clause clause.now) }
+    ensures { (P : Source) (D : Parameters)
+        → ShowsAll P D signatures.now (steps_of (plain_unresolved_clause clause.now))
+        → Answers P D clause.now result }
+{
+    let vars = clause.names.len() as usize;
     let walk = walked(alloc, signatures, steps, vars)?;
     match resolve_walk(alloc, signatures, &walk, LIMIT)? {
         Outcome::None => Err(TypeFault::None),
@@ -115,7 +140,8 @@ fn check_steps(
             Err(TypeFault::Two(first, second))
         }
         Outcome::One(choices, types) => {
-            let made = resolve(alloc, signatures, clause, steps, &choices, &types)?;
+            let picks = pick(alloc, signatures, steps, &choices)?;
+            let made = resolve(alloc, signatures, clause, steps, picks.as_slice(), &types)?;
             Ok(made)
         }
     }
@@ -136,23 +162,21 @@ fn pick(
     Ok(Row::of(picks)?)
 }
 
-/// The clause that is picked by choices, with those of these types that are its variables' or its normal goal's.
+/// The clause that picks make, with those of these types that are its variables' or its normal goal's.
 fn resolve(
     alloc: Global,
     signatures: &Signatures,
     clause: &UnresolvedClause,
     steps: &[WalkStep],
-    choices: &Vec<usize>,
+    picks: &[Candidate],
     types: &Vec<Written>,
 ) -> Result<Resolved, Memory>
     ensures { IfOk result (λ made. (P : Source) (D : Parameters)
-        → ShowsAll P D signatures.now (map plain_walk_step steps.now)
         → Shows P D signatures.now (of_head clause.now.pred)
-        → IsMade P D clause.now (map plain_walk_step steps.now) choices.now.items types.now.items made) }
+        → IsMade P clause.now (map plain_walk_step steps.now) picks.now types.now.items made) }
 {
-    let picks = picked(alloc, signatures, steps, choices.as_slice())?;
     let rigid = head_count(signatures, clause.pred)?;
-    let made = resolved_clause(alloc, clause, picks.as_slice())?;
+    let made = resolved_clause(alloc, clause, picks)?;
     let flags = marked(alloc, steps, clause.names.len() as usize)?;
     let var_types = types_of(alloc, types.as_slice(), flags.as_slice(), rigid)?;
     let var_names = clause.names.copied(alloc)?;

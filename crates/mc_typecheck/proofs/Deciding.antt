@@ -1,7 +1,5 @@
 -- What the search's answers say of a clause.
 use Rattle.std.proofs.Common.{◌≡◌, ℕ, zero, suc, ◌+◌, ◌<◌, ◌≤◌, ◌⊎◌, Bool, List, [], ◌∷◌, ◌++◌, map, length, take, drop, get_or, refl, sym, ap, ap₂, subst, ◌∙◌, inl, inr, arith, take_all}
-use Rattle.std.proofs.Math.Seq.{drop-cons}
-use Rattle.std.proofs.lemmas.List.{drop_all}
 use Rattle.std.proofs.lemmas.Bool.{cases_lt}
 use Rattle.mc_program.specs.Programs.{TypeTerm, Source}
 use Rattle.mc_accepted.specs.ProperTypes.{Parameters}
@@ -22,8 +20,8 @@ use Rattle.mc_types.specs.Trees.{shape, type_of, applied}
 use Rattle.mc_types.proofs.TreeLaws.{exact}
 use Rattle.mc_type_search.specs.declared.written_types.Written.{Written, Free as OfFree, Rigid as OfRigid, Named as OfNamed, App' as OfApp}
 use Rattle.mc_type_search.specs.Writing.{written}
-use Rattle.mc_made_types.specs.Traced.{Traces, HasTypes}
-use Rattle.mc_typecheck.proofs.Walking.{types_from, types_are, types_many}
+use Rattle.mc_made_types.specs.Traced.{Traces}
+use Rattle.mc_typecheck.proofs.Walking.{types_from, types_are, types_many, written_trace}
 use Rattle.mc_typecheck.proofs.Offers.{same_candidate, Offered, offered_at, offered_before, not_before_itself, sole_at}
 use Rattle.mc_typecheck.proofs.Suiting.{Suited, typed_suited, ties_length}
 use Rattle.mc_typecheck.proofs.Moments.{choices_of, traces_by, traced_long, tied_length, moment_of, live_choices, choices_live}
@@ -203,15 +201,6 @@ module _ (P : Source) (D : Parameters) (signatures : List Signature) (walk : Lis
 
   abbrev places : ℕ
   places = vars + made_by walk
-
-  -- the types of the occurrences are those that are written out at their places
-  written_trace : (T : ℕ → TypeTerm) (σ : ℕ → TypeTerm) (types : List Written) (n : ℕ) (trace : List TypeTerm) → HasTypes T n trace → n + length trace ≡ length types → ((i : ℕ) (d : Written) → i < length types → T i ≡ type_written σ (get_or types i d)) → trace ≡ map (type_written σ) (drop n types)
-  written_trace T σ types n [] has long is = ap (map (type_written σ)) (sym (drop_all n types (omega (arith, long))))
-  written_trace T σ types n (t ∷ trace) has long is =
-      let d = OfFree 0 in
-      let here : n < length types = omega (arith, long) in
-      ap₂ (λ u us. u ∷ us) (sym has.0 ∙ is n d here) (written_trace T σ types (suc n) trace has.1 (omega (arith, long)) is)
-      ∙ ap (map (type_written σ)) (sym (drop-cons types n d here))
 
   pub general_types : (cs : List ℕ) (types : List Written) → Resolves signatures steps cs → MostGeneral signatures steps places cs types → (τ : ℕ → TypeTerm) (trace : List TypeTerm) → Traces P D τ walk [] (picks_of ties cs) trace →
       (σ : ℕ → TypeTerm) × ((v : ℕ) (d : Written) → v < vars → τ v ≡ type_written σ (get_or types v d)) × (trace ≡ map (type_written σ) (drop vars types))

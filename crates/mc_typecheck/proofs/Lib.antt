@@ -8,3 +8,4 @@ pub mod Stepping
 pub mod Onward
 pub mod Choosing
 pub mod Naming
+pub mod Soles

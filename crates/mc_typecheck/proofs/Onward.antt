@@ -4,9 +4,8 @@ use Rattle.std.proofs.lemmas.List.{take_more}
 use Rattle.mc_program.specs.Programs.{Source}
 use Rattle.mc_accepted.specs.ProperTypes.{Parameters}
 use Rattle.mc_accepted.specs.Resolving.{Step}
-use Rattle.mc_typecheck.specs.Walked.{Stand, IsAt, Takes, ShowsStep, ShowsAll, after, after_all}
+use Rattle.mc_typecheck.specs.Walked.{Stand, ShowsStep, ShowsAll, after, after_all}
 use Rattle.mc_typecheck.specs.declared.table.Signatures.{Signatures}
-use Rattle.mc_typecheck.specs.declared.walk.Walk.{Walk}
 
 module _ (P : Source) (D : Parameters) where
   -- what a table has for all steps, it has for each
@@ -23,7 +22,5 @@ module _ (P : Source) (D : Parameters) where
   pub after_more : (steps : List Step) (k : ℕ) (d : Step) (s : Stand) → k < length steps → after_all P D (take (k + 1) steps) s ≡ after P D (get_or steps k d) (after_all P D (take k steps) s)
   after_more steps k d s lt = ap (λ xs. after_all P D xs s) (take_more steps k d lt) ∙ after_both (take k steps) (get_or steps k d ∷ []) s
 
-  pub at_more : (t : Signatures) (w w' : Walk) (steps : List Step) (k : ℕ) (d : Step) (s : Stand) → k < length steps → ShowsAll P D t steps → Takes t w w' (get_or steps k d) → IsAt P D t w (after_all P D (take k steps) s) → IsAt P D t w' (after_all P D (take (k + 1) steps) s)
-  at_more t w w' steps k d s lt shows takes at =
-      let Q : Stand → Type 0 = λ x. IsAt P D t w' x in
-      subst Q (sym (after_more steps k d s lt)) (takes P D (after_all P D (take k steps) s) (shows_at t steps k d lt shows) at)
+  pub stands_more : (At After : Stand → Type 0) (t : Signatures) (steps : List Step) (k : ℕ) (d : Step) (s : Stand) → k < length steps → ShowsAll P D t steps → ((x : Stand) → ShowsStep P D t (get_or steps k d) → At x → After (after P D (get_or steps k d) x)) → At (after_all P D (take k steps) s) → After (after_all P D (take (k + 1) steps) s)
+  stands_more At After t steps k d s lt shows takes at = subst After (sym (after_more steps k d s lt)) (takes (after_all P D (take k steps) s) (shows_at t steps k d lt shows) at)

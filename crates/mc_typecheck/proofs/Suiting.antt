@@ -15,11 +15,8 @@ use Rattle.mc_type_search.specs.Typed.{Chosen, Typed}
 use Rattle.mc_type_search.specs.declared.signature.Signature.{Signature}
 use Rattle.mc_type_search.specs.declared.steps.Step.{Step}
 use Rattle.mc_typecheck.specs.Ties.{Meaning, of_equation, Declared, Tie, declared}
+use Rattle.mc_typecheck.specs.NamedWalks.{Suits}
 use Rattle.mc_typecheck.specs.Searched.{PlainStep, plain_signature, plain_step, plain_tie, AreTies}
-
--- the types are those that are declared, with types for their own variables
-abbrev pub Suits : List TypeTerm → Declared → Type 0
-Suits ts d = (σ : ℕ → TypeTerm) × (map (under d.vars σ) d.types ≡ ts)
 
 -- the choices type the first ties, as many as there are choices
 abbrev pub Suited : (P : Source) (D : Parameters) → (ℕ → TypeTerm) → List Tie → List ℕ → Type 0
@@ -30,7 +27,7 @@ Suited P D τ (tie ∷ ties) (c ∷ cs) =
     × Suits (map τ tie.places) (declared P D (get_or tie.meanings c of_equation))
     × Suited P D τ ties cs
 
-map_both : {X Y Z : Type 0} (f : X → Y) (g : Y → Z) (xs : List X) → map g (map f xs) ≡ map (λ x. g (f x)) xs
+pub map_both : {X Y Z : Type 0} (f : X → Y) (g : Y → Z) (xs : List X) → map g (map f xs) ≡ map (λ x. g (f x)) xs
 map_both f g [] = refl
 map_both f g (x ∷ xs) = ap (λ ys. g (f x) ∷ ys) (map_both f g xs)
 

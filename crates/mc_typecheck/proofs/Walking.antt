@@ -1,8 +1,9 @@
 -- What types a walk types its ties, and the other way round.
-use Rattle.std.proofs.Common.{◌≡◌, ◌≢◌, ℕ, zero, suc, ◌-◌, ◌<◌, ◌≤◌, Bool, true, cond, eqb, List, [], ◌∷◌, ◌++◌, length, take, drop, get_or, map, refl, sym, ap, ap₂, subst, ◌∙◌, inl, inr, arith}
+use Rattle.std.proofs.Common.{◌≡◌, ◌≢◌, ℕ, zero, suc, ◌+◌, ◌-◌, ◌<◌, ◌≤◌, Bool, true, cond, eqb, List, [], ◌∷◌, ◌++◌, length, take, drop, get_or, map, refl, sym, ap, ap₂, subst, ◌∙◌, inl, inr, arith}
 use Rattle.std.specs.Prelude.{nat_lt, Contains}
 use Rattle.std.proofs.lemmas.Bool.{cases_lt, lt-ltb, le-ltb, eq-eqb, ne_eqb}
-use Rattle.std.proofs.lemmas.List.{map_push, drop-map, take-map, length-map}
+use Rattle.std.proofs.lemmas.List.{map_push, drop-map, take-map, length-map, drop_all}
+use Rattle.std.proofs.Math.Seq.{drop-cons}
 use Rattle.mc_program.specs.Programs.{TypeTerm, int_type, char_type, string_type, state_type, variable_type, union_type, TypeTerms, no_types, type_then, Source}
 use Rattle.mc_model.specs.Types.{instance_of, instances_of}
 use Rattle.mc_accepted.specs.ProperTypes.{Parameters}
@@ -10,10 +11,12 @@ use Rattle.mc_accepted.specs.Resolving.{Step, push_variable, push_number, push_t
 use Rattle.mc_accepted.specs.MostGeneral.{variables_of, variables_of_all, variables_of_each, bound_of, rigid_count}
 use Rattle.mc_types.specs.Substitutions.{under}
 use Rattle.mc_source.specs.declared.name.Candidate.{Candidate}
+use Rattle.mc_type_search.specs.declared.written_types.Written.{Written, Free}
+use Rattle.mc_typecheck.specs.WrittenTypes.{type_written}
 use Rattle.mc_typecheck.specs.Ties.{Meaning, of_name, of_number, of_text, of_equation, of_head, Tie, names_term, names_atom, topmost, below, declared, offered, sole, tied, made_by, pick_of, picks_of}
 use Rattle.mc_made_types.specs.Traced.{Traces, HasTypes}
 use Rattle.mc_typecheck.specs.Searched.{VariablesBelow}
-use Rattle.mc_typecheck.proofs.Suiting.{Suits}
+use Rattle.mc_typecheck.specs.NamedWalks.{Suits}
 use Rattle.mc_typecheck.proofs.Offers.{names_term_of, of_names_term, names_atom_of, of_names_atom, Offered, offered_at, offered_has, sole_at, sole_has}
 
 -- TYPES WITH OTHER TYPES FOR THEIR VARIABLES
@@ -165,6 +168,15 @@ types_are τ next (suc n) = (refl, types_are τ (suc next) n)
 pub types_many : (τ : ℕ → TypeTerm) (next n : ℕ) → length (types_from τ next n) ≡ n
 types_many τ next zero = refl
 types_many τ next (suc n) = ap suc (types_many τ (suc next) n)
+
+-- the types of the occurrences are those that are written out at their places
+pub written_trace : (T : ℕ → TypeTerm) (σ : ℕ → TypeTerm) (types : List Written) (n : ℕ) (trace : List TypeTerm) → HasTypes T n trace → n + length trace ≡ length types → ((i : ℕ) (d : Written) → i < length types → T i ≡ type_written σ (get_or types i d)) → trace ≡ map (type_written σ) (drop n types)
+written_trace T σ types n [] has long is = ap (map (type_written σ)) (sym (drop_all n types (omega (arith, long))))
+written_trace T σ types n (t ∷ trace) has long is =
+    let d = Free 0 in
+    let here : n < length types = omega (arith, long) in
+    ap₂ (λ u us. u ∷ us) (sym has.0 ∙ is n d here) (written_trace T σ types (suc n) trace has.1 (omega (arith, long)) is)
+    ∙ ap (map (type_written σ)) (sym (drop-cons types n d here))
 
 first_traced : (T : ℕ → TypeTerm) (next : ℕ) (t : TypeTerm) (trace more : List TypeTerm) → trace ≡ t ∷ more → T next ≡ t → HasTypes T (suc next) more → HasTypes T next trace
 first_traced T next t trace more e same h = subst (HasTypes T next) (sym e) (same, h)

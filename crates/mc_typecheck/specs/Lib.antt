@@ -3,4 +3,5 @@ pub mod Searched
 pub mod WrittenTypes
 pub mod Outcomes
 pub mod Walked
+pub mod NamedWalks
 pub mod code

@@ -9,6 +9,7 @@ use Rattle.mc_type_search.specs.declared.signature.Signature.{Signature}
 use Rattle.mc_type_search.specs.declared.steps.Step.{Step}
 use Rattle.mc_type_search.specs.declared.outcome.Outcome.{Outcome}
 use Rattle.mc_type_search.specs.declared.outcome.Outcome.TheVariants as O
+use Rattle.mc_type_search.specs.declared.written_types.Written.{Written}
 use Rattle.mc_type_search.specs.Typed.{LiveAt, AllProper}
 use Rattle.mc_type_search.specs.Resolved.{OutcomeSays}
 use Rattle.mc_typecheck.specs.Ties.{tied, ties_in, made_by, picks_of}
@@ -40,6 +41,15 @@ WalkIsProper =
     → AllProper signatures places steps
 
 module _ (P : Source) (D : Parameters) (clause : Unresolved_clause) where
+  -- These picks alone type the clause, with these most general types of its variables and its
+  -- occurrences, and nowhere are more assignments live than the limit.
+  abbrev pub IsOnly : (limit vars : ℕ) → (picks : List Candidate) → List Written → Type 0
+  IsOnly limit vars picks types =
+      (w : WellTyped P D clause)
+      × (w.picks ≡ picks)
+      × AreTypes P D (steps_of clause) vars w.picks types
+      × (TooMany P D limit clause → ⊥)
+
   -- No resolution types the clause, these picks alone do, with these most general types of its
   -- variables and its occurrences, or these two are the first; and nowhere are more assignments live
   -- than the limit. Or somewhere more are.
@@ -48,10 +58,7 @@ module _ (P : Source) (D : Parameters) (clause : Unresolved_clause) where
       ((picks : List Candidate) → ClauseResolves P D clause picks → ⊥)
       × (TooMany P D limit clause → ⊥)
   ClauseSays limit vars (O.One v types) =
-      (w : WellTyped P D clause)
-      × (w.picks ≡ picks_of (tied P D (steps_of clause) vars []) v.items)
-      × AreTypes P D (steps_of clause) vars w.picks types.items
-      × (TooMany P D limit clause → ⊥)
+      IsOnly limit vars (picks_of (tied P D (steps_of clause) vars []) v.items) types.items
   ClauseSays limit vars (O.Two v w) =
       FirstTwo P D clause (picks_of (tied P D (steps_of clause) vars []) v.items)
       (picks_of (tied P D (steps_of clause) vars []) w.items)

@@ -9,6 +9,7 @@ mod table;
 mod walk;
 
 pub use laws::{search_decides, walk_is_proper, walk_means};
+pub use named::NamedWalk;
 pub use resolving::resolve_walk;
 pub use table::Signatures;
 pub use walk::Walk;

@@ -6,11 +6,10 @@ ghost use Rattle.mc_typecheck.specs.Searched.{VariablesBelow};
 ghost use Rattle.mc_typecheck.specs.Outcomes.{ClauseSays};
 ghost use Rattle.mc_typecheck.specs.Walked.{IsAt, WasWalked, after_all, start};
 
-use crate::named::resolve_steps;
 use crate::table::Signatures;
 use crate::walk::Walk;
 use mc_base::Memory;
-use mc_type_search::Outcome;
+use mc_type_search::{Outcome, resolve};
 use std::alloc::Global;
 
 /// The one resolution of a clause that was walked, with the most general types of its variables and of the occurrences
@@ -31,6 +30,6 @@ pub fn resolve_walk(
         → ClauseSays P D clause limit vars outcome) }
 {
     let places = walk.next;
-    let outcome = resolve_steps(alloc, &signatures.all, &walk.steps, places, limit)?;
+    let outcome = resolve(alloc, &signatures.all, &walk.steps, places, places, limit)?;
     Ok(outcome)
 }

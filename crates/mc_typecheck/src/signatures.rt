@@ -1,14 +1,16 @@
-ghost use Rattle.std.specs.Prelude.{◌≡◌, ◌+◌, ◌<◌, ◌≤◌, ◌++◌, ◌∷◌, [], Some, List, length, map, take, slice_index_or, nat_eq, if◌then◌else◌, option_to_list, Contains, IfOk, OnOk};
+ghost use Rattle.std.specs.Prelude.{◌≡◌, ◌+◌, ◌<◌, ◌≤◌, ◌++◌, ◌∷◌, [], Some, List, length, map, take, slice_index_or, nat_eq, if◌then◌else◌, option_to_list, Contains, IfOk, IfSome, OnOk};
 ghost use Rattle.mc_program.specs.Programs.{Source};
 ghost use Rattle.mc_accepted.specs.ProperTypes.{Parameters};
-ghost use Rattle.mc_typecheck.specs.Ties.{Declared, Meaning, of_name, of_equation, declared, is_same, is_among, names_atom, offered, pick_of};
+ghost use Rattle.mc_typecheck.specs.Ties.{Declared, Meaning, of_name, of_equation, of_head, declared, is_same, is_among, names_atom, offered, pick_of};
+ghost use Rattle.mc_typecheck.specs.Searched.{plain_signature};
 ghost use Rattle.mc_typecheck.specs.Walked.{entry, place_of, Shows};
 ghost use Rattle.mc_source.specs.declared.name.Candidate.{Candidate as AnyCandidate};
-ghost use Rattle.mc_typecheck.specs.code.Tables.{passes_as, listed, offer};
+ghost use Rattle.mc_typecheck.specs.code.Tables.{passes_as, listed, offer, IsSole};
 
 use crate::table::Signatures;
 use mc_base::Memory;
 use mc_source::name::Candidate;
+use mc_type_search::Signature;
 use std::alloc::Global;
 
 /// Where a number, a text, an equation and a character stand in a table. Constructors come behind them, then functions
@@ -54,6 +56,13 @@ fn names_atom(c: Candidate) -> bool
     matches!(c, Candidate::Pred(_))
 }
 
+/// The only candidate that a name may be, and what it is declared with.
+#[derive(Clone, Copy)]
+pub struct Only<'t> {
+    pub pick: Candidate,
+    pub signature: &'t Signature,
+}
+
 impl Signatures {
     /// Where a candidate stands, if it is there.
     fn place_of(&self, c: Candidate) -> Option<usize>
@@ -95,6 +104,29 @@ impl Signatures {
             Some(CONSTRUCTORS + self.symbols + self.preds + pred)
         } else {
             None
+        }
+    }
+
+    /// What stands at a place.
+    pub fn declared_at(&self, place: usize) -> Option<&Signature>
+        ensures { IfSome result (λ signature. (d : Declared) → entry self.now place ≡ Some d
+            → plain_signature signature.now ≡ d) }
+    {
+        if place < self.all.len() {
+            Some(&self.all[place])
+        } else {
+            None
+        }
+    }
+
+    /// What the head of a predicate is declared with, if it is there.
+    pub fn declared_head(&self, pred: u32) -> Option<&Signature>
+        ensures { IfSome result (λ signature. (P : Source) (D : Parameters) → Shows P D self.now (of_head pred)
+            → plain_signature signature.now ≡ declared P D (of_head pred)) }
+    {
+        match self.place_of_head(pred) {
+            Some(place) => self.declared_at(place),
+            None => None,
         }
     }
 
@@ -147,6 +179,18 @@ impl Signatures {
         Ok(all)
     }
 
+    /// The candidate that an atom, or a term, may name, where one alone has so many types.
+    pub fn only(&self, of_atom: bool, candidates: &[Candidate], count: usize) -> Option<Only<'_>>
+        ensures { IfSome result (λ only. (P : Source) (D : Parameters)
+            → ((c : AnyCandidate) → Contains candidates.now c → Shows P D self.now (of_name c))
+            → (offered P D (passes_as of_atom) count [] candidates.now ≡ of_name only.pick ∷ [])
+            × (plain_signature only.signature.now ≡ declared P D (of_name only.pick))) }
+    {
+        let (pick, place) = self.sole_offer(of_atom, candidates, count)?;
+        let signature = self.declared_at(place)?;
+        Some(Only { pick, signature })
+    }
+
     /// The candidate that is so many places behind the first one that is offered.
     pub fn chosen(
         &self,
@@ -170,6 +214,29 @@ impl Signatures {
             }
         }
         None
+    }
+
+    /// The candidate that alone is offered, and where it stands.
+    fn sole_offer(
+        &self,
+        of_atom: bool,
+        candidates: &[Candidate],
+        count: usize,
+    ) -> Option<(Candidate, usize)>
+        ensures { IfSome result (λ found. (P : Source) (D : Parameters)
+            → ((c : AnyCandidate) → Contains candidates.now c → Shows P D self.now (of_name c))
+            → IsSole P D self.now (passes_as of_atom) count candidates.now found.0 found.1) }
+    {
+        let mut found = None;
+        for k in 0..candidates.len() {
+            if let Some(place) = self.offer(of_atom, candidates, k, count) {
+                if found.is_some() {
+                    return None;
+                }
+                found = Some((candidates[k], place));
+            }
+        }
+        found
     }
 
     /// Where candidate `k` stands, where it is offered.

@@ -1,13 +1,12 @@
--- What is made of a clause by choices.
-use Rattle.std.specs.Prelude.{◌≡◌, ℕ, List, [], length, map}
+-- What is made of a clause by picks.
+use Rattle.std.specs.Prelude.{◌≡◌, List, length, map}
 use Rattle.mc_program.specs.Programs.{Source}
 use Rattle.mc_program.specs.PlainPrograms.{plain_clause, plain_type}
 use Rattle.mc_program.specs.declared.program.Resolved.{Resolved}
-use Rattle.mc_accepted.specs.ProperTypes.{Parameters}
+use Rattle.mc_source.specs.declared.name.Candidate.{Candidate}
 use Rattle.mc_accepted.specs.Resolving.{Step, resolved}
 use Rattle.mc_accepted.specs.MostGeneral.{rigid_count}
 use Rattle.mc_type_search.specs.declared.written_types.Written.{Written}
-use Rattle.mc_typecheck.specs.Ties.{tied, picks_of}
 use Rattle.mc_unresolved.specs.Unresolved.{plain_unresolved_clause}
 use Rattle.mc_unresolved.specs.declared.clause.UnresolvedClause.{UnresolvedClause}
 use Rattle.mc_made_types.specs.Makes.{kept}
@@ -15,13 +14,10 @@ use Rattle.mc_check_clause.specs.VariableTypes.{ArePlain}
 use Rattle.mc_check_clause.specs.code.Marking.{first_marking, after_all}
 
 pub record IsMade
-    (P : Source) (D : Parameters) (clause : UnresolvedClause) (steps : List Step)
-    (choices : List ℕ) (types : List Written) (made : Resolved)
+    (P : Source) (clause : UnresolvedClause) (steps : List Step) (picks : List Candidate)
+    (types : List Written) (made : Resolved)
     : Type 0 where
-  pub form :
-      plain_clause made.clause
-      ≡ resolved (plain_unresolved_clause clause)
-      (picks_of (tied P D steps (length clause.names) []) choices)
+  pub form : plain_clause made.clause ≡ resolved (plain_unresolved_clause clause) picks
   pub vars : made.clause.vars ≡ length clause.names
   pub place : made.clause.place ≡ clause.place
   pub are_plain :

@@ -1,52 +1,46 @@
--- Steps of one candidate each, whose types are names without arguments: what is then known of the types of the places.
-use Rattle.std.specs.Prelude.{◌≡◌, ◌↔◌, ◌⊎◌, ℕ, zero, suc, ◌<◌, List, [], ◌∷◌, ◌++◌, length, slice_index_or}
-use Rattle.mc_type_graph.specs.Shapes.{Shape, named}
+-- Places that are given the types of a signature, which are names without arguments.
+use Rattle.std.specs.Prelude.{◌≡◌, ◌↔◌, ℕ, zero, suc, ◌+◌, List, [], ◌∷◌, ◌++◌, length, map, take, drop}
+use Rattle.mc_program.specs.Programs.{TypeTerm}
+use Rattle.mc_types.specs.Trees.{of_name}
 use Rattle.mc_type_graph.specs.declared.cells.TypeName.{TypeName}
-use Rattle.mc_type_search.specs.declared.signature.Signature.{Signature}
-use Rattle.mc_type_search.specs.declared.steps.Step.{Step}
-use Rattle.mc_type_search.specs.declared.written_types.Written.{Written, Free, Named}
-use Rattle.mc_type_search.specs.Writing.{written}
-use Rattle.mc_type_search.specs.Typed.{Chosen}
-
--- what is known at a place
-abbrev pub known : List Written → ℕ → Written
-known types i = slice_index_or types i (Free i)
+use Rattle.mc_type_search.specs.declared.written_types.Written.{Written, Free}
+use Rattle.mc_typecheck.specs.Ties.{Declared}
+use Rattle.mc_typecheck.specs.NamedWalks.{Suits, EachOwn, Solves}
+use Rattle.mc_typecheck.specs.declared.named.NamedWalk.{NamedWalk}
 
 abbrev pub free_types : ℕ → List Written
 free_types zero = []
 free_types (suc n) = free_types n ++ Free n ∷ []
 
--- places have these types
-abbrev pub Solves : (ℕ → Shape) → List Written → Type 0
-Solves θ types = (i : ℕ) → θ i ≡ written θ (known types i)
+-- a place was given a name for its type
+pub record IsNamed (before : List Written) (place : ℕ) (type : TypeTerm) (after : List Written) : Type 0 where
+  pub name : TypeName
+  pub is : type ≡ of_name name
+  pub own : EachOwn before → EachOwn after
+  pub means :
+      EachOwn before
+      → (τ : ℕ → TypeTerm) → Solves τ after ↔ (Solves τ before × (τ place ≡ type))
 
--- each place is free, or has a name
-abbrev pub EachOwn : List Written → Type 0
-EachOwn types = (i : ℕ) → (known types i ≡ Free i) ⊎ ((n : TypeName) × (known types i ≡ Named n))
+-- places were given declared types
+pub record AreNamed (before : List Written) (d : Declared) (places : List ℕ) (after : List Written) : Type 0 where
+  pub long : length d.types ≡ length places
+  pub own : EachOwn before → EachOwn after
+  pub means :
+      EachOwn before
+      → (τ : ℕ → TypeTerm) → Solves τ after ↔ (Solves τ before × Suits (map τ places) d)
 
--- a place was given a name
-pub record IsNamed (before : List Written) (place : ℕ) (name : TypeName) (after : List Written) : Type 0 where
-  pub as_many : length after ≡ length before
-  pub own : EachOwn after
-  pub means : (θ : ℕ → Shape) → Solves θ after ↔ (Solves θ before × (θ place ≡ named name))
+-- the terms from a place of the stack on were given these types, and taken off
+pub record IsTaken (d : Declared) (from : ℕ) (before after : NamedWalk) : Type 0 where
+  pub as_many : length after.types.items ≡ length before.types.items
+  pub named : AreNamed before.types.items d (drop from before.stack.items) after.types.items
+  pub stack : after.stack.items ≡ take from before.stack.items
+  pub picks : after.picks.items ≡ before.picks.items
 
--- the places of a step were given those of its only candidate
-pub record StepIsNamed (signatures : List Signature) (step : Step) (before after : List Written) : Type 0 where
-  pub as_many : length after ≡ length before
-  pub own : EachOwn after
-  pub sole : length step.candidates.items ≡ 1
-  pub means : (θ : ℕ → Shape) → Solves θ after ↔ (Solves θ before × Chosen θ signatures step 0)
-
--- the first candidates of so many steps are chosen
-abbrev pub FirstChosen : (ℕ → Shape) → List Signature → List Step → ℕ → Type 0
-FirstChosen θ signatures steps k = (j : ℕ) (d : Step) → j < k → Chosen θ signatures (slice_index_or steps j d) 0
-
--- the places of so many steps were given those of their only candidates
-pub record NamedUpTo (signatures : List Signature) (steps : List Step) (k places : ℕ) (types : List Written) : Type 0 where
-  pub as_many : length types ≡ places
-  pub own : EachOwn types
-  pub sole : (j : ℕ) (d : Step) → j < k → length (slice_index_or steps j d).candidates.items ≡ 1
-  pub means : (θ : ℕ → Shape) → Solves θ types ↔ FirstChosen θ signatures steps k
-
-abbrev pub AllNamed : List Signature → List Step → (places : ℕ) → List Written → Type 0
-AllNamed signatures steps places types = NamedUpTo signatures steps (length steps) places types
+-- so were they and one behind them, which is on the stack in their place
+pub record IsPushed (d : Declared) (from : ℕ) (before after : NamedWalk) : Type 0 where
+  pub as_many : length after.types.items ≡ length before.types.items + 1
+  pub named :
+      AreNamed before.types.items d
+      (drop from before.stack.items ++ length before.types.items ∷ []) after.types.items
+  pub stack : after.stack.items ≡ take from before.stack.items ++ length before.types.items ∷ []
+  pub picks : after.picks.items ≡ before.picks.items

@@ -1,11 +1,13 @@
 -- Which candidates a table offers.
-use Rattle.std.specs.Prelude.{ℕ, Bool, true, false, nat_eq, Option, Some, None, not, ◌&&◌, List, [], ◌∷◌, length, if◌then◌else◌}
+use Rattle.std.specs.Prelude.{◌≡◌, ℕ, Bool, true, false, nat_eq, Option, Some, None, not, ◌&&◌, List, [], ◌∷◌, length, if◌then◌else◌}
 use Rattle.mc_source.specs.declared.name.Candidate.{Candidate}
 use Rattle.mc_program.specs.Programs.{Source}
 use Rattle.mc_accepted.specs.ProperTypes.{Parameters}
 use Rattle.mc_accepted.specs.Resolving.{signature}
-use Rattle.mc_typecheck.specs.Ties.{Meaning, of_name, Declared, is_among, names_atom, names_term}
+use Rattle.mc_typecheck.specs.Ties.{Meaning, of_name, Declared, declared, is_among, names_atom, names_term, offered}
 use Rattle.mc_typecheck.specs.Searched.{PlainStep}
+use Rattle.mc_typecheck.specs.Walked.{entry}
+use Rattle.mc_typecheck.specs.declared.table.Signatures.{Signatures}
 
 -- those of an atom, or of a term
 abbrev pub passes_as : (of_atom : Bool) → Candidate → Bool
@@ -33,3 +35,11 @@ offer P D passes n met c =
     if passes c && (nat_eq (length (signature P D c)) n && not (is_among c met))
     then of_name c ∷ []
     else []
+
+-- a candidate is the only one that is offered, and stands there
+pub record IsSole
+    (P : Source) (D : Parameters) (t : Signatures) (passes : Candidate → Bool) (count : ℕ)
+    (candidates : List Candidate) (only : Candidate) (place : ℕ)
+    : Type 0 where
+  pub sole : offered P D passes count [] candidates ≡ of_name only ∷ []
+  pub entry : entry t place ≡ Some (declared P D (of_name only))

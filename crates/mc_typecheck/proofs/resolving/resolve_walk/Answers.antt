@@ -10,8 +10,8 @@ use Rattle.mc_typecheck.proofs.Properness as properness
 use Rattle.mc_typecheck.proofs.Deciding as deciding
 use Rattle.mc_typecheck.proofs.resolving.resolve_walk.Goals as goal
 
-pub resolve_steps-requires-clause-proper : goal.resolve_steps-requires-clause-proper
-resolve_steps-requires-clause-proper c =
+pub resolve-requires-clause-proper : goal.resolve-requires-clause-proper
+resolve-requires-clause-proper c =
     let h = c.requires.walked in
     let t = c.args.signatures.now in
     let w = c.args.walk.now in
