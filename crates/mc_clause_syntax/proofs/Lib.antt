@@ -5,3 +5,4 @@ mod Nested
 mod Scoped
 mod Shapes
 mod Views
+mod Widths

@@ -96,9 +96,9 @@ entered sets names x =
     ∙ or_comm (in_scope (all_names sets) x) (in_scope names x)
     ∙ sym (list_any-append (bytes_eq x) names (all_names sets))
 
--- the names in a clause's head, as the only scope
-pub headed : (names : List (List ℕ)) → HaveSame (all_names (put_all [] names ∷ [])) names
-headed names x = in_scope-pushed [] (put_all [] names) x ∙ in_scope-put_all names x
+-- the names in a clause's head, as a set
+pub headed : (names : List (List ℕ)) → HaveSame (put_all [] names) names
+headed names x = in_scope-put_all names x
 
 pub head_same : (a b : List (List ℕ)) → HaveSame a b → (t : PlainTerm) → is_head a t ≡ is_head b t
 head_same a b h t = by (operands (codes "=") t)

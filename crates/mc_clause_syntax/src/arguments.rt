@@ -1,6 +1,6 @@
-ghost use Rattle.std.specs.Prelude.{◌≡◌, ◌<◌, ◌≤◌, ◌^◌, length, map, true, false};
+ghost use Rattle.std.specs.Prelude.{◌≡◌, ◌<◌, ◌≤◌, ◌^◌, length, map, nat_lt, true, false};
 ghost use Rattle.mc_term_data.specs.Plain.{plain_term, tms};
-ghost use Rattle.mc_clause_syntax.specs.Limits.{width, argument_count, too_many_arguments, any_too_many};
+ghost use Rattle.mc_clause_syntax.specs.Limits.{greatest_arguments, width, argument_count, too_many_arguments, any_too_many};
 
 use crate::state::is_both_versions;
 use mc_term_data::{Node, Term};
@@ -29,7 +29,7 @@ fn has_too_many_arguments(term: &Term, in_clause: bool) -> bool
 {
     match &term.node {
         Node::App(_, parts) => {
-            argument_count(parts.as_slice(), in_clause) > GREATEST_ARGUMENTS
+            count_as_too_many(parts.as_slice(), in_clause)
                 || any_has_too_many(parts.as_slice(), in_clause)
         }
         Node::List(elements, tail) => {
@@ -56,6 +56,16 @@ fn any_has_too_many(terms: &[Term], in_clause: bool) -> bool
         }
     }
     false
+}
+
+// Whether these parts of a name are too many arguments. Where they would be few, were each two, none is looked at.
+#[tactic(auto, using(crate::proofs::Widths::at_most_two_each))]
+fn count_as_too_many(parts: &[Term], in_clause: bool) -> bool
+    requires { length parts.now < 2 ^ 32 }
+    ensures { result
+        ≡ nat_lt greatest_arguments (argument_count in_clause (tms (map plain_term parts.now))) }
+{
+    2 * parts.len() > GREATEST_ARGUMENTS && argument_count(parts, in_clause) > GREATEST_ARGUMENTS
 }
 
 /// How many arguments these parts of a name count as; in a clause both versions of a state variable count as two.

@@ -29,15 +29,17 @@ impl<'a> Scope<'a> {
         }
     }
 
-    /// The state variables in a clause's head are in scope.
+    /// The state variables in a clause's head are in scope. It takes memory for those alone.
     pub fn of_head(alloc: Global, head: &'a Term) -> Result<Scope<'a>, Memory>
         ensures { IfOk result
-            (λ scope. scope.sets.items ≡ put_all [] (states_of (plain_term head.now)) ∷ []) }
+            (λ scope. all_names scope.sets.items ≡ put_all [] (states_of (plain_term head.now))) }
     {
         let mut names = Vec::new(alloc);
         push_states(&mut names, StatesWanted::Every, head)?;
         let mut scope = Scope::empty(alloc);
-        scope.sets.push(name_set(alloc, &names)?)?;
+        if !names.is_empty() {
+            scope.sets.push(name_set(alloc, &names)?)?;
+        }
         Ok(scope)
     }
 

@@ -1,5 +1,5 @@
 -- What the machine's end says of the tokens.
-use Rattle.std.proofs.Common.{◌≡◌, List, [], false, sym, ap, ◌∙◌, refl, subst, IfSome, IfNone, Option, Some, None}
+use Rattle.std.proofs.Common.{◌≡◌, List, [], false, sym, ap, ◌∙◌, refl, IfSome, IfNone, Option, Some, None}
 use Rattle.mc_term_parser.specs.declared.lexeme.Lexeme.{Lexeme}
 use Rattle.mc_term_parser.specs.declared.reading.Reading.{Reading}
 use Rattle.mc_term_parser.specs.Part.{Part}
@@ -15,6 +15,7 @@ use Rattle.mc_term_parser.proofs.Trees.{State, Leads}
 use Rattle.mc_term_parser.proofs.Unique.{one_end, answers}
 use Rattle.mc_term_parser.proofs.Sound.{sound}
 use Rattle.mc_term_parser.proofs.Images.{image, image_part, image_state, leads_image}
+use Rattle.mc_term_parser.proofs.Leading.{then}
 use Rattle.mc_term_parser.proofs.Shown.{image_depth, image_large, image_value}
 
 shows : (t : Tree) (r : Reading) → image t ≡ reading r → Shows t r
@@ -69,11 +70,8 @@ pub at_none : (r : Option Reading) (P Q : Type 0) → (P → Q) → IfNone r P �
 at_none None P Q f h = f h
 at_none (Some t) P Q f h = tt
 
-run_on :
-    {s t : StateSeen} → Run.Leads seen_making s t → Run.Leads seen_making s (M.step seen_making t)
-run_on Run.here = Run.onward Run.here
-run_on (Run.onward d) = Run.onward (run_on d)
-
+-- a run goes on from a step on
 pub step_more :
-    (ts : List Lexeme) (s t : StateSeen) → Runs ts s → t ≡ M.step seen_making s → Runs ts t
-step_more ts s t d e = subst (Runs ts) (sym e) (run_on d)
+    (ts : List Lexeme) (s t : StateSeen)
+    → Runs ts s → Run.Leads seen_making (M.step seen_making s) t → Runs ts t
+step_more ts s t d e = then d (Run.onward e)

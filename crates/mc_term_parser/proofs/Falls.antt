@@ -1,5 +1,5 @@
 -- The machine comes to an end: each step leaves less to do.
-use Rattle.std.proofs.Common.{◌≡◌, ℕ, ◌<◌, ◌+◌, ◌-◌, ◌*◌, Bool, true, false, cond, ◌&&◌, leb, ltb, List, [], ◌∷◌, length, arith}
+use Rattle.std.proofs.Common.{◌≡◌, ℕ, ◌<◌, ◌≤◌, ◌+◌, ◌-◌, ◌*◌, Bool, true, false, cond, ◌&&◌, leb, ltb, List, [], ◌∷◌, length, arith}
 use Rattle.mc_term_parser.specs.declared.lexeme.Lexeme.{Lexeme}
 use Rattle.mc_term_parser.specs.declared.lexeme.Lexeme.TheVariants as L
 use Rattle.mc_term_parser.specs.declared.infixes.Infix.{Infix}
@@ -12,6 +12,7 @@ use Rattle.mc_term_parser.specs.Infixes.{operand, rank, joined_by, role, name_of
 use Rattle.mc_term_parser.specs.Part.{Part, over}
 use Rattle.mc_term_parser.specs.code.Machine.{AtRight, AtOperand, AtFirst, AtSecond, InParen, InParts, InTail, Start, Done, Yes, No, Push, Stay, same_chain, turn}
 use Rattle.mc_term_parser.specs.code.Machine as M
+use Rattle.mc_term_parser.specs.code.Leads as Run
 use Rattle.mc_term_parser.specs.code.Seen.{Seen, SeenRow, seen_making, seen_then, no_seen, line_seen}
 use Rattle.mc_term_parser.specs.code.Views.{FrameSeen, StateSeen, is_over}
 
@@ -188,3 +189,14 @@ falls (Start c limit stack ts) e = start_falls c limit stack ts
 falls (Done c limit stack p ts) e = done_falls c limit stack p ts
 falls (Yes p) e = cc
 falls No e = cc
+
+step_falls : (s : StateSeen) → weight (M.step seen_making s) ≤ weight s
+step_falls (Start c limit stack ts) = omega (arith, start_falls c limit stack ts)
+step_falls (Done c limit stack p ts) = omega (arith, done_falls c limit stack p ts)
+step_falls (Yes p) = omega arith
+step_falls No = omega arith
+
+-- so does each run
+pub run_falls : {s t : StateSeen} → Run.Leads seen_making s t → weight t ≤ weight s
+run_falls Run.here = omega arith
+run_falls {s = s} (Run.onward d) = omega (arith, run_falls d, step_falls s)

@@ -4,3 +4,4 @@ pub mod Machine
 pub mod Leads
 pub mod Seen
 pub mod Views
+pub mod Arguments

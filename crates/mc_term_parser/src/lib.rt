@@ -1,6 +1,7 @@
 //! Terms from tokens: the operators, and the reader of the tokens of one item.
 #![tactic(auto)]
 
+mod arguments;
 mod frame;
 mod infixes;
 mod law;

@@ -29,7 +29,7 @@ pub struct Readings {
 impl Reading {
     ghost use Rattle.std.specs.Prelude.{◌≡◌, ◌≤◌, IfOk};
     ghost use Rattle.mc_term_data.specs.Plain.{plain_node, Var, Str};
-    ghost use Rattle.mc_term_parser.specs.code.Seen.{kept, leaf, seen_large, line_seen, node_seen, seen_int, seen_neg, seen_app, seen_items, seen_tailed, seen_conj, seen_disj, seen_inside, seen_making};
+    ghost use Rattle.mc_term_parser.specs.code.Seen.{kept, leaf, seen_large, line_seen, node_seen, seen_int, seen_neg, no_seen, seen_app, seen_items, seen_tailed, seen_conj, seen_disj, seen_inside, seen_making};
     ghost use Rattle.mc_term_parser.specs.code.Machine.{chain};
     ghost use Rattle.mc_term_parser.specs.code.Views.{reading, readings};
 
@@ -102,6 +102,14 @@ impl Reading {
         } else {
             Reading::large(line)
         }
+    }
+
+    // A name alone.
+    #[tactic(auto, unfolding(crate::specs::code::Seen::seen_app, crate::specs::code::Seen::no_seen, crate::specs::code::Seen::kept, crate::specs::code::Seen::leaf))]
+    pub fn name(alloc: Global, line: u32, name: Row<Text>) -> Reading
+        ensures { reading result ≡ seen_app line name no_seen }
+    {
+        Reading::leaf(line, Node::App(name, Row::new(alloc)))
     }
 
     // A number behind a minus sign.
@@ -194,31 +202,31 @@ impl Readings {
         }
     }
 
-    // One term, in just the room that it takes.
+    // No terms yet, and room for some.
     #[tactic(auto, unfolding(crate::specs::code::Seen::no_seen))]
+    pub fn with_room(alloc: Global, room: usize) -> Result<Readings, Memory>
+        ensures { IfOk result (λ r. readings r ≡ no_seen) }
+    {
+        Ok(Readings {
+            terms: Vec::with_capacity(alloc, room)?,
+            depth: 0,
+            too_large: None,
+        })
+    }
+
+    // One term, in just the room that it takes.
     pub fn one(alloc: Global, only: Reading) -> Result<Readings, Memory>
         ensures { IfOk result (λ r. readings r ≡ seen_then no_seen (reading only)) }
     {
-        let none = Readings {
-            terms: Vec::with_capacity(alloc, 1)?,
-            depth: 0,
-            too_large: None,
-        };
-        none.then(only)
+        Readings::with_room(alloc, 1)?.then(only)
     }
 
     // Two terms, in just the room that they take.
-    #[tactic(auto, unfolding(crate::specs::code::Seen::no_seen))]
     pub fn two(alloc: Global, left: Reading, right: Reading) -> Result<Readings, Memory>
         ensures { IfOk result
             (λ r. readings r ≡ seen_then (seen_then no_seen (reading left)) (reading right)) }
     {
-        let none = Readings {
-            terms: Vec::with_capacity(alloc, 2)?,
-            depth: 0,
-            too_large: None,
-        };
-        none.then(left)?.then(right)
+        Readings::with_room(alloc, 2)?.then(left)?.then(right)
     }
 
     // With one more behind them.

@@ -3,12 +3,14 @@ ghost use Rattle.mc_term_parser.specs.code.Views.{state, frames, part as part_se
 ghost use Rattle.mc_term_parser.specs.Answers.{Shows};
 ghost use Rattle.mc_term_parser.specs.Infixes.{prefix_role, prefix_of, starts, role};
 ghost use Rattle.mc_term_parser.specs.code.Machine as M;
+ghost use Rattle.mc_term_parser.specs.code.Arguments.{Reaches};
 ghost use Rattle.mc_term_parser.specs.code.Seen.{Seen, seen_making};
 ghost use Rattle.mc_term_parser.specs.Part as P;
 ghost use Rattle.mc_term_parser.specs.Reads.{ReadsTerm};
 ghost use Rattle.mc_term_parser.specs.Tree.{Tree};
 ghost use Rattle.mc_term_parser.specs.declared.lexeme.Lexeme.{Lexeme};
 
+use crate::arguments::start_arguments;
 use crate::frame::{Context, Frame, Machine, Mark, Now, Operator, ParserStack, Series};
 use crate::infixes::Role;
 use crate::lexeme::Lexeme;
@@ -102,11 +104,10 @@ fn start_word(
 ) -> Result<Machine, Memory>
     requires { parser.at ≤ length tokens.now }
     ensures { IfOk result
-        (λ m.
-        state tokens.now m
-        ≡ M.on_role seen_making context.commas context.limit (frames parser.stack.items) line
+        (Reaches tokens.now
+        (M.on_role seen_making context.commas context.limit (frames parser.stack.items) line
         (name.now ∷ []) (drop parser.at tokens.now)
-        (role context.limit name.now (drop parser.at tokens.now))) }
+        (role context.limit name.now (drop parser.at tokens.now)))) }
 {
     let role = role(tokens, context.limit, name.bytes(), parser.at);
     start_name(
@@ -132,10 +133,9 @@ fn start_name(
 ) -> Result<Machine, Memory>
     requires { parser.at ≤ length tokens.now }
     ensures { IfOk result
-        (λ m.
-        state tokens.now m
-        ≡ M.on_role seen_making context.commas context.limit (frames parser.stack.items) line
-        name (drop parser.at tokens.now) role) }
+        (Reaches tokens.now
+        (M.on_role seen_making context.commas context.limit (frames parser.stack.items) line
+        name (drop parser.at tokens.now) role)) }
 {
     let commas = context.commas;
     match role {
@@ -151,7 +151,7 @@ fn start_name(
             Ok(parser.with(frame)?.start(Context { commas, limit }))
         }
         Role::Plain => {
-            let term = Reading::app(line, name, Readings::none(alloc))?;
+            let term = Reading::name(alloc, line, name);
             Ok(parser.done(context, closed(term)))
         }
     }
@@ -188,17 +188,14 @@ fn start_compound(
 ) -> Result<Machine, Memory>
     requires { parser.at ≤ length tokens.now }
     ensures { IfOk result
-        (λ m.
-        state tokens.now m
-        ≡ M.on_compound seen_making context.commas context.limit (frames parser.stack.items)
-        line name (drop parser.at tokens.now)) }
+        (Reaches tokens.now
+        (M.on_compound seen_making context.commas context.limit (frames parser.stack.items)
+        line name (drop parser.at tokens.now))) }
 {
     if parser.at >= tokens.len() {
         return Ok(parser.refused());
     }
-    let none = Readings::none(alloc);
-    let frame = Frame::Parts(Series::Arguments(name), line, none, context);
-    Ok(parser.past().with(frame)?.start(Context::ARGUMENT))
+    start_arguments(alloc, tokens, parser.past(), name, line, context)
 }
 
 // A qualified name; the parser is behind it.
@@ -212,17 +209,14 @@ fn start_path(
 ) -> Result<Machine, Memory>
     requires { parser.at ≤ length tokens.now }
     ensures { IfOk result
-        (λ m.
-        state tokens.now m
-        ≡ M.on_path seen_making context.commas context.limit (frames parser.stack.items) line
-        name (drop parser.at tokens.now)) }
+        (Reaches tokens.now
+        (M.on_path seen_making context.commas context.limit (frames parser.stack.items) line
+        name (drop parser.at tokens.now))) }
 {
-    let none = Readings::none(alloc);
     if let Mark::OpenCt = mark(tokens, parser.at) {
-        let frame = Frame::Parts(Series::Arguments(name), line, none, context);
-        return Ok(parser.past().with(frame)?.start(Context::ARGUMENT));
+        return start_arguments(alloc, tokens, parser.past(), name, line, context);
     }
-    let term = Reading::app(line, name, none)?;
+    let term = Reading::name(alloc, line, name);
     Ok(parser.done(context, closed(term)))
 }
 
@@ -279,10 +273,9 @@ fn start_with(
 ) -> Result<Machine, Memory>
     requires { parser.at ≤ length tokens.now }
     ensures { IfOk result
-        (λ m.
-        state tokens.now m
-        ≡ M.start seen_making context.commas context.limit (frames parser.stack.items)
-        (token.now ∷ drop parser.at tokens.now)) }
+        (Reaches tokens.now
+        (M.start seen_making context.commas context.limit (frames parser.stack.items)
+        (token.now ∷ drop parser.at tokens.now))) }
 {
     match token {
         Lexeme::Word(name, _, line) => start_word(alloc, tokens, parser, name, *line, context),
@@ -317,10 +310,9 @@ fn start_at(
 ) -> Result<Machine, Memory>
     requires { parser.at ≤ length tokens.now }
     ensures { IfOk result
-        (λ m.
-        state tokens.now m
-        ≡ M.start seen_making context.commas context.limit (frames parser.stack.items)
-        (drop parser.at tokens.now)) }
+        (Reaches tokens.now
+        (M.start seen_making context.commas context.limit (frames parser.stack.items)
+        (drop parser.at tokens.now))) }
 {
     if parser.at >= tokens.len() {
         return Ok(parser.refused());
@@ -329,9 +321,9 @@ fn start_at(
     start_with(alloc, tokens, parser.past(), token, context)
 }
 
-// One step of the machine.
+// A step of the machine, or more.
 fn step(alloc: Global, tokens: &[Lexeme], machine: Machine) -> Result<Machine, Memory>
-    ensures { IfOk result (λ m. state tokens.now m ≡ M.step seen_making (state tokens.now machine)) }
+    ensures { IfOk result (Reaches tokens.now (M.step seen_making (state tokens.now machine))) }
 {
     let Machine { phase, parser } = machine;
     let ParserStack { stack, at } = parser;

@@ -9,6 +9,7 @@ use Rattle.mc_tokens.specs.Contents.{stands_for}
 use Rattle.mc_tokens.specs.Tokens.{lexed, Tok, Fault}
 use Rattle.mc_tokens.specs.Items.{Piece, ends, Item, Faulty}
 use Rattle.mc_tokens.specs.Items as I
+use Rattle.mc_tokens.specs.Answers.{InOrder}
 use Rattle.mc_terms.specs.Lines.{line_at}
 use Rattle.mc_terms.specs.Lexemes.{lexemes}
 use Rattle.mc_terms.specs.code.Walked.{with_token, walked}
@@ -104,17 +105,6 @@ ended_at text before from at after end t tokens stop e c l h k s =
     (subst (λ u. AreItemTokens u from tokens t.kind t.end) e
     (ended before from at after t.kind t.start t.end tokens c (sym l) h)))
 
-pub goes_on_at : (behind before : List ℕ) (from at : ℕ) (after : Kind) (t : D.Token) (tokens more : List Lexeme) (line stop : ℕ) → behind ≡ before → Continues before from at after tokens → Tok t.kind t.start t.end ≡ lexed before at after
-    → ends t.kind ≡ false → t.text.now ≡ slice_range before t.start t.end
-    → line ≡ line_at behind t.start → stop ≡ t.end
-    → reverse more ≡ with_token (reverse tokens) t.kind (stands_for t.kind t.text.now) line
-    → Continues behind from stop t.kind more
-goes_on_at behind before from at after t tokens more line stop g c l h w n s m =
-    subst (λ stop. Continues behind from stop t.kind more) (sym s)
-    (subst (λ u. Continues u from t.end t.kind more) (sym g)
-    (goes_on before from at after t.kind t.start t.end tokens more c (sym l) h
-    (m ∙ (λ i. with_token (reverse tokens) t.kind (stands_for t.kind (w i)) ((n ∙ ap (λ u. line_at u t.start) g) i)))))
-
 -- where the tokens are no term
 pub not_a_term : (text walk shown : List ℕ) (at : ℕ) (ts : List Lexeme) (end : Kind) (stop line : ℕ) (first : D.Token) (r : ReadFault) → walk ≡ text → AreItemTokens walk at ts end stop → AreNoTerm ts end
     → Tok first.kind first.start first.end ≡ lexed text at Eof → (first.kind ≡ Eof → ⊥)
@@ -129,17 +119,24 @@ not_a_term text walk shown at ts end stop line first r e items none l k w n kind
       (first.kind, first.start, first.end, sym l, k, on ∙ n ∙ ap (λ u. line_at u first.start) (w ∙ e)),
     )
 
--- the place is behind the item's beginning, or nothing is read yet
-abbrev pub Past : (from at : ℕ) → Kind → Type 0
-Past from at after = ((at ≡ from) × (after ≡ Eof)) ⊎ (from < at)
+-- a token of the item, which is read next, behind the tokens so far
+pub record IsNext (text : List ℕ) (from : ℕ) (tokens : List Lexeme) (t : D.Token) : Type 0 where
+  pub at : ℕ
+  pub after : Kind
+  pub so_far : Continues text from at after tokens
+  pub is : Tok t.kind t.start t.end ≡ lexed text at after
+  pub bytes : t.text.now ≡ slice_range text t.start t.end
+  pub order : InOrder text at t
 
--- An item whose first token isn't the text's end ends behind the place where it begins.
-pub past_end : (text : List ℕ) (from at : ℕ) (after e : Kind) (start stop : ℕ) → ((start stop : ℕ) → lexed text from Eof ≢ Tok Eof start stop) → Past from at after → Tok e start stop ≡ lexed text at after
-    → at ≤ start → start ≤ stop → (e ≢ Eof → start < stop) → from < stop
-past_end text from at after e start stop begun (inr b) l h i n = omega (arith, b, h, i)
-past_end text from at after Eof start stop begun (inl p) l h i n =
-    absurd
-    (begun start stop
-    (subst (λ k. lexed text from k ≡ Tok Eof start stop) p.1
-    (subst (λ a. lexed text a after ≡ Tok Eof start stop) p.0 (sym l))))
-past_end text from at after e start stop begun (inl p) l h i n = grind arith
+module _ (text : List ℕ) (from : ℕ) (tokens more : List Lexeme) (t : D.Token) (line : ℕ) (n : IsNext text from tokens t) (h : ends t.kind ≡ false) (w : line ≡ line_at text t.start) (m : reverse more ≡ with_token (reverse tokens) t.kind (stands_for t.kind t.text.now) line) where
+  -- behind it, where it doesn't end the item
+  pub behind_next : Continues text from t.end t.kind more
+  behind_next =
+      goes_on text from n.at n.after t.kind t.start t.end tokens more n.so_far (sym n.is) h
+      (m ∙ (λ i. with_token (reverse tokens) t.kind (stands_for t.kind (n.bytes i)) (w i)))
+
+  -- the token behind it, where the text stays
+  pub next_after : (shown : List ℕ) (u : D.Token) → shown ≡ text → Tok u.kind u.start u.end ≡ lexed text t.end t.kind → u.text.now ≡ slice_range text u.start u.end → InOrder text t.end u → IsNext shown from more u
+  next_after shown u g is bytes order =
+      subst (λ text. IsNext text from more u) (sym g)
+      (record { at = t.end; after = t.kind; so_far = behind_next; is = is; bytes = bytes; order = order })

@@ -1,9 +1,10 @@
-ghost use Rattle.std.specs.Prelude.{◌≡◌, ◌≢◌, ◌+◌, ◌≤◌, ◌<◌, ◌^◌, ◌-◌, ◌∷◌, ◌++◌, [], length, reverse, OnOk, IfOk, IfErr, MatchOption, MatchResult, List, ℕ, IsTrue, false};
+ghost use Rattle.std.specs.Prelude.{◌≡◌, ◌≢◌, ◌+◌, ◌≤◌, ◌<◌, ◌^◌, ◌-◌, ◌∷◌, ◌++◌, [], length, reverse, OnOk, IfOk, IfErr, MatchOption, MatchResult, List, ℕ, IsTrue, false, slice_range};
 ghost use Rattle.mc_tokens.specs.Contents.{stands_for};
 ghost use Rattle.mc_terms.specs.Lines.{line_at};
 ghost use Rattle.mc_terms.specs.code.Walked.{qualifier, with_name, with_token, IsMark};
 ghost use Rattle.mc_term_parser.specs.declared.lexeme.Lexeme.{Lexeme};
-ghost use Rattle.mc_terms.specs.Answers.{AreItemTokens, IsRefused, IsOnward, StandsAt, item_line};
+ghost use Rattle.mc_terms.specs.Answers.{AreItemTokens, IsRefused, IsOnward, StandsAt};
+ghost use Rattle.mc_tokens.specs.Answers.{InOrder};
 ghost use Rattle.mc_tokens.specs.Tokens.{Tok, lexed};
 ghost use Rattle.mc_tokens.specs.Items.{Passes};
 ghost use Rattle.std.specs.Prelude.{None, Some};
@@ -14,6 +15,9 @@ use mc_base::{Memory, Row, Text};
 use mc_term_parser::Lexeme;
 use mc_tokens::{FaultKind, Kind, Token, TokenFault, Walk, token_text};
 use std::alloc::Global;
+
+// How many tokens of an item room is made for at once: a fact of three arguments has no more.
+const FEW_TOKENS: usize = 8;
 
 // The tokens of an item, and the position behind its end.
 #[derive(Drop)]
@@ -72,11 +76,15 @@ fn before_dot(alloc: Global, tokens: &mut Vec<Lexeme>) -> Result<Option<(Row<Tex
     Ok(None)
 }
 
-fn is_dot(token: &Lexeme) -> bool
-    ensures yes { IsTrue result → token.now ≡ Lexeme.Dot }
-    ensures no { result ≡ false → (done : List Lexeme) → qualifier (token.now ∷ done) ≡ None }
+// Whether the tokens end in a dot. Most end otherwise, and are left as they are.
+fn end_in_dot(tokens: &[Lexeme]) -> bool
+    ensures yes { IsTrue result → (front : List Lexeme) × (tokens.now ≡ front ++ Lexeme.Dot ∷ []) }
+    ensures no { result ≡ false → qualifier (reverse tokens.now) ≡ None }
 {
-    matches!(token, Lexeme::Dot)
+    match tokens {
+        [.., last] => matches!(last, Lexeme::Dot),
+        [] => false,
+    }
 }
 
 // Takes off the name that a dot goes on from, with its dot, where the tokens end so.
@@ -92,14 +100,11 @@ fn take_qualifier(
         (λ q.
         qualifier (reverse tokens.old.items) ≡ Some (q.0, q.1, reverse tokens.new.items))) }
 {
-    let Some(last) = tokens.pop() else {
+    if !end_in_dot(tokens.as_slice()) {
         return Ok(None);
-    };
-    if is_dot(&last) {
-        return before_dot(alloc, tokens);
     }
-    tokens.push(last)?;
-    Ok(None)
+    tokens.pop();
+    before_dot(alloc, tokens)
 }
 
 fn push_name(
@@ -224,18 +229,22 @@ pub fn faulty_token(walk: &mut Walk, from: Position, line: u32, fault: TokenFaul
     ItemFault { fault, at }
 }
 
-// The tokens of the item that begins in a position, with its first token on a line, up to its full
-// stop or the text's end.
-pub fn item_tokens(
+// The tokens of the item that begins in a position, by its first token, which begins in another, up
+// to its full stop or the text's end.
+pub fn item_tokens<'a>(
     alloc: Global,
-    walk: &mut Walk,
+    walk: &mut Walk<'a>,
     from: Position,
-    line: u32,
+    first: Token<'a>,
+    begin: Position,
 ) -> Result<ItemTokens, ItemFault>
     requires within { from.at ≤ length walk.old }
     requires line { from.line ≡ line_at walk.old from.at }
-    requires item { line ≡ item_line walk.old from.at }
-    requires begun { (start stop : ℕ) → lexed walk.old from.at Kind.Eof ≢ Tok Kind.Eof start stop }
+    requires first { Tok first.kind first.start first.end ≡ lexed walk.old from.at Kind.Eof }
+    requires bytes { first.text.now ≡ slice_range walk.old first.start first.end }
+    requires order { InOrder walk.old from.at first }
+    requires behind { from.at < first.end }
+    requires begin { (begin.at ≡ first.start) × (begin.line ≡ line_at walk.old first.start) }
     requires small { length walk.old < 2 ^ 32 - 1 }
     ensures whole { IfOk result
         (λ item.
@@ -255,30 +264,26 @@ pub fn item_tokens(
     ensures onward { IfErr result (λ f. IsOnward walk.old from.at f.fault.kind f.fault.next) }
     ensures same { walk.new ≡ walk.old }
 {
-    let mut tokens = Vec::new(alloc);
-    let mut place = from;
-    let mut after = Kind::Eof;
+    let Ok(mut tokens) = Vec::with_capacity(alloc, FEW_TOKENS) else {
+        return Err(want_of_memory(from));
+    };
+    let mut token = first;
+    let mut place = begin;
     'item: loop {
-        let token = match walk.next(place.at, &after) {
-            Ok(token) => token,
-            Err(fault) => return Err(faulty_token(walk, place, line, fault)),
-        };
-        let start = place.moved(walk.text(), token.start);
-        let end = start.moved(walk.text(), token.end);
         if token.kind.ends_item() {
-            let cut_off = is_eof(token.kind);
             return Ok(ItemTokens {
                 tokens,
-                end,
-                cut_off,
+                end: place.moved(walk.text(), token.end),
+                cut_off: is_eof(token.kind),
             });
         }
-        match push_token(alloc, &mut tokens, &token, start.line) {
-            Err(_) => return Err(want_of_memory(from)),
-            Ok(()) => {
-                place = end;
-                after = token.kind;
-            }
-        }
+        let Ok(()) = push_token(alloc, &mut tokens, &token, place.line) else {
+            return Err(want_of_memory(from));
+        };
+        token = match walk.next(token.end, &token.kind) {
+            Ok(next) => next,
+            Err(fault) => return Err(faulty_token(walk, place, begin.line, fault)),
+        };
+        place = place.moved(walk.text(), token.start);
     }
 }

@@ -99,8 +99,9 @@ pub fn read_next(
     if is_eof(first.kind) {
         return Ok(None);
     }
-    let line = from.moved(walk.text(), first.start).line;
-    let item = item_tokens(alloc, walk, from, line)?;
+    let begin = from.moved(walk.text(), first.start);
+    let line = begin.line;
+    let item = item_tokens(alloc, walk, from, first, begin)?;
     if item.cut_off {
         return Err(no_term(from.at, line, item.end.at));
     }

@@ -1,4 +1,4 @@
-use Rattle.std.proofs.Common.{◌≡◌, ◌∙◌, ◌∷◌, [], ◌&&◌, ap, sym, true, false}
+use Rattle.std.proofs.Common.{◌≡◌, ◌∙◌, [], ◌&&◌, ap, sym, true, false}
 use Rattle.std.proofs.lemmas.Result.{IfOk-weaker}
 use Rattle.mc_base.specs.NameSets.{put_all}
 use Rattle.mc_term_data.specs.Plain.{plain_term}
@@ -13,7 +13,7 @@ returns-then-not-is_head c =
     let h = plain_term c.args.head.now in
     let names = states_of h in
     let e : false ≡ is_head names h =
-    sym c.if-not-is_head.true ∙ c.is_head.ensures ∙ rw (c.in_ok-scope.ensures {u = tt}) (head_same (all_names (put_all [] names ∷ [])) names (headed names) h) in
+    sym c.if-not-is_head.true ∙ c.is_head.ensures ∙ rw (c.in_ok-scope.ensures {u = tt}) (head_same (put_all [] names) names (headed names) h) in
     ap (λ p. p && is_body names (plain_term c.args.body.now)) e
 
 pub returns : goal.returns
@@ -21,7 +21,7 @@ returns c =
     let h = plain_term c.args.head.now in
     let b = plain_term c.args.body.now in
     let names = states_of h in
-    let sets = all_names (put_all [] names ∷ []) in
+    let sets = put_all [] names in
     let e : true ≡ is_head names h =
     sym c.if-not-is_head.false ∙ c.is_head.ensures ∙ rw (c.in_ok-scope.ensures {u = tt}) (head_same sets names (headed names) h) in
     let f : is_body (all_names c.in_ok-scope.scope.sets.items) b ≡ is_rule h b =

@@ -1,10 +1,10 @@
-use Rattle.std.proofs.Common.{◌≡◌, ◌<◌, drop, false, sym, ap, ◌∙◌, subst}
+use Rattle.std.proofs.Common.{◌≡◌, ◌<◌, drop, false, sym, ap, ◌∙◌, subst, arith}
 use Rattle.mc_term_parser.specs.code.Machine as M
 use Rattle.mc_term_parser.specs.Part as P
 use Rattle.mc_term_parser.specs.code.Seen.{Seen}
 use Rattle.mc_term_parser.specs.code.Leads as Run
 use Rattle.mc_term_parser.specs.code.Views.{state, frames, reading}
-use Rattle.mc_term_parser.proofs.Falls.{weight, falls}
+use Rattle.mc_term_parser.proofs.Falls.{weight, falls, run_falls}
 use Rattle.mc_term_parser.proofs.Ends.{Runs, found_reads, none_reads, at_some, at_none, step_more}
 use Rattle.mc_term_parser.proofs.starting.read.Goals as goal
 
@@ -20,8 +20,7 @@ pub run-smaller : goal.run-smaller
 run-smaller c =
     let tokens = c.args.tokens.now in
     let s = state tokens c.run.machine in
-    subst (λ t. weight t < weight s) (sym c.in_ok-machine.ensures)
-    (falls s (sym (c.is_over.ensures tokens) ∙ c.run-test.true))
+    omega (arith, run_falls c.in_ok-machine.ensures, falls s (sym (c.is_over.ensures tokens) ∙ c.run-test.true))
 
 pub run-preserved : goal.run-preserved
 run-preserved c =

@@ -22,14 +22,14 @@ returns-in-Err-clause-stands c =
 
 pub returns-then-item-clause-refused : goal.returns-then-item-clause-refused
 returns-then-item-clause-refused c =
-    not_a_term c.args.walk.now c.next.new.self c.text-2.result.now c.args.from.at c.in_ok-item.item.tokens.items Eof c.in_ok-item.item.end.at c.moved-line-2.result.line c.in-Ok.first c.no_term.result.fault
-    c.next.ensures.same (c.in_ok-item.ensures.cut_off c.if-item.true) (inl refl) c.in-Ok.ensures.value (c.is_eof.ensures.no c.if-is_eof.false) c.text-2.ensures c.moved-line-2.ensures.line
+    not_a_term c.args.walk.now c.next.new.self c.text-2.result.now c.args.from.at c.in_ok-item.item.tokens.items Eof c.in_ok-item.item.end.at c.moved-begin.result.line c.in-Ok.first c.no_term.result.fault
+    c.next.ensures.same (c.in_ok-item.ensures.cut_off c.if-item.true) (inl refl) c.in-Ok.ensures.value (c.is_eof.ensures.no c.if-is_eof.false) c.text-2.ensures c.moved-begin.ensures.line
     c.no_term.ensures.kind c.no_term.ensures.line c.no_term.ensures.next
 
 pub returns-in-Ok-None-clause-refused : goal.returns-in-Ok-None-clause-refused
 returns-in-Ok-None-clause-refused c =
-    not_a_term c.args.walk.now c.next.new.self c.text-2.result.now c.args.from.at c.in_ok-item.item.tokens.items End c.in_ok-item.item.end.at c.moved-line-2.result.line c.in-Ok.first c.no_term-in-Ok-None.result.fault
+    not_a_term c.args.walk.now c.next.new.self c.text-2.result.now c.args.from.at c.in_ok-item.item.tokens.items End c.in_ok-item.item.end.at c.moved-begin.result.line c.in-Ok.first c.no_term-in-Ok-None.result.fault
     c.next.ensures.same (c.in_ok-item.ensures.whole c.if-item.false)
     (inr (subst (λ us. (t : Tree) → ReadsTerm us t 1200 → ⊥) c.as_slice.ensures.value (rw c.in-Ok-None.field-0-is at c.in-Ok-None.ensures.none)))
-    c.in-Ok.ensures.value (c.is_eof.ensures.no c.if-is_eof.false) c.text-2.ensures c.moved-line-2.ensures.line
+    c.in-Ok.ensures.value (c.is_eof.ensures.no c.if-is_eof.false) c.text-2.ensures c.moved-begin.ensures.line
     c.no_term-in-Ok-None.ensures.kind c.no_term-in-Ok-None.ensures.line c.no_term-in-Ok-None.ensures.next
