@@ -1,3 +1,4 @@
 pub mod Chosen
 pub mod Index
 pub mod Passes
+pub mod Searched

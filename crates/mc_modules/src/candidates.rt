@@ -3,10 +3,12 @@ ghost use Rattle.mc_defs_uses.specs.Plain.{id, qualifiers, last_part, plain_name
 ghost use Rattle.mc_linking.specs.Visible.{character};
 ghost use Rattle.mc_modules.specs.Linked.{plain_named, plain_names};
 ghost use Rattle.mc_modules.specs.Candidates.{defined_by, fits, fitting, fitting_in, is_module, named_so, looked_in, as_character, candidates};
+ghost use Rattle.mc_modules.specs.code.Searched.{modules_of};
 
 use crate::column::put_where;
 use crate::names::{Named, Names};
-use mc_base::{Copied, Memory, Row, Text};
+use crate::searched::Searched;
+use mc_base::{Memory, Row, Text};
 use mc_defs_uses::{Kind, NameArity, Occurrence};
 use mc_linking::{joined, sole_character};
 use mc_source::name::Candidate;
@@ -31,8 +33,8 @@ impl Names {
     {
         let used = Occurrence::of(Kind::Symbol, name.as_slice(), arity as usize);
         let mut all = Vec::new(alloc);
-        let modules = self.looked_in(alloc, own, used.qualifiers)?;
-        self.put_of_modules(own, modules.as_slice(), used.id, &mut all)?;
+        let searched = self.looked_in(alloc, own, used.qualifiers)?;
+        self.put_of_modules(own, searched.modules(), used.id, &mut all)?;
         put_character(used.qualifiers, used.id, &mut all)?;
         Row::of(all)
     }
@@ -63,22 +65,23 @@ impl Names {
         alloc: Global,
         own: u32,
         qualifiers: &[Text],
-    ) -> Result<Row<u32>, Memory>
+    ) -> Result<Searched<'_>, Memory>
         ensures { IfOk result
-            (λ all.
-            all
+            (λ searched.
+            modules_of searched
             ≡ looked_in (plain_names self.now) (slice_get self.now.scopes own)
             qualifiers.now) }
     {
         if own >= self.scopes.len() {
-            return Ok(Row::new(alloc));
+            return Ok(Searched::Unqualified(&[]));
         }
         let scope = self.scopes.get(own);
         if qualifiers.is_empty() {
-            return scope.unqualified.copied(alloc);
+            return Ok(Searched::Unqualified(scope.unqualified.as_slice()));
         }
         let name = joined(alloc, qualifiers)?;
-        self.named_so(alloc, &name, scope.seen.as_slice())
+        let modules = self.named_so(alloc, &name, scope.seen.as_slice())?;
+        Ok(Searched::Qualified(modules))
     }
 
     // Those of these modules that have a name.

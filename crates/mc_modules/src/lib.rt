@@ -11,6 +11,7 @@ mod names;
 mod numbered;
 mod part;
 mod scopes;
+mod searched;
 mod sorts;
 mod type_candidates;
 

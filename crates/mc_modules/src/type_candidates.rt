@@ -30,9 +30,9 @@ impl Names {
             (id (last_part name.now) arity)) }
     {
         let used = Occurrence::of(Kind::DefinedType, name.as_slice(), arity as usize);
-        let modules = self.looked_in(alloc, own, used.qualifiers)?;
+        let searched = self.looked_in(alloc, own, used.qualifiers)?;
         let types = self.types_of(alloc, used.id)?;
-        let seen = self.seen_in(alloc, own, modules.as_slice(), types.as_slice())?;
+        let seen = self.seen_in(alloc, own, searched.modules(), types.as_slice())?;
         Row::of(seen)
     }
 

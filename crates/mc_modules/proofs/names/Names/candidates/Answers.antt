@@ -18,9 +18,9 @@ returns c =
     let scope = slice_get c.args.self.now.scopes own in
     let u = plain_occurrence c.of-used.result in
     let e : u ∷ [] ≡ used K.Symbol w n = c.of-used.ensures ∙ ap (λ v. used K.Symbol v n) c.as_slice.ensures.items in
-    let modules : c.as_slice-2.result.now ≡ looked_in l scope u.qualifiers = c.as_slice-2.ensures.items ∙ (c.in_ok-modules.ensures {u = tt}) in
+    let modules : c.modules.result.now ≡ looked_in l scope u.qualifiers = c.modules.ensures ∙ (c.in_ok-searched.ensures {u = tt}) in
     let found : c.put_of_modules.new.all.items ≡ fitting_in l own u.id (looked_in l scope u.qualifiers) =
-    (c.in_ok-put_of_modules.ensures {u = tt}) ∙ ap (λ zs. zs ++ fitting_in l own u.id c.as_slice-2.result.now) c.new-all.ensures.items ∙ ap (fitting_in l own u.id) modules in
+    (c.in_ok-put_of_modules.ensures {u = tt}) ∙ ap (λ zs. zs ++ fitting_in l own u.id c.modules.result.now) c.new-all.ensures.items ∙ ap (fitting_in l own u.id) modules in
     let whole : c.put_character.new.all.items ≡ candidates l own (qualifiers w) (id (last_part w) n) =
     (c.in_ok-put_character.ensures {u = tt}) ∙ ap (λ zs. zs ++ as_character (character u.qualifiers u.id)) found
     ∙ ap (λ q. candidates l own q u.id) (qualifiers_are K.Symbol u w n e)

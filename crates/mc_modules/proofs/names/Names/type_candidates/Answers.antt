@@ -20,10 +20,10 @@ returns c =
     let u = plain_occurrence c.of-used.result in
     let js = looked_in l (slice_get c.args.self.now.scopes own) u.qualifiers in
     let e : u ∷ [] ≡ used K.DefinedType w n = c.of-used.ensures ∙ ap (λ v. used K.DefinedType v n) c.as_slice.ensures.items in
-    let modules : c.as_slice-2.result.now ≡ js = c.as_slice-2.ensures.items ∙ (c.in_ok-modules.ensures {u = tt}) in
-    let types : c.as_slice-3.result.now ≡ numbers_where (has_id u.id) 0 l.types = c.as_slice-3.ensures.value ∙ (c.in_ok-types.ensures {u = tt}) in
+    let modules : c.modules.result.now ≡ js = c.modules.ensures ∙ (c.in_ok-searched.ensures {u = tt}) in
+    let types : c.as_slice-2.result.now ≡ numbers_where (has_id u.id) 0 l.types = c.as_slice-2.ensures.value ∙ (c.in_ok-types.ensures {u = tt}) in
     let whole : c.in_ok-seen.seen.items ≡ type_candidates l own (qualifiers w) (id (last_part w) n) =
-    (c.in_ok-seen.ensures {u = tt}) ∙ ap (λ js. types_seen l own c.as_slice-3.result.now js) modules ∙ ap (λ ks. types_seen l own ks js) types
+    (c.in_ok-seen.ensures {u = tt}) ∙ ap (λ js. types_seen l own c.as_slice-2.result.now js) modules ∙ ap (λ ks. types_seen l own ks js) types
     ∙ seen_of_id l own u.id js
     ∙ ap (λ q. type_candidates l own q u.id) (qualifiers_are K.DefinedType u w n e)
     ∙ ap (λ x. type_candidates l own (qualifiers w) x) (id_is K.DefinedType u w n e) in
