@@ -94,6 +94,14 @@ module _ {X : Type 0} (f : X → TypeTerm) (xs : List X) (ps : List Ty) where
       ap (λ n. map f (drop n xs)) atx ∙ ap (map f) (drop-length xs)
       ∙ sym (ap (λ n. map (instance_of σ) (map plain_type (drop n ps))) atp ∙ ap (λ l. map (instance_of σ) (map plain_type l)) (drop-length ps))
 
+  -- by a test of that place
+  pub place_tested : (k : ℕ) (x : X) (p : Ty) (σ : Substitution) (W : Type 0) (b : Bool) → k < length xs → k < length ps → x ≡ get_or xs k x → p ≡ get_or ps k p → (IsTrue b ↔ (f x ≡ instance_of σ (plain_type p))) → (AreFrom k σ ↔ W) → (IsTrue b → AreFrom (k + 1) σ ↔ W) × (W → IsTrue b)
+  place_tested k x p σ W b ltx ltp isx isp test left =
+      let s = split k x p ltx ltp isx isp σ in (
+        λ told. (λ h. left.0 (s.1 (test.0 told, h)), λ w. (s.0 (left.1 w)).1),
+        λ w. test.1 (s.0 (left.1 w)).0,
+      )
+
   -- the substitutions that agree and under which what is left is an instance are those of a fact
   abbrev pub Left : ℕ → List Binding → (Substitution → Type 0) → Type 0
   Left k bs W = (σ : Substitution) → (Agrees σ bs × AreFrom k σ) ↔ W σ

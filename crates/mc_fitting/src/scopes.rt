@@ -9,11 +9,11 @@ use mc_goals::{push_all_occurring, push_all_variables, push_occurring, push_vari
 use mc_program::program::{Clause, Goal};
 use std::alloc::Global;
 
-/// Whether a clause's scopes are written out. A body that is one atom has none, and takes no memory.
+/// Whether a clause's scopes are written out. A body that is one atom, or none, has none, and takes no memory.
 pub(crate) fn clause_has_scopes(alloc: Global, clause: &Clause) -> Result<bool, Memory>
     ensures { IfOk result (λ b. IsTrue b ↔ ClauseHasScopes (plain_clause clause.now)) }
 {
-    if is_atom(&clause.body) {
+    if has_no_parts(&clause.body) {
         return Ok(true);
     }
     let mut outside = Vec::new(alloc);
@@ -22,13 +22,14 @@ pub(crate) fn clause_has_scopes(alloc: Global, clause: &Clause) -> Result<bool, 
 }
 
 /// Whether a goal has no goal inside, and so no scope.
-fn is_atom(goal: &Goal) -> bool
+fn has_no_parts(goal: &Goal) -> bool
     ensures { IsTrue result → (O Q : List ℕ) → ScopesIn O Q (plain_goal goal.now) }
 {
     match goal {
         Goal::True => true,
         Goal::Equal(_, _) => true,
         Goal::Call(_, _) => true,
+        Goal::Conj(goals) => goals.is_empty(),
         _ => false,
     }
 }
@@ -135,7 +136,7 @@ fn part_has_scopes(
         ↔ ScopesIn (outside.now ++ occurring_all (formulas (map plain_goal later.now))) around.now
         (plain_goal goal.now)) }
 {
-    if is_atom(goal) {
+    if has_no_parts(goal) {
         return Ok(true);
     }
     let mut outside = joined(alloc, outside, &[])?;

@@ -12,7 +12,7 @@ ghost use Rattle.mc_accepted.specs.Typing.{ConstantOf, TypedGoal, TypedGoals, co
 ghost use Rattle.mc_procs.specs.VariableTypes.{type_in};
 ghost use Rattle.mc_fitting.specs.TypedGoals.{IsTyped};
 
-use crate::instance::instances;
+use crate::instance::is_instance;
 use crate::listed::is_listed;
 use crate::matching::have_instance;
 use crate::variables::{are_alike, has_type, have_types, type_of};
@@ -67,7 +67,7 @@ pub(crate) fn is_typed(
         Flat::Some(_, inner) => is_typed(alloc, program, types, inner),
         Flat::Same(x, y) => Ok(are_alike(types, *x, *y)),
         Flat::Made(x, symbol, args) => {
-            made_is_typed(alloc, program, types, *x, *symbol, args.as_slice())
+            Ok(made_is_typed(program, types, *x, *symbol, args.as_slice()))
         }
         Flat::Const(x, value) => Ok(constant_is_typed(program, types, *x, value)),
         Flat::Call(pred, args) => call_is_typed(alloc, program, types, *pred, args.as_slice()),
@@ -136,53 +136,46 @@ fn call_is_typed(
 }
 
 /// Whether a constructor is one of its variable's type, and its arguments are of the types that it has there.
-fn made_is_typed(
-    alloc: Global,
-    program: &Program,
-    types: &[Ty],
-    x: u32,
-    symbol: u32,
-    args: &[u32],
-) -> Result<bool, Memory>
-    ensures { IfOk result (λ b. IsTrue b
+fn made_is_typed(program: &Program, types: &[Ty], x: u32, symbol: u32, args: &[u32]) -> bool
+    ensures { IsTrue result
         ↔ (constructor_types (plain_program program.now) symbol (type_in types.now x)
-        ≡ Some (map (type_in types.now) args.now))) }
+        ≡ Some (map (type_in types.now) args.now)) }
 {
-    let own = Ty::Var(x);
-    match type_of(types, x, &own) {
-        Ty::Union(u, inner) => {
-            of_union(alloc, program, types, symbol, *u, inner.as_slice(), args)
-        }
-        _ => Ok(false),
+    let place = x as usize;
+    if place >= types.len() {
+        return false;
+    }
+    match &types[place] {
+        Ty::Union(u, inner) => of_union(program, types, symbol, *u, inner.as_slice(), args),
+        _ => false,
     }
 }
 
 /// Whether a constructor is one of a union type, and its arguments are of the types that it has there.
 fn of_union(
-    alloc: Global,
     program: &Program,
     types: &[Ty],
     symbol: u32,
     union: u32,
     inner: &[Ty],
     args: &[u32],
-) -> Result<bool, Memory>
-    ensures { IfOk result (λ b. IsTrue b
+) -> bool
+    ensures { IsTrue result
         ↔ (constructor_types (plain_program program.now) symbol
         (union_type union (type_terms (map plain_type inner.now)))
-        ≡ Some (map (type_in types.now) args.now))) }
+        ≡ Some (map (type_in types.now) args.now)) }
 {
     if !lists(program, union, symbol) {
-        return Ok(false);
+        return false;
     }
     if symbol < program.symbols.len() {
         let constructor = program.symbols.get(symbol);
         if constructor.of_type != union {
-            return Ok(false);
+            return false;
         }
-        have_instances(alloc, types, args, inner, constructor.args.as_slice())
+        have_instances(types, args, inner, constructor.args.as_slice())
     } else {
-        Ok(union == 0 && args.is_empty())
+        union == 0 && args.is_empty()
     }
 }
 
@@ -194,18 +187,21 @@ fn lists(program: &Program, union: u32, symbol: u32) -> bool
 }
 
 /// Whether variables are of these types, with the arguments of their union type.
-fn have_instances(
-    alloc: Global,
-    types: &[Ty],
-    variables: &[u32],
-    inner: &[Ty],
-    patterns: &[Ty],
-) -> Result<bool, Memory>
-    ensures { IfOk result (λ b. IsTrue b
+fn have_instances(types: &[Ty], variables: &[u32], inner: &[Ty], patterns: &[Ty]) -> bool
+    ensures { IsTrue result
         ↔ (map (type_in types.now) variables.now
         ≡ map (instance_of (type_at (type_terms (map plain_type inner.now))))
-        (map plain_type patterns.now))) }
+        (map plain_type patterns.now)) }
 {
-    let expected = instances(alloc, inner, patterns)?;
-    Ok(have_types(types, variables, expected.as_slice()))
+    if variables.len() != patterns.len() {
+        return false;
+    }
+    for place in 0..variables.len() {
+        let own = Ty::Var(variables[place]);
+        let t = type_of(types, variables[place], &own);
+        if !is_instance(inner, &patterns[place], t) {
+            return false;
+        }
+    }
+    true
 }

@@ -1,9 +1,10 @@
 ghost use Rattle.std.specs.Prelude.{◌≡◌, ◌<◌, ◌^◌, ◌++◌, map, IfOk, OnOk};
+ghost use Rattle.mc_program.specs.Programs.{expressions, Call, Exists, If, Not, Or};
 ghost use Rattle.mc_program.specs.PlainPrograms.{plain_expression, plain_goal, formulas};
 ghost use Rattle.mc_model.specs.PlainGoals.{plain_flat};
-ghost use Rattle.mc_accepted.specs.Normal.{around, conjunction, all_disjuncts, disjuncts, one_or_and, equate, equation, conjuncts_of, disjuncts_of};
+ghost use Rattle.mc_accepted.specs.Normal.{around, conjunction, all_disjuncts, disjuncts, one_or_and, equate, equation, conjuncts_of, disjuncts_of, name_terms};
 ghost use Rattle.mc_goals.specs.code.Numbering.{number_at};
-ghost use Rattle.mc_goals.specs.code.Naming.{held, followed, numbered, variable_in};
+ghost use Rattle.mc_goals.specs.code.Naming.{held, followed, with_goal, goal_over, added, numbered, variable_in};
 
 use crate::building::{Building, Head};
 use crate::numbers::Numbers;
@@ -35,37 +36,108 @@ pub fn add_goal(
             }
             Ok(())
         }
-        Goal::Disj(goals) => {
-            let disjuncts = either(alloc, numbers, into, goals.as_slice())?;
-            into.add(Flat::Disj(Row::of(disjuncts)?))
-        }
+        Goal::Disj(goals) => add_disjunction(alloc, numbers, into, goals.as_slice()),
         Goal::Ite(vars, condition, then_part, else_part) => {
-            let vars = numbers.all(alloc, vars.as_slice())?;
-            let condition = enclosed(alloc, numbers, into, condition)?;
-            let then_part = enclosed(alloc, numbers, into, then_part)?;
-            let else_part = enclosed(alloc, numbers, into, else_part)?;
-            into.add(Flat::Ite(
-                Row::of(vars)?,
-                Box::new(alloc, condition)?,
-                Box::new(alloc, then_part)?,
-                Box::new(alloc, else_part)?,
-            ))
+            let vars = vars.as_slice();
+            add_choice(alloc, numbers, into, vars, condition, then_part, else_part)
         }
-        Goal::Not(goal) => {
-            let goal = enclosed(alloc, numbers, into, goal)?;
-            into.add(Flat::Not(Box::new(alloc, goal)?))
-        }
-        Goal::Some(vars, goal) => {
-            let vars = numbers.all(alloc, vars.as_slice())?;
-            let inner = inside(alloc, numbers, into, goal)?;
-            into.add(inner.under(alloc, vars)?)
-        }
+        Goal::Not(goal) => add_negation(alloc, numbers, into, goal),
+        Goal::Some(vars, goal) => add_quantified(alloc, numbers, into, vars.as_slice(), goal),
         Goal::Equal(left, right) => add_equation(alloc, numbers, into, left, right),
-        Goal::Call(pred, args) => {
-            let args = named_all(alloc, numbers, into, args.as_slice())?;
-            into.call(*pred, args)
-        }
+        Goal::Call(pred, args) => add_call(alloc, numbers, into, *pred, args.as_slice()),
     }
+}
+
+/// Puts a disjunction at the end.
+#[cycle(goals)]
+fn add_disjunction(
+    alloc: Global,
+    numbers: &Numbers,
+    into: &mut Building,
+    goals: &[Goal],
+) -> Result<(), Memory>
+    ensures { OnOk result (held into.new ≡ followed (held into.old)
+        (conjuncts_of (number_at numbers.now) (held into.old).next
+        (Or (formulas (map plain_goal goals.now))))) }
+{
+    let disjuncts = either(alloc, numbers, into, goals)?;
+    into.add(Flat::Disj(Row::of(disjuncts)?))
+}
+
+/// Puts a choice at the end.
+#[cycle(goals)]
+fn add_choice(
+    alloc: Global,
+    numbers: &Numbers,
+    into: &mut Building,
+    vars: &[u32],
+    condition: &Goal,
+    then_part: &Goal,
+    else_part: &Goal,
+) -> Result<(), Memory>
+    ensures { OnOk result (held into.new ≡ followed (held into.old)
+        (conjuncts_of (number_at numbers.now) (held into.old).next
+        (If vars.now (plain_goal condition.now) (plain_goal then_part.now) (plain_goal else_part.now)))) }
+{
+    let vars = numbers.all(alloc, vars)?;
+    let condition = enclosed(alloc, numbers, into, condition)?;
+    let then_part = enclosed(alloc, numbers, into, then_part)?;
+    let else_part = enclosed(alloc, numbers, into, else_part)?;
+    into.add(Flat::Ite(
+        Row::of(vars)?,
+        Box::new(alloc, condition)?,
+        Box::new(alloc, then_part)?,
+        Box::new(alloc, else_part)?,
+    ))
+}
+
+/// Puts a negation at the end.
+#[cycle(goals)]
+fn add_negation(
+    alloc: Global,
+    numbers: &Numbers,
+    into: &mut Building,
+    goal: &Goal,
+) -> Result<(), Memory>
+    ensures { OnOk result (held into.new ≡ followed (held into.old)
+        (conjuncts_of (number_at numbers.now) (held into.old).next (Not (plain_goal goal.now)))) }
+{
+    let goal = enclosed(alloc, numbers, into, goal)?;
+    into.add(Flat::Not(Box::new(alloc, goal)?))
+}
+
+/// Puts a goal at the end over which variables are quantified.
+#[cycle(goals)]
+fn add_quantified(
+    alloc: Global,
+    numbers: &Numbers,
+    into: &mut Building,
+    vars: &[u32],
+    goal: &Goal,
+) -> Result<(), Memory>
+    ensures { OnOk result (held into.new ≡ followed (held into.old)
+        (conjuncts_of (number_at numbers.now) (held into.old).next
+        (Exists vars.now (plain_goal goal.now)))) }
+{
+    let vars = numbers.all(alloc, vars)?;
+    let inner = inside(alloc, numbers, into, goal)?;
+    into.add(inner.under(alloc, vars)?)
+}
+
+/// Puts a call at the end, behind the goals that define its arguments.
+fn add_call(
+    alloc: Global,
+    numbers: &Numbers,
+    into: &mut Building,
+    pred: u32,
+    args: &[Expr],
+) -> Result<(), Memory>
+    ensures { OnOk result (held into.new ≡ followed (held into.old)
+        (conjuncts_of (number_at numbers.now) (held into.old).next
+        (Call pred (expressions (map plain_expression args.now))))) }
+{
+    let args = named_all(alloc, numbers, into, args)?;
+    into.call(pred, args)
 }
 
 /// A conjunction of its own, with the variables that were made for it, which nothing quantifies yet.
@@ -248,13 +320,30 @@ pub fn add_equated(
         Expr::Int(n) => into.add(Flat::Const(variable, Value::Int(*n))),
         Expr::Char(c) => into.add(Flat::Const(variable, Value::Char(*c))),
         Expr::Str(t) => into.add(Flat::Const(variable, Value::Str(t.copied(alloc)?))),
-        Expr::Con(symbol, args) => {
-            let args = named_all(alloc, numbers, into, args.as_slice())?;
-            into.add(Head::Con(*symbol).goal(variable, args)?)
-        }
+        Expr::Con(symbol, args) => match args.as_slice() {
+            [] => into.add(Flat::Made(variable, *symbol, Row::new(alloc))),
+            args => add_over(alloc, numbers, into, variable, Head::Con(*symbol), args),
+        },
         Expr::Apply(function, args) => {
-            let args = named_all(alloc, numbers, into, args.as_slice())?;
-            into.add(Head::Apply(*function).goal(variable, args)?)
+            let head = Head::Apply(*function);
+            add_over(alloc, numbers, into, variable, head, args.as_slice())
         }
     }
+}
+
+/// Puts the goal at the end that gives a variable the value of a head over terms, behind the goals that define these.
+fn add_over(
+    alloc: Global,
+    numbers: &Numbers,
+    into: &mut Building,
+    variable: u32,
+    head: Head,
+    terms: &[Expr],
+) -> Result<(), Memory>
+    ensures { OnOk result
+        (let r = name_terms (number_at numbers.now) (held into.old).next (expressions (map plain_expression terms.now)) in
+        held into.new ≡ with_goal (goal_over head variable r.variables) (followed (held into.old) (added r))) }
+{
+    let args = named_all(alloc, numbers, into, terms)?;
+    into.add(head.goal(variable, args)?)
 }

@@ -1,4 +1,4 @@
-ghost use Rattle.std.specs.Prelude.{◌≡◌, ◌<◌, ◌^◌, ◌++◌, map, IfOk, OnOk};
+ghost use Rattle.std.specs.Prelude.{◌≡◌, ℕ, List, ◌<◌, ◌^◌, ◌++◌, map, IsTrue, IfOk, OnOk};
 ghost use Rattle.mc_program.specs.Programs.{If};
 ghost use Rattle.mc_program.specs.PlainPrograms.{plain_goal, plain_clause, formulas};
 ghost use Rattle.mc_accepted.specs.Scope as scope;
@@ -12,24 +12,56 @@ use mc_program::expr::{Expr, copy_expr};
 use mc_program::program::{Clause, Goal};
 use std::alloc::Global;
 
-/// The clause with its scopes written out, the variables of its head being outside its body.
-pub fn scoped_clause(alloc: Global, clause: &Clause) -> Result<Clause, Memory>
-    ensures scoped { IfOk result (λ made. plain_clause made
-        ≡ clause_scoped (plain_clause clause.now)) }
-    ensures variables { IfOk result (λ made. made.vars ≡ clause.now.vars) }
-    ensures place { IfOk result (λ made. made.place ≡ clause.now.place) }
+/// The clause with its scopes written out, the variables of its head being outside its body. Its head stays, and so does a
+/// body that has no scopes, as that of a fact.
+pub fn scoped_clause(alloc: Global, clause: Clause) -> Result<Clause, Memory>
+    ensures scoped { IfOk result (λ made. plain_clause made ≡ clause_scoped (plain_clause clause)) }
+    ensures variables { IfOk result (λ made. made.vars ≡ clause.vars) }
+    ensures place { IfOk result (λ made. made.place ≡ clause.place) }
+{
+    if has_no_parts(&clause.body) {
+        return Ok(clause);
+    }
+    let body = scoped_body(alloc, &clause)?;
+    let Clause {
+        vars,
+        head,
+        place,
+        ..
+    } = clause;
+    Ok(Clause {
+        vars,
+        head,
+        body,
+        place,
+    })
+}
+
+/// Whether a goal has no goal inside, and so no scope.
+fn has_no_parts(goal: &Goal) -> bool
+    ensures { IsTrue result → (O : List ℕ)
+        → scope.scoped O (plain_goal goal.now) ≡ plain_goal goal.now }
+{
+    match goal {
+        Goal::True => true,
+        Goal::Equal(_, _) => true,
+        Goal::Call(_, _) => true,
+        Goal::Conj(goals) => goals.is_empty(),
+        _ => false,
+    }
+}
+
+/// The body of a clause with its scopes written out.
+fn scoped_body(alloc: Global, clause: &Clause) -> Result<Goal, Memory>
+    ensures { IfOk result (λ body. plain_goal body
+        ≡ (clause_scoped (plain_clause clause.now)).body) }
 {
     let mut variables = Vec::new(alloc);
     push_all_variables(&mut variables, clause.head.as_slice())?;
     let mut outside = Outside::nothing(alloc);
     outside.add_all(variables.as_slice())?;
     let body = scoped_goal(alloc, &mut outside, &clause.body)?;
-    Ok(Clause {
-        vars: clause.vars,
-        head: copied_terms(alloc, clause.head.as_slice())?,
-        body,
-        place: clause.place,
-    })
+    Ok(body)
 }
 
 /// Other terms that are the same.

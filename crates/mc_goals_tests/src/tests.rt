@@ -208,7 +208,7 @@ fn shown(alloc: Global, arity: u32, clauses: &Row<Resolved>) -> Vec<u8> {
 }
 
 /// The same of one clause, after its scopes were written out.
-fn shown_scoped(alloc: Global, arity: u32, clause: &Clause) -> Vec<u8> {
+fn shown_scoped(alloc: Global, arity: u32, clause: Clause) -> Vec<u8> {
     match scoped_clause(alloc, clause) {
         Ok(clause) => shown(alloc, arity, &one(alloc, resolved(alloc, clause))),
         Err(_) => Vec::new(alloc),
@@ -269,7 +269,7 @@ fn negations_quantify(rt: HostRuntime) {
     let alloc = rt.alloc();
     let negation = not(alloc, call(alloc, 0, &[0, 1]));
     let body = Goal::Conj(two(alloc, negation, call(alloc, 1, &[1])));
-    let out = shown_scoped(alloc, 0, &clause(2, Row::new(alloc), body));
+    let out = shown_scoped(alloc, 0, clause(2, Row::new(alloc), body));
     assert_eq!(rt; out.as_slice(), b"and(not some[0] p0[01] p1[1])".as_slice());
 }
 
@@ -282,7 +282,7 @@ fn each_kind_of_goal(rt: HostRuntime) {
     let quantified = some(alloc, 2, call(alloc, 0, &[2, 2]));
     let equation = Goal::Equal(Expr::Int(3), Expr::Int(4));
     let body = Goal::Conj(two(alloc, choice(alloc, condition, quantified), equation));
-    let out = shown_scoped(alloc, 1, &clause(3, terms(alloc, &[0]), body));
+    let out = shown_scoped(alloc, 1, clause(3, terms(alloc, &[0]), body));
     assert_eq!(rt;
         out.as_slice(),
         b"and(if[1]and( p0[01]not  p1[1])truesome[2] p0[22] c3 c3)".as_slice()
@@ -297,7 +297,7 @@ fn outside_a_negation(rt: HostRuntime) {
     let member = Goal::Call(0, two(alloc, Expr::Var(0), nil));
     let equation = Goal::Equal(Expr::Var(0), Expr::Int(3));
     let body = Goal::Conj(two(alloc, equation, not(alloc, member)));
-    let out = shown_scoped(alloc, 0, &clause(1, Row::new(alloc), body));
+    let out = shown_scoped(alloc, 0, clause(1, Row::new(alloc), body));
     assert_eq!(rt;
         out.as_slice(),
         b"and( c0not some[1]and( m15[] p0[01]))".as_slice()

@@ -28,9 +28,13 @@ pub fn whole_clause(
         ≡ whole.whole_clause (held definitions.now) (typed_clause resolved)) }
     ensures place { IfOk result (λ made. made.clause.place ≡ resolved.clause.place) }
 {
-    let clause = scoped_clause(alloc, &resolved.clause)?;
-    let var_types = whole_types(alloc, definitions, &resolved.var_types, room)?;
-    let Resolved { var_names, .. } = resolved;
+    let Resolved {
+        clause,
+        var_types,
+        var_names,
+    } = resolved;
+    let clause = scoped_clause(alloc, clause)?;
+    let var_types = whole_types(alloc, definitions, var_types, room)?;
     Ok(Resolved {
         clause,
         var_types,
@@ -54,9 +58,13 @@ pub fn whole_query(
         ≡ whole.whole_query (held definitions.now) (typed_clause resolved)) }
     ensures place { IfOk result (λ made. made.clause.place ≡ resolved.clause.place) }
 {
-    let clause = query_clause(alloc, &resolved.clause, &resolved.var_names)?;
-    let var_types = whole_types(alloc, definitions, &resolved.var_types, room)?;
-    let Resolved { var_names, .. } = resolved;
+    let Resolved {
+        clause,
+        var_types,
+        var_names,
+    } = resolved;
+    let clause = query_clause(alloc, &clause, &var_names)?;
+    let var_types = whole_types(alloc, definitions, var_types, room)?;
     Ok(Resolved {
         clause,
         var_types,
@@ -64,16 +72,19 @@ pub fn whole_query(
     })
 }
 
-/// Types without equivalences.
+/// Types without equivalences. Most clauses are facts, and have no variables that have any.
 fn whole_types(
     alloc: Global,
     definitions: &[Option<Ty>],
-    types: &Row<Ty>,
+    types: Row<Ty>,
     room: &mut Room,
 ) -> Result<Row<Ty>, Memory>
     ensures { IfOk result (λ all. map plain_type all
-        ≡ map (replaced (held definitions.now)) (map plain_type types.now)) }
+        ≡ map (replaced (held definitions.now)) (map plain_type types)) }
 {
+    if types.is_empty() {
+        return Ok(types);
+    }
     let mut all = Vec::with_capacity(alloc, types.as_slice().len())?;
     for one in types.as_slice() {
         all.push(with_definitions(alloc, definitions, one, room)?)?;

@@ -14,21 +14,37 @@ pub fn by_number<T: Drop>(
     ensures rows { IfOk result (λ rows. (p : ℕ) → p < count
         → get_or rows.items p [] ≡ of_number p numbered.items) }
 {
-    let mut rows = empty_rows(alloc, count)?;
+    let counts = how_many(alloc, count, numbered.as_slice())?;
+    let mut rows = empty_rows(alloc, counts.as_slice())?;
     for (number, one) in numbered {
         put(&mut rows, number, one)?;
     }
     Ok(rows)
 }
 
-// So many rows without elements.
-fn empty_rows<T: Drop>(alloc: Global, count: u32) -> Result<Vec<Row<T>>, Memory>
-    ensures count { IfOk result (λ rows. length rows.items ≡ count) }
+// By number, how many have it. They are counted so that no row has to grow.
+fn how_many<T>(alloc: Global, count: u32, numbered: &[(u32, T)]) -> Result<Vec<usize>, Memory>
+    ensures { IfOk result (λ counts. length counts.items ≡ count) }
+{
+    let mut counts = Vec::from_elem(alloc, 0usize, count as usize)?;
+    for (number, _) in numbered {
+        let k = *number as usize;
+        if k < counts.len() {
+            counts[k] = counts[k].saturating_add(1);
+        }
+    }
+    Ok(counts)
+}
+
+// Rows without elements, with room for so many.
+fn empty_rows<T: Drop>(alloc: Global, counts: &[usize]) -> Result<Vec<Row<T>>, Memory>
+    ensures count { IfOk result (λ rows. length rows.items ≡ length counts.now) }
     ensures rows { IfOk result (λ rows. (p : ℕ) → get_or rows.items p [] ≡ []) }
 {
-    let mut rows = Vec::with_capacity(alloc, count as usize)?;
-    for _ in 0..count {
-        rows.push(Row::new(alloc))?;
+    let mut rows = Vec::with_capacity(alloc, counts.len())?;
+    for count in counts {
+        let room = Vec::with_capacity(alloc, *count)?;
+        rows.push(Row::from_vec(room))?;
     }
     Ok(rows)
 }

@@ -9,10 +9,10 @@ use Rattle.mc_fitting.specs.code.WrittenScopes.{ScopesIn}
 use Rattle.mc_fitting.proofs.Scoping.{scopes_told}
 use Rattle.mc_fitting.proofs.scopes.clause_has_scopes.Goals as goal
 
-pub returns-then-is_atom : goal.returns-then-is_atom
-returns-then-is_atom c =
+pub returns-then-has_no_parts : goal.returns-then-has_no_parts
+returns-then-has_no_parts c =
     let O = variables_in_all (expressions (map plain_expression c.args.clause.now.head)) in
-    (λ h. (scopes_told O [] (plain_goal c.args.clause.now.body)).0 (c.is_atom.ensures c.if-is_atom.true O []), λ h. refl)
+    (λ h. (scopes_told O [] (plain_goal c.args.clause.now.body)).0 (c.has_no_parts.ensures c.if-has_no_parts.true O []), λ h. refl)
 
 pub returns : goal.returns
 returns c =

@@ -1,4 +1,3 @@
-use Rattle.std.proofs.lemmas.Result.{IfOk-weaker}
 use Rattle.std.proofs.Common.{◌∙◌, Some, List, [], map, sym, ap, arith}
 use Rattle.mc_program.specs.Programs.{Constructor}
 use Rattle.mc_program.specs.PlainPrograms.{plain_program, plain_type, type_terms}
@@ -21,9 +20,8 @@ returns-else-constructor-union c =
     let ts = type_terms (map plain_type c.args.inner.now) in
     let there = symbol_there c.args.program.now c.args.symbol c.get-constructor.result.now (omega arith) c.get-constructor.ensures in
     let made = arguments_there P c.args.symbol c.args.union ts (c.lists.ensures.0 c.if-not-lists.false) (ap (λ (d : Constructor). d.of_type) there ∙ omega arith) in
-    IfOk-weaker c.have_instances.result _ _
-    (λ b m. some_told _ _ (map (type_in c.args.types.now) c.args.args.now) b
-    (made ∙ ap (λ (d : Constructor). Some (map (instance_of (type_at ts)) d.args)) there ∙ ap (λ (l : List Ty). Some (map (instance_of (type_at ts)) (map plain_type l))) (sym c.as_slice.ensures.items)) m)
+    some_told _ _ (map (type_in c.args.types.now) c.args.args.now) c.have_instances.result
+    (made ∙ ap (λ (d : Constructor). Some (map (instance_of (type_at ts)) d.args)) there ∙ ap (λ (l : List Ty). Some (map (instance_of (type_at ts)) (map plain_type l))) (sym c.as_slice.ensures.items))
     c.have_instances.ensures
 
 pub returns-then-union-eq0 : goal.returns-then-union-eq0

@@ -6,4 +6,4 @@ use Rattle.mc_whole.proofs.clauses.whole_types.Given as goal
 
 abbrev pub invariant-loop-one : goal.invariant-loop-one
 invariant-loop-one l =
-    map plain_type l.all.items ≡ map (replaced (held l.definitions)) (map plain_type (take l.one-index l.types))
+    map plain_type l.all.items ≡ map (replaced (held l.definitions)) (map plain_type (take l.one-index l.fn.types))
