@@ -101,6 +101,10 @@ def candidates(n):
 def rows(n):
     return heading() + ":- pred f(int::out, int::out) is multi.\n:- implementation.\n" + "".join("f(%d, %d).\n" % (k, k + 1) for k in range(n))
 
+def long_list(n):
+    """A list of n numbers in one clause."""
+    return (heading("list") + ":- pred p(list(int)::out) is det.\n:- implementation.\np([" + ", ".join(str(k) for k in range(n)) + "]).\n")
+
 def predicates(n):
     """Small predicates with rules, each over the one before."""
     text = heading("int") + ":- pred p0(int::in, int::out) is det.\n:- implementation.\np0(X, X).\n"
@@ -162,6 +166,8 @@ measure("200000 facts", rows(200000), 4)
 typed = min(measure("200000 facts, up to a rule of types", facts(200000, "q(X, Y) :- X = Y, X = 3.\n"), 4, 1) for _ in range(3))
 moded = min(measure("200000 facts, up to a rule of modes", facts(200000, "q(X, Y) :- X = X.\n"), 4, 1) for _ in range(3))
 on_top("their modes, on top of their types", 200000, typed, moded, 1, 300)
+for n in (4000, 16000, 64000):
+    measure("a list of %d numbers in one clause" % n, long_list(n), 2)
 measure("10000 predicates with rules", predicates(10000), 2)
 sys.exit(0 if ok else 1)
 PY
