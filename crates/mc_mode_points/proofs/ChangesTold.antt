@@ -150,6 +150,32 @@ module _ (es : List (ℕ × ℕ)) (up : IsNonDecreasingBy (λ (e : ℕ × ℕ). 
   pub told-all : (next k n : ℕ) → length es ≤ k → DoneBelow next k es → next ≤ n → changes_from other_node 0 n (rewound es c) c ≡ changes_from other_node 0 next (rewound es c) c
   told-all next k n h r l = changes-skip next n (rewound es c) c l (λ y p q. behind-all next k h r y p)
 
+-- one inst was replaced
+pub changed-alone : (n x was : ℕ) (c : Point ℕ) → x < n → changes_from other_node 0 n (rewound ((x, was) ∷ []) c) c ≡ with_change x (other_node was (c x)) []
+changed-alone n x was c h =
+    let es : List (ℕ × ℕ) = (x, was) ∷ [] in
+    let none : DoneBelow 0 0 es = record { done = λ j d l. absurd (omega arith) } in
+    told-all es one-up c (x + 1) 1 n (omega arith) (done-next es one-up c 0 0 (0, 0) (omega arith) none (omega arith)) (omega arith)
+    ∙ sym (told-next es one-up c 0 0 (0, 0) [] (with_change x (other_node was (c x)) []) (omega arith) none (omega arith) refl refl)
+  where
+    one-up : IsNonDecreasingBy (λ (e : ℕ × ℕ). e.0) ((x, was) ∷ [])
+    one-up i j a l m = let e : i ≡ j = omega arith in omega (arith, ap (λ k. (get_or ((x, was) ∷ []) k a).0) e)
+
+pub other-same : (was i : ℕ) → was ≡ i → other_node was i ≡ None
+other-same was i e = ap (λ b. if b then None else Some i) (eq-eqb was i e)
+
+pub other-else : (was i : ℕ) → (was ≡ i → ⊥) → other_node was i ≡ Some i
+other-else was i e = at (nat_eq was i) refl
+  where
+    at : (b : Bool) → nat_eq was i ≡ b → other_node was i ≡ Some i
+    at true h = absurd (e (eqb-true was i h))
+    at false h = ap (λ b. if b then None else Some i) h
+
+pub only-one : (es : List (ℕ × ℕ)) → length es ≡ 1 → es ≡ get_or es 0 (0, 0) ∷ []
+only-one [] h = absurd (omega arith)
+only-one (e ∷ []) h = refl
+only-one (e ∷ f ∷ es) h = absurd (omega arith)
+
 -- what was replaced since a moment leads back to its insts
 pub led-back : (s t : State) (log : ℕ) (es : List (ℕ × ℕ)) → LeadsBack s t → length s.log.items ≡ log
     → ((x : ℕ) → rewound es (point_of t.insts.items) x ≡ rewound (drop log t.log.items) (point_of t.insts.items) x) → rewound es (point_of t.insts.items) ≡ point_of s.insts.items

@@ -1,4 +1,5 @@
 pub mod TableKeys
+pub mod TableParts
 pub mod Rewinds
 pub mod Numbers
 pub mod OverDefined

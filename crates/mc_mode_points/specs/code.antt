@@ -7,3 +7,4 @@ pub mod Shapes
 pub mod Applying
 pub mod Entries
 pub mod Columns
+pub mod Bare

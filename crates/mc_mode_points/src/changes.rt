@@ -1,20 +1,22 @@
-ghost use Rattle.std.specs.Prelude.{◌≡◌, ◌<◌, ◌∷◌, ◌++◌, [], ℕ, length, map, drop, IfOk, OnOk};
+ghost use Rattle.std.specs.Prelude.{◌≡◌, ◌<◌, ◌∷◌, ◌++◌, [], ℕ, false, length, map, drop, IfOk, OnOk};
 ghost use Rattle.std.specs.Bool.{OnTrue};
 ghost use Rattle.std.specs.List.{All};
 ghost use Rattle.std.specs.List.Sorted.{IsNonDecreasingBy};
-ghost use Rattle.mc_model.specs.Scheduled.{nodes, node_then, no_nodes};
+ghost use Rattle.mc_source.specs.Determinism.{inferred, det};
+ghost use Rattle.mc_model.specs.Scheduled.{node, nodes, node_then, no_nodes};
 ghost use Rattle.mc_model.specs.PlainGoals.{plain_node, plain_sched};
-ghost use Rattle.mc_accepted.specs.Arranged.{alone, changes_from, changing, with_change};
+ghost use Rattle.mc_accepted.specs.Arranged.{alone, changes, changes_from, changing, with_change};
 ghost use Rattle.mc_accepted.specs.Chosen.{Chosen, of_nodes, other_node};
 ghost use Rattle.mc_mode_points.specs.States.{point_of, rewound, LogWithin, LeadsBack};
 ghost use Rattle.mc_mode_points.specs.Answers.{end_of};
 ghost use Rattle.mc_mode_points.specs.declared.state.State.{State};
 
-use crate::part::{Part, unmarked};
+use crate::part::Part;
 use crate::state::State;
 use mc_base::{Memory, Row};
 use mc_model::inst::InstId;
 use mc_model::sched::{GoalNode, Sched};
+use mc_source::det::{Det, Most};
 use std::alloc::Global;
 
 /// The one goal of a row that holds no other.
@@ -41,6 +43,22 @@ fn are_in_order(replaced: &[(u32, InstId)]) -> bool
         last = e.0;
     }
     true
+}
+
+/// A goal that changes these insts, without what is told of it later.
+fn changing(goal: Sched, changes: Row<(u32, InstId)>) -> GoalNode
+    ensures { plain_node result ≡ node (plain_sched goal) changes (inferred det) false }
+{
+    GoalNode {
+        goal,
+        changes,
+        det: Det {
+            can_fail: false,
+            most: Most::One,
+            committed: false,
+        },
+        pruned: false,
+    }
 }
 
 impl State {
@@ -99,6 +117,20 @@ impl State {
         Ok(row)
     }
 
+    /// The same, where one inst was replaced.
+    fn change_of(&self, alloc: Global, x: u32, was: InstId) -> Result<Row<(u32, InstId)>, Memory>
+        requires { x < length self.now.insts.items }
+        ensures { IfOk result (λ row. row ≡ changes_from other_node 0 (length self.now.insts.items)
+            (rewound ((x, was) ∷ []) (point_of self.now.insts.items)) (point_of self.now.insts.items)) }
+    {
+        let inst = self.inst(x);
+        if inst == was {
+            return Ok(Row::new(alloc));
+        }
+        let changes = vec![in alloc; (x, inst)]?;
+        Ok(Row::from_vec(changes))
+    }
+
     /// What variables have other insts than when the log had this length: each with the inst that it has now, in order of
     /// variables.
     pub fn changes_since(&self, alloc: Global, log: usize) -> Result<Row<(u32, InstId)>, Memory>
@@ -109,6 +141,10 @@ impl State {
     {
         let start = log.min(self.log.len());
         let latest = &self.log[start..];
+        if latest.len() == 1 {
+            let row = self.change_of(alloc, latest[0].0, latest[0].1)?;
+            return Ok(row);
+        }
         if are_in_order(latest) {
             let row = self.changes_of(alloc, latest)?;
             return Ok(row);
@@ -116,6 +152,25 @@ impl State {
         let replaced = self.replaced_since(alloc, log)?;
         let row = self.changes_of(alloc, replaced.as_slice())?;
         Ok(row)
+    }
+
+    /// What a goal keeps of the changes since the log had this length: none where the point after it is unreachable.
+    fn changes_before(
+        &self,
+        alloc: Global,
+        log: usize,
+        reachable: bool,
+    ) -> Result<Row<(u32, InstId)>, Memory>
+        requires { LogWithin (length self.now.insts.items) self.now.log.items }
+        ensures { IfOk result (λ row. (s : State) → LeadsBack s self.now → length s.log.items ≡ log
+            → row ≡ changes other_node (length self.now.insts.items) (point_of s.insts.items)
+            (end_of reachable self.now)) }
+    {
+        if reachable {
+            self.changes_since(alloc, log)
+        } else {
+            Ok(Row::new(alloc))
+        }
     }
 
     /// A goal with what it changed since the log had this length. Where the point after it is unreachable it keeps none.
@@ -131,11 +186,8 @@ impl State {
             → plain_node node ≡ changing other_node (length self.now.insts.items)
             (point_of s.insts.items) (end_of reachable self.now) (plain_sched goal)) }
     {
-        let mut node = unmarked(alloc, goal);
-        if reachable {
-            node.changes = self.changes_since(alloc, log)?;
-        }
-        Ok(node)
+        let changes = self.changes_before(alloc, log, reachable)?;
+        Ok(changing(goal, changes))
     }
 
     /// One goal, with what it changed since the log had this length.
@@ -155,9 +207,8 @@ impl State {
         ensures reachable { IfOk result (λ part. part.reachable ≡ reachable) }
         ensures freshened { IfOk result (λ part. part.freshened.items ≡ []) }
     {
-        let node = self.keeping(alloc, goal, log, reachable)?;
-        let mut goals = Vec::with_capacity(alloc, 1)?;
-        goals.push(node)?;
+        let changes = self.changes_before(alloc, log, reachable)?;
+        let goals = vec![in alloc; changing(goal, changes)]?;
         Ok(Part {
             goals,
             reachable,

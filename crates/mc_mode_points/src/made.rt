@@ -41,6 +41,9 @@ fn before(alloc: Global, x: u32, ys: &[u32]) -> Result<Vec<u32>, Memory>
 pub(crate) fn row_of(alloc: Global, xs: &[u32]) -> Result<Row<u32>, Memory>
     ensures { IfOk result (λ row. row ≡ xs.now) }
 {
+    if xs.is_empty() {
+        return Ok(Row::new(alloc));
+    }
     let row = Row::of(Vec::from_slice(alloc, xs)?)?;
     Ok(row)
 }

@@ -15,19 +15,23 @@ struct Key {
     insts: Vec<InstId>,
 }
 
-/// Nodes that were found, each for a number and insts. A look-up takes the time of one hash.
+/// Nodes that were found, each for a number and insts. A look-up takes the time of one hash. Those over no insts, as
+/// constants are, stand apart: to look for one of them makes no key.
 #[derive(Drop)]
 pub struct NodeTable {
+    bare: IndexMap<u32, InstId>,
     found: IndexMap<Key, InstId>,
 }
 
 impl Model for NodeTable {
-    ghost use Rattle.std.specs.Prelude.{List, map};
+    ghost use Rattle.std.specs.Prelude.{List, map, [], ◌++◌};
     ghost use Rattle.mc_mode_points.specs.Tables.{Entry, entry};
+    ghost use Rattle.mc_mode_points.specs.code.Bare.{over_some};
 
     ghost Value = { List Entry };
 
-    ghost view = { λ t. map (λ e. entry e.0.number e.0.insts.items e.1) t.found.entries };
+    ghost view = { λ t. map (λ e. entry e.0 [] e.1) t.bare.entries
+        ++ over_some (map (λ e. entry e.0.number e.0.insts.items e.1) t.found.entries) };
 }
 
 impl NodeTable {
@@ -36,6 +40,7 @@ impl NodeTable {
         ensures { result ≡ [] }
     {
         NodeTable {
+            bare: IndexMap::new(alloc),
             found: IndexMap::new(alloc),
         }
     }
@@ -49,6 +54,12 @@ impl NodeTable {
     ) -> Result<Option<InstId>, Memory>
         ensures { IfOk result (λ node. node ≡ node_in self.now number insts.now) }
     {
+        if insts.is_empty() {
+            return Ok(self.bare.get(&number).copied());
+        }
+        if self.found.is_empty() {
+            return Ok(None);
+        }
         let insts = Vec::from_slice(alloc, insts)?;
         let key = Key { number, insts };
         Ok(self.found.get(&key).copied())
@@ -68,6 +79,10 @@ impl NodeTable {
             else node_in self.old other others)) }
         ensures err { OnErr result (self.new ≡ self.old) }
     {
+        if insts.is_empty() {
+            self.bare.insert(number, node)?;
+            return Ok(());
+        }
         let insts = Vec::from_slice(alloc, insts)?;
         self.found.insert(Key { number, insts }, node)?;
         Ok(())

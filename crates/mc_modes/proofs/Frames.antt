@@ -12,6 +12,7 @@ use Rattle.mc_mode_points.specs.declared.state.State.{State}
 use Rattle.mc_mode_points.proofs.Rewinds.{leads-trans}
 use Rattle.mc_mode_points.proofs.Steps.{moved-trans}
 use Rattle.mc_modes.specs.Tries.{with_types, Suits}
+use Rattle.mc_modes.specs.code.Frames.{Frame, Entered, Left}
 
 abbrev pub with_outside : State → Vec ℕ Global → State
 with_outside s o = record { insts = s.insts; log = s.log; outside = o; types = s.types; nodes = s.nodes }
@@ -94,22 +95,6 @@ stepped-onward q r s t same n = record {
   later = record { leads = n.leads; more = n.more; outside = same; types = n.moved.types };
   moved = n.moved;
 }
-
--- the second state differs from the first in what occurs outside alone
-pub record Frame (s t : State) : Type 0 where
-  pub insts : t.insts ≡ s.insts
-  pub log : t.log ≡ s.log
-  pub types : t.types ≡ s.types
-  pub nodes : t.nodes ≡ s.nodes
-  pub len : length t.outside.items ≡ length s.outside.items
-
-pub record Entered (vs : List ℕ) (s t : State) : Type 0 where
-  pub frame : Frame s t
-  pub counts : (x : ℕ) → get_or t.outside.items x 0 ≡ get_or s.outside.items x 0 + times_in x vs
-
-pub record Left (vs : List ℕ) (s t : State) : Type 0 where
-  pub frame : Frame s t
-  pub counts : (x : ℕ) → get_or t.outside.items x 0 + times_in x vs ≡ get_or s.outside.items x 0
 
 pub frame-is : (s t : State) → Frame s t → t ≡ with_outside s t.outside
 frame-is s t f = framed s t f.insts f.log f.types f.nodes

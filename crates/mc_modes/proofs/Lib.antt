@@ -32,3 +32,5 @@ pub mod Refusals
 pub mod MildGoals
 pub mod Asleep
 pub mod Sleepers
+pub mod WaitingPlaces
+pub mod Occurring

@@ -1,10 +1,11 @@
 -- Waiting goals by their places, and the beginning of goals in turn.
-use Rattle.std.proofs.Common.{◌≡◌, ◌∙◌, ℕ, zero, suc, ◌<◌, ◌≤◌, ◌+◌, true, List, [], ◌∷◌, ◌++◌, map, length, get_or, take, drop, Some, None, refl, sym, ap, ap₂, subst, arith, append-nil, length-append}
+use Rattle.std.proofs.Common.{◌≡◌, ◌∙◌, ℕ, zero, suc, ◌<◌, ◌≤◌, ◌+◌, true, List, [], ◌∷◌, ◌++◌, map, length, get_or, take, drop, Some, None, refl, sym, ap, ap₂, subst, arith, append-nil}
 use Rattle.std.specs.List.{remove}
-use Rattle.std.proofs.lemmas.List.{get_or-map, get_or_default, length-map, take_more, drop_more, take-map, drop-map, map-append}
+use Rattle.std.proofs.lemmas.List.{get_or-map, length-map, take_all, drop_more, take-map, drop-map, map-append}
 use Rattle.mc_program.specs.Programs.{TypeTerm, Source}
 use Rattle.mc_program.specs.declared.program.Program.{Program}
 use Rattle.mc_model.specs.Flat.{Flat_goal, Flat_goals, flats, variables_of, variables_of_all}
+use Rattle.mc_model.specs.Lists.{from}
 use Rattle.mc_model.specs.Scheduled.{Nodes, no_nodes}
 use Rattle.mc_model.specs.PlainGoals.{plain_flat}
 use Rattle.mc_model.specs.declared.flat.Flat.{Flat}
@@ -19,42 +20,28 @@ use Rattle.mc_mode_points.specs.Agreeing.{Moved}
 use Rattle.mc_mode_points.specs.declared.state.State.{State}
 use Rattle.mc_modes.specs.Signatures.{declared_in}
 use Rattle.mc_modes.specs.Fitting.{AllKnown, GoalFits, GoalsFit}
-use Rattle.mc_modes.specs.code.Waiting.{nothing, goals_at, variables_of_each, below, Counted, all_waiting}
-use Rattle.mc_modes.proofs.Counts.{below-both, below-more, times-at}
+use Rattle.mc_modes.specs.code.Waiting.{nothing, goals_at, variables_of_each, Counted, all_waiting}
+use Rattle.mc_modes.proofs.Counts.{below-more, times-at}
 use Rattle.mc_modes.proofs.Fits.{goal-at, goal-later, each-variables, same-program}
 use Rattle.mc_modes.proofs.Turning.{TurnsSoFar, Tally}
 use Rattle.mc_modes.proofs.Turns.{turn, unfinished}
 
--- the numbers below one
-pub below-long : (n : ℕ) → length (below n) ≡ n
-below-long zero = refl
-below-long (suc n) = omega (arith, below-long n, length-append (below n) (n ∷ []))
+pub numbers-from : (n k m : ℕ) → n + k ≤ m → NumbersBelow m (from n k)
+numbers-from n zero m h = tt
+numbers-from n (suc k) m h = (omega arith, numbers-from (suc n) k m (omega arith))
 
-numbers-more : (n m : ℕ) → n ≤ m → NumbersBelow m (below n)
-numbers-more zero m h = tt
-numbers-more (suc n) m h = below-both m (below n) (n ∷ []) (numbers-more n m (omega arith)) (omega arith, tt)
-
-pub below-below : (n : ℕ) → NumbersBelow n (below n)
-below-below n = numbers-more n n (omega arith)
-
-first-goals : (gs : List Flat_goal) (n : ℕ) → n ≤ length gs → map (λ k. get_or gs k nothing) (below n) ≡ take n gs
-first-goals gs zero h = refl
-first-goals gs (suc n) h =
-    map-append (λ k. get_or gs k nothing) (below n) (n ∷ [])
-    ∙ (ap (λ (hs : List Flat_goal). hs ++ get_or gs n nothing ∷ []) (first-goals gs n (omega arith))
-    ∙ (sym (take_more gs n nothing (omega arith)) ∙ ap (λ m. take m gs) (let e : n + 1 ≡ suc n = omega arith in e)))
-
-take-whole : (gs : List Flat_goal) → take (length gs) gs ≡ gs
-take-whole [] = refl
-take-whole (g ∷ gs) = ap (λ (hs : List Flat_goal). g ∷ hs) (take-whole gs)
+goals-from : (gs : List Flat_goal) (n k : ℕ) → n + k ≤ length gs → map (λ j. get_or gs j nothing) (from n k) ≡ take k (drop n gs)
+goals-from gs n zero h = refl
+goals-from gs n (suc k) h =
+    ap (λ (hs : List Flat_goal). get_or gs n nothing ∷ hs) (goals-from gs (suc n) k (omega arith))
+    ∙ sym (ap (take (suc k)) (drop_more gs n nothing (omega arith)) ∙ ap (λ m. get_or gs n nothing ∷ take k (drop m gs)) (let e : n + 1 ≡ suc n = omega arith in e))
 
 -- all goals wait
-pub goals-all : (gs : List Flat) (ks : List ℕ) → ks ≡ below (length gs) → goals_at gs ks ≡ map plain_flat gs
+pub goals-all : (gs : List Flat) (ks : List ℕ) → ks ≡ from 0 (length gs) → goals_at gs ks ≡ map plain_flat gs
 goals-all gs ks e =
     let l = length-map gs plain_flat in
     ap (goals_at gs) e
-    ∙ (ap (λ n. goals_at gs (below n)) (sym l)
-    ∙ (first-goals (map plain_flat gs) (length (map plain_flat gs)) (omega arith) ∙ take-whole (map plain_flat gs)))
+    ∙ (goals-from (map plain_flat gs) 0 (length gs) (omega (arith, l)) ∙ take_all (length gs) (map plain_flat gs) (omega (arith, l)))
 
 pub goals-long : (gs : List Flat) (ks : List ℕ) → length (goals_at gs ks) ≡ length ks
 goals-long gs ks = length-map ks (λ k. get_or (map plain_flat gs) k nothing)
@@ -77,10 +64,6 @@ pub place-below : (n : ℕ) (ks : List ℕ) (k : ℕ) → NumbersBelow n ks → 
 place-below n [] k w h = absurd (omega arith)
 place-below n (j ∷ ks) zero w h = w.0
 place-below n (j ∷ ks) (suc k) w h = place-below n ks k w.1 (omega arith)
-
--- what is read in a place
-pub read-below : (n : ℕ) (ks : List ℕ) (k x : ℕ) → NumbersBelow n ks → k < length ks → x ≡ get_or ks k x → x < n
-read-below n ks k x w h e = subst (λ j. j < n) (sym (e ∙ get_or_default ks k x 0 h)) (place-below n ks k w h)
 
 -- the variables of a goal that waits come before those of the goals behind it
 pub each-from : (gs : List Flat) (ks : List ℕ) (k : ℕ) (d : Flat) → NumbersBelow (length gs) ks → k < length ks

@@ -1,12 +1,11 @@
 -- What is known of goals in turn while they run.
-use Rattle.std.proofs.Common.{◌≡◌, ◌∙◌, ℕ, ◌<◌, ◌≤◌, Bool, true, false, true≢false, List, [], ◌∷◌, ◌++◌, map, length, get_or, Option, Some, None, IsSome, OnSome, ◌↔◌, refl, sym, ap, subst, arith}
-use Rattle.std.specs.Bool.{◌==◌}
+use Rattle.std.proofs.Common.{◌≡◌, ℕ, ◌<◌, ◌≤◌, Bool, true, List, [], ◌∷◌, ◌++◌, map, length, get_or, Option, refl, sym, ap, subst, arith}
 use Rattle.std.specs.List.{remove}
-use Rattle.std.proofs.Math.Dec.{eqb-suc-zero}
 use Rattle.std.proofs.lemmas.List.Edits.{length-remove}
 use Rattle.mc_program.specs.Programs.{TypeTerm}
 use Rattle.mc_model.specs.Flat as F
 use Rattle.mc_model.specs.Flat.{Flat_goal, flats, variables_of, variables_of_all}
+use Rattle.mc_model.specs.Lists.{from}
 use Rattle.mc_model.specs.Scheduled.{nodes}
 use Rattle.mc_model.specs.PlainGoals.{plain_flat, plain_node}
 use Rattle.mc_model.specs.declared.flat.Flat.{Flat}
@@ -25,27 +24,20 @@ use Rattle.mc_mode_points.specs.declared.part.Part.{Part}
 use Rattle.mc_mode_points.specs.declared.fault.ModeFault.{ModeFault}
 use Rattle.mc_mode_points.proofs.Steps.{stepped-refl}
 use Rattle.mc_modes.specs.Tries.{Runs, Fails}
-use Rattle.mc_modes.specs.code.Waiting.{nothing, goals_at, variables_of_each, below, tells_around, Counted, turns, IsReady, NoneIsReady, IsStuck}
+use Rattle.mc_modes.specs.code.Frames.{Entered, Left}
+use Rattle.mc_modes.specs.code.Waiting.{nothing, goals_at, variables_of_each, tells_around, Counted, turns, IsReady, NoneIsReady, IsStuck}
 use Rattle.mc_modes.proofs.Alike.{keeps-taken, keeps-same, more-alike}
 use Rattle.mc_modes.proofs.Counts.{below-at, below-both, below-more, remove-below}
-use Rattle.mc_modes.proofs.Frames.{Entered, Left, Onward, frame-is, onward-out, onward-step, onward-trans}
-use Rattle.mc_modes.proofs.Placing.{below-below, below-long, goals-all, goals-long, goals-removed, turns-begin, tally-begin}
+use Rattle.mc_modes.proofs.Frames.{Onward, frame-is, onward-out, onward-step, onward-trans}
+use Rattle.mc_modes.proofs.Placing.{numbers-from, goals-all, goals-long, goals-removed, turns-begin, tally-begin}
 use Rattle.mc_modes.proofs.Turning.{TurnsSoFar, Tally, tally-counted, tally-on, each-below, turn-on, turns-run, turns-break}
 use Rattle.mc_modes.proofs.Turns.{done-more}
+use Rattle.mc_modes.proofs.WaitingPlaces.{length-from}
 use Rattle.mc_modes.proofs.Ways.{count-same}
 
-pub some-wait : (ks : List ℕ) (n : ℕ) → n ≡ length ks → false ≡ (n == 0) → 0 < length ks
-some-wait [] n e t = absurd (true≢false (sym (t ∙ ap (λ k. k == 0) e)))
-some-wait (k ∷ ks) n e t = omega arith
-
-pub none-wait : (ks : List ℕ) (n : ℕ) → n ≡ length ks → true ≡ (n == 0) → ks ≡ []
-none-wait [] n e t = refl
-none-wait (k ∷ ks) n e t = absurd (true≢false (t ∙ ap (λ k. k == 0) e ∙ eqb-suc-zero (length ks)))
-
--- a place that is there is taken out
-pub was-removed : (r : Option ℕ) (ks left : List ℕ) (k n : ℕ) → n ≡ length ks → k < length ks → IsSome r ↔ (k < n) → OnSome r (left ≡ remove ks k) → left ≡ remove ks k
-was-removed None ks left k n e h there taken = absurd (true≢false (sym (there.1 (omega arith))))
-was-removed (Some x) ks left k n e h there taken = taken
+pub some-wait : (ks : List ℕ) → (ks ≡ [] → ⊥) → 0 < length ks
+some-wait [] h = absurd (h refl)
+some-wait (k ∷ ks) h = omega arith
 
 pub record Turned (sigs : List Sig) (gs : List Flat) (ks : List ℕ) (reachable : Bool) (done : List GoalNode) (fresh : List ℕ) (q p : PlainProcs) (s u : State) : Type 0 where
   pub onward : Onward q p s u
@@ -59,12 +51,12 @@ pub record Turned (sigs : List Sig) (gs : List Flat) (ks : List ℕ) (reachable 
       → AllAlike T next (nodes (map plain_node done))
   pub so : TurnsSoFar sigs (map plain_flat gs) ran reachable (nodes (map plain_node done)) (goals_at gs ks) q p s u
 
-pub turned-begins : (sigs : List Sig) (gs : List Flat) (ks : List ℕ) (q : PlainProcs) (s : State) → ks ≡ below (length gs) → Stands q s → Turned sigs gs ks true [] [] q q s s
+pub turned-begins : (sigs : List Sig) (gs : List Flat) (ks : List ℕ) (q : PlainProcs) (s : State) → ks ≡ from 0 (length gs) → Stands q s → Turned sigs gs ks true [] [] q q s s
 turned-begins sigs gs ks q s e st = record {
   onward = onward-step q q s s (stepped-refl q s st);
   fresh_below = tt;
-  places = subst (NumbersBelow (length gs)) (sym e) (below-below (length gs));
-  few = omega (arith, ap length e, below-long (length gs));
+  places = subst (NumbersBelow (length gs)) (sym e) (numbers-from 0 (length gs) (length gs) (omega arith));
+  few = omega (arith, ap length e, length-from 0 (length gs));
   ran = [];
   tally = tally-begin gs (goals_at gs ks) s (goals-all gs ks e);
   alike = λ T next h w. tt;

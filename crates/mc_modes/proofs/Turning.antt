@@ -23,7 +23,8 @@ use Rattle.mc_modes.specs.Signatures.{declared_in}
 use Rattle.mc_modes.specs.Tries.{Suits, Told, Runs, Fails}
 use Rattle.mc_modes.specs.code.Waiting.{nothing, variables_of_each, goals_at, tells_around, Counted, all_waiting, picking, turns, IsStuck, IsReady, NoneIsReady}
 use Rattle.mc_modes.proofs.Counts.{around-left, below-first, below-second, below-both, times-append, times-at}
-use Rattle.mc_modes.proofs.Frames.{Entered, Left, Onward, with_outside, frame-is, suits-out, end-out, onward-out, onward-step, onward-trans, stepped-onward}
+use Rattle.mc_modes.specs.code.Frames.{Entered, Left}
+use Rattle.mc_modes.proofs.Frames.{Onward, with_outside, frame-is, suits-out, end-out, onward-out, onward-step, onward-trans, stepped-onward}
 use Rattle.mc_modes.proofs.Passing.{same-source}
 use Rattle.mc_modes.proofs.Turns.{unfinished, turn, turned, turned-all, turned-none, turned-stuck, times-fresh}
 use Rattle.mc_modes.proofs.Ways.{suits-before, count-same, point-same, stepped-same}

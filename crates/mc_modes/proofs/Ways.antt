@@ -31,7 +31,8 @@ use Rattle.mc_modes.specs.code.Parts.{IsOne, trying_beside}
 use Rattle.mc_modes.specs.code.Waiting.{tells_around, all_waiting, turns}
 use Rattle.mc_modes.proofs.Alike.{none_chosen}
 use Rattle.mc_modes.proofs.Counts.{entered-around, left-around, entered-beside}
-use Rattle.mc_modes.proofs.Frames.{with_outside, stepped-out, moved-out, same-out, suits-out, end-out, Frame, Entered, Left, frame-is, in-and-out}
+use Rattle.mc_modes.specs.code.Frames.{Frame, Entered, Left}
+use Rattle.mc_modes.proofs.Frames.{with_outside, stepped-out, moved-out, same-out, suits-out, end-out, frame-is, in-and-out}
 use Rattle.mc_modes.proofs.Turns.{trials-are, count-is}
 
 -- where a rule is broken, a state that is the same is a later one
@@ -170,26 +171,27 @@ breaks-undone told a q r s t u f own d h m n y = record {
 }
 
 -- an atom that is tried
-pub atom-does : (sigs : List Sig) (g : Flat_goal) (q r : PlainProcs) (s t : State) (res : Result Part Failed)
+pub atom-does : (sigs : List Sig) (told : Told) (g : Flat_goal) (q r : PlainProcs) (s t : State) (res : Result Part Failed) → ((first : ℕ) (O : List ℕ) → told first O → NumbersBelow first (variables_of g))
     → ((C : Chosen) (T U : ℕ → TypeTerm) (first : ℕ) → ((x : ℕ) → x < first → T x ≡ U x) → (O : List ℕ) (n : ℕ) (b : Point ℕ) → NumbersBelow first (variables_of g)
     → trial (of_nodes C) (source_of q) (declared_in sigs) T g O n b ≡ trial (of_nodes C) (source_of q) (declared_in sigs) U g O n b)
     → ((p : Part) → res ≡ Ok p → NumbersBelow (length t.insts.items) p.freshened.items)
     → ((O : List ℕ) → Answers (tried (declared_in sigs) g O q s) q r s t res)
-    → Goes (tells_outside (variables_of g) s) (trying sigs g q s) q r s t res
-atom-does sigs g q r s t (Ok p) local fresh d = record {
+    → Does told (trying sigs g q s) q r s t res
+atom-does sigs told g q r s t (Ok p) own local fresh d = record {
   outcome = λ first O C T k u.
-      local C T (with_types first t T) first (first-types first C t T) O (length s.insts.items) (point_of s.insts.items) k.1
+      local C T (with_types first t T) first (first-types first C t T) O (length s.insts.items) (point_of s.insts.items) (own first O k)
       ∙ (d O).outcome C (with_types first t T) u.agrees;
   fresh = fresh p refl;
   stepped = (d []).stepped;
 }
-atom-does sigs g q r s t (Err (E.Fault f)) local fresh d = record {
+atom-does sigs told g q r s t (Err (E.Fault f)) own local fresh d = record {
   outcome = λ first O C T k u.
-      local C T (with_types first t T) first (first-types first C t T) O (length s.insts.items) (point_of s.insts.items) k.1
+      local C T (with_types first t T) first (first-types first C t T) O (length s.insts.items) (point_of s.insts.items) (own first O k)
       ∙ (d O).outcome C (with_types first t T) u.agrees;
-  stepped = stepped-same q r s t (d []).same (d []).moved;
+  same = (d []).same;
+  moved = (d []).moved;
 }
-atom-does sigs g q r s t (Err E.Memory) local fresh d = tt
+atom-does sigs told g q r s t (Err E.Memory) own local fresh d = tt
 
 -- between two changes of what occurs outside, of which the second takes the first back
 module _ (told other : Told) (a b : Try) (by : IsBy told other a b) (q r : PlainProcs) (s s₁ t₁ t : State) (f : Frame s s₁) (g : Frame t₁ t)

@@ -4,3 +4,4 @@ pub mod Sleeping
 pub mod Alike
 pub mod Judging
 pub mod Making
+pub mod Frames

@@ -8,6 +8,8 @@ mod ending;
 mod inputs;
 mod makings;
 mod order;
+mod outside;
+mod places;
 mod scheduling;
 mod sleeping;
 mod variables;

@@ -25,11 +25,13 @@ use crate::ending::{
     Begun, Condition, as_one, chosen, condition_of, ended, first_bound, merged, negated, nothing,
     quantified_over,
 };
+use crate::outside::{enter_goals, leave_goals};
+use crate::places::Places;
 use crate::sleeping::sleeps;
 use crate::variables::{
     free_in, free_without, variables_of, variables_of_all, variables_of_parts, with_variables,
 };
-use crate::waiting::{Found, conjunction_of, goal_at, note, places, settled, stuck, taken};
+use crate::waiting::{Found, conjunction_of, goal_at, note, settled, stuck, taken};
 use mc_base::{Memory, Row};
 use mc_mode_points::{Failed, ModeFault, Part, State};
 use mc_model::flat::Flat;
@@ -37,7 +39,6 @@ use mc_model::inst::{InstId, Sig};
 use mc_model::sched::{GoalNode, Sched};
 use mc_procs::Procs;
 use std::alloc::Global;
-use std::collections::VecDeque;
 
 /// Tries a goal: what it is in its order, or the rule that it breaks. After a fault the state is as before.
 #[cycle(order)]
@@ -120,16 +121,15 @@ fn conjunction(
     ensures kept { OnErr result (OnlyGrown procs.old procs.new) }
 {
     let mark = state.mark();
-    let vars = variables_of_all(alloc, goals)?;
-    state.enter(&vars)?;
+    enter_goals(alloc, state, goals)?;
     match in_turn(alloc, procs, sigs, state, goals) {
         Ok(part) => {
-            state.leave(&vars);
+            leave_goals(alloc, state, goals)?;
             let part = conjunction_of(alloc, state, part, mark.log)?;
             Ok(part)
         }
         Err(Failed::Fault(fault)) => {
-            state.leave(&vars);
+            leave_goals(alloc, state, goals)?;
             Err(Failed::Fault(fault))
         }
         Err(Failed::Memory) => Err(Failed::Memory),
@@ -157,14 +157,14 @@ fn in_turn(
     ensures alike { IfOk result (FreshAlike (And (flats (map plain_flat goals.now))) state.new) }
     ensures kept { OnErr result (OnlyGrown procs.old procs.new) }
 {
-    let mut waiting = places(alloc, goals.len())?;
-    let mut done = Vec::new(alloc);
+    let mut waiting = Places::of(alloc, goals.len());
+    let mut done = Vec::with_capacity(alloc, goals.len())?;
     let mut fresh = Vec::new(alloc);
     let mut reachable = true;
     'turns: while reachable && !waiting.is_empty() {
         match first_ready(alloc, procs, sigs, state, goals, &waiting)? {
             Found::Ready(place, part) => {
-                waiting.remove(place);
+                waiting.take(place)?;
                 reachable = taken(state, &mut done, &mut fresh, part)?;
             }
             Found::NoneReady(found) => {
@@ -190,16 +190,16 @@ fn first_ready(
     sigs: &[Sig],
     state: &mut State,
     goals: &[Flat],
-    waiting: &VecDeque<usize>,
+    waiting: &Places,
 ) -> Result<Found, Memory>
     requires stands { Stands procs.old state.old }
     requires sigs { SigsFit (count_of procs.old.insts) sigs.now }
     requires fits { GoalsFit procs.old state.old (flats (map plain_flat goals.now)) }
-    requires waiting { NumbersBelow (length goals.now) waiting.now.items }
-    requires counted { Counted (variables_of_each (goals_at goals.now waiting.now.items)) state.old }
-    ensures does { IfOk result (Finds sigs.now (goals_at goals.now waiting.now.items) procs.old
+    requires waiting { NumbersBelow (length goals.now) waiting.now }
+    requires counted { Counted (variables_of_each (goals_at goals.now waiting.now)) state.old }
+    ensures does { IfOk result (Finds sigs.now (goals_at goals.now waiting.now) procs.old
         procs.new state.old state.new) }
-    ensures alike { IfOk result (FoundAlike (goals_at goals.now waiting.now.items) state.new) }
+    ensures alike { IfOk result (FoundAlike (goals_at goals.now waiting.now) state.new) }
     ensures kept { OnErr result (OnlyGrown procs.old procs.new) }
 {
     let mut found = None;
@@ -216,9 +216,37 @@ fn first_ready(
     Ok(Found::NoneReady(found))
 }
 
-/// A goal that counts among what occurs outside until it is tried.
+/// A goal that counts among what occurs outside until it is tried. To an atom that is all the same.
 #[cycle(order)]
 fn try_among(
+    alloc: Global,
+    procs: &mut Procs,
+    sigs: &[Sig],
+    state: &mut State,
+    goal: &Flat,
+) -> Result<Part, Failed>
+    requires stands { Stands procs.old state.old }
+    requires sigs { SigsFit (count_of procs.old.insts) sigs.now }
+    requires fits { GoalFits procs.old state.old (plain_flat goal.now) }
+    requires counted { Counted (variables_of (plain_flat goal.now)) state.old }
+    ensures does { Does (tells_around (variables_of (plain_flat goal.now)) state.old)
+        (trying sigs.now (plain_flat goal.now) procs.old state.old) procs.old procs.new state.old
+        state.new result }
+    ensures alike { IfOk result (FreshAlike (plain_flat goal.now) state.new) }
+    ensures kept { OnErr result (OnlyGrown procs.old procs.new) }
+{
+    match goal {
+        Flat::Same(x, y) => state.same(alloc, procs, *x, *y),
+        Flat::Made(x, symbol, ys) => state.made(alloc, procs, *x, *symbol, ys.as_slice()),
+        Flat::Const(x, value) => state.constant(alloc, procs, *x, value),
+        Flat::Call(pred, xs) => call(alloc, procs, sigs, state, *pred, xs.as_slice()),
+        _ => compound_among(alloc, procs, sigs, state, goal),
+    }
+}
+
+/// A compound goal that does.
+#[cycle(order)]
+fn compound_among(
     alloc: Global,
     procs: &mut Procs,
     sigs: &[Sig],
@@ -404,8 +432,8 @@ fn disjunction(
 {
     let own = variables_of_all(alloc, goals)?;
     let seen = state.seen(alloc, &own)?;
-    let mut branches = Vec::new(alloc);
-    let mut ends = Vec::new(alloc);
+    let mut branches = Vec::with_capacity(alloc, goals.len())?;
+    let mut ends = Vec::with_capacity(alloc, goals.len())?;
     for goal in goals {
         match branch(alloc, procs, sigs, state, &seen, &[], goal, &mut ends) {
             Ok(node) => branches.push(node)?,

@@ -3,7 +3,7 @@ ghost use Rattle.mc_model.specs.Flat.{flats, variables_of, variables_of_all, fre
 ghost use Rattle.mc_model.specs.Lists.{without};
 ghost use Rattle.mc_model.specs.PlainGoals.{plain_flat};
 
-use mc_base::Memory;
+use mc_base::{Memory, Row};
 use mc_mode_points::has;
 use mc_model::flat::Flat;
 use std::alloc::Global;
@@ -53,6 +53,17 @@ pub fn with_variables(alloc: Global, vars: &[u32], goal: &Flat) -> Result<Vec<u3
     Ok(list)
 }
 
+/// Puts a goal's arguments at the end, of which mostly there are none.
+fn push_row(list: &mut Vec<u32>, xs: &Row<u32>) -> Result<(), Memory>
+    ensures { OnOk result (list.new.items ≡ list.old.items ++ xs.now) }
+{
+    if xs.is_empty() {
+        return Ok(());
+    }
+    list.extend_from_slice(xs.as_slice())?;
+    Ok(())
+}
+
 /// Puts all variables of a goal at the end.
 #[cycle(variables)]
 pub fn push_variables(list: &mut Vec<u32>, goal: &Flat) -> Result<(), Memory>
@@ -80,17 +91,13 @@ pub fn push_variables(list: &mut Vec<u32>, goal: &Flat) -> Result<(), Memory>
         }
         Flat::Made(x, _, ys) => {
             list.push(*x)?;
-            list.extend_from_slice(ys.as_slice())?;
-            Ok(())
+            push_row(list, ys)
         }
         Flat::Const(x, _) => {
             list.push(*x)?;
             Ok(())
         }
-        Flat::Call(_, xs) => {
-            list.extend_from_slice(xs.as_slice())?;
-            Ok(())
-        }
+        Flat::Call(_, xs) => push_row(list, xs),
     }
 }
 

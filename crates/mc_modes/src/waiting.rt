@@ -1,4 +1,4 @@
-ghost use Rattle.std.specs.Prelude.{◌≡◌, ◌<◌, ◌+◌, ◌++◌, ◌^◌, ℕ, length, get_or, slice_index, slice_index_or, map, IfOk, OnOk};
+ghost use Rattle.std.specs.Prelude.{◌≡◌, ◌<◌, ◌+◌, ◌++◌, ◌^◌, ℕ, length, get_or, slice_index_or, map, IfOk, OnOk};
 ghost use Rattle.mc_model.specs.Scheduled.{nodes, Conj};
 ghost use Rattle.mc_model.specs.PlainGoals.{plain_node};
 ghost use Rattle.mc_accepted.specs.Ordered.{times_in};
@@ -6,16 +6,17 @@ ghost use Rattle.mc_procs.specs.Named.{NumbersBelow};
 ghost use Rattle.mc_mode_points.specs.States.{point_of, mark_of, LogWithin, SameState, Later, Even};
 ghost use Rattle.mc_mode_points.specs.declared.state.State.{State};
 ghost use Rattle.mc_modes.specs.Tries.{OnFault};
+ghost use Rattle.mc_modes.specs.code.Frames.{Entered};
 ghost use Rattle.mc_modes.specs.code.Parts.{OneSince};
-ghost use Rattle.mc_modes.specs.code.Waiting.{goals_at, variables_of_each, below, noted, IsStuck};
+ghost use Rattle.mc_modes.specs.code.Waiting.{goals_at, variables_of_each, noted, IsStuck};
 
+use crate::places::Places;
 use crate::variables::push_variables;
 use mc_base::{Memory, Row};
 use mc_mode_points::{Failed, Mark, ModeFault, Part, State};
 use mc_model::flat::Flat;
 use mc_model::sched::{GoalNode, Sched};
 use std::alloc::Global;
-use std::collections::VecDeque;
 
 /// What a pass over the waiting goals of a conjunction finds: the place of the first that runs, with what it is then; or
 /// none, with the first fault of one that isn't only waiting itself.
@@ -23,18 +24,6 @@ use std::collections::VecDeque;
 pub enum Found {
     Ready(usize, Part),
     NoneReady(Option<ModeFault>),
-}
-
-/// The places of so many goals. A queue, since mostly the first that waits is the next that runs: to take it moves none
-/// of the others.
-pub fn places(alloc: Global, many: usize) -> Result<VecDeque<usize>, Memory>
-    ensures { IfOk result (λ places. places.items ≡ below many) }
-{
-    let mut places = VecDeque::with_capacity(alloc, many)?;
-    for k in 0..many {
-        places.push_back(k)?;
-    }
-    Ok(places)
 }
 
 /// Notes the first fault that is of more than waiting goals.
@@ -48,24 +37,19 @@ pub fn note(first: &mut Option<ModeFault>, fault: ModeFault)
 }
 
 /// The waiting goal in this place.
-pub fn goal_at<'a>(goals: &'a [Flat], waiting: &VecDeque<usize>, place: usize) -> &'a Flat
-    requires place { place < length waiting.now.items }
-    requires waiting { NumbersBelow (length goals.now) waiting.now.items }
-    ensures { result.now
-        ≡ slice_index_or goals.now (slice_index waiting.now.items place) result.now }
+pub fn goal_at<'a>(goals: &'a [Flat], waiting: &Places, place: usize) -> &'a Flat
+    requires place { place < length waiting.now }
+    requires waiting { NumbersBelow (length goals.now) waiting.now }
+    ensures { result.now ≡ slice_index_or goals.now (get_or waiting.now place 0) result.now }
 {
-    &goals[waiting[place]]
+    &goals[waiting.get(place)]
 }
 
 /// The variables of the waiting goals.
-fn variables_at(
-    alloc: Global,
-    goals: &[Flat],
-    waiting: &VecDeque<usize>,
-) -> Result<Vec<u32>, Memory>
-    requires { NumbersBelow (length goals.now) waiting.now.items }
+fn variables_at(alloc: Global, goals: &[Flat], waiting: &Places) -> Result<Vec<u32>, Memory>
+    requires { NumbersBelow (length goals.now) waiting.now }
     ensures { IfOk result (λ list. list.items
-        ≡ variables_of_each (goals_at goals.now waiting.now.items)) }
+        ≡ variables_of_each (goals_at goals.now waiting.now)) }
 {
     let mut list = Vec::new(alloc);
     for place in 0..waiting.len() {
@@ -79,15 +63,15 @@ pub fn stuck(
     alloc: Global,
     state: &State,
     goals: &[Flat],
-    waiting: &VecDeque<usize>,
+    waiting: &Places,
     found: Option<ModeFault>,
 ) -> Result<ModeFault, Memory>
-    requires places { NumbersBelow (length goals.now) waiting.now.items }
-    requires few { length waiting.now.items < 2 ^ 32 }
+    requires places { NumbersBelow (length goals.now) waiting.now }
+    requires few { length waiting.now < 2 ^ 32 }
     requires variables { NumbersBelow (length state.now.insts.items)
-        (variables_of_each (goals_at goals.now waiting.now.items)) }
+        (variables_of_each (goals_at goals.now waiting.now)) }
     ensures { IfOk result (λ fault. IsStuck (point_of state.now.insts.items)
-        (goals_at goals.now waiting.now.items) found fault) }
+        (goals_at goals.now waiting.now) found fault) }
 {
     match found {
         Some(fault) => Ok(fault),
@@ -114,6 +98,20 @@ pub fn conjunction_of(alloc: Global, state: &State, part: Part, log: usize) -> R
     state.one(alloc, Sched::Conj(Row::of(goals)?), log, reachable)
 }
 
+/// Fresh variables occur outside too, and are noted.
+fn enter_fresh(state: &mut State, fresh: &mut Vec<u32>, freshened: &[u32]) -> Result<(), Memory>
+    requires { NumbersBelow (length state.old.outside.items) freshened.now }
+    ensures fresh { OnOk result (fresh.new.items ≡ fresh.old.items ++ freshened.now) }
+    ensures entered { OnOk result (Entered freshened.now state.old state.new) }
+{
+    if freshened.is_empty() {
+        return Ok(());
+    }
+    state.enter(freshened)?;
+    fresh.extend_from_slice(freshened)?;
+    Ok(())
+}
+
 /// Puts a part's goals behind those that ran, and its fresh variables outside; whether its end is reachable.
 pub fn taken(
     state: &mut State,
@@ -125,24 +123,16 @@ pub fn taken(
     ensures reachable { IfOk result (λ reachable. reachable ≡ part.reachable) }
     ensures done { OnOk result (done.new.items ≡ done.old.items ++ part.goals.items) }
     ensures fresh { OnOk result (fresh.new.items ≡ fresh.old.items ++ part.freshened.items) }
-    ensures insts { OnOk result (state.new.insts ≡ state.old.insts) }
-    ensures log { OnOk result (state.new.log ≡ state.old.log) }
-    ensures types { OnOk result (state.new.types ≡ state.old.types) }
-    ensures nodes { OnOk result (state.new.nodes ≡ state.old.nodes) }
-    ensures len { OnOk result (length state.new.outside.items ≡ length state.old.outside.items) }
-    ensures counts { OnOk result ((x : ℕ) → get_or state.new.outside.items x 0
-        ≡ get_or state.old.outside.items x 0 + times_in x part.freshened.items) }
+    ensures entered { OnOk result (Entered part.freshened.items state.old state.new) }
 {
     let Part {
         goals,
         reachable,
         freshened,
     } = part;
-    state.enter(&freshened)?;
-    fresh.extend_from_slice(&freshened)?;
-    for goal in goals {
-        done.push(goal)?;
-    }
+    enter_fresh(state, fresh, &freshened)?;
+    let mut goals = goals;
+    done.append(&mut goals)?;
     Ok(reachable)
 }
 

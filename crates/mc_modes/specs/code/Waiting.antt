@@ -1,6 +1,6 @@
 -- The waiting goals of a conjunction, by their places among its goals, which all count among what
 -- occurs outside.
-use Rattle.std.specs.Prelude.{◌≡◌, ◌<◌, ◌≤◌, ℕ, zero, suc, ◌-◌, not, nat_eq, List, [], ◌∷◌, ◌++◌, map, length, get_or, Option, Some, None}
+use Rattle.std.specs.Prelude.{◌≡◌, ◌<◌, ◌≤◌, ℕ, ◌-◌, not, nat_eq, List, [], ◌∷◌, ◌++◌, map, length, get_or, Option, Some, None}
 use Rattle.std.specs.List.{remove}
 use Rattle.mc_program.specs.Programs.{TypeTerm, Source}
 use Rattle.mc_model.specs.Flat.{Flat_goal, And, no_flat, variables_of}
@@ -38,11 +38,6 @@ goals_at gs ks = map (λ k. get_or (map plain_flat gs) k nothing) ks
 abbrev pub variables_of_each : List Flat_goal → List ℕ
 variables_of_each [] = []
 variables_of_each (g ∷ gs) = variables_of g ++ variables_of_each gs
-
--- the numbers below n
-abbrev pub below : ℕ → List ℕ
-below zero = []
-below (suc n) = below n ++ n ∷ []
 
 -- These variables are the clause's own, and the list tells what occurs outside goals over them, all
 -- of which count among what occurs outside.

@@ -17,7 +17,8 @@ use Rattle.mc_mode_points.proofs.Growths.{nodes_grown, only_grown_trans, stepped
 use Rattle.mc_mode_points.proofs.Steps.{same-refl, moved-refl, moved-trans, stepped-refl, stepped-trans}
 use Rattle.mc_modes.specs.Fitting.{GoalFits}
 use Rattle.mc_modes.specs.Tries.{trying, tells_outside, Does}
-use Rattle.mc_modes.specs.code.Waiting.{IsReady, NoneIsReady, IsStuck, goals_at, variables_of_each, tells_around, Counted, nothing}
+use Rattle.mc_modes.specs.code.Frames.{Entered, Left}
+use Rattle.mc_modes.specs.code.Waiting.{IsReady, NoneIsReady, goals_at, variables_of_each, tells_around, Counted, nothing}
 use Rattle.mc_modes.specs.code.Parts.{alone_at, trying_beside, DoesBranch, MergedAs}
 use Rattle.mc_modes.proofs.Alike.{none_chosen, alone-alike, keeps-same, fresh-kept, settled-alike, one-alike, node-alone, fresh-around, keeps-taken}
 use Rattle.mc_modes.proofs.Backing.{backed, log-marked, bound-by, beside-same, then-nothing, then-branch}
@@ -25,13 +26,13 @@ use Rattle.mc_modes.proofs.Closing.{Back, back-step, around-as, negation-runs, n
 use Rattle.mc_modes.proofs.Counts.{below-second, below-more, below-both}
 use Rattle.mc_modes.proofs.Failing.{failed-wrapped, failed-branch, failed-negation, failed-before, failed-else, failed-condition, failed-then, true-runs}
 use Rattle.mc_modes.proofs.Fits.{sigs-moved, goal-at, goal-later}
-use Rattle.mc_modes.proofs.Frames.{Entered, Left, entered-as, left-as, frame-stands, in-and-out, out-and-in}
+use Rattle.mc_modes.proofs.Frames.{entered-as, left-as, frame-stands, in-and-out, out-and-in}
 use Rattle.mc_modes.proofs.Free.{free-below, without-below}
 use Rattle.mc_modes.proofs.Passing.{passed-all}
 use Rattle.mc_modes.proofs.Placing.{place-below, placed-fits, placed-counted, goals-long, goals-later}
 use Rattle.mc_modes.proofs.Scanning.{same-trans, found-on, found-asleep, passed-with, found-ready, found-alike}
 use Rattle.mc_modes.proofs.Settling.{goes-settles, settled-does, goes-as}
-use Rattle.mc_modes.proofs.Taking.{some-wait, none-wait, was-removed, Turned, turned-begins, turned-counted, turned-on, turned-breaks, turned-runs, turned-alike}
+use Rattle.mc_modes.proofs.Taking.{some-wait, Turned, turned-begins, turned-counted, turned-on, turned-breaks, turned-runs, turned-alike}
 use Rattle.mc_modes.proofs.Turning.{each-below}
 use Rattle.mc_modes.proofs.Ways.{count-same, conjunction-between, conjunction-runs, conjunction-fails, runs-between, breaks-between, by-leaving, by-entering, runs-wrapped}
 use Rattle.std.proofs.lemmas.List.{drop_more, drop_all, get_or-map, length-map}
@@ -44,7 +45,7 @@ use denote.Param.Weighed.{at_most}
 use Rattle.mc_insts.specs.Graphs.{count_of}
 use Rattle.mc_mode_points.specs.Merged.{RowsFit}
 use Rattle.mc_model.specs.Lists.{without}
-use Rattle.mc_modes.proofs.AtomAnswers.{same-goes, made-goes, constant-goes, call-goes}
+use Rattle.mc_modes.proofs.AtomAnswers.{same-goes, made-goes, constant-goes, call-goes, same-among, made-among, constant-among, call-among, among-as}
 use Rattle.mc_modes.proofs.Choosing.{begins}
 use Rattle.mc_modes.proofs.Deciding.{chosen-goes}
 use Rattle.mc_modes.proofs.Halves.{begun-alike, condition-fits, then-fits, else-fits, seen-below, seen-same, chosen-rows, chosen-as, ite-alike, failed-beside, quantified-fits, goes-quantified}
@@ -71,81 +72,112 @@ try_goal-returns-clause-alike t c =
     let e = c.settled.ensures in
     settled-alike (plain_flat c.args.goal.now) c.attempt-tried.new.state c.settled.new.state c.attempt-tried.result c.settled.result e.same e.kept c.attempt-tried.ensures.alike
 
-pub conjunction-leave-requires-clause-below : goal.conjunction-leave-requires-clause-below
-conjunction-leave-requires-clause-below t c =
+pub conjunction-leave_goals-requires-clause-below : goal.conjunction-leave_goals-requires-clause-below
+conjunction-leave_goals-requires-clause-below t c =
     let q = c.args.procs.now in
     let s = c.args.state.now in
     let k = c.in-Ok.ensures.does.stepped in
-    let count : length c.enter.new.self.insts.items ≡ length s.insts.items = ap (λ x. length x.items) c.in_ok-enter.ensures.insts in
+    let count : length c.enter_goals.new.state.insts.items ≡ length s.insts.items = ap (λ x. length x.items) c.in_ok-enter_goals.ensures.frame.insts in
     let even : length c.in_turn.new.state.outside.items ≡ length c.in_turn.new.state.insts.items = k.moved.stands.even.outside in
-    let more : length c.enter.new.self.insts.items ≤ length c.in_turn.new.state.insts.items = k.later.more in
-    subst (NumbersBelow (length c.in_turn.new.state.outside.items)) (sym (c.deref-in-Ok.ensures.value ∙ c.in_ok-vars.ensures)) (below-more (length s.insts.items) (length c.in_turn.new.state.outside.items) (variables_of_all (flats (map plain_flat c.args.goals.now))) (omega (arith, count, even, more)) c.requires.fits.variables)
+    let more : length c.enter_goals.new.state.insts.items ≤ length c.in_turn.new.state.insts.items = k.later.more in
+    below-more (length s.insts.items) (length c.in_turn.new.state.outside.items) (variables_of_all (flats (map plain_flat c.args.goals.now))) (omega (arith, count, even, more)) c.requires.fits.variables
 
-pub conjunction-leave-requires-in-Err-Fault-clause-below : goal.conjunction-leave-requires-in-Err-Fault-clause-below
-conjunction-leave-requires-in-Err-Fault-clause-below t c =
+pub conjunction-leave_goals-requires-in-Err-Fault-clause-below : goal.conjunction-leave_goals-requires-in-Err-Fault-clause-below
+conjunction-leave_goals-requires-in-Err-Fault-clause-below t c =
     let q = c.args.procs.now in
     let s = c.args.state.now in
     let k = (rw c.in-Err-Fault.field-0-is at c.in-Err-Fault.ensures.does).stepped in
-    let count : length c.enter.new.self.insts.items ≡ length s.insts.items = ap (λ x. length x.items) c.in_ok-enter.ensures.insts in
+    let count : length c.enter_goals.new.state.insts.items ≡ length s.insts.items = ap (λ x. length x.items) c.in_ok-enter_goals.ensures.frame.insts in
     let even : length c.in_turn.new.state.outside.items ≡ length c.in_turn.new.state.insts.items = k.moved.stands.even.outside in
-    let more : length c.enter.new.self.insts.items ≤ length c.in_turn.new.state.insts.items = k.later.more in
-    subst (NumbersBelow (length c.in_turn.new.state.outside.items)) (sym (c.deref-in-Err-Fault.ensures.value ∙ c.in_ok-vars.ensures)) (below-more (length s.insts.items) (length c.in_turn.new.state.outside.items) (variables_of_all (flats (map plain_flat c.args.goals.now))) (omega (arith, count, even, more)) c.requires.fits.variables)
+    let more : length c.enter_goals.new.state.insts.items ≤ length c.in_turn.new.state.insts.items = k.later.more in
+    below-more (length s.insts.items) (length c.in_turn.new.state.outside.items) (variables_of_all (flats (map plain_flat c.args.goals.now))) (omega (arith, count, even, more)) c.requires.fits.variables
 
-pub conjunction-returns-in-Ok-clause-does : goal.conjunction-returns-in-Ok-clause-does
-conjunction-returns-in-Ok-clause-does t c =
+pub conjunction-returns-in_ok-part-in-Ok-clause-does : goal.conjunction-returns-in_ok-part-in-Ok-clause-does
+conjunction-returns-in_ok-part-in-Ok-clause-does t c =
     let s = c.args.state.now in
-    let u = c.enter.new.self in
+    let u = c.enter_goals.new.state in
     let v = c.in_turn.new.state in
-    let w = c.leave.new.self in
-    let e = c.in_ok-enter.ensures in
-    let l = c.leave.ensures in
+    let w = c.leave_goals.new.state in
     let vs = variables_of_all (flats (map plain_flat c.args.goals.now)) in
-    let is : c.deref.result.now ≡ vs = c.deref.ensures.value ∙ c.in_ok-vars.ensures in
-    let js : c.deref-in-Ok.result.now ≡ vs = c.deref-in-Ok.ensures.value ∙ c.in_ok-vars.ensures in
-    let i : Entered vs s u = entered-as s u c.deref.result.now vs is e.insts e.log e.types e.nodes e.len e.counts in
-    let j : Left vs v w = left-as v w c.deref-in-Ok.result.now vs js l.insts l.log l.types l.nodes l.len l.counts in
+    let i : Entered vs s u = c.in_ok-enter_goals.ensures in
+    let j : Left vs v w = c.in_ok-leave_goals-in-Ok.ensures in
     let o = c.in_ok-part-in-Ok.ensures in
     let gs = map plain_flat c.args.goals.now in
     let d = conjunction-between c.args.sigs.now gs c.args.procs.now c.in_turn.new.procs s u v w c.in-Ok.part i j c.in-Ok.ensures.does in
     conjunction-runs c.args.sigs.now gs c.args.procs.now c.in_turn.new.procs s u v w c.in-Ok.part c.in_ok-part-in-Ok.part d
     (o.goals s d.stepped.later.leads (log-marked s c.mark-mark.result c.mark-mark.ensures)) o.reachable
 
-pub conjunction-returns-in-Ok-clause-alike : goal.conjunction-returns-in-Ok-clause-alike
-conjunction-returns-in-Ok-clause-alike t c =
+pub conjunction-returns-in_ok-part-in-Ok-clause-alike : goal.conjunction-returns-in_ok-part-in-Ok-clause-alike
+conjunction-returns-in_ok-part-in-Ok-clause-alike t c =
     let s = c.args.state.now in
-    let u = c.enter.new.self in
+    let u = c.enter_goals.new.state in
     let v = c.in_turn.new.state in
-    let w = c.leave.new.self in
-    let e = c.in_ok-enter.ensures in
-    let l = c.leave.ensures in
+    let w = c.leave_goals.new.state in
     let gs = map plain_flat c.args.goals.now in
     let vs = variables_of_all (flats gs) in
-    let is : c.deref.result.now ≡ vs = c.deref.ensures.value ∙ c.in_ok-vars.ensures in
-    let js : c.deref-in-Ok.result.now ≡ vs = c.deref-in-Ok.ensures.value ∙ c.in_ok-vars.ensures in
-    let i : Entered vs s u = entered-as s u c.deref.result.now vs is e.insts e.log e.types e.nodes e.len e.counts in
-    let j : Left vs v w = left-as v w c.deref-in-Ok.result.now vs js l.insts l.log l.types l.nodes l.len l.counts in
+    let i : Entered vs s u = c.in_ok-enter_goals.ensures in
+    let j : Left vs v w = c.in_ok-leave_goals-in-Ok.ensures in
     let d = conjunction-between c.args.sigs.now gs c.args.procs.now c.in_turn.new.procs s u v w c.in-Ok.part i j c.in-Ok.ensures.does in
     one-alike (And (flats gs)) w (length w.insts.items) (point_of s.insts.items) (end_of c.in-Ok.part.reachable w) (Conj (nodes (map plain_node c.in-Ok.part.goals.items))) c.in_ok-part-in-Ok.part
     (c.in_ok-part-in-Ok.ensures.goals s d.stepped.later.leads (log-marked s c.mark-mark.result c.mark-mark.ensures))
-    (λ T next h b. c.in-Ok.ensures.alike T next (keeps-same v w c.leave.ensures.types T h) b)
+    (λ T next h b. c.in-Ok.ensures.alike T next (keeps-same v w j.frame.types T h) b)
 
-pub conjunction-returns-in-Err-Fault-clause-does : goal.conjunction-returns-in-Err-Fault-clause-does
-conjunction-returns-in-Err-Fault-clause-does t c =
+pub conjunction-returns-in_ok-leave_goals-in-Err-Fault-clause-does : goal.conjunction-returns-in_ok-leave_goals-in-Err-Fault-clause-does
+conjunction-returns-in_ok-leave_goals-in-Err-Fault-clause-does t c =
     let s = c.args.state.now in
-    let u = c.enter.new.self in
+    let u = c.enter_goals.new.state in
     let v = c.in_turn.new.state in
-    let w = c.leave-in-Err-Fault.new.self in
-    let e = c.in_ok-enter.ensures in
-    let l = c.leave-in-Err-Fault.ensures in
+    let w = c.leave_goals-in-Err-Fault.new.state in
     let vs = variables_of_all (flats (map plain_flat c.args.goals.now)) in
-    let is : c.deref.result.now ≡ vs = c.deref.ensures.value ∙ c.in_ok-vars.ensures in
-    let js : c.deref-in-Err-Fault.result.now ≡ vs = c.deref-in-Err-Fault.ensures.value ∙ c.in_ok-vars.ensures in
-    let i : Entered vs s u = entered-as s u c.deref.result.now vs is e.insts e.log e.types e.nodes e.len e.counts in
-    let j : Left vs v w = left-as v w c.deref-in-Err-Fault.result.now vs js l.insts l.log l.types l.nodes l.len l.counts in
+    let i : Entered vs s u = c.in_ok-enter_goals.ensures in
+    let j : Left vs v w = c.in_ok-leave_goals-in-Err-Fault.ensures in
     rw c.in-Err-Fault.field-0-is (conjunction-fails c.args.sigs.now (map plain_flat c.args.goals.now) c.args.procs.now c.in_turn.new.procs s u v w c.in-Err-Fault.fault i j (rw c.in-Err-Fault.field-0-is at c.in-Err-Fault.ensures.does))
 
-pub try_among-enter-requires : goal.try_among-enter-requires
-try_among-enter-requires t c =
+pub try_among-returns-in-Same-clause-does : goal.try_among-returns-in-Same-clause-does
+try_among-returns-in-Same-clause-does t c =
+    let q = c.args.procs.now in
+    let s = c.args.state.now in
+    let g = F.Same c.in-Same.x c.in-Same.y in
+    let e : plain_flat c.args.goal.now ≡ g = ap plain_flat c.in-Same.is ∙ flat-same c.in-Same.x c.in-Same.y in
+    among-as c.args.sigs.now q q s c.same.new.self c.same.result g (plain_flat c.args.goal.now) e
+    (same-among c.args.sigs.now q q s c.same.new.self c.same.result c.in-Same.x c.in-Same.y (c.same.ensures.answer (declared_in c.args.sigs.now)))
+
+pub try_among-returns-in-Made-clause-does : goal.try_among-returns-in-Made-clause-does
+try_among-returns-in-Made-clause-does t c =
+    let q = c.args.procs.now in
+    let s = c.args.state.now in
+    let ys = c.as_slice.result.now in
+    let g = F.Made c.in-Made.x c.in-Made.symbol ys in
+    let e : plain_flat c.args.goal.now ≡ g = ap plain_flat c.in-Made.is ∙ (flat-made c.in-Made.x c.in-Made.symbol c.in-Made.ys ∙ ap (F.Made c.in-Made.x c.in-Made.symbol) (sym c.as_slice.ensures.items)) in
+    among-as c.args.sigs.now q c.made.new.procs s c.made.new.self c.made.result g (plain_flat c.args.goal.now) e
+    (made-among c.args.sigs.now q c.made.new.procs s c.made.new.self c.made.result c.in-Made.x c.in-Made.symbol ys (c.made.ensures.answer (declared_in c.args.sigs.now)))
+
+pub try_among-returns-in-Const-clause-does : goal.try_among-returns-in-Const-clause-does
+try_among-returns-in-Const-clause-does t c =
+    let q = c.args.procs.now in
+    let s = c.args.state.now in
+    let g = F.Is c.in-Const.x (plain_value c.in-Const.value) in
+    let e : plain_flat c.args.goal.now ≡ g = ap plain_flat c.in-Const.is ∙ flat-const c.in-Const.x c.in-Const.value in
+    among-as c.args.sigs.now q q s c.constant.new.self c.constant.result g (plain_flat c.args.goal.now) e
+    (constant-among c.args.sigs.now q q s c.constant.new.self c.constant.result c.in-Const.x (plain_value c.in-Const.value) (c.constant.ensures.answer (declared_in c.args.sigs.now)))
+
+pub try_among-returns-in-Call-clause-does : goal.try_among-returns-in-Call-clause-does
+try_among-returns-in-Call-clause-does t c =
+    let q = c.args.procs.now in
+    let s = c.args.state.now in
+    let xs = c.as_slice-in-Call.result.now in
+    let g = F.Call c.in-Call.pred xs in
+    let e : plain_flat c.args.goal.now ≡ g = ap plain_flat c.in-Call.is ∙ (flat-call c.in-Call.pred c.in-Call.xs ∙ ap (F.Call c.in-Call.pred) (sym c.as_slice-in-Call.ensures.items)) in
+    among-as c.args.sigs.now q c.call.new.procs s c.call.new.state c.call.result g (plain_flat c.args.goal.now) e
+    (call-among c.args.sigs.now q c.call.new.procs s c.call.new.state c.call.result c.in-Call.pred xs c.call.ensures.answer)
+
+pub try_among-compound_among-requires : goal.try_among-compound_among-requires
+try_among-compound_among-requires t c =
+    let d = c.decreases in
+    (omega (arith, d), (c.requires.stands, (c.requires.sigs, (c.requires.fits, c.requires.counted))))
+
+pub compound_among-enter-requires : goal.compound_among-enter-requires
+compound_among-enter-requires t c =
     let q = c.args.procs.now in
     let s = c.args.state.now in
     let k = c.in-Ok.ensures.does.stepped in
@@ -154,8 +186,8 @@ try_among-enter-requires t c =
     let more : length c.leave.new.self.insts.items ≤ length c.try_goal.new.state.insts.items = k.later.more in
     subst (NumbersBelow (length c.try_goal.new.state.outside.items)) (sym (c.deref-in-Ok.ensures.value ∙ c.in_ok-vars.ensures)) (below-more (length s.insts.items) (length c.try_goal.new.state.outside.items) (variables_of (plain_flat c.args.goal.now)) (omega (arith, count, even, more)) c.requires.fits.variables)
 
-pub try_among-returns-in-Ok-clause-does : goal.try_among-returns-in-Ok-clause-does
-try_among-returns-in-Ok-clause-does t c =
+pub compound_among-returns-in-Ok-clause-does : goal.compound_among-returns-in-Ok-clause-does
+compound_among-returns-in-Ok-clause-does t c =
     let q = c.args.procs.now in
     let s = c.args.state.now in
     let u = c.leave.new.self in
@@ -172,14 +204,14 @@ try_among-returns-in-Ok-clause-does t c =
     runs-between (tells_around vs s) (tells_outside vs u) (trying c.args.sigs.now g q s) (trying c.args.sigs.now g q u) (by-leaving c.args.sigs.now g vs q s u i) q c.try_goal.new.procs s u v w i.frame j.frame
     (out-and-in vs s u v w i c.in-Ok.ensures.does.stepped.later.outside j) c.in-Ok.part c.in-Ok.ensures.does
 
-pub try_among-returns-in-Ok-clause-alike : goal.try_among-returns-in-Ok-clause-alike
-try_among-returns-in-Ok-clause-alike t c =
+pub compound_among-returns-in-Ok-clause-alike : goal.compound_among-returns-in-Ok-clause-alike
+compound_among-returns-in-Ok-clause-alike t c =
     let v = c.try_goal.new.state in
     let w = c.enter.new.self in
     fresh-kept (plain_flat c.args.goal.now) v w c.in-Ok.part (keeps-same v w c.in_ok-enter-in-Ok.ensures.types) c.in-Ok.ensures.alike
 
-pub try_among-returns-in-Err-Fault-clause-does : goal.try_among-returns-in-Err-Fault-clause-does
-try_among-returns-in-Err-Fault-clause-does t c =
+pub compound_among-returns-in-Err-Fault-clause-does : goal.compound_among-returns-in-Err-Fault-clause-does
+compound_among-returns-in-Err-Fault-clause-does t c =
     let q = c.args.procs.now in
     let s = c.args.state.now in
     let u = c.leave.new.self in
@@ -426,7 +458,7 @@ first_ready-loop-place-init t c = record {
 }
 
 pub first_ready-goal_at-goal-requires-clause-place : goal.first_ready-goal_at-goal-requires-clause-place
-first_ready-goal_at-goal-requires-clause-place t c = omega (arith, c.loop-place-test.true, c.args.waiting.now.ok.0)
+first_ready-goal_at-goal-requires-clause-place t c = omega (arith, c.loop-place-test.true)
 
 pub first_ready-returns-in-Err-Memory-clause-kept : goal.first_ready-returns-in-Err-Memory-clause-kept
 first_ready-returns-in-Err-Memory-clause-kept t c =
@@ -442,9 +474,9 @@ first_ready-returns-in-Ok-clause-does t c =
     let u = c.loop-place.state in
     let i = c.loop-place.invariant in
     let gs = c.args.goals.now in
-    let ks = c.args.waiting.now.items in
+    let ks = c.args.waiting.now in
     let k = c.loop-place.place in
-    let h : k < length ks = omega (arith, c.loop-place-test.true, c.args.waiting.now.ok.0) in
+    let h : k < length ks = omega (arith, c.loop-place-test.true) in
     let x = c.goal_at-goal.result.now in
     let is = c.goal_at-goal.ensures in
     found-ready c.args.sigs.now gs ks k x q p c.try_among.new.procs s u c.try_among.new.state h c.requires.waiting is i.same i.moved c.requires.counted c.loop-place.found i.so c.in-Ok.part c.requires.stands c.in-Ok.ensures.does
@@ -457,9 +489,9 @@ first_ready-returns-in-Ok-clause-alike t c =
     let u = c.loop-place.state in
     let i = c.loop-place.invariant in
     let gs = c.args.goals.now in
-    let ks = c.args.waiting.now.items in
+    let ks = c.args.waiting.now in
     let k = c.loop-place.place in
-    let h : k < length ks = omega (arith, c.loop-place-test.true, c.args.waiting.now.ok.0) in
+    let h : k < length ks = omega (arith, c.loop-place-test.true) in
     let x = c.goal_at-goal.result.now in
     let is = c.goal_at-goal.ensures in
     found-alike c.args.sigs.now gs ks k x q p c.try_among.new.procs s u c.try_among.new.state h c.requires.waiting is i.same i.moved c.requires.counted c.loop-place.found i.so c.in-Ok.part c.in-Ok.ensures.alike
@@ -472,9 +504,9 @@ first_ready-sleeps-requires t c =
     let u = c.loop-place.state in
     let i = c.loop-place.invariant in
     let gs = c.args.goals.now in
-    let ks = c.args.waiting.now.items in
+    let ks = c.args.waiting.now in
     let k = c.loop-place.place in
-    let h : k < length ks = omega (arith, c.loop-place-test.true, c.args.waiting.now.ok.0) in
+    let h : k < length ks = omega (arith, c.loop-place-test.true) in
     let x = c.goal_at-goal.result.now in
     let is = c.goal_at-goal.ensures in
     subst (λ (y : Flat). GoalFits p u (plain_flat y)) (sym is) (placed-fits q p s u gs ks k x c.requires.waiting h i.same i.moved c.requires.fits)
@@ -487,9 +519,9 @@ first_ready-loop-place-preserved t c =
     let u = c.loop-place.state in
     let i = c.loop-place.invariant in
     let gs = c.args.goals.now in
-    let ks = c.args.waiting.now.items in
+    let ks = c.args.waiting.now in
     let k = c.loop-place.place in
-    let h : k < length ks = omega (arith, c.loop-place-test.true, c.args.waiting.now.ok.0) in
+    let h : k < length ks = omega (arith, c.loop-place-test.true) in
     let x = c.goal_at-goal.result.now in
     let is = c.goal_at-goal.ensures in
     elim c.if-not-branch.branch [
@@ -518,9 +550,9 @@ first_ready-returns-clause-does t c =
     let u = c.loop-place.state in
     let i = c.loop-place.invariant in
     let gs = c.args.goals.now in
-    let ks = c.args.waiting.now.items in
+    let ks = c.args.waiting.now in
     let k = c.loop-place.place in
-    let h : length (goals_at gs ks) ≤ k = omega (arith, c.loop-place-test.false, c.args.waiting.now.ok.0, goals-long gs ks) in
+    let h : length (goals_at gs ks) ≤ k = omega (arith, c.loop-place-test.false, goals-long gs ks) in
     passed-all c.args.sigs.now (goals_at gs ks) k c.loop-place.found q p s u h i.so i.same i.moved
 
 pub in_turn-turns-init : goal.in_turn-turns-init
@@ -528,9 +560,16 @@ in_turn-turns-init t c =
     let q = c.args.procs.now in
     let s = c.args.state.now in
     let gs = c.args.goals.now in
-    let ws = c.in_ok-waiting.waiting.items in
-    subst (λ (d : List GoalNode). Turned c.args.sigs.now gs ws true d c.new-fresh.result.items q q s s) (sym c.new-done.ensures.items)
-    (subst (λ f. Turned c.args.sigs.now gs ws true [] f q q s s) (sym c.new-fresh.ensures.items) (turned-begins c.args.sigs.now gs ws q s c.in_ok-waiting.ensures c.requires.stands))
+    let ws = c.of-waiting.result in
+    subst (λ (d : List GoalNode). Turned c.args.sigs.now gs ws true d c.new-fresh.result.items q q s s) (sym c.in_ok-done.ensures.items)
+    (subst (λ f. Turned c.args.sigs.now gs ws true [] f q q s s) (sym c.new-fresh.ensures.items) (turned-begins c.args.sigs.now gs ws q s c.of-waiting.ensures c.requires.stands))
+
+pub in_turn-take-requires : goal.in_turn-take-requires
+in_turn-take-requires t c =
+    let gs = c.args.goals.now in
+    let ks = c.turns.waiting in
+    let d : IsReady c.args.sigs.now (goals_at gs ks) c.turns.procs c.first_ready.new.procs c.turns.state c.first_ready.new.state c.in-Ready.place c.in-Ready.part = rw c.in-Ready.is at c.in_ok-place.ensures.does in
+    omega (arith, d.place, goals-long gs ks)
 
 pub in_turn-turns-preserved : goal.in_turn-turns-preserved
 in_turn-turns-preserved t c =
@@ -540,7 +579,7 @@ in_turn-turns-preserved t c =
     let u = c.turns.state in
     let i = c.turns.invariant in
     let gs = c.args.goals.now in
-    let ks = c.turns.waiting.items in
+    let ks = c.turns.waiting in
     let r = c.first_ready.new.procs in
     let t = c.first_ready.new.state in
     let j : Turned c.args.sigs.now gs ks true c.turns.done.items c.turns.fresh.items q p s u = subst (λ b. Turned c.args.sigs.now gs ks b c.turns.done.items c.turns.fresh.items q p s u) c.turns-test.true i in
@@ -551,23 +590,22 @@ in_turn-turns-preserved t c =
     let d : IsReady c.args.sigs.now (goals_at gs ks) p r u t k part = rw c.in-Ready.is at c.in_ok-place.ensures.does in
     let a : FreshAlike (get_or (goals_at gs ks) k nothing) t part = rw c.in-Ready.is at c.in_ok-place.ensures.alike in
     let short : k < length ks = omega (arith, d.place, goals-long gs ks) in
-    let e : Entered part.freshened.items t v = entered-as t v part.freshened.items part.freshened.items refl o.insts o.log o.types o.nodes o.len o.counts in
-    turned-on c.args.sigs.now gs ks c.turns.done.items c.turns.fresh.items q p s u j r t v k part c.remove.new.self.items c.taken.new.done.items c.taken.new.fresh.items c.in_ok-reachable-in-Ready.reachable c.requires.counted
-    d a e (was-removed c.remove.result ks c.remove.new.self.items k c.turns.waiting.len c.turns.waiting.ok.0 short c.remove.ensures.variant c.remove.ensures.items) o.done o.fresh o.reachable
+    let e : Entered part.freshened.items t v = o.entered in
+    turned-on c.args.sigs.now gs ks c.turns.done.items c.turns.fresh.items q p s u j r t v k part c.take.new.self c.taken.new.done.items c.taken.new.fresh.items c.in_ok-reachable-in-Ready.reachable c.requires.counted
+    d a e c.in_ok-take-in-Ready.ensures o.done o.fresh o.reachable
 
 pub in_turn-turns-smaller : goal.in_turn-turns-smaller
 in_turn-turns-smaller t c =
     let p = c.turns.procs in
     let u = c.turns.state in
     let gs = c.args.goals.now in
-    let ks = c.turns.waiting.items in
+    let ks = c.turns.waiting in
     let r = c.first_ready.new.procs in
     let v = c.first_ready.new.state in
     let k = c.in-Ready.place in
     let d : IsReady c.args.sigs.now (goals_at gs ks) p r u v k c.in-Ready.part = rw c.in-Ready.is at c.in_ok-place.ensures.does in
     let short : k < length ks = omega (arith, d.place, goals-long gs ks) in
-    let left = was-removed c.remove.result ks c.remove.new.self.items k c.turns.waiting.len c.turns.waiting.ok.0 short c.remove.ensures.variant c.remove.ensures.items in
-    omega (arith, ap length left, length-remove ks k short)
+    omega (arith, ap length c.in_ok-take-in-Ready.ensures, length-remove ks k short)
 
 pub in_turn-stuck-requires-clause-places : goal.in_turn-stuck-requires-clause-places
 in_turn-stuck-requires-clause-places t c = c.turns.invariant.places
@@ -583,7 +621,7 @@ in_turn-stuck-requires-clause-variables t c =
     let u = c.turns.state in
     let i = c.turns.invariant in
     let gs = c.args.goals.now in
-    let ks = c.turns.waiting.items in
+    let ks = c.turns.waiting in
     let r = c.first_ready.new.procs in
     let t = c.first_ready.new.state in
     let j : Turned c.args.sigs.now gs ks true c.turns.done.items c.turns.fresh.items q p s u = subst (λ b. Turned c.args.sigs.now gs ks b c.turns.done.items c.turns.fresh.items q p s u) c.turns-test.true i in
@@ -598,7 +636,7 @@ in_turn-returns-in-NoneReady-clause-kept t c =
     let r = c.first_ready.new.procs in
     let u = c.turns.state in
     let v = c.first_ready.new.state in
-    let n : NoneIsReady c.args.sigs.now (goals_at c.args.goals.now c.turns.waiting.items) p r u v c.in-NoneReady.found = rw c.in-NoneReady.is at c.in_ok-place.ensures.does in
+    let n : NoneIsReady c.args.sigs.now (goals_at c.args.goals.now c.turns.waiting) p r u v c.in-NoneReady.found = rw c.in-NoneReady.is at c.in_ok-place.ensures.does in
     only_grown_trans q p r (nodes_grown q p c.args.state.now.nodes u.nodes c.turns.invariant.onward.moved.nodes) (nodes_grown p r u.nodes v.nodes n.moved.nodes)
 
 pub in_turn-returns-in-NoneReady-clause-does : goal.in_turn-returns-in-NoneReady-clause-does
@@ -609,7 +647,7 @@ in_turn-returns-in-NoneReady-clause-does t c =
     let u = c.turns.state in
     let i = c.turns.invariant in
     let gs = c.args.goals.now in
-    let ks = c.turns.waiting.items in
+    let ks = c.turns.waiting in
     let r = c.first_ready.new.procs in
     let t = c.first_ready.new.state in
     let j : Turned c.args.sigs.now gs ks true c.turns.done.items c.turns.fresh.items q p s u = subst (λ b. Turned c.args.sigs.now gs ks b c.turns.done.items c.turns.fresh.items q p s u) c.turns-test.true i in
@@ -618,7 +656,7 @@ in_turn-returns-in-NoneReady-clause-does t c =
     let k = c.leave.ensures in
     let f = c.in_ok-fault-in-NoneReady.fault in
     let l : Left c.turns.fresh.items t w = left-as t w _ c.turns.fresh.items c.deref.ensures.value k.insts k.log k.types k.nodes k.len k.counts in
-    turned-breaks c.args.sigs.now gs ks c.turns.done.items c.turns.fresh.items q p s u j r t w c.in-NoneReady.found f c.requires.counted (some-wait ks c.turns.waiting.len c.turns.waiting.ok.0 c.if-not-is_empty.ensures) n c.in_ok-fault-in-NoneReady.ensures l
+    turned-breaks c.args.sigs.now gs ks c.turns.done.items c.turns.fresh.items q p s u j r t w c.in-NoneReady.found f c.requires.counted (some-wait ks (λ e. true≢false (sym (c.if-not-is_empty.ensures.1 e)))) n c.in_ok-fault-in-NoneReady.ensures l
 
 pub in_turn-returns-clause-does : goal.in_turn-returns-clause-does
 in_turn-returns-clause-does t c =
@@ -628,12 +666,12 @@ in_turn-returns-clause-does t c =
     let u = c.turns.state in
     let i = c.turns.invariant in
     let gs = c.args.goals.now in
-    let ks = c.turns.waiting.items in
+    let ks = c.turns.waiting in
     let w = c.leave-2.new.self in
     let k = c.leave-2.ensures in
     let part : Part = record { goals = c.turns.done; reachable = c.turns.reachable; freshened = c.new.result } in
     let l : Left c.turns.fresh.items u w = left-as u w c.deref-2.result.now c.turns.fresh.items c.deref-2.ensures.value k.insts k.log k.types k.nodes k.len k.counts in
-    let last : (c.turns.reachable ≡ true → ks ≡ []) = λ h. elim c.turns-test.branch [ in_turn-then-turns-test+else-not-is_empty b ↦ none-wait ks c.turns.waiting.len c.turns.waiting.ok.0 b.if-not-is_empty.ensures | in_turn-else-turns-test b ↦ absurd (true≢false (sym h ∙ b.turns-test.false)) ] in
+    let last : (c.turns.reachable ≡ true → ks ≡ []) = λ h. elim c.turns-test.branch [ in_turn-then-turns-test+else-not-is_empty b ↦ b.if-not-is_empty.ensures.0 refl | in_turn-else-turns-test b ↦ absurd (true≢false (sym h ∙ b.turns-test.false)) ] in
     turned-runs c.args.sigs.now gs ks c.turns.reachable c.turns.done.items c.turns.fresh.items q p s u w part i l refl refl c.new.ensures.items last
 
 pub in_turn-returns-clause-alike : goal.in_turn-returns-clause-alike
@@ -644,7 +682,7 @@ in_turn-returns-clause-alike t c =
     let u = c.turns.state in
     let i = c.turns.invariant in
     let gs = c.args.goals.now in
-    let ks = c.turns.waiting.items in
+    let ks = c.turns.waiting in
     let w = c.leave-2.new.self in
     let part : Part = record { goals = c.turns.done; reachable = c.turns.reachable; freshened = c.new.result } in
     turned-alike c.args.sigs.now gs ks c.turns.reachable c.turns.done.items c.turns.fresh.items q p s u w part i c.leave-2.ensures.types refl
@@ -656,8 +694,8 @@ disjunction-loop-goal-init t c =
     let gs = c.args.goals.now in
     let own = c.in_ok-own.own.items in
     let seen = ascending (is_outside s.outside.items) own in
-    subst (λ (bs : List GoalNode). Forked c.args.sigs.now gs gs seen bs c.new-ends.result.items q q s s) (sym c.new-branches.ensures.items)
-    (subst (λ (es : List (List ℕ)). Forked c.args.sigs.now gs gs seen [] es q q s s) (sym c.new-ends.ensures.items)
+    subst (λ (bs : List GoalNode). Forked c.args.sigs.now gs gs seen bs c.in_ok-ends.ends.items q q s s) (sym c.in_ok-branches.ensures.items)
+    (subst (λ (es : List (List ℕ)). Forked c.args.sigs.now gs gs seen [] es q q s s) (sym c.in_ok-ends.ensures.items)
     (forked-begins c.args.sigs.now gs seen q s c.requires.stands))
 
 pub disjunction-returns-in_Err-node-clause-kept : goal.disjunction-returns-in_Err-node-clause-kept
@@ -786,11 +824,9 @@ pub conjunction-in_turn-requires : goal.conjunction-in_turn-requires
 conjunction-in_turn-requires t c =
     let d = c.decreases in
     let s = c.args.state.now in
-    let u = c.enter.new.self in
-    let e = c.in_ok-enter.ensures in
+    let u = c.enter_goals.new.state in
     let vs = variables_of_all (flats (map plain_flat c.args.goals.now)) in
-    let is : c.deref.result.now ≡ vs = c.deref.ensures.value ∙ c.in_ok-vars.ensures in
-    let i : Entered vs s u = entered-as s u c.deref.result.now vs is e.insts e.log e.types e.nodes e.len e.counts in
+    let i : Entered vs s u = c.in_ok-enter_goals.ensures in
     (omega (arith, d), ((frame-stands c.args.procs.now s u i.frame c.requires.stands), (c.requires.sigs, ((record { variables = subst (λ n. NumbersBelow n vs) (sym (count-same s u i.frame)) c.requires.fits.variables; known = c.requires.fits.known }), ((λ x. omega (arith, i.counts x)), c.requires.few)))))
 
 pub in_turn-first_ready-requires : goal.in_turn-first_ready-requires
@@ -802,7 +838,7 @@ in_turn-first_ready-requires t c =
     let u = c.turns.state in
     let i = c.turns.invariant in
     let gs = c.args.goals.now in
-    let ks = c.turns.waiting.items in
+    let ks = c.turns.waiting in
     (omega (arith, d), (i.onward.moved.stands, ((sigs-moved q p s u c.args.sigs.now i.onward.moved c.requires.sigs), ((goals-later q p s u (flats (map plain_flat gs)) i.onward.more i.onward.moved c.requires.fits), (i.places, (turned-counted c.args.sigs.now gs ks c.turns.reachable c.turns.done.items c.turns.fresh.items q p s u i c.requires.counted))))))
 
 pub first_ready-try_among-requires : goal.first_ready-try_among-requires
@@ -814,9 +850,9 @@ first_ready-try_among-requires t c =
     let u = c.loop-place.state in
     let i = c.loop-place.invariant in
     let gs = c.args.goals.now in
-    let ks = c.args.waiting.now.items in
+    let ks = c.args.waiting.now in
     let k = c.loop-place.place in
-    let h : k < length ks = omega (arith, c.loop-place-test.true, c.args.waiting.now.ok.0) in
+    let h : k < length ks = omega (arith, c.loop-place-test.true) in
     let x = c.goal_at-goal.result.now in
     let is = c.goal_at-goal.ensures in
     let l = place-below (length gs) ks k c.requires.waiting h in
@@ -824,8 +860,8 @@ first_ready-try_among-requires t c =
     let same = ap size-Flat is in
     (omega (arith, d, one, same), (i.moved.stands, ((sigs-moved q p s u c.args.sigs.now i.moved c.requires.sigs), ((subst (λ (y : Flat). GoalFits p u (plain_flat y)) (sym is) (placed-fits q p s u gs ks k x c.requires.waiting h i.same i.moved c.requires.fits)), (subst (λ (y : Flat). Counted (variables_of (plain_flat y)) u) (sym is) (placed-counted s u gs ks k x c.requires.waiting h i.same c.requires.counted))))))
 
-pub try_among-try_goal-requires : goal.try_among-try_goal-requires
-try_among-try_goal-requires t c =
+pub compound_among-try_goal-requires : goal.compound_among-try_goal-requires
+compound_among-try_goal-requires t c =
     let d = c.decreases in
     let s = c.args.state.now in
     let u = c.leave.new.self in

@@ -11,14 +11,14 @@ use Rattle.mc_modes.proofs.Taking.{Turned}
 use Rattle.mc_modes.proofs.order.+order.Given as goal
 
 abbrev pub invariant-in_turn-turns : goal.invariant-in_turn-turns
-invariant-in_turn-turns l = Turned l.sigs l.goals l.waiting.items l.reachable l.done.items l.fresh.items l.fn.procs l.procs l.fn.state l.state
+invariant-in_turn-turns l = Turned l.sigs l.goals l.waiting l.reachable l.done.items l.fresh.items l.fn.procs l.procs l.fn.state l.state
 
 abbrev pub decreases-in_turn-turns : goal.decreases-in_turn-turns
-decreases-in_turn-turns l = length l.waiting.items
+decreases-in_turn-turns l = length l.waiting
 
 abbrev pub invariant-first_ready-loop-place : goal.invariant-first_ready-loop-place
 invariant-first_ready-loop-place l =
-    let gs = goals_at l.goals l.waiting.items in
+    let gs = goals_at l.goals l.waiting in
     record {
       same : SameState l.fn.state l.state;
       moved : Moved l.fn.procs l.procs l.fn.state l.state;
@@ -44,7 +44,10 @@ abbrev pub decreases-first_ready : goal.decreases-first_ready
 decreases-first_ready l = 8 * most size-Flat l.goals.now + 4
 
 abbrev pub decreases-try_among : goal.decreases-try_among
-decreases-try_among l = 8 * size-Flat l.goal.now + 2
+decreases-try_among l = 8 * size-Flat l.goal.now + 3
+
+abbrev pub decreases-compound_among : goal.decreases-compound_among
+decreases-compound_among l = 8 * size-Flat l.goal.now + 2
 
 abbrev pub decreases-beside : goal.decreases-beside
 decreases-beside l = 8 * size-Flat l.goal.now + 2

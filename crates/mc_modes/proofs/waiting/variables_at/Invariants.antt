@@ -4,5 +4,5 @@ use Rattle.mc_modes.proofs.waiting.variables_at.Given as goal
 
 abbrev pub invariant-loop-place : goal.invariant-loop-place
 invariant-loop-place l =
-    l.list.items ++ variables_of_each (goals_at l.goals (drop l.place l.waiting.items))
-    ≡ variables_of_each (goals_at l.goals l.waiting.items)
+    l.list.items ++ variables_of_each (goals_at l.goals (drop l.place l.waiting))
+    ≡ variables_of_each (goals_at l.goals l.waiting)

@@ -1,0 +1,15 @@
+use Rattle.std.proofs.Common.{length, map, take, drop}
+use Rattle.mc_model.specs.Flat.{flats, variables_of_all}
+use Rattle.mc_model.specs.PlainGoals.{plain_flat}
+use Rattle.mc_procs.specs.Named.{NumbersBelow}
+use Rattle.mc_modes.specs.code.Frames.{Left}
+use Rattle.mc_modes.specs.code.Waiting.{Counted}
+use Rattle.mc_modes.proofs.outside.leave_goals.Given as goal
+
+abbrev pub invariant-loop-goal : goal.invariant-loop-goal
+invariant-loop-goal l =
+    record {
+      left : Left (variables_of_all (flats (map plain_flat (take l.goal-index l.goals)))) l.fn.state l.state;
+      below : NumbersBelow (length l.state.outside.items) (variables_of_all (flats (map plain_flat (drop l.goal-index l.goals))));
+      counted : Counted (variables_of_all (flats (map plain_flat (drop l.goal-index l.goals)))) l.state;
+    }
