@@ -7,14 +7,13 @@ use Rattle.mc_model.specs.PlainGoals.{plain_node, plain_proc}
 use Rattle.mc_model.specs.declared.sched.GoalNode.{GoalNode}
 use Rattle.mc_model.specs.declared.sched.Proc.{Proc}
 use Rattle.mc_accepted.specs.Accepted.{entered}
-use Rattle.mc_accepted.specs.Ordered.{Insts, binds_one, times_in, variables_of_node}
+use Rattle.mc_accepted.specs.Ordered.{Insts, times_in, variables_of_node}
 use Rattle.mc_accepted.specs.Determined.{insts_after}
 use Rattle.mc_accepted.specs.MergedArms.{never_ends}
 use Rattle.mc_accepted.specs.Inferred.{with_determinisms}
 use Rattle.mc_procs.specs.Procedures.{PlainProcs, as_system}
 use Rattle.mc_det.specs.Pruned.{pruned_node, pruned_body}
 use Rattle.mc_det.specs.declared.prune.Pruning.{Pruning}
-use Rattle.mc_det.specs.declared.prune.PrunedNode.{PrunedNode}
 use Rattle.mc_det.specs.code.Points.{insts_in}
 use Rattle.mc_det.specs.code.Walks.{typed}
 use Rattle.mc_det.specs.code.Prunes.{Counted, HasCounted, InDeclared, Keeps, IsNode, IsWithin, IsBeside, IsThen}
@@ -74,8 +73,8 @@ one_counted gs k g a b lt is m x h =
     omega (arith, e, f)
 
 module _ (q : PlainProcs) (types : List Ty) where
-  pub within_is : (a m : Pruning) (n : Node) (part : PrunedNode) → m.point ≡ a.point → Fewer (variables_of_node n) a.outside m.outside → IsNode q types m n part → IsWithin q types a n part
-  within_is a m n part same fewer is =
+  pub within_is : (a m : Pruning) (n x : Node) (told : Bool) → m.point ≡ a.point → Fewer (variables_of_node n) a.outside m.outside → IsNode q types m n x told → IsWithin q types a n x told
+  within_is a m n x told same fewer is =
       record {
         made = λ Q h outcome ds follow.
             is.made Q (counted_fewer Q (variables_of_node n) a.outside m.outside fewer h) outcome ds follow
@@ -85,19 +84,19 @@ module _ (q : PlainProcs) (types : List Ty) where
             ∙ ap (λ (p : List ℕ). never_ends (with_determinisms (as_system outcome q) ds) (typed types) (insts_in p) n) same;
       }
 
-  pub beside_is : (a m : Pruning) (other n : Node) (part : PrunedNode) → m.point ≡ a.point → More (variables_of_node other) a.outside m.outside → IsNode q types m n part → IsBeside q types a other n part
-  beside_is a m other n part same more is =
+  pub beside_is : (a m : Pruning) (beside : List ℕ) (n x : Node) (told : Bool) → m.point ≡ a.point → More beside a.outside m.outside → IsNode q types m n x told → IsBeside q types a beside n x told
+  beside_is a m beside n x told same more is =
       record {
         made = λ Q h outcome ds follow.
-            is.made (Q ++ variables_of_node other) (counted_more Q (variables_of_node other) a.outside m.outside more h) outcome ds follow
-            ∙ ap (λ (p : List ℕ). pruned_node (with_determinisms (as_system outcome q) ds) (typed types) (Q ++ variables_of_node other) (insts_in p) n) same;
+            is.made (Q ++ beside) (counted_more Q beside a.outside m.outside more h) outcome ds follow
+            ∙ ap (λ (p : List ℕ). pruned_node (with_determinisms (as_system outcome q) ds) (typed types) (Q ++ beside) (insts_in p) n) same;
         never = λ outcome ds follow.
             is.never outcome ds follow
             ∙ ap (λ (p : List ℕ). never_ends (with_determinisms (as_system outcome q) ds) (typed types) (insts_in p) n) same;
       }
 
-  pub then_is : (a m : Pruning) (condition n : Node) (part : PrunedNode) → insts_in m.point ≡ insts_after condition (insts_in a.point) → m.outside ≡ a.outside → IsBeside q types m condition n part → IsThen q types a condition n part
-  then_is a m condition n part after same is =
+  pub then_is : (a m : Pruning) (condition n x : Node) (told : Bool) → insts_in m.point ≡ insts_after condition (insts_in a.point) → m.outside ≡ a.outside → IsBeside q types m (variables_of_node condition) n x told → IsThen q types a condition n x told
+  then_is a m condition n x told after same is =
       record {
         made = λ Q h outcome ds follow.
             is.made Q (subst (Counted Q) (sym same) h) outcome ds follow
@@ -114,8 +113,8 @@ head_counted head none counts z m x lt =
     omega (arith, m.1 x l, z x)
 
 -- a whole body
-pub whole_pruned : (q : PlainProcs) (types : List Ty) (a : Pruning) (p : Proc) (part : PrunedNode) → types ≡ p.var_types → insts_in a.point ≡ entered p.head p.first → Counted p.head a.outside → IsNode q types a (plain_node p.body) part → InDeclared q (λ S. plain_node part.node ≡ pruned_body S (plain_proc p))
-whole_pruned q types a p part of here counted is outcome ds follow =
+pub whole_pruned : (q : PlainProcs) (types : List Ty) (a : Pruning) (p : Proc) (body : GoalNode) (told : Bool) → types ≡ p.var_types → insts_in a.point ≡ entered p.head p.first → Counted p.head a.outside → IsNode q types a (plain_node p.body) (plain_node body) told → InDeclared q (λ S. plain_node body ≡ pruned_body S (plain_proc p))
+whole_pruned q types a p body told of here counted is outcome ds follow =
     let S = with_determinisms (as_system outcome q) ds in
     is.made p.head counted outcome ds follow
     ∙ ap (λ (ts : List Ty). pruned_node S (typed ts) p.head (insts_in a.point) (plain_node p.body)) of
@@ -124,11 +123,6 @@ whole_pruned q types a p part of here counted is outcome ds follow =
 -- walks that stand where they began
 pub keeps_both : (a b c : Pruning) → Keeps a b → Keeps b c → Keeps a c
 keeps_both a b c k l = record { point = l.point ∙ k.point; outside = l.outside ∙ k.outside }
-
-pub binds_from_start : (a m : Pruning) (n : Node) (s : Bool) → Keeps a m → ((Q : List ℕ) → Counted Q m.outside → s ≡ binds_one Q (insts_in m.point) (insts_after n (insts_in m.point))) → (Q : List ℕ) → Counted Q a.outside → s ≡ binds_one Q (insts_in a.point) (insts_after n (insts_in a.point))
-binds_from_start a m n s k f Q h =
-    f Q (subst (Counted Q) (sym k.outside) h)
-    ∙ ap (λ (p : List ℕ). binds_one Q (insts_in p) (insts_after n (insts_in p))) k.point
 
 pub count_same : (types : List Ty) (a b : List ℕ) → b ≡ a → length a ≡ length types → length b ≡ length types
 count_same types a b e h = ap length e ∙ h

@@ -15,7 +15,7 @@ use Rattle.mc_accepted.specs.Fits.{type_of}
 use Rattle.mc_accepted.specs.Accepted.{entered, KeepsDeterminism, KeepsInside, AllKeep, EachKeeps, ArmsKeep}
 use Rattle.mc_procs.specs.Procedures.{PlainProcs, procedure_at, as_system, with_procs}
 use Rattle.mc_skeletons.specs.Least.{assigned}
-use Rattle.mc_det.specs.Marked.{marked_body, with_marks}
+use Rattle.mc_det.specs.Marked.{marked, marked_in, marked_all, marked_each, marked_arms, marked_body, with_marks}
 use Rattle.mc_det.specs.Determinisms.{AreDeterminisms}
 use Rattle.mc_det.specs.MarkedProcedures.{IsMarked, Inferred, MarksHold, determinisms_of, where_determined}
 use Rattle.mc_det.proofs.Declaring.{procedure_is}
@@ -69,6 +69,41 @@ module _ (world : World) (insts : Graph) (m n : ℕ) (f g : ℕ → Procedure) (
       same_arms : (b : Insts) (known : Known) (x : ℕ) (arms : Arms) → determined_arms A type b known x arms ≡ determined_arms B type b known x arms
       same_arms b known x no_arms = refl
       same_arms b known x (arm_then l t arms) = ap₂ armed (same_told b (learned x l known) t) (same_arms b known x arms)
+
+    mutual
+      pub same_marks : (b : Insts) (known : Known) (t : Node) → marked A type b known t ≡ marked B type b known t
+      same_marks b known (node s changes d p) =
+          ap₂ (λ (u : Scheduled) (r : Determinism). node u changes (inferred r) p) (marks_in b known s) (same_told b known (node s changes d p))
+
+      marks_in : (b : Insts) (known : Known) (s : Scheduled) → marked_in A type b known s ≡ marked_in B type b known s
+      marks_in b known (Conj ns) = ap Conj (marks_all b known ns)
+      marks_in b known (Disj ns) = ap Disj (marks_each b known ns)
+      marks_in b known (Switch x arms) = ap (Switch x) (marks_arms b known x arms)
+      marks_in b known (Ite vs c t e) =
+          ap (λ (n : Node). Ite vs n (marked A type (insts_after c b) known t) (marked A type b known e)) (same_marks b known c)
+          ∙ ap₂ (Ite vs (marked B type b known c)) (same_marks (insts_after c b) known t) (same_marks b known e)
+      marks_in b known (Not t) = ap Not (same_marks b known t)
+      marks_in b known (Exists vs t) = ap (Exists vs) (same_marks b known t)
+      marks_in b known (Assign x y) = refl
+      marks_in b known (Test x y) = refl
+      marks_in b known (Build x s ys) = refl
+      marks_in b known (Take x s ys) = refl
+      marks_in b known (Const x v) = refl
+      marks_in b known (TestConst x v) = refl
+      marks_in b known (Call p xs implied last) = refl
+      marks_in b known (Apply op xs ys) = refl
+
+      marks_all : (b : Insts) (known : Known) (ns : Nodes) → marked_all A type b known ns ≡ marked_all B type b known ns
+      marks_all b known no_nodes = refl
+      marks_all b known (node_then t ns) = ap₂ node_then (same_marks b known t) (marks_all (insts_after t b) known ns)
+
+      marks_each : (b : Insts) (known : Known) (ns : Nodes) → marked_each A type b known ns ≡ marked_each B type b known ns
+      marks_each b known no_nodes = refl
+      marks_each b known (node_then t ns) = ap₂ node_then (same_marks b known t) (marks_each b known ns)
+
+      marks_arms : (b : Insts) (known : Known) (x : ℕ) (arms : Arms) → marked_arms A type b known x arms ≡ marked_arms B type b known x arms
+      marks_arms b known x no_arms = refl
+      marks_arms b known x (arm_then l t arms) = ap₂ (arm_then l) (same_marks b (learned x l known) t) (marks_arms b known x arms)
 
   module _ (p : Procedure) where
     mutual
@@ -132,6 +167,19 @@ marks_hold q ps m count outcome k lt =
     let moved : Keeps (as_system outcome (with_procs q ps)) (with_marks S r.det P) =
     keeps S.world S.insts S.count (length ps) S.procs (procedure_at ps) (det_at ps) (with_marks S r.det P) (entered P.head P.first) nothing_known (marked_body S P) kept in
     subst (Keeps (as_system outcome (with_procs q ps))) (sym is ∙ sym (procedure_is ps k e lt)) moved
+
+-- a procedure is marked the same whichever others stand beside it
+pub marked_elsewhere : (q : PlainProcs) (ps : List Proc) (ds : List Det) (p r : Proc) → IsMarked (with_procs q ps) ds p r → IsMarked q ds p r
+marked_elsewhere q ps ds p r m =
+    let P = plain_proc p in
+    record {
+      others = m.others;
+      body = λ outcome.
+          let S = where_determined outcome q ds in
+          let T = where_determined outcome (with_procs q ps) ds in
+          m.body outcome
+          ∙ same_marks S.world S.insts T.count S.count T.procs S.procs (λ k. refl) (type_of S P) (entered P.head P.first) nothing_known P.body;
+    }
 
 -- what holds after all procedures with their marks came into their places
 module _ (q r : PlainProcs) (ps : List Proc) (ds : List Det) (is : r ≡ with_procs q ps) (count : length ps ≡ length q.added) (dets : map (λ (p : Proc). p.det) ps ≡ ds) where

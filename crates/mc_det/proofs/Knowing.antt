@@ -13,15 +13,15 @@ use Rattle.mc_det.specs.declared.facts.Fact.{Fact}
 use Rattle.mc_det.specs.code.Facts.{known_in}
 
 abbrev said : ℕ → Fact → Option Label
-said x f = if nat_eq x f.variable then Some (plain_label f.on.now) else None
+said x f = if nat_eq x f.variable then Some (plain_label f.on) else None
 
 -- the fact at a place is on the variable, and none behind it
-pub known_at : (facts : List Fact) (k x : ℕ) (f : Fact) → k < length facts → known_in (drop (suc k) facts) x ≡ None → f ≡ get_or facts k f → nat_eq x f.variable ≡ true → known_in facts x ≡ Some (plain_label f.on.now)
+pub known_at : (facts : List Fact) (k x : ℕ) (f : Fact) → k < length facts → known_in (drop (suc k) facts) x ≡ None → f ≡ get_or facts k f → nat_eq x f.variable ≡ true → known_in facts x ≡ Some (plain_label f.on)
 known_at [] k x f lt e i t = absurd (omega arith)
 known_at (g ∷ facts) zero x f lt e i t =
     ap (λ (o : Option Label). option_or o (said x g)) e
     ∙ ap (said x) (sym i)
-    ∙ ap (λ (b : Bool). if b then Some (plain_label f.on.now) else None) t
+    ∙ ap (λ (b : Bool). if b then Some (plain_label f.on) else None) t
 known_at (g ∷ facts) (suc k) x f lt e i t =
     ap (λ (o : Option Label). option_or o (said x g)) (known_at facts k x f (omega arith) e i t)
 
@@ -31,7 +31,7 @@ known_past facts k x f lt e i t =
     ap (λ (l : List Fact). known_in l x) (drop-cons facts k f lt)
     ∙ ap (λ (o : Option Label). option_or o (said x (get_or facts k f))) e
     ∙ ap (said x) (sym i)
-    ∙ ap (λ (b : Bool). if b then Some (plain_label f.on.now) else None) t
+    ∙ ap (λ (b : Bool). if b then Some (plain_label f.on) else None) t
 
 -- values are equal where what they stand for is
 pub values_tell : (b : Bool) (v w : Value) → (IsTrue b ↔ (v ≡ w)) → b ≡ same_value (plain_value v) (plain_value w)

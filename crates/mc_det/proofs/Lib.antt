@@ -8,10 +8,11 @@ pub mod Declaring
 pub mod Naming
 pub mod Marking
 pub mod Telling
-pub mod Copies
+pub mod MarkedParts
 pub mod MarkedNames
 pub mod Replacing
 pub mod Depending
+pub mod Placing
 pub mod Closing
 pub mod Pruning
 pub mod Gathering
@@ -19,3 +20,4 @@ pub mod PrunedNames
 pub mod PrunedParts
 pub mod Counting
 pub mod BoundOutside
+pub mod PrunedElsewhere

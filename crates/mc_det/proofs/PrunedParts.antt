@@ -1,4 +1,4 @@
--- Copies of goals with their marks for pruned goals, told from their parts.
+-- Goals with their marks for pruned goals, told from their parts.
 use Rattle.std.proofs.Math.Seq.{drop-cons, drop-length}
 use Rattle.std.proofs.lemmas.List.{map-append}
 use Rattle.std.proofs.Common.{◌≡◌, ℕ, suc, ◌+◌, ◌<◌, List, [], ◌∷◌, ◌++◌, length, get_or, drop, map, add-one, append_assoc, Bool, true, false, not, ◌||◌, ◌&&◌, refl, sym, ap, ap₂, ◌∙◌, subst, arith}
@@ -12,7 +12,6 @@ use Rattle.mc_model.specs.PlainGoals.{plain_node, plain_sched, plain_arm, plain_
 use Rattle.mc_model.specs.Good.{System}
 use Rattle.mc_model.specs.Outcomes.{Outcome}
 use Rattle.mc_model.specs.declared.sched.GoalNode.{GoalNode}
-use Rattle.mc_model.specs.declared.sched.Sched.{Sched}
 use Rattle.mc_model.specs.declared.sched.Arm.{Arm}
 use Rattle.mc_accepted.specs.Ordered.{Insts, binds_one, times_in, variables_of_node, variables_of_nodes}
 use Rattle.mc_accepted.specs.Determined.{insts_after}
@@ -23,15 +22,11 @@ use Rattle.mc_procs.proofs.Views.{plain_node-open, plain_arm-open}
 use Rattle.mc_det.specs.Pruned.{then_reached, pruned_node, pruned_in, pruned_all, pruned_each, pruned_arms}
 use Rattle.mc_det.specs.PrunedProcedures.{FollowDeclared}
 use Rattle.mc_det.specs.declared.prune.Pruning.{Pruning}
-use Rattle.mc_det.specs.declared.prune.PrunedGoal.{PrunedGoal}
-use Rattle.mc_det.specs.declared.prune.PrunedNode.{PrunedNode}
-use Rattle.mc_det.specs.declared.prune.PrunedNodes.{PrunedNodes}
-use Rattle.mc_det.specs.declared.prune.PrunedArms.{PrunedArms}
 use Rattle.mc_det.specs.code.Points.{insts_in}
 use Rattle.mc_det.specs.code.Walks.{typed}
-use Rattle.mc_det.specs.code.Prunes.{Counted, InDeclared, Keeps, IsGoal, IsNode, AreRun, AreTried, AreChosen, IsWithin, IsBeside, IsThen}
+use Rattle.mc_det.specs.code.Prunes.{Counted, InDeclared, Keeps, IsGoal, IsNode, IsWithin, IsBeside, IsThen}
 use Rattle.mc_det.proofs.Telling.{before, one_before, none_after}
-use Rattle.mc_det.proofs.Copies.{arms_before, one_arm_before, no_arm_after}
+use Rattle.mc_det.proofs.MarkedParts.{arms_before, one_arm_before, no_arm_after}
 
 module _ (S : System) (T : ℕ → TypeTerm) where
   -- one node more of a conjunction, where R is outside what is left
@@ -85,91 +80,63 @@ module _ (q : PlainProcs) (types : List Ty) (a : Pruning) where
   all_of gs = nodes (map plain_node gs)
 
   -- a node from its goal
-  pub node_pruned : (g copy : GoalNode) (part : PrunedGoal) (binds : Bool) → copy.goal ≡ part.goal → copy.changes ≡ g.changes → copy.det ≡ g.det → copy.pruned ≡ not (part.never_ends || binds) → IsGoal q types a (plain_sched g.goal) part → (Q : List ℕ) → Counted Q a.outside → binds ≡ binds_one Q (insts_in a.point) (insts_after (plain_node g) (insts_in a.point)) → InDeclared q (λ S. plain_node copy ≡ pruned_node S (typed types) Q (insts_in a.point) (plain_node g))
-  node_pruned g copy part binds e c d m is Q counted bound outcome ds follow =
-      let S : System = under_declared outcome ds in
-      plain_node-open copy
-      ∙ ap (λ (s : Sched). node (plain_sched s) copy.changes copy.det copy.pruned) e
-      ∙ ap (λ (s : Scheduled). node s copy.changes copy.det copy.pruned) (is.made Q counted outcome ds follow)
-      ∙ ap (λ (l : List (ℕ × ℕ)). node (pruned_in S T Q b (plain_sched g.goal)) l copy.det copy.pruned) c
-      ∙ ap (λ (t : Det). node (pruned_in S T Q b (plain_sched g.goal)) g.changes t copy.pruned) d
-      ∙ ap (λ (p : Bool). node (pruned_in S T Q b (plain_sched g.goal)) g.changes g.det p)
-      (m
-      ∙ ap (λ (v : Bool). not (v || binds)) (is.never outcome ds follow)
-      ∙ ap (λ (v : Bool). not (never_ends_in S T b (plain_sched g.goal) || v)) bound
-      ∙ ap (λ (n : Node). not (never_ends_in S T b (plain_sched g.goal) || binds_one Q b (insts_after n b))) (plain_node-open g))
-      ∙ ap (pruned_node S T Q b) (sym (plain_node-open g))
-
-  pub node_never : (g : GoalNode) (part : PrunedGoal) (whole : PrunedNode) → whole.never_ends ≡ part.never_ends → IsGoal q types a (plain_sched g.goal) part → InDeclared q (λ S. whole.never_ends ≡ never_ends S (typed types) (insts_in a.point) (plain_node g))
-  node_never g part whole e is outcome ds follow =
-      e
-      ∙ is.never outcome ds follow
-      ∙ ap (never_ends (under_declared outcome ds) T b) (sym (plain_node-open g))
-
-  -- goals from their parts
-  pub conj_pruned : (gs : List GoalNode) (parts : PrunedNodes) (part : PrunedGoal) → plain_sched part.goal ≡ Conj (nodes (map plain_node parts.nodes)) → part.never_ends ≡ parts.never_end → AreRun q types a (nodes (map plain_node gs)) parts → IsGoal q types a (Conj (nodes (map plain_node gs))) part
-  conj_pruned gs parts part g n r =
-      record {
-        made = λ Q counted outcome ds follow. g ∙ ap Conj (r.made Q counted outcome ds follow);
-        never = λ outcome ds follow. n ∙ r.never outcome ds follow;
-      }
-
-  pub disj_pruned : (gs : List GoalNode) (parts : PrunedNodes) (part : PrunedGoal) → plain_sched part.goal ≡ Disj (nodes (map plain_node parts.nodes)) → part.never_ends ≡ parts.never_end → AreTried q types a (nodes (map plain_node gs)) parts → IsGoal q types a (Disj (nodes (map plain_node gs))) part
-  disj_pruned gs parts part g n r =
-      record {
-        made = λ Q counted outcome ds follow. g ∙ ap Disj (r.made Q counted outcome ds follow);
-        never = λ outcome ds follow. n ∙ r.never outcome ds follow;
-      }
-
-  pub switch_pruned : (x : ℕ) (arms : List Arm) (parts : PrunedArms) (part : PrunedGoal) → plain_sched part.goal ≡ Switch x (arms_of (map plain_arm parts.arms)) → part.never_ends ≡ parts.never_end → AreChosen q types a (arms_of (map plain_arm arms)) parts → IsGoal q types a (Switch x (arms_of (map plain_arm arms))) part
-  switch_pruned x arms parts part g n r =
-      record {
-        made = λ Q counted outcome ds follow. g ∙ ap (Switch x) (r.made Q counted outcome ds follow);
-        never = λ outcome ds follow. n ∙ r.never outcome ds follow;
-      }
-
-  pub not_pruned : (n : Node) (inner : PrunedNode) (part : PrunedGoal) → plain_sched part.goal ≡ Not (plain_node inner.node) → part.never_ends ≡ false → IsNode q types a n inner → IsGoal q types a (Not n) part
-  not_pruned n inner part g e is =
-      record {
-        made = λ Q counted outcome ds follow. g ∙ ap Not (is.made Q counted outcome ds follow);
-        never = λ outcome ds follow. e;
-      }
-
-  pub some_pruned : (vs : List ℕ) (n : Node) (inner : PrunedNode) (part : PrunedGoal) → plain_sched part.goal ≡ Exists vs (plain_node inner.node) → part.never_ends ≡ inner.never_ends → IsNode q types a n inner → IsGoal q types a (Exists vs n) part
-  some_pruned vs n inner part g e is =
-      record {
-        made = λ Q counted outcome ds follow. g ∙ ap (Exists vs) (is.made Q counted outcome ds follow);
-        never = λ outcome ds follow. e ∙ is.never outcome ds follow;
-      }
-
-  pub ite_pruned : (vs : List ℕ) (c t e : Node) (first second third : PrunedNode) (part : PrunedGoal) → plain_sched part.goal ≡ Ite vs (plain_node first.node) (then_reached first.never_ends (plain_node second.node)) (plain_node third.node) → part.never_ends ≡ ((first.never_ends || second.never_ends) && third.never_ends) → IsBeside q types a t c first → IsThen q types a c t second → IsNode q types a e third → IsGoal q types a (Ite vs c t e) part
-  ite_pruned vs c t e first second third part g n f s h =
+  pub node_pruned : (g x : GoalNode) (told binds : Bool) → x.changes ≡ g.changes → x.det ≡ g.det → x.pruned ≡ not (told || binds) → IsGoal q types a (plain_sched g.goal) (plain_sched x.goal) told → ((Q : List ℕ) → Counted Q a.outside → binds ≡ binds_one Q (insts_in a.point) (insts_after (plain_node g) (insts_in a.point))) → IsNode q types a (plain_node g) (plain_node x) told
+  node_pruned g x told binds c d m is bound =
       record {
         made = λ Q counted outcome ds follow.
             let S : System = under_declared outcome ds in
-            g
-            ∙ ap (λ (k : Node). Ite vs k (then_reached first.never_ends (plain_node second.node)) (plain_node third.node)) (f.made Q counted outcome ds follow)
-            ∙ ap (λ (v : Bool). Ite vs (pruned_node S T (Q ++ variables_of_node t) b c) (then_reached v (plain_node second.node)) (plain_node third.node)) (f.never outcome ds follow)
-            ∙ ap (λ (k : Node). Ite vs (pruned_node S T (Q ++ variables_of_node t) b c) (then_reached (never_ends S T b c) k) (plain_node third.node)) (s.made Q counted outcome ds follow)
+            plain_node-open x
+            ∙ ap (λ (s : Scheduled). node s x.changes x.det x.pruned) (is.made Q counted outcome ds follow)
+            ∙ ap (λ (l : List (ℕ × ℕ)). node (pruned_in S T Q b (plain_sched g.goal)) l x.det x.pruned) c
+            ∙ ap (λ (t : Det). node (pruned_in S T Q b (plain_sched g.goal)) g.changes t x.pruned) d
+            ∙ ap (λ (p : Bool). node (pruned_in S T Q b (plain_sched g.goal)) g.changes g.det p)
+            (m
+            ∙ ap (λ (v : Bool). not (v || binds)) (is.never outcome ds follow)
+            ∙ ap (λ (v : Bool). not (never_ends_in S T b (plain_sched g.goal) || v)) (bound Q counted)
+            ∙ ap (λ (n : Node). not (never_ends_in S T b (plain_sched g.goal) || binds_one Q b (insts_after n b))) (plain_node-open g))
+            ∙ ap (pruned_node S T Q b) (sym (plain_node-open g));
+        never = λ outcome ds follow. is.never outcome ds follow ∙ ap (never_ends (under_declared outcome ds) T b) (sym (plain_node-open g));
+      }
+
+  -- the same of goals that are seen otherwise
+  pub goal_as : (s t u v : Scheduled) (told : Bool) → s ≡ u → t ≡ v → IsGoal q types a u v told → IsGoal q types a s t told
+  goal_as s t u v told e f h =
+      subst (λ (w : Scheduled). IsGoal q types a w t told) (sym e)
+      (subst (λ (w : Scheduled). IsGoal q types a u w told) (sym f) h)
+
+  -- goals from their parts
+  pub not_pruned : (n m : Node) (told : Bool) → IsNode q types a n m told → IsGoal q types a (Not n) (Not m) false
+  not_pruned n m told is =
+      record {
+        made = λ Q counted outcome ds follow. ap Not (is.made Q counted outcome ds follow);
+        never = λ outcome ds follow. refl;
+      }
+
+  pub some_pruned : (vs : List ℕ) (n m : Node) (told : Bool) → IsNode q types a n m told → IsGoal q types a (Exists vs n) (Exists vs m) told
+  some_pruned vs n m told is =
+      record {
+        made = λ Q counted outcome ds follow. ap (Exists vs) (is.made Q counted outcome ds follow);
+        never = λ outcome ds follow. is.never outcome ds follow;
+      }
+
+  pub ite_pruned : (vs : List ℕ) (c t e c2 t2 e2 : Node) (first second third told : Bool) → told ≡ ((first || second) && third) → IsBeside q types a (variables_of_node t) c c2 first → IsThen q types a c t t2 second → IsNode q types a e e2 third → IsGoal q types a (Ite vs c t e) (Ite vs c2 (then_reached first t2) e2) told
+  ite_pruned vs c t e c2 t2 e2 first second third told n f s h =
+      record {
+        made = λ Q counted outcome ds follow.
+            let S : System = under_declared outcome ds in
+            ap (λ (k : Node). Ite vs k (then_reached first t2) e2) (f.made Q counted outcome ds follow)
+            ∙ ap (λ (v : Bool). Ite vs (pruned_node S T (Q ++ variables_of_node t) b c) (then_reached v t2) e2) (f.never outcome ds follow)
+            ∙ ap (λ (k : Node). Ite vs (pruned_node S T (Q ++ variables_of_node t) b c) (then_reached (never_ends S T b c) k) e2) (s.made Q counted outcome ds follow)
             ∙ ap (λ (k : Node). Ite vs (pruned_node S T (Q ++ variables_of_node t) b c) (then_reached (never_ends S T b c) (pruned_node S T (Q ++ variables_of_node c) (insts_after c b) t)) k) (h.made Q counted outcome ds follow);
         never = λ outcome ds follow.
             n
             ∙ ap₂ (λ (x y : Bool). x && y) (ap₂ (λ (x y : Bool). x || y) (f.never outcome ds follow) (s.never outcome ds follow)) (h.never outcome ds follow);
       }
 
-  -- a goal that has no parts
-  pub atom_pruned : (goal : Sched) (s : Scheduled) (part : PrunedGoal) → plain_sched goal ≡ s → plain_sched part.goal ≡ s → ((Q : List ℕ) → InDeclared q (λ S. pruned_in S (typed types) Q (insts_in a.point) s ≡ s)) → InDeclared q (λ S. part.never_ends ≡ never_ends_in S (typed types) (insts_in a.point) s) → IsGoal q types a (plain_sched goal) part
-  atom_pruned goal s part seen made stays never =
-      subst (λ (t : Scheduled). IsGoal q types a t part) (sym seen)
-      (record {
-        made = λ Q counted outcome ds follow. made ∙ sym (stays Q outcome ds follow);
-        never = never;
-      })
-
 -- A conjunction, goal by goal: what is outside those that are left, with them, is counted.
 pub record RunSoFar
     (q : PlainProcs) (types : List Ty) (a l : Pruning) (gs : List GoalNode) (k : ℕ)
-    (copies : List GoalNode) (so_never : Bool)
+    (made_so : List GoalNode) (so_never : Bool)
     : Type 0 where
   pub made :
       (Q : List ℕ)
@@ -178,7 +145,7 @@ pub record RunSoFar
       × Counted (R ++ variables_of_nodes (nodes (map plain_node (drop k gs)))) l.outside
       × InDeclared q
       (λ S.
-      before (map plain_node copies)
+      before (map plain_node made_so)
       (pruned_all S (typed types) R (insts_in l.point) (nodes (map plain_node (drop k gs))))
       ≡ pruned_all S (typed types) Q (insts_in a.point) (nodes (map plain_node gs)))
   pub never :
@@ -211,8 +178,8 @@ module _ (q : PlainProcs) (types : List Ty) (a : Pruning) (gs : List GoalNode) w
   or_apart false y z = refl
 
   -- one goal more
-  pub run_more : (l m : Pruning) (k : ℕ) (g : GoalNode) (part : PrunedNode) (xs ys : List GoalNode) (never more : Bool) → k < length gs → g ≡ get_or gs k g → IsWithin q types l (plain_node g) part → insts_in m.point ≡ insts_after (plain_node g) (insts_in l.point) → m.outside ≡ l.outside → ys ≡ xs ++ part.node ∷ [] → more ≡ (never || part.never_ends) → RunSoFar q types a l gs k xs never → RunSoFar q types a m gs (k + 1) ys more
-  run_more l m k g part xs ys never more lt is within after same put also so_far =
+  pub run_more : (l m : Pruning) (k : ℕ) (g x : GoalNode) (told : Bool) (xs ys : List GoalNode) (never more : Bool) → k < length gs → g ≡ get_or gs k g → IsWithin q types l (plain_node g) (plain_node x) told → insts_in m.point ≡ insts_after (plain_node g) (insts_in l.point) → m.outside ≡ l.outside → ys ≡ xs ++ x ∷ [] → more ≡ (never || told) → RunSoFar q types a l gs k xs never → RunSoFar q types a m gs (k + 1) ys more
+  run_more l m k g x told xs ys never more lt is within after same put also so_far =
       record {
         made = λ Q h. step Q (so_far.made Q h);
         never = λ outcome ds follow.
@@ -234,20 +201,19 @@ module _ (q : PlainProcs) (types : List Ty) (a : Pruning) (gs : List GoalNode) w
             subst (Counted ((R ++ variables_of_node (plain_node g)) ++ rest)) (sym same) (counted_on R (variables_of_node (plain_node g)) rest l.outside here),
             (λ outcome ds follow.
                 let S : System = with_determinisms (as_system outcome q) ds in
-                one_run S (typed types) R (insts_in l.point) (insts_in m.point) gs k g part.node xs ys (pruned_all S (typed types) Q (insts_in a.point) (nodes (map plain_node gs))) lt is put
+                one_run S (typed types) R (insts_in l.point) (insts_in m.point) gs k g x xs ys (pruned_all S (typed types) Q (insts_in a.point) (nodes (map plain_node gs))) lt is put
                 (within.made (R ++ rest) (counted_apart R (variables_of_node (plain_node g)) rest l.outside here) outcome ds follow)
                 after (made outcome ds follow)),
           )
 
   -- where it ends
-  pub run_done : (l : Pruning) (k : ℕ) (xs : List GoalNode) (never : Bool) (parts : PrunedNodes) → k ≡ length gs → parts.nodes ≡ xs → parts.never_end ≡ never → RunSoFar q types a l gs k xs never → AreRun q types a (nodes (map plain_node gs)) parts
-  run_done l k xs never parts at of also so_far =
+  pub run_done : (l : Pruning) (k : ℕ) (xs : List GoalNode) (never : Bool) → k ≡ length gs → RunSoFar q types a l gs k xs never → IsGoal q types a (Conj (nodes (map plain_node gs))) (Conj (nodes (map plain_node xs))) never
+  run_done l k xs never at so_far =
       record {
-        made = λ Q h outcome ds follow. whole Q outcome ds follow (so_far.made Q h);
+        made = λ Q h outcome ds follow. ap Conj (whole Q outcome ds follow (so_far.made Q h));
         never = λ outcome ds follow.
             let S : System = with_determinisms (as_system outcome q) ds in
-            also
-            ∙ sym (or_none never)
+            sym (or_none never)
             ∙ ap (λ (ns : Nodes). never || one_never_ends S (typed types) (insts_in l.point) ns) (sym none_left)
             ∙ so_far.never outcome ds follow;
       }
@@ -259,25 +225,24 @@ module _ (q : PlainProcs) (types : List Ty) (a : Pruning) (gs : List GoalNode) w
       none_left : left_from k ≡ no_nodes
       none_left = ap left_from at ∙ ap (λ (l : List GoalNode). nodes (map plain_node l)) (drop-length gs)
 
-      whole : (Q : List ℕ) (outcome : Outcomes) (ds : ℕ → Det) → FollowDeclared q ds → (R : List ℕ) × Counted (R ++ variables_of_nodes (left_from k)) l.outside × InDeclared q (λ S. before (map plain_node xs) (pruned_all S (typed types) R (insts_in l.point) (left_from k)) ≡ pruned_all S (typed types) Q (insts_in a.point) (nodes (map plain_node gs))) → nodes (map plain_node parts.nodes) ≡ pruned_all (with_determinisms (as_system outcome q) ds) (typed types) Q (insts_in a.point) (nodes (map plain_node gs))
+      whole : (Q : List ℕ) (outcome : Outcomes) (ds : ℕ → Det) → FollowDeclared q ds → (R : List ℕ) × Counted (R ++ variables_of_nodes (left_from k)) l.outside × InDeclared q (λ S. before (map plain_node xs) (pruned_all S (typed types) R (insts_in l.point) (left_from k)) ≡ pruned_all S (typed types) Q (insts_in a.point) (nodes (map plain_node gs))) → nodes (map plain_node xs) ≡ pruned_all (with_determinisms (as_system outcome q) ds) (typed types) Q (insts_in a.point) (nodes (map plain_node gs))
       whole Q outcome ds follow (R, counted, made) =
           let S : System = with_determinisms (as_system outcome q) ds in
-          ap (λ (l : List GoalNode). nodes (map plain_node l)) of
-          ∙ sym (none_after (map plain_node xs))
+          sym (none_after (map plain_node xs))
           ∙ ap (λ (ns : Nodes). before (map plain_node xs) (pruned_all S (typed types) R (insts_in l.point) ns)) (sym none_left)
           ∙ made outcome ds follow
 
 -- Disjuncts, one after another, and arms.
 pub record TriedSoFar
     (q : PlainProcs) (types : List Ty) (a : Pruning) (gs : List GoalNode) (k : ℕ)
-    (copies : List GoalNode) (so_never : Bool)
+    (made_so : List GoalNode) (so_never : Bool)
     : Type 0 where
   pub made :
       (Q : List ℕ)
       → Counted Q a.outside
       → InDeclared q
       (λ S.
-      before (map plain_node copies)
+      before (map plain_node made_so)
       (pruned_each S (typed types) Q (insts_in a.point) (nodes (map plain_node (drop k gs))))
       ≡ pruned_each S (typed types) Q (insts_in a.point) (nodes (map plain_node gs)))
   pub never :
@@ -289,14 +254,14 @@ pub record TriedSoFar
 
 pub record ChosenSoFar
     (q : PlainProcs) (types : List Ty) (a : Pruning) (arms : List Arm) (k : ℕ)
-    (copies : List Arm) (so_never : Bool)
+    (made_so : List Arm) (so_never : Bool)
     : Type 0 where
   pub made :
       (Q : List ℕ)
       → Counted Q a.outside
       → InDeclared q
       (λ S.
-      arms_before (map plain_arm copies)
+      arms_before (map plain_arm made_so)
       (pruned_arms S (typed types) Q (insts_in a.point) (arms_of (map plain_arm (drop k arms))))
       ≡ pruned_arms S (typed types) Q (insts_in a.point) (arms_of (map plain_arm arms)))
   pub never :
@@ -316,8 +281,8 @@ and_all true = refl
 and_all false = refl
 
 -- a walk that stands where it began
-node_from_start : (q : PlainProcs) (types : List Ty) (a l : Pruning) (n : Node) (part : PrunedNode) → Keeps a l → IsNode q types l n part → IsNode q types a n part
-node_from_start q types a l n part keeps is =
+pub node_from_start : (q : PlainProcs) (types : List Ty) (a l : Pruning) (n m : Node) (told : Bool) → Keeps a l → IsNode q types l n m told → IsNode q types a n m told
+node_from_start q types a l n m told keeps is =
     record {
       made = λ Q h outcome ds follow.
           is.made Q (subst (Counted Q) (sym keeps.outside) h) outcome ds follow
@@ -325,6 +290,28 @@ node_from_start q types a l n part keeps is =
       never = λ outcome ds follow.
           is.never outcome ds follow
           ∙ ap (λ (p : List ℕ). never_ends (with_determinisms (as_system outcome q) ds) (typed types) (insts_in p) n) keeps.point;
+    }
+
+pub beside_from_start : (q : PlainProcs) (types : List Ty) (a l : Pruning) (beside : List ℕ) (n m : Node) (told : Bool) → Keeps a l → IsBeside q types l beside n m told → IsBeside q types a beside n m told
+beside_from_start q types a l beside n m told keeps is =
+    record {
+      made = λ Q h outcome ds follow.
+          is.made Q (subst (Counted Q) (sym keeps.outside) h) outcome ds follow
+          ∙ ap (λ (p : List ℕ). pruned_node (with_determinisms (as_system outcome q) ds) (typed types) (Q ++ beside) (insts_in p) n) keeps.point;
+      never = λ outcome ds follow.
+          is.never outcome ds follow
+          ∙ ap (λ (p : List ℕ). never_ends (with_determinisms (as_system outcome q) ds) (typed types) (insts_in p) n) keeps.point;
+    }
+
+pub then_from_start : (q : PlainProcs) (types : List Ty) (a l : Pruning) (condition n m : Node) (told : Bool) → Keeps a l → IsThen q types l condition n m told → IsThen q types a condition n m told
+then_from_start q types a l condition n m told keeps is =
+    record {
+      made = λ Q h outcome ds follow.
+          is.made Q (subst (Counted Q) (sym keeps.outside) h) outcome ds follow
+          ∙ ap (λ (p : List ℕ). pruned_node (with_determinisms (as_system outcome q) ds) (typed types) (Q ++ variables_of_node condition) (insts_after condition (insts_in p)) n) keeps.point;
+      never = λ outcome ds follow.
+          is.never outcome ds follow
+          ∙ ap (λ (p : List ℕ). never_ends (with_determinisms (as_system outcome q) ds) (typed types) (insts_after condition (insts_in p)) n) keeps.point;
     }
 
 module _ (q : PlainProcs) (types : List Ty) (a : Pruning) (gs : List GoalNode) where
@@ -340,16 +327,16 @@ module _ (q : PlainProcs) (types : List Ty) (a : Pruning) (gs : List GoalNode) w
   pub tried_begun : TriedSoFar q types a gs 0 [] true
   tried_begun = record { made = λ Q h outcome ds follow. refl; never = λ outcome ds follow. refl }
 
-  pub tried_more : (l : Pruning) (k : ℕ) (g : GoalNode) (part : PrunedNode) (xs ys : List GoalNode) (never more : Bool) → k < length gs → g ≡ get_or gs k g → Keeps a l → IsNode q types l (plain_node g) part → ys ≡ xs ++ part.node ∷ [] → more ≡ (never && part.never_ends) → TriedSoFar q types a gs k xs never → TriedSoFar q types a gs (k + 1) ys more
-  tried_more l k g part xs ys never more lt is keeps here put also so_far =
-      let node : IsNode q types a (plain_node g) part = node_from_start q types a l (plain_node g) part keeps here in
+  pub tried_more : (l : Pruning) (k : ℕ) (g x : GoalNode) (told : Bool) (xs ys : List GoalNode) (never more : Bool) → k < length gs → g ≡ get_or gs k g → Keeps a l → IsNode q types l (plain_node g) (plain_node x) told → ys ≡ xs ++ x ∷ [] → more ≡ (never && told) → TriedSoFar q types a gs k xs never → TriedSoFar q types a gs (k + 1) ys more
+  tried_more l k g x told xs ys never more lt is keeps here put also so_far =
+      let node = node_from_start q types a l (plain_node g) (plain_node x) told keeps here in
       record {
         made = λ Q h outcome ds follow.
             let S : System = with_determinisms (as_system outcome q) ds in
             let rest : Nodes = pruned_each S (typed types) Q (insts_in a.point) (those_left (k + 1)) in
             ap (λ (l : List GoalNode). before (map plain_node l) rest) put
-            ∙ ap (λ (l : List Node). before l rest) (map-append plain_node xs (part.node ∷ []))
-            ∙ one_before (map plain_node xs) (plain_node part.node) rest
+            ∙ ap (λ (l : List Node). before l rest) (map-append plain_node xs (x ∷ []))
+            ∙ one_before (map plain_node xs) (plain_node x) rest
             ∙ ap (λ (n : Node). before (map plain_node xs) (node_then n rest)) (node.made Q h outcome ds follow)
             ∙ ap (λ (ns : Nodes). before (map plain_node xs) (pruned_each S (typed types) Q (insts_in a.point) ns)) (sym (next_of k g lt is))
             ∙ so_far.made Q h outcome ds follow;
@@ -364,19 +351,18 @@ module _ (q : PlainProcs) (types : List Ty) (a : Pruning) (gs : List GoalNode) w
   no_node_left : (k : ℕ) → k ≡ length gs → those_left k ≡ no_nodes
   no_node_left k at = ap those_left at ∙ ap (λ (l : List GoalNode). nodes (map plain_node l)) (drop-length gs)
 
-  pub tried_done : (k : ℕ) (xs : List GoalNode) (never : Bool) (parts : PrunedNodes) → k ≡ length gs → parts.nodes ≡ xs → parts.never_end ≡ never → TriedSoFar q types a gs k xs never → AreTried q types a (nodes (map plain_node gs)) parts
-  tried_done k xs never parts at of also so_far =
+  pub tried_done : (k : ℕ) (xs : List GoalNode) (never : Bool) → k ≡ length gs → TriedSoFar q types a gs k xs never → IsGoal q types a (Disj (nodes (map plain_node gs))) (Disj (nodes (map plain_node xs))) never
+  tried_done k xs never at so_far =
       record {
         made = λ Q h outcome ds follow.
             let S : System = with_determinisms (as_system outcome q) ds in
-            ap (λ (l : List GoalNode). nodes (map plain_node l)) of
-            ∙ sym (none_after (map plain_node xs))
+            ap Disj
+            (sym (none_after (map plain_node xs))
             ∙ ap (λ (ns : Nodes). before (map plain_node xs) (pruned_each S (typed types) Q (insts_in a.point) ns)) (sym (no_node_left k at))
-            ∙ so_far.made Q h outcome ds follow;
+            ∙ so_far.made Q h outcome ds follow);
         never = λ outcome ds follow.
             let S : System = with_determinisms (as_system outcome q) ds in
-            also
-            ∙ sym (and_all never)
+            sym (and_all never)
             ∙ ap (λ (ns : Nodes). never && each_never_ends S (typed types) (insts_in a.point) ns) (sym (no_node_left k at))
             ∙ so_far.never outcome ds follow;
       }
@@ -395,19 +381,19 @@ module _ (q : PlainProcs) (types : List Ty) (a : Pruning) (arms : List Arm) wher
   pub chosen_begun : ChosenSoFar q types a arms 0 [] true
   chosen_begun = record { made = λ Q h outcome ds follow. refl; never = λ outcome ds follow. refl }
 
-  pub chosen_more : (l : Pruning) (k : ℕ) (r copy : Arm) (part : PrunedNode) (xs ys : List Arm) (never more : Bool) → k < length arms → r ≡ get_or arms k r → Keeps a l → IsNode q types l (plain_node r.body) part → copy.on ≡ r.on → copy.body ≡ part.node → ys ≡ xs ++ copy ∷ [] → more ≡ (never && part.never_ends) → ChosenSoFar q types a arms k xs never → ChosenSoFar q types a arms (k + 1) ys more
-  chosen_more l k r copy part xs ys never more lt is keeps here on body put also so_far =
-      let node : IsNode q types a (plain_node r.body) part = node_from_start q types a l (plain_node r.body) part keeps here in
+  pub chosen_more : (l : Pruning) (k : ℕ) (r x : Arm) (told : Bool) (xs ys : List Arm) (never more : Bool) → k < length arms → r ≡ get_or arms k r → Keeps a l → IsNode q types l (plain_node r.body) (plain_node x.body) told → x.on ≡ r.on → ys ≡ xs ++ x ∷ [] → more ≡ (never && told) → ChosenSoFar q types a arms k xs never → ChosenSoFar q types a arms (k + 1) ys more
+  chosen_more l k r x told xs ys never more lt is keeps here on put also so_far =
+      let node = node_from_start q types a l (plain_node r.body) (plain_node x.body) told keeps here in
       record {
         made = λ Q h outcome ds follow.
             let S : System = with_determinisms (as_system outcome q) ds in
             let rest : Arms = pruned_arms S (typed types) Q (insts_in a.point) (arms_left (k + 1)) in
             ap (λ (l : List Arm). arms_before (map plain_arm l) rest) put
-            ∙ ap (λ (l : List (Label × Node)). arms_before l rest) (map-append plain_arm xs (copy ∷ []))
-            ∙ one_arm_before (map plain_arm xs) (plain_arm copy) rest
-            ∙ ap (λ (p : Label × Node). arms_before (map plain_arm xs) (arm_then p.0 p.1 rest)) (plain_arm-open copy)
-            ∙ ap (λ o. arms_before (map plain_arm xs) (arm_then (plain_label o) (plain_node copy.body) rest)) on
-            ∙ ap (λ (n : Node). arms_before (map plain_arm xs) (arm_then (plain_label r.on) n rest)) (ap plain_node body ∙ node.made Q h outcome ds follow)
+            ∙ ap (λ (l : List (Label × Node)). arms_before l rest) (map-append plain_arm xs (x ∷ []))
+            ∙ one_arm_before (map plain_arm xs) (plain_arm x) rest
+            ∙ ap (λ (p : Label × Node). arms_before (map plain_arm xs) (arm_then p.0 p.1 rest)) (plain_arm-open x)
+            ∙ ap (λ o. arms_before (map plain_arm xs) (arm_then (plain_label o) (plain_node x.body) rest)) on
+            ∙ ap (λ (n : Node). arms_before (map plain_arm xs) (arm_then (plain_label r.on) n rest)) (node.made Q h outcome ds follow)
             ∙ ap (λ (ns : Arms). arms_before (map plain_arm xs) (pruned_arms S (typed types) Q (insts_in a.point) ns)) (sym (next_arm k r lt is))
             ∙ so_far.made Q h outcome ds follow;
         never = λ outcome ds follow.
@@ -421,19 +407,18 @@ module _ (q : PlainProcs) (types : List Ty) (a : Pruning) (arms : List Arm) wher
   no_arm_left : (k : ℕ) → k ≡ length arms → arms_left k ≡ no_arms
   no_arm_left k at = ap arms_left at ∙ ap (λ (l : List Arm). arms_of (map plain_arm l)) (drop-length arms)
 
-  pub chosen_done : (k : ℕ) (xs : List Arm) (never : Bool) (parts : PrunedArms) → k ≡ length arms → parts.arms ≡ xs → parts.never_end ≡ never → ChosenSoFar q types a arms k xs never → AreChosen q types a (arms_of (map plain_arm arms)) parts
-  chosen_done k xs never parts at of also so_far =
+  pub chosen_done : (x k : ℕ) (xs : List Arm) (never : Bool) → k ≡ length arms → ChosenSoFar q types a arms k xs never → IsGoal q types a (Switch x (arms_of (map plain_arm arms))) (Switch x (arms_of (map plain_arm xs))) never
+  chosen_done x k xs never at so_far =
       record {
         made = λ Q h outcome ds follow.
             let S : System = with_determinisms (as_system outcome q) ds in
-            ap (λ (l : List Arm). arms_of (map plain_arm l)) of
-            ∙ sym (no_arm_after (map plain_arm xs))
+            ap (Switch x)
+            (sym (no_arm_after (map plain_arm xs))
             ∙ ap (λ (ns : Arms). arms_before (map plain_arm xs) (pruned_arms S (typed types) Q (insts_in a.point) ns)) (sym (no_arm_left k at))
-            ∙ so_far.made Q h outcome ds follow;
+            ∙ so_far.made Q h outcome ds follow);
         never = λ outcome ds follow.
             let S : System = with_determinisms (as_system outcome q) ds in
-            also
-            ∙ sym (and_all never)
+            sym (and_all never)
             ∙ ap (λ (ns : Arms). never && each_arm_never_ends S (typed types) (insts_in a.point) ns) (sym (no_arm_left k at))
             ∙ so_far.never outcome ds follow;
       }

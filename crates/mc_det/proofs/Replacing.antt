@@ -22,7 +22,7 @@ use Rattle.mc_det.specs.Determinisms.{declared_procedure}
 use Rattle.mc_det.specs.MarkedProcedures.{IsMarked, where_determined}
 use Rattle.mc_det.specs.Marked.{marked_body}
 use Rattle.mc_det.specs.Pruned.{pruned_body}
-use Rattle.mc_det.specs.PrunedProcedures.{FollowDeclared, IsPruned, Pruned}
+use Rattle.mc_det.specs.PrunedProcedures.{FollowDeclared, IsPruned}
 use Rattle.mc_det.specs.code.Marks.{under, AllStand}
 use Rattle.mc_det.specs.code.Prunes.{InDeclared}
 use Rattle.mc_det.specs.code.Walks.{InSystems}
@@ -140,16 +140,6 @@ all_may_stand q ps a count m =
           ((m k d h).1 (subst (ProcedureFits q) (procedure_is q.added k d h) (a.each k h)));
     }
 
-pub all_stand : (q : PlainProcs) (ds : List Det) (ps : List Proc) → AllFit q → length ps ≡ length q.added → ((k : ℕ) (e : Proc) → k < length q.added → IsMarked q ds (get_or q.added k e) (get_or ps k e)) → AllStand q ps
-all_stand q ds ps a count m =
-    all_may_stand q ps a count
-    (λ k e lt. (ap (λ (s : Proc). s.pred) (m k e lt).others, marked_fits q ds (get_or q.added k e) (get_or ps k e) (m k e lt)))
-
-pub all_pruned_stand : (q : PlainProcs) (ps : List Proc) → AllFit q → length ps ≡ length q.added → ((k : ℕ) (e : Proc) → k < length q.added → IsPruned q (get_or q.added k e) (get_or ps k e)) → AllStand q ps
-all_pruned_stand q ps a count m =
-    all_may_stand q ps a count
-    (λ k e lt. (ap (λ (s : Proc). s.pred) (m k e lt).others, pruned_fits q (get_or q.added k e) (get_or ps k e) (m k e lt)))
-
 -- the last of a list
 at_before : (ps : List Proc) (p : Proc) (k : ℕ) → k < length ps → procedure_at (ps ++ p ∷ []) k ≡ procedure_at ps k
 at_before [] p k h = absurd (omega arith)
@@ -262,12 +252,3 @@ dets_more ps rs ds k x d more e lt is =
     ∙ ap (λ (l : List Det). l ++ x.det ∷ []) e
     ∙ ap (λ (t : Det). take k ds ++ t ∷ []) is
     ∙ sym (take_more ds k d lt)
-
--- all of them with pruned bodies
-pub procs_pruned : (q r : PlainProcs) (ps : List Proc) → r ≡ with_procs q ps → length ps ≡ length q.added → ((k : ℕ) (d : Proc) → k < length q.added → IsPruned q (get_or q.added k d) (get_or ps k d)) → Pruned q r
-procs_pruned q r ps is count m =
-    record {
-      others = is ∙ ap (with_procs q) (sym (ap (λ (v : PlainProcs). v.added) is));
-      count = ap (λ (v : PlainProcs). length v.added) is ∙ count;
-      pruned = λ k d lt. subst (λ (v : PlainProcs). IsPruned q (get_or q.added k d) (get_or v.added k d)) (sym is) (m k d lt);
-    }

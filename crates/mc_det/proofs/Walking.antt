@@ -55,7 +55,7 @@ pub all_put : (xs : List Step) (f s : Step) (k : ℕ) (total : List Step) → xs
 all_put xs f s k total e = append_assoc xs (f ∷ []) (times k s) ∙ e
 
 -- What is known.
-pub learned_last : (facts : List Fact) (f : Fact) → known_in (facts ++ f ∷ []) ≡ learned f.variable (plain_label f.on.now) (known_in facts)
+pub learned_last : (facts : List Fact) (f : Fact) → known_in (facts ++ f ∷ []) ≡ learned f.variable (plain_label f.on) (known_in facts)
 learned_last facts f = fun_ext (last facts)
   where
     chosen : (b : Bool) (o : Option Label) (p : Option Label) → option_or (if b then o else p) None ≡ (if b then o else p)
@@ -72,11 +72,11 @@ learned_last facts f = fun_ext (last facts)
     first true l = refl
     first false l = refl
 
-    last : (gs : List Fact) (x : ℕ) → known_in (gs ++ f ∷ []) x ≡ learned f.variable (plain_label f.on.now) (known_in gs) x
-    last [] x = first (nat_eq x f.variable) (plain_label f.on.now)
+    last : (gs : List Fact) (x : ℕ) → known_in (gs ++ f ∷ []) x ≡ learned f.variable (plain_label f.on) (known_in gs) x
+    last [] x = first (nat_eq x f.variable) (plain_label f.on)
     last (g ∷ gs) x =
-        ap (λ (o : Option Label). option_or o (if nat_eq x g.variable then Some (plain_label g.on.now) else None)) (last gs x)
-        ∙ before (nat_eq x f.variable) (plain_label f.on.now) (known_in gs x) (if nat_eq x g.variable then Some (plain_label g.on.now) else None)
+        ap (λ (o : Option Label). option_or o (if nat_eq x g.variable then Some (plain_label g.on) else None)) (last gs x)
+        ∙ before (nat_eq x f.variable) (plain_label f.on) (known_in gs x) (if nat_eq x g.variable then Some (plain_label g.on) else None)
 
 -- Points.
 pub changes_below : (B : Bounds) (n : ℕ) (changes : List (ℕ × ℕ)) → n ≡ B.variables → ChangesNamed B changes → ChangesBelow n changes
@@ -97,12 +97,12 @@ named_changes B g h = (subst (Named B) (plain_node-open g) h).0
 pub insts_after_node : (g : GoalNode) (b : Insts) → insts_after (plain_node g) b ≡ (λ x. change_at x g.changes (b x))
 insts_after_node g b = ap (λ (n : Node). insts_after n b) (plain_node-open g)
 
--- a point after a goal's changes is ready too
-pub ready_after : (q : PlainProcs) (types : List Ty) (before after : List ℕ) (g : GoalNode) → Ready q types before → Named (bounds_in q (length types)) (plain_node g) → length after ≡ length before → insts_in after ≡ (λ x. change_at x g.changes (insts_in before x)) → Ready q types after
-ready_after q types before after g r h e a =
+-- a point after changes is ready too
+pub ready_after : (q : PlainProcs) (types : List Ty) (before after : List ℕ) (changes : List (ℕ × ℕ)) → Ready q types before → ChangesNamed (bounds_in q (length types)) changes → length after ≡ length before → insts_in after ≡ (λ x. change_at x changes (insts_in before x)) → Ready q types after
+ready_after q types before after changes r h e a =
     record {
       many = e ∙ r.many;
-      below = λ x. subst (λ (b : Insts). b x < count_of q.insts) (sym a) (changed_below (bounds_in q (length types)) g.changes x (insts_in before x) (named_changes (bounds_in q (length types)) g h) (r.below x));
+      below = λ x. subst (λ (b : Insts). b x < count_of q.insts) (sym a) (changed_below (bounds_in q (length types)) changes x (insts_in before x) h (r.below x));
     }
 
 -- Goals of lists.
@@ -302,7 +302,7 @@ module _ (q : PlainProcs) where
         (inv outcome)
 
     -- one arm more; in it there is a fact more
-    pub one_chosen : (w : Walk) (x : ℕ) (f : Fact) (arms : List Arm) (r d : Arm) → w.point ≡ l.point → w.known.items ≡ l.known.items ++ f ∷ [] → w.steps.items ≡ l.steps.items → f.variable ≡ x → f.on.now ≡ r.on → l.point ≡ a.point → k < length arms → r ≡ get_or arms k d → Puts q w m (λ S b kn. skeleton S (typed types) b kn (plain_node r.body)) → InSystems q (λ S. l.steps.items ++ arms_left S (typed types) (insts_in a.point) (known_in a.known.items) x arms k ≡ total S) → InSystems q (λ S. m.steps.items ++ arms_left S (typed types) (insts_in a.point) (known_in a.known.items) x arms (k + 1) ≡ total S)
+    pub one_chosen : (w : Walk) (x : ℕ) (f : Fact) (arms : List Arm) (r d : Arm) → w.point ≡ l.point → w.known.items ≡ l.known.items ++ f ∷ [] → w.steps.items ≡ l.steps.items → f.variable ≡ x → f.on ≡ r.on → l.point ≡ a.point → k < length arms → r ≡ get_or arms k d → Puts q w m (λ S b kn. skeleton S (typed types) b kn (plain_node r.body)) → InSystems q (λ S. l.steps.items ++ arms_left S (typed types) (insts_in a.point) (known_in a.known.items) x arms k ≡ total S) → InSystems q (λ S. m.steps.items ++ arms_left S (typed types) (insts_in a.point) (known_in a.known.items) x arms (k + 1) ≡ total S)
     one_chosen w x f arms r d wp wk ws fx fon point lt is put inv outcome =
         let S = as_system outcome q in
         arms_step S (typed types) (insts_in a.point) (known_in a.known.items) (known_in w.known.items) x arms k d l.steps.items m.steps.items (total S) lt
@@ -312,8 +312,8 @@ module _ (q : PlainProcs) where
         ∙ ap (λ (h : Arm). l.steps.items ++ skeleton S (typed types) (insts_in a.point) (known_in w.known.items) (plain_node h.body)) is)
         (ap known_in wk
         ∙ learned_last l.known.items f
-        ∙ ap (λ y. learned y (plain_label f.on.now) (known_in l.known.items)) fx
-        ∙ ap (λ (fs : List Fact). learned x (plain_label f.on.now) (known_in fs)) known
+        ∙ ap (λ y. learned y (plain_label f.on) (known_in l.known.items)) fx
+        ∙ ap (λ (fs : List Fact). learned x (plain_label f.on) (known_in fs)) known
         ∙ ap (λ o. learned x (plain_label o) (known_in a.known.items)) fon
         ∙ ap (λ (h : Arm). learned x (plain_label h.on) (known_in a.known.items)) is)
         (inv outcome)

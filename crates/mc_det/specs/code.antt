@@ -5,3 +5,4 @@ pub mod Facts
 pub mod Walks
 pub mod Marks
 pub mod Prunes
+pub mod Places

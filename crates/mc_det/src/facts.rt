@@ -9,14 +9,14 @@ use mc_program::same::same_value;
 use mc_program::value::Value;
 
 /// What is known of a variable in an arm of a switch on it.
-#[derive(Clone, Copy)]
-pub struct Fact<'a> {
+#[derive(Drop)]
+pub struct Fact {
     pub variable: u32,
-    pub on: &'a On,
+    pub on: On,
 }
 
 /// Takes the last fact off.
-pub fn last_fact<'a>(facts: &mut Vec<Fact<'a>>) -> Option<Fact<'a>>
+pub fn last_fact(facts: &mut Vec<Fact>) -> Option<Fact>
     ensures { MatchOption result (facts.old.items ≡ []) (λ last. facts.old.items ≡ facts.new.items ++ last ∷ []) }
 {
     facts.pop()
@@ -70,16 +70,16 @@ fn is_symbol(on: &On, symbol: u32) -> bool
 }
 
 /// What the last arm on a variable is for.
-fn last_on<'a>(facts: &[Fact<'a>], x: u32) -> Option<&'a On>
+fn last_on(facts: &[Fact], x: u32) -> Option<&On>
     ensures { MatchOption result (known_in facts.now x ≡ None)
         (λ on. known_in facts.now x ≡ Some (plain_label on.now)) }
 {
     let mut n = facts.len();
     while n > 0 {
         n -= 1;
-        let fact = facts[n];
+        let fact = &facts[n];
         if fact.variable == x {
-            return Some(fact.on);
+            return Some(&fact.on);
         }
     }
     None

@@ -1,6 +1,7 @@
 //! Determinisms of procedures: declared ones, and the least that bodies allow; and goals that are pruned.
 #![tactic(auto)]
 
+mod copies;
 mod facts;
 mod inference;
 mod law;
@@ -15,9 +16,9 @@ mod tested;
 mod variables;
 mod walk;
 
+pub use copies::{copy_changes, copy_on};
 pub use inference::determinisms;
 pub use law::{least_by_skeletons, marks_are_kept, pruned_keep_marks, skeletons_tell};
-pub use mark::{copy_changes, copy_on};
 pub use point::{Point, emptied};
 pub use procedures::{infer, replace_all, with_body};
 pub use pruned::prune_goals;

@@ -1,41 +1,33 @@
-ghost use Rattle.std.specs.Prelude.{◌≡◌, ◌<◌, length, map, not, false, if◌then◌else◌, IfOk, OnOk};
+ghost use Rattle.std.specs.Prelude.{◌≡◌, ◌<◌, ◌^◌, ◌||◌, List, length, map, not, false, if◌then◌else◌, IfOk, OnOk};
 ghost use Rattle.mc_program.specs.Values.{plain_value};
-ghost use Rattle.mc_source.specs.Determinism.{inferred, row_of, conj, ite, negated, pruned, det, semidet};
-ghost use Rattle.mc_model.specs.Scheduled.{nodes, Conj, Disj, Switch, Ite, Not, Exists, Build, Take, Const, TestConst, Call, Apply};
+ghost use Rattle.mc_source.specs.Determinism.{inferred, row_of, conj, pruned, semidet};
+ghost use Rattle.mc_source.specs.declared.det.Det.{Det};
+ghost use Rattle.mc_model.specs.Scheduled.{nodes, Conj, Disj, Switch, Take};
 ghost use Rattle.mc_model.specs.PlainGoals.{plain_node, plain_sched, plain_arm, arms_of};
-ghost use Rattle.mc_accepted.specs.Determined.{insts_after, allowed_in, misses, take_determinism, knows_constant, then_tests, builtin_determinism};
+ghost use Rattle.mc_accepted.specs.Determined.{knows_constant, then_tests};
 ghost use Rattle.mc_procs.specs.Named.{Named, NamedIn, EachNamed, EachArmNamed};
 ghost use Rattle.mc_skeletons.specs.Least.{assigned};
 ghost use Rattle.mc_accepted.specs.Inferred.{join};
-ghost use Rattle.mc_det.specs.Marked.{marked, marked_in, marked_all, marked_each, marked_arms};
-ghost use Rattle.mc_det.specs.code.Points.{insts_in};
+ghost use Rattle.mc_det.specs.Marked.{marked};
 ghost use Rattle.mc_det.specs.code.Facts.{known_in};
-ghost use Rattle.mc_det.specs.code.Walks.{typed, bounds_in, Ready, InSystems};
-ghost use Rattle.mc_det.specs.code.Marks.{Stays, IsTold, under, mark_of, switched, all_told, any_told, arms_told};
+ghost use Rattle.mc_det.specs.code.Walks.{bounds_in, Ready};
+ghost use Rattle.mc_det.specs.code.Marks.{Stays, NodeMarked, ThenMarked, IsTold, all_told, any_told, arms_told};
 
+use crate::copies::copy_on;
 use crate::facts::{Fact, has_constant, last_fact};
 use crate::point::emptied;
 use crate::walk::{
-    DET, ERRONEOUS, FAILURE, SEMIDET, Walk, arm_is_named, builtin_determinism, is_named,
-    misses_symbol, take_determinism, uncommitted,
+    DET, ERRONEOUS, FAILURE, SEMIDET, Walk, builtin_determinism, misses_symbol, take_determinism,
+    uncommitted,
 };
-use mc_base::{Copied, Memory, Row};
-use mc_model::inst::InstId;
-use mc_model::sched::{Arm, GoalNode, On, Sched};
+use mc_base::{Memory, Row};
+use mc_model::sched::{Arm, GoalNode, Sched};
 use mc_procs::Procs;
-use mc_program::builtin::Builtin;
-use mc_program::copy::copy_value;
 use mc_program::ty::Ty;
 use mc_program::value::Value;
 use mc_source::det::{Det, Most};
 use std::alloc::Global;
-
-/// A scheduled goal whose parts are marked, and its own determinism.
-#[derive(Drop)]
-pub(crate) struct Told {
-    pub(crate) goal: Sched,
-    pub(crate) det: Det,
-}
+use std::mem;
 
 /// The determinism of a conjunction of marked goals.
 fn all_told(goals: &[GoalNode]) -> Det
@@ -132,177 +124,37 @@ fn arms_told(arms: &[Arm]) -> Det
     det
 }
 
-/// A copy of changes.
-pub fn copy_changes(
-    alloc: Global,
-    changes: &Row<(u32, InstId)>,
-) -> Result<Row<(u32, InstId)>, Memory>
-    ensures { IfOk result (λ copy. copy ≡ changes.now) }
+/// The determinism of a call, after which implied arguments are tested.
+fn call_told(dets: &[Det], k: u32, implied: &Row<u32>) -> Det
+    ensures { result ≡ inferred (then_tests implied.now (row_of (assigned dets.now k))) }
 {
-    let copy = Vec::from_slice(alloc, changes.as_slice())?;
-    Row::of(copy)
+    called(dets, k, !implied.is_empty())
 }
 
-/// A copy of what an arm is for.
-pub fn copy_on(alloc: Global, on: &On) -> Result<On, Memory>
-    ensures { IfOk result (λ copy. copy ≡ on.now) }
+/// The determinism of a goal that is pruned or isn't.
+fn goal_told(det: Det, is_pruned: bool) -> Det
+    ensures { result ≡ (if is_pruned then inferred (pruned (row_of det)) else det) }
 {
-    match on {
-        On::Symbol(symbol) => Ok(On::Symbol(*symbol)),
-        On::Const(value) => Ok(On::Const(copy_value(alloc, value)?)),
-    }
+    if is_pruned { det.pruned() } else { det }
 }
 
-/// A goal with its determinism.
-fn atom(goal: Sched, det: Det) -> Told
-    ensures goal { result.goal ≡ goal }
-    ensures det { result.det ≡ det }
+/// The determinism of a switch that misses a symbol or doesn't, over its arms.
+fn switch_told(is_missed: bool, arms: Det) -> Det
+    ensures { result ≡ record { can_fail = is_missed || arms.can_fail; most = arms.most; committed = false } }
 {
-    Told { goal, det }
+    uncommitted(is_missed || arms.can_fail, arms.most)
 }
 
-fn conj_told(copies: Row<GoalNode>) -> Told
-    ensures goal { plain_sched result.goal ≡ Conj (nodes (map plain_node copies)) }
-    ensures det { result.det ≡ inferred (all_told (nodes (map plain_node copies))) }
+/// Takes the elements of a row, which is then empty.
+pub(crate) fn taken<T: Drop>(alloc: Global, row: &mut Row<T>) -> Vec<T>
+    ensures items { result.items ≡ row.old }
+    ensures small { length row.old < 2 ^ 32 }
 {
-    let det = all_told(copies.as_slice());
-    atom(Sched::Conj(copies), det)
+    mem::replace(row, Row::new(alloc)).into_vec()
 }
 
-fn disj_told(copies: Row<GoalNode>) -> Told
-    ensures goal { plain_sched result.goal ≡ Disj (nodes (map plain_node copies)) }
-    ensures det { result.det ≡ inferred (any_told (nodes (map plain_node copies))) }
-{
-    let det = any_told(copies.as_slice());
-    atom(Sched::Disj(copies), det)
-}
-
-fn not_told(alloc: Global, copy: GoalNode) -> Result<Told, Memory>
-    ensures goal { IfOk result (λ told. plain_sched told.goal ≡ Not (plain_node copy)) }
-    ensures det { IfOk result (λ told. told.det ≡ inferred (negated (mark_of (plain_node copy)))) }
-{
-    let det = copy.det.negated();
-    Ok(atom(Sched::Not(Box::new(alloc, copy)?), det))
-}
-
-fn some_told(alloc: Global, vars: &Row<u32>, copy: GoalNode) -> Result<Told, Memory>
-    ensures goal { IfOk result (λ told. plain_sched told.goal ≡ Exists vars.now (plain_node copy)) }
-    ensures det { IfOk result (λ told. told.det ≡ inferred (mark_of (plain_node copy))) }
-{
-    let det = row(copy.det);
-    let vars = vars.copied(alloc)?;
-    Ok(atom(Sched::Some(vars, Box::new(alloc, copy)?), det))
-}
-
-fn ite_told(
-    alloc: Global,
-    vars: &Row<u32>,
-    condition: GoalNode,
-    then_part: GoalNode,
-    else_part: GoalNode,
-) -> Result<Told, Memory>
-    ensures goal { IfOk result (λ told. plain_sched told.goal
-        ≡ Ite vars.now (plain_node condition) (plain_node then_part) (plain_node else_part)) }
-    ensures det { IfOk result (λ told. told.det ≡ inferred
-        (ite (mark_of (plain_node condition)) (mark_of (plain_node then_part)) (mark_of (plain_node
-        else_part)))) }
-{
-    let det = condition.det.ite(then_part.det, else_part.det);
-    let vars = vars.copied(alloc)?;
-    let condition = Box::new(alloc, condition)?;
-    let then_part = Box::new(alloc, then_part)?;
-    let else_part = Box::new(alloc, else_part)?;
-    Ok(atom(Sched::Ite(vars, condition, then_part, else_part), det))
-}
-
-fn build_told(alloc: Global, x: u32, symbol: u32, args: &Row<u32>) -> Result<Told, Memory>
-    ensures goal { IfOk result (λ told. plain_sched told.goal ≡ Build x symbol args.now) }
-    ensures det { IfOk result (λ told. told.det ≡ inferred det) }
-{
-    Ok(atom(Sched::Build(x, symbol, args.copied(alloc)?), DET))
-}
-
-fn constant_told(alloc: Global, x: u32, value: &Value) -> Result<Told, Memory>
-    ensures goal { IfOk result (λ told. plain_sched told.goal ≡ Const x (plain_value value.now)) }
-    ensures det { IfOk result (λ told. told.det ≡ inferred det) }
-{
-    Ok(atom(Sched::Const(x, copy_value(alloc, value)?), DET))
-}
-
-fn call_told(
-    alloc: Global,
-    dets: &[Det],
-    k: u32,
-    args: &Row<u32>,
-    implied: &Row<u32>,
-) -> Result<Told, Memory>
-    ensures goal { IfOk result (λ told. plain_sched told.goal ≡ Call k args.now implied.now false) }
-    ensures det { IfOk result (λ told. told.det ≡ inferred (then_tests implied.now (row_of (assigned
-        dets.now k)))) }
-{
-    let det = called(dets, k, !implied.is_empty());
-    let args = args.copied(alloc)?;
-    Ok(atom(Sched::Call(k, args, implied.copied(alloc)?), det))
-}
-
-fn apply_told(
-    alloc: Global,
-    op: Builtin,
-    inputs: &Row<u32>,
-    outputs: &Row<u32>,
-) -> Result<Told, Memory>
-    ensures goal { IfOk result (λ told. plain_sched told.goal ≡ Apply op inputs.now outputs.now) }
-    ensures det { IfOk result (λ told. told.det ≡ inferred (builtin_determinism op)) }
-{
-    let inputs = inputs.copied(alloc)?;
-    Ok(atom(
-        Sched::Apply(op, inputs, outputs.copied(alloc)?),
-        builtin_determinism(op),
-    ))
-}
-
-/// A goal with its mark.
-fn with_mark(told: Told, changes: Row<(u32, InstId)>, is_pruned: bool) -> GoalNode
-    ensures goal { result.goal ≡ told.goal }
-    ensures changes { result.changes ≡ changes }
-    ensures pruned { result.pruned ≡ is_pruned }
-    ensures det { result.det ≡ (if is_pruned then inferred (pruned (row_of told.det)) else told.det) }
-{
-    let Told { goal, det } = told;
-    GoalNode {
-        goal,
-        changes,
-        det: if is_pruned { det.pruned() } else { det },
-        pruned: is_pruned,
-    }
-}
-
-impl<'a> Walk<'a> {
-    /// A switch whose arms are marked.
-    fn switch_told(
-        &self,
-        alloc: Global,
-        procs: &Procs,
-        types: &[Ty],
-        x: u32,
-        arms: &[Arm],
-        copies: Row<Arm>,
-    ) -> Result<Told, Memory>
-        requires ready { Ready procs.now types.now self.now.point }
-        requires there { x < length types.now }
-        ensures goal { IfOk result (λ told. plain_sched told.goal ≡ Switch x (arms_of (map plain_arm
-            copies))) }
-        ensures det { IfOk result (λ told. InSystems procs.now (λ S. told.det ≡ inferred (switched
-            (misses S (typed types.now) (allowed_in S (typed types.now) (typed types.now x)
-            (insts_in self.now.point x))
-            (arms_of (map plain_arm arms.now))) (arms_told (arms_of (map plain_arm copies)))))) }
-    {
-        let told = arms_told(copies.as_slice());
-        let is_missed = misses_symbol(alloc, procs, types, &self.point, x, arms)?;
-        let det = uncommitted(is_missed || told.can_fail, told.most);
-        Ok(atom(Sched::Switch(x, copies), det))
-    }
-
+impl Walk {
+    /// The determinism of a deconstruction at this point.
     fn take_told(
         &self,
         alloc: Global,
@@ -311,234 +163,212 @@ impl<'a> Walk<'a> {
         x: u32,
         symbol: u32,
         args: &Row<u32>,
-    ) -> Result<Told, Memory>
+    ) -> Result<Det, Memory>
         requires ready { Ready procs.now types.now self.now.point }
         requires there { x < length types.now }
-        ensures goal { IfOk result (λ told. plain_sched told.goal ≡ Take x symbol args.now) }
-        ensures det { IfOk result (λ told. InSystems procs.now (λ S. told.det ≡ inferred
-            (take_determinism S (typed types.now)
-            (insts_in self.now.point) (known_in self.now.known.items) x symbol args.now))) }
+        ensures { IfOk result (λ det. (dets : List Det) → IsTold procs.now types.now dets self.now
+            (Take x symbol args.now) (Take x symbol args.now) det) }
     {
         let known = self.known.as_slice();
         let listed = args.as_slice();
-        let det = take_determinism(alloc, procs, types, &self.point, known, x, symbol, listed)?;
-        Ok(atom(Sched::Take(x, symbol, args.copied(alloc)?), det))
+        take_determinism(alloc, procs, types, &self.point, known, x, symbol, listed)
     }
 
-    fn test_told(&self, alloc: Global, x: u32, value: &Value) -> Result<Told, Memory>
-        ensures goal { IfOk result (λ told. plain_sched told.goal ≡ TestConst x (plain_value
-            value.now)) }
-        ensures det { IfOk result (λ told. told.det ≡ inferred (record {
+    /// The determinism of a test of a constant.
+    fn test_told(&self, x: u32, value: &Value) -> Det
+        ensures { result ≡ inferred (record {
           can_fail = not (knows_constant (known_in self.now.known.items x) (plain_value value.now));
           most = Most.One;
-        })) }
+        }) }
     {
         let can_fail = !has_constant(self.known.as_slice(), x, value);
-        Ok(atom(
-            Sched::TestConst(x, copy_value(alloc, value)?),
-            uncommitted(can_fail, Most::One),
-        ))
+        uncommitted(can_fail, Most::One)
     }
 }
 
-impl<'a> Walk<'a> {
-    /// A copy of a goal with its marks, where procedures have these determinisms.
+impl Walk {
+    /// Marks a goal and its parts, where procedures have these determinisms.
     #[tactic(auto, using(crate::proofs::Naming::sched_named))]
     #[cycle(mark)]
-    pub(crate) fn marked(
+    pub(crate) fn mark(
         &mut self,
         alloc: Global,
-        goal: &'a GoalNode,
+        goal: &mut GoalNode,
         dets: &[Det],
         procs: &Procs,
         types: &[Ty],
-    ) -> Result<GoalNode, Memory>
+    ) -> Result<(), Memory>
         requires ready { Ready procs.now types.now self.old.point }
-        requires named { Named (bounds_in procs.now (length types.now)) (plain_node goal.now) }
+        requires named { Named (bounds_in procs.now (length types.now)) (plain_node goal.old) }
         ensures stays { OnOk result (Stays self.old self.new) }
-        ensures marked { IfOk result (λ copy. InSystems procs.now (λ S. plain_node copy
-            ≡ marked (under dets.now S) (typed types.now) (insts_in self.old.point) (known_in
-            self.old.known.items) (plain_node goal.now))) }
+        ensures marked { OnOk result
+            (NodeMarked procs.now types.now dets.now self.old (plain_node goal.old) (plain_node goal.new)) }
     {
-        let told = self.marked_sched(alloc, &goal.goal, dets, procs, types)?;
-        let changes = copy_changes(alloc, &goal.changes)?;
-        Ok(with_mark(told, changes, goal.pruned))
+        let det = self.mark_sched(alloc, &mut goal.goal, dets, procs, types)?;
+        goal.det = goal_told(det, goal.pruned);
+        Ok(())
     }
 
+    /// Marks a goal's parts, and tells its determinism.
     #[tactic(auto, using(crate::proofs::Naming::conj_named, crate::proofs::Naming::disj_named, crate::proofs::Naming::arms_in_named, crate::proofs::Naming::condition_named, crate::proofs::Naming::then_named, crate::proofs::Naming::else_named, crate::proofs::Naming::not_named, crate::proofs::Naming::some_named, crate::proofs::Naming::ready_same))]
     #[cycle(mark)]
-    fn marked_sched(
+    fn mark_sched(
         &mut self,
         alloc: Global,
-        goal: &'a Sched,
+        goal: &mut Sched,
         dets: &[Det],
         procs: &Procs,
         types: &[Ty],
-    ) -> Result<Told, Memory>
+    ) -> Result<Det, Memory>
         requires ready { Ready procs.now types.now self.old.point }
-        requires named { NamedIn (bounds_in procs.now (length types.now)) (plain_sched goal.now) }
+        requires named { NamedIn (bounds_in procs.now (length types.now)) (plain_sched goal.old) }
         ensures stays { OnOk result (Stays self.old self.new) }
-        ensures told { IfOk result (λ told. IsTold procs.now types.now dets.now self.old
-            (plain_sched goal.now) told) }
+        ensures told { IfOk result
+            (IsTold procs.now types.now dets.now self.old (plain_sched goal.old) (plain_sched goal.new)) }
     {
         match goal {
-            Sched::Conj(goals) => {
-                let copies = self.marked_conj(alloc, goals.as_slice(), dets, procs, types)?;
-                Ok(conj_told(copies))
-            }
-            Sched::Disj(goals) => {
-                let copies = self.marked_disj(alloc, goals.as_slice(), dets, procs, types)?;
-                Ok(disj_told(copies))
-            }
-            Sched::Switch(x, arms) => {
-                let copies = self.marked_arms(alloc, arms.as_slice(), *x, dets, procs, types)?;
-                self.switch_told(alloc, procs, types, *x, arms.as_slice(), copies)
-            }
-            Sched::Ite(vars, condition, then_part, else_part) => {
-                let first = self.marked(alloc, condition, dets, procs, types)?;
-                let second = self.marked_then(alloc, then_part, condition, dets, procs, types)?;
-                let third = self.marked(alloc, else_part, dets, procs, types)?;
-                ite_told(alloc, vars, first, second, third)
+            Sched::Conj(goals) => self.mark_conj(alloc, goals, dets, procs, types),
+            Sched::Disj(goals) => self.mark_disj(alloc, goals, dets, procs, types),
+            Sched::Switch(x, arms) => self.mark_arms(alloc, arms, *x, dets, procs, types),
+            Sched::Ite(_, condition, then_part, else_part) => {
+                self.mark_then(alloc, then_part, condition, dets, procs, types)?;
+                self.mark(alloc, condition, dets, procs, types)?;
+                self.mark(alloc, else_part, dets, procs, types)?;
+                Ok(condition.det.ite(then_part.det, else_part.det))
             }
             Sched::Not(inner) => {
-                let copy = self.marked(alloc, inner, dets, procs, types)?;
-                not_told(alloc, copy)
+                self.mark(alloc, inner, dets, procs, types)?;
+                Ok(inner.det.negated())
             }
-            Sched::Some(vars, inner) => {
-                let copy = self.marked(alloc, inner, dets, procs, types)?;
-                some_told(alloc, vars, copy)
+            Sched::Some(_, inner) => {
+                self.mark(alloc, inner, dets, procs, types)?;
+                Ok(row(inner.det))
             }
-            Sched::Assign(x, y) => Ok(atom(Sched::Assign(*x, *y), DET)),
-            Sched::Test(x, y) => Ok(atom(Sched::Test(*x, *y), SEMIDET)),
-            Sched::Build(x, symbol, args) => build_told(alloc, *x, *symbol, args),
+            Sched::Assign(_, _) => Ok(DET),
+            Sched::Test(_, _) => Ok(SEMIDET),
+            Sched::Build(_, _, _) => Ok(DET),
             Sched::Take(x, symbol, args) => {
                 self.take_told(alloc, procs, types, *x, *symbol, args)
             }
-            Sched::Const(x, value) => constant_told(alloc, *x, value),
-            Sched::TestConst(x, value) => self.test_told(alloc, *x, value),
-            Sched::Call(k, args, implied) => call_told(alloc, dets, *k, args, implied),
-            Sched::Apply(op, inputs, outputs) => apply_told(alloc, *op, inputs, outputs),
+            Sched::Const(_, _) => Ok(DET),
+            Sched::TestConst(x, value) => Ok(self.test_told(*x, value)),
+            Sched::Call(k, _, implied) => Ok(call_told(dets, *k, implied)),
+            Sched::Apply(op, _, _) => Ok(builtin_determinism(*op)),
         }
     }
 
+    /// Marks the goals of a conjunction. A goal's changes are entered before the next one, and at the end all of them are
+    /// undone.
     #[cycle(mark)]
-    fn marked_conj(
+    fn mark_conj(
         &mut self,
         alloc: Global,
-        goals: &'a [GoalNode],
+        goals: &mut Row<GoalNode>,
         dets: &[Det],
         procs: &Procs,
         types: &[Ty],
-    ) -> Result<Row<GoalNode>, Memory>
+    ) -> Result<Det, Memory>
         requires ready { Ready procs.now types.now self.old.point }
         requires named { EachNamed (bounds_in procs.now (length types.now)) (nodes (map plain_node
-            goals.now)) }
+            goals.old)) }
         ensures stays { OnOk result (Stays self.old self.new) }
-        ensures marked { IfOk result (λ copies. InSystems procs.now (λ S. nodes (map plain_node
-            copies)
-            ≡ marked_all (under dets.now S) (typed types.now) (insts_in self.old.point) (known_in
-            self.old.known.items) (nodes (map plain_node goals.now)))) }
+        ensures told { IfOk result (IsTold procs.now types.now dets.now self.old
+            (Conj (nodes (map plain_node goals.old))) (Conj (nodes (map plain_node goals.new)))) }
     {
+        let mut nodes = taken(alloc, goals);
         let mut found = emptied(alloc, &mut self.found);
-        let mut copies = Vec::with_capacity(alloc, goals.len())?;
-        for goal in goals {
-            is_named(procs, types, goals, goal);
-            copies.push(self.marked(alloc, goal, dets, procs, types)?)?;
-            self.enter(goal, &mut found, procs, types)?;
+        for n in 0..nodes.len() {
+            self.mark(alloc, &mut nodes[n], dets, procs, types)?;
+            self.enter(&nodes[n], &mut found, procs, types)?;
         }
         self.point.undo_all(&mut found);
         self.found = found;
-        Row::of(copies)
+        let det = all_told(nodes.as_slice());
+        *goals = Row::from_vec(nodes);
+        Ok(det)
     }
 
+    /// Marks the disjuncts of a disjunction.
     #[cycle(mark)]
-    fn marked_disj(
+    fn mark_disj(
         &mut self,
         alloc: Global,
-        goals: &'a [GoalNode],
+        goals: &mut Row<GoalNode>,
         dets: &[Det],
         procs: &Procs,
         types: &[Ty],
-    ) -> Result<Row<GoalNode>, Memory>
+    ) -> Result<Det, Memory>
         requires ready { Ready procs.now types.now self.old.point }
         requires named { EachNamed (bounds_in procs.now (length types.now)) (nodes (map plain_node
-            goals.now)) }
+            goals.old)) }
         ensures stays { OnOk result (Stays self.old self.new) }
-        ensures marked { IfOk result (λ copies. InSystems procs.now (λ S. nodes (map plain_node
-            copies)
-            ≡ marked_each (under dets.now S) (typed types.now) (insts_in self.old.point) (known_in
-            self.old.known.items) (nodes (map plain_node goals.now)))) }
+        ensures told { IfOk result (IsTold procs.now types.now dets.now self.old
+            (Disj (nodes (map plain_node goals.old))) (Disj (nodes (map plain_node goals.new)))) }
     {
-        let mut copies = Vec::with_capacity(alloc, goals.len())?;
-        for goal in goals {
-            is_named(procs, types, goals, goal);
-            copies.push(self.marked(alloc, goal, dets, procs, types)?)?;
+        let mut nodes = taken(alloc, goals);
+        for n in 0..nodes.len() {
+            self.mark(alloc, &mut nodes[n], dets, procs, types)?;
         }
-        Row::of(copies)
+        let det = any_told(nodes.as_slice());
+        *goals = Row::from_vec(nodes);
+        Ok(det)
     }
 
-    /// The arms of a switch: in each of them it is known what the variable is.
+    /// Marks the arms of a switch: in each of them it is known what the variable is.
     #[cycle(mark)]
-    fn marked_arms(
+    fn mark_arms(
         &mut self,
         alloc: Global,
-        arms: &'a [Arm],
+        arms: &mut Row<Arm>,
         x: u32,
         dets: &[Det],
         procs: &Procs,
         types: &[Ty],
-    ) -> Result<Row<Arm>, Memory>
+    ) -> Result<Det, Memory>
         requires ready { Ready procs.now types.now self.old.point }
+        requires there { x < length types.now }
         requires named { EachArmNamed (bounds_in procs.now (length types.now)) (arms_of (map
-            plain_arm arms.now)) }
+            plain_arm arms.old)) }
         ensures stays { OnOk result (Stays self.old self.new) }
-        ensures marked { IfOk result (λ copies. InSystems procs.now (λ S. arms_of (map plain_arm
-            copies)
-            ≡ marked_arms (under dets.now S) (typed types.now) (insts_in self.old.point) (known_in
-            self.old.known.items) x (arms_of (map plain_arm arms.now)))) }
+        ensures told { IfOk result (IsTold procs.now types.now dets.now self.old
+            (Switch x (arms_of (map plain_arm arms.old))) (Switch x (arms_of (map plain_arm arms.new)))) }
     {
-        let mut copies = Vec::with_capacity(alloc, arms.len())?;
-        for arm in arms {
-            arm_is_named(procs, types, arms, arm);
-            self.known.push(Fact {
-                variable: x,
-                on: &arm.on,
-            })?;
-            let body = self.marked(alloc, &arm.body, dets, procs, types)?;
+        let is_missed = misses_symbol(alloc, procs, types, &self.point, x, arms.as_slice())?;
+        let mut bodies = taken(alloc, arms);
+        for n in 0..bodies.len() {
+            let on = copy_on(alloc, &bodies[n].on)?;
+            self.known.push(Fact { variable: x, on })?;
+            self.mark(alloc, &mut bodies[n].body, dets, procs, types)?;
             last_fact(&mut self.known);
-            copies.push(Arm {
-                on: copy_on(alloc, &arm.on)?,
-                body,
-            })?;
         }
-        Row::of(copies)
+        let told = arms_told(bodies.as_slice());
+        *arms = Row::from_vec(bodies);
+        Ok(switch_told(is_missed, told))
     }
 
-    /// A then part, which stands after the changes of its condition.
+    /// Marks a then part, which stands after the changes of its condition.
     #[cycle(mark)]
-    fn marked_then(
+    fn mark_then(
         &mut self,
         alloc: Global,
-        then_part: &'a GoalNode,
-        condition: &'a GoalNode,
+        then_part: &mut GoalNode,
+        condition: &GoalNode,
         dets: &[Det],
         procs: &Procs,
         types: &[Ty],
-    ) -> Result<GoalNode, Memory>
+    ) -> Result<(), Memory>
         requires ready { Ready procs.now types.now self.old.point }
-        requires named { Named (bounds_in procs.now (length types.now)) (plain_node then_part.now) }
+        requires named { Named (bounds_in procs.now (length types.now)) (plain_node then_part.old) }
         requires condition { Named (bounds_in procs.now (length types.now)) (plain_node
             condition.now) }
         ensures stays { OnOk result (Stays self.old self.new) }
-        ensures marked { IfOk result (λ copy. InSystems procs.now (λ S. plain_node copy
-            ≡ marked (under dets.now S) (typed types.now) (insts_after (plain_node condition.now)
-            (insts_in self.old.point))
-            (known_in self.old.known.items) (plain_node then_part.now))) }
+        ensures marked { OnOk result (ThenMarked procs.now types.now dets.now self.old
+            (plain_node condition.now) (plain_node then_part.old) (plain_node then_part.new)) }
     {
         let mut found = Vec::new(alloc);
         self.enter(condition, &mut found, procs, types)?;
-        let copy = self.marked(alloc, then_part, dets, procs, types)?;
+        self.mark(alloc, then_part, dets, procs, types)?;
         self.point.undo(found);
-        Ok(copy)
+        Ok(())
     }
 }

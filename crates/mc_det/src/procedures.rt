@@ -1,64 +1,94 @@
-ghost use Rattle.std.specs.Prelude.{◌≡◌, ◌++◌, ◌∷◌, ◌<◌, ℕ, [], length, map, get_or, IfOk, OnOk, OnErr, MatchOption};
+ghost use Rattle.std.specs.Prelude.{◌≡◌, ◌++◌, ◌∷◌, ◌<◌, [], length, slice_index_or, false, IfOk, OnOk, MatchOption};
+ghost use Rattle.mc_source.specs.Determinism.{inferred, det};
+ghost use Rattle.mc_model.specs.Scheduled.{node, Conj, no_nodes};
 ghost use Rattle.mc_model.specs.PlainGoals.{plain_node, plain_proc};
-ghost use Rattle.mc_model.specs.declared.sched.Proc.{Proc};
 ghost use Rattle.mc_procs.specs.Fitting.{ProcedureFits};
 ghost use Rattle.mc_procs.specs.Procedures.{with_procs};
 ghost use Rattle.mc_det.specs.Determinisms.{AreDeterminisms};
 ghost use Rattle.mc_det.specs.MarkedProcedures.{IsMarked, Inferred, MarksHold, determinisms_of};
 ghost use Rattle.mc_det.specs.Marked.{marked_body};
+ghost use Rattle.mc_skeletons.specs.Least.{assigned};
 ghost use Rattle.mc_det.specs.code.Marks.{under, AllStand};
+ghost use Rattle.mc_det.specs.code.Places.{IsPlaced, HasNoGoals};
 ghost use Rattle.mc_det.specs.code.Walks.{InSystems};
 
 use crate::inference::determinisms;
 use crate::mark::assigned;
 use crate::point::Point;
-use crate::walk::Walk;
+use crate::walk::{DET, Walk};
 use mc_base::{Copied, Memory, Row};
-use mc_model::sched::{GoalNode, Proc};
+use mc_model::sched::{GoalNode, Proc, Sched};
 use mc_procs::Procs;
 use mc_program::ty::{Ty, copy_type};
 use mc_source::det::Det;
 use std::alloc::Global;
 
 /// Infers the determinisms of procedures: declared ones are as they are declared, the others the least that their bodies
-/// allow. Each goal of a body gets the determinism that the table gives it then. After want of memory the procedures are
-/// as before. (Manual: Determinism, inference.)
-pub fn infer(alloc: Global, procs: &mut Procs) -> Result<(), Memory>
-    ensures inferred { OnOk result (Inferred procs.old procs.new) }
-    ensures marks { OnOk result (MarksHold procs.new) }
-    ensures least { OnOk result (AreDeterminisms procs.new (determinisms_of procs.new)) }
-    ensures err { OnErr result (procs.new ≡ procs.old) }
+/// allow. Each goal of a body gets the determinism that the table gives it then. On a refusal, want of memory, the
+/// procedures are dropped. (Manual: Determinism, inference.)
+pub fn infer(alloc: Global, procs: Procs) -> Result<Procs, Memory>
+    ensures inferred { IfOk result (Inferred procs) }
+    ensures marks { IfOk result MarksHold }
+    ensures least { IfOk result (λ made. AreDeterminisms made (determinisms_of made)) }
+{
+    let dets = determinisms(alloc, &procs)?;
+    let mut made = procs;
+    for k in 0..made.count() {
+        mark_proc(alloc, &mut made, k, dets.as_slice())?;
+    }
+    Ok(made)
+}
+
+/// Gives a procedure its determinism, and the goals of its body theirs.
+fn mark_proc(alloc: Global, procs: &mut Procs, k: u32, dets: &[Det]) -> Result<(), Memory>
+    requires { k < length procs.old.added }
+    ensures { OnOk result (IsPlaced (λ before after. IsMarked procs.old dets.now before after
+        × (after.det ≡ assigned dets.now k)) procs.old k procs.new) }
 {
     procs.fit();
-    let dets = determinisms(alloc, procs)?;
-    let marked = marked_procs(alloc, procs, dets.as_slice())?;
-    replace_all(procs, marked);
+    let mut p = taken_out(alloc, procs, k)?;
+    mark_body(alloc, procs, &mut p, dets)?;
+    p.det = assigned(dets, k);
+    procs.replace(k, p);
     Ok(())
 }
 
-/// The procedures with these determinisms, and with the marks of their bodies.
-fn marked_procs(alloc: Global, procs: &Procs, dets: &[Det]) -> Result<Vec<Proc>, Memory>
-    requires { length dets.now ≡ length procs.now.added }
-    ensures count { IfOk result (λ ps. length ps.items ≡ length procs.now.added) }
-    ensures determinisms { IfOk result (λ ps. map (λ (p : Proc). p.det) ps.items ≡ dets.now) }
-    ensures marked { IfOk result (λ ps. (k : ℕ) (d : Proc) → k < length procs.now.added
-        → IsMarked procs.now dets.now (get_or procs.now.added k d) (get_or ps.items k d)) }
+/// Takes a procedure out; one without goals stands in its place.
+pub(crate) fn taken_out(alloc: Global, procs: &mut Procs, k: u32) -> Result<Proc, Memory>
+    requires { k < length procs.old.added }
+    ensures taken { IfOk result (λ p. p ≡ slice_index_or procs.old.added k p) }
+    ensures left { OnOk result (IsPlaced HasNoGoals procs.old k procs.new) }
 {
     procs.fit();
-    let mut marked = Vec::new(alloc);
-    for k in 0..procs.count() {
-        let p = procs.get(k);
-        let body = marked_body(alloc, procs, p, dets)?;
-        marked.push(with_body(alloc, p, body, assigned(dets, k))?)?;
-    }
-    Ok(marked)
+    let stand_in = without_goals(alloc, procs.get(k))?;
+    Ok(procs.replace(k, stand_in))
 }
 
-/// The body of a procedure with its marks.
-fn marked_body(alloc: Global, procs: &Procs, p: &Proc, dets: &[Det]) -> Result<GoalNode, Memory>
-    requires { ProcedureFits procs.now (plain_proc p.now) }
-    ensures { IfOk result (λ body. InSystems procs.now
-        (λ S. plain_node body ≡ marked_body (under dets.now S) (plain_proc p.now))) }
+/// A copy of a procedure, without the goals of its body.
+fn without_goals(alloc: Global, p: &Proc) -> Result<Proc, Memory>
+    ensures { IfOk result (HasNoGoals p.now) }
+{
+    with_body(alloc, p, no_goals(alloc), p.det)
+}
+
+/// The conjunction of no goals.
+fn no_goals(alloc: Global) -> GoalNode
+    ensures { plain_node result ≡ node (Conj no_nodes) [] (inferred det) false }
+{
+    GoalNode {
+        goal: Sched::Conj(Row::new(alloc)),
+        changes: Row::new(alloc),
+        det: DET,
+        pruned: false,
+    }
+}
+
+/// Marks the body of a procedure.
+fn mark_body(alloc: Global, procs: &Procs, p: &mut Proc, dets: &[Det]) -> Result<(), Memory>
+    requires { ProcedureFits procs.now (plain_proc p.old) }
+    ensures others { OnOk result (p.new ≡ record p.old { body = p.new.body }) }
+    ensures body { OnOk result (InSystems procs.now
+        (λ S. plain_node p.new.body ≡ marked_body (under dets.now S) (plain_proc p.old))) }
 {
     procs.fit();
     let variables = p.var_types.len();
@@ -68,7 +98,7 @@ fn marked_body(alloc: Global, procs: &Procs, p: &Proc, dets: &[Det]) -> Result<G
         steps: Vec::new(alloc),
         found: Vec::new(alloc),
     };
-    walk.marked(alloc, &p.body, dets, procs, p.var_types.as_slice())
+    walk.mark(alloc, &mut p.body, dets, procs, p.var_types.as_slice())
 }
 
 /// A copy of a procedure with another body and another determinism.

@@ -11,6 +11,7 @@ ghost use Rattle.mc_det.specs.code.Points.{insts_in, undone};
 ghost use Rattle.mc_det.specs.code.Facts.{known_in};
 ghost use Rattle.mc_det.specs.code.Walks.{typed, bounds_in, Ready, IsAmong, missed, times, InSystems, PutSteps, Puts};
 
+use crate::copies::copy_on;
 use crate::facts::{Fact, has_constant, has_symbol, last_fact};
 use crate::point::{Point, emptied};
 use crate::symbols::{allows, is_alone, misses};
@@ -29,9 +30,9 @@ use std::alloc::Global;
 /// A walk over a body, which puts down its steps: the insts at the point where it is, what the arms around it tell, the
 /// steps so far, and room for what changes found.
 #[derive(Drop)]
-pub(crate) struct Walk<'a> {
+pub(crate) struct Walk {
     pub(crate) point: Point,
-    pub(crate) known: Vec<Fact<'a>>,
+    pub(crate) known: Vec<Fact>,
     pub(crate) steps: Vec<Step>,
     pub(crate) found: Vec<(u32, InstId)>,
 }
@@ -149,7 +150,7 @@ pub(crate) fn arm_is_named(procs: &Procs, types: &[Ty], arms: &[Arm], arm: &Arm)
     let _ = (procs.count(), types.len(), arms.len(), arm.body.pruned);
 }
 
-impl<'a> Walk<'a> {
+impl Walk {
     /// Puts a step.
     fn put(&mut self, step: Step) -> Result<(), Memory>
         ensures { OnOk result (PutSteps self.old self.new (step ∷ [])) }
@@ -249,7 +250,7 @@ impl<'a> Walk<'a> {
     pub(crate) fn goal(
         &mut self,
         alloc: Global,
-        goal: &'a GoalNode,
+        goal: &GoalNode,
         procs: &Procs,
         types: &[Ty],
     ) -> Result<(), Memory>
@@ -270,7 +271,7 @@ impl<'a> Walk<'a> {
     fn sched(
         &mut self,
         alloc: Global,
-        goal: &'a Sched,
+        goal: &Sched,
         procs: &Procs,
         types: &[Ty],
     ) -> Result<(), Memory>
@@ -315,7 +316,7 @@ impl<'a> Walk<'a> {
     fn conj(
         &mut self,
         alloc: Global,
-        goals: &'a [GoalNode],
+        goals: &[GoalNode],
         procs: &Procs,
         types: &[Ty],
     ) -> Result<(), Memory>
@@ -340,7 +341,7 @@ impl<'a> Walk<'a> {
     fn disj(
         &mut self,
         alloc: Global,
-        goals: &'a [GoalNode],
+        goals: &[GoalNode],
         procs: &Procs,
         types: &[Ty],
     ) -> Result<(), Memory>
@@ -362,7 +363,7 @@ impl<'a> Walk<'a> {
     fn arms(
         &mut self,
         alloc: Global,
-        arms: &'a [Arm],
+        arms: &[Arm],
         x: u32,
         procs: &Procs,
         types: &[Ty],
@@ -374,10 +375,8 @@ impl<'a> Walk<'a> {
     {
         for arm in arms {
             arm_is_named(procs, types, arms, arm);
-            self.known.push(Fact {
-                variable: x,
-                on: &arm.on,
-            })?;
+            let on = copy_on(alloc, &arm.on)?;
+            self.known.push(Fact { variable: x, on })?;
             self.goal(alloc, &arm.body, procs, types)?;
             last_fact(&mut self.known);
         }
@@ -390,8 +389,8 @@ impl<'a> Walk<'a> {
     fn then(
         &mut self,
         alloc: Global,
-        then_part: &'a GoalNode,
-        condition: &'a GoalNode,
+        then_part: &GoalNode,
+        condition: &GoalNode,
         procs: &Procs,
         types: &[Ty],
     ) -> Result<(), Memory>

@@ -25,9 +25,7 @@ use Rattle.mc_model.specs.Insts.{Graph}
 use Rattle.mc_rules.specs.Untidy.{AreUntidy}
 use Rattle.mc_rules.specs.Premises.{HasInsts, Begins, AskedOf, TellNumbers, GoalsFitModes}
 use Rattle.mc_rules.specs.Rules.{Ordered, Comes, break_no_rule, break_modes, break_determinism}
-use Rattle.mc_rules.specs.code.Judged.{answered, ByDeterminism}
-use Rattle.mc_rules.specs.declared.judging.Judgement.{Judgement}
-use Rattle.mc_rules.specs.declared.judging.Judgement.TheVariants as J
+use Rattle.mc_rules.specs.code.Judged.{ByDeterminism}
 use Rattle.mc_rules.specs.declared.rules.Ruled.{Ruled}
 use Rattle.mc_rules.specs.declared.rules.Ruled.TheVariants as R
 
@@ -81,10 +79,8 @@ module _ (P : Program) (ds : List PlainInstDef) (sigs : List Sig) (q : PlainProc
   pub goals_there : (goals : List Normal) → HasNormalGoals P goals → HasNormalGoals q.program goals
   goals_there goals h = subst (λ (X : Program). HasNormalGoals X goals) (sym b.program) h
 
-  pub comes : (goals : List Normal) (exported : List Bool) (runs : Bool) (r s : Ruled) → s ≡ r → Comes q.program ds sigs goals exported runs r → Comes P ds sigs goals exported runs s
-  comes goals exported runs r s e c =
-      subst (Comes P ds sigs goals exported runs) (sym e)
-      (subst (λ (X : Program). Comes X ds sigs goals exported runs r) b.program c)
+  pub comes : (goals : List Normal) (exported : List Bool) (runs : Bool) (r : Ruled) → Comes q.program ds sigs goals exported runs r → Comes P ds sigs goals exported runs r
+  comes goals exported runs r c = subst (λ (X : Program). Comes X ds sigs goals exported runs r) b.program c
 
 module _ (P : Program) (ds : List PlainInstDef) (sigs : List Sig) (goals : List Normal) (exported : List Bool) (runs : Bool) (first : PlainProcs) (begun : Begins P ds sigs [] first) where
   -- what is said of goals that were put in order
@@ -92,11 +88,11 @@ module _ (P : Program) (ds : List PlainInstDef) (sigs : List Sig) (goals : List 
   ordering asked became grown =
       record { first = first; begins = begun; asked = asked; became = became; grown = grown }
 
-  pub all_ordered : (ordered last : PlainProcs) (j : Judgement) → AskedOf first sigs goals exported → Became sigs goals exported first ordered O.All → GrownFrom first ordered → ByDeterminism runs ordered last j → Comes P ds sigs goals exported runs (answered last j)
-  all_ordered ordered last J.Keeps asked became grown d =
+  pub all_ordered : (ordered : PlainProcs) (ruled : Ruled) → AskedOf first sigs goals exported → Became sigs goals exported first ordered O.All → GrownFrom first ordered → ByDeterminism runs ordered ruled → Comes P ds sigs goals exported runs ruled
+  all_ordered ordered (R.Procs last) asked became grown d =
       break_no_rule (ordering asked became grown) d.0 d.1 d.2
-  all_ordered ordered last (J.Broken list) asked became grown d =
-      break_determinism (ordering asked became grown) d.0 d.1 d.3 d.2
+  all_ordered ordered (R.Broken list) asked became grown d =
+      break_determinism (ordering asked became grown) d.1 d.2 d.4 d.3
 
   pub modes_broken : (last : PlainProcs) (list : Vec Broken Global) → AskedOf first sigs goals exported → Became sigs goals exported first last (O.Broken list) → GrownFrom first last → Comes P ds sigs goals exported runs (R.Broken list)
   modes_broken last list asked became grown = break_modes (ordering asked became grown)

@@ -1,4 +1,4 @@
-ghost use Rattle.std.specs.Prelude.{◌≡◌, List, [], map, IfOk, OnOk};
+ghost use Rattle.std.specs.Prelude.{◌≡◌, List, [], map, IfOk};
 ghost use Rattle.mc_accepted.specs.InstRules.{PlainInstDef};
 ghost use Rattle.mc_insts.specs.Graphs.{count_of};
 ghost use Rattle.mc_modes.specs.Signatures.{SigsFit};
@@ -7,9 +7,10 @@ ghost use Rattle.mc_orders.specs.declared.modes.ModeId.{ModeId};
 ghost use Rattle.mc_whole.specs.Goals.{HasNormalGoals};
 ghost use Rattle.mc_rules.specs.Premises.{Begins, AskedOf};
 ghost use Rattle.mc_rules.specs.Rules.{Comes, Determined};
-ghost use Rattle.mc_rules.specs.code.Judged.{answered, ByDeterminism};
+ghost use Rattle.mc_rules.specs.code.Judged.{ByDeterminism};
 
 use crate::premises::see_asked;
+use crate::rules::Ruled;
 use mc_base::Memory;
 use mc_det::{infer, prune_goals};
 use mc_det_rules::faults;
@@ -17,86 +18,78 @@ use mc_model::flat::Normal;
 use mc_model::inst::Sig;
 use mc_orders::{Orders, order_goals};
 use mc_procs::Procs;
-use mc_source::rule::Broken;
 use mc_switch::switches;
 use std::alloc::Global;
-
-/// What is said of procedures.
-#[derive(Drop)]
-pub(crate) enum Judgement {
-    /// They break no rule.
-    Keeps,
-    /// The rules that they break; at least one.
-    Broken(Vec<Broken>),
-}
 
 /// Sees that what is asked of declared modes and goals holds, lets the procedures come, and judges them.
 pub(crate) fn judged(
     alloc: Global,
-    procs: &mut Procs,
+    procs: Procs,
     sigs: &[Sig],
     goals: &[Normal],
     exported: &[bool],
     runs: bool,
-) -> Result<Judgement, Memory>
-    requires sigs { SigsFit (count_of procs.old.insts) sigs.now }
-    requires goals { HasNormalGoals procs.old.program goals.now }
-    requires preds { procs.old.preds ≡ map (λ (m : ModeId). m.pred) (mode_ids procs.old.program sigs.now) }
-    requires none { procs.old.added ≡ [] }
+) -> Result<Ruled, Memory>
+    requires sigs { SigsFit (count_of procs.insts) sigs.now }
+    requires goals { HasNormalGoals procs.program goals.now }
+    requires preds { procs.preds ≡ map (λ (m : ModeId). m.pred) (mode_ids procs.program sigs.now) }
+    requires none { procs.added ≡ [] }
     ensures { IfOk result
-        (λ j. (ds : List PlainInstDef) → Begins procs.old.program ds sigs.now [] procs.old
-        → Comes procs.old.program ds sigs.now goals.now exported.now runs (answered procs.new j)) }
+        (λ ruled. (ds : List PlainInstDef) → Begins procs.program ds sigs.now [] procs
+        → Comes procs.program ds sigs.now goals.now exported.now runs ruled) }
 {
-    see_asked(alloc, procs, sigs, goals, exported)?;
+    see_asked(alloc, &procs, sigs, goals, exported)?;
     by_order(alloc, procs, sigs, goals, exported, runs)
 }
 
 /// Puts the goals of all modes in order, and judges the procedures that come.
 fn by_order(
     alloc: Global,
-    procs: &mut Procs,
+    procs: Procs,
     sigs: &[Sig],
     goals: &[Normal],
     exported: &[bool],
     runs: bool,
-) -> Result<Judgement, Memory>
-    requires asked { AskedOf procs.old sigs.now goals.now exported.now }
-    requires goals { HasNormalGoals procs.old.program goals.now }
-    requires preds { procs.old.preds ≡ map (λ (m : ModeId). m.pred) (mode_ids procs.old.program sigs.now) }
-    requires none { procs.old.added ≡ [] }
+) -> Result<Ruled, Memory>
+    requires asked { AskedOf procs sigs.now goals.now exported.now }
+    requires goals { HasNormalGoals procs.program goals.now }
+    requires preds { procs.preds ≡ map (λ (m : ModeId). m.pred) (mode_ids procs.program sigs.now) }
+    requires none { procs.added ≡ [] }
     ensures { IfOk result
-        (λ j. (ds : List PlainInstDef) → Begins procs.old.program ds sigs.now [] procs.old
-        → Comes procs.old.program ds sigs.now goals.now exported.now runs (answered procs.new j)) }
+        (λ ruled. (ds : List PlainInstDef) → Begins procs.program ds sigs.now [] procs
+        → Comes procs.program ds sigs.now goals.now exported.now runs ruled) }
 {
-    match order_goals(alloc, procs, sigs, goals, exported)? {
+    let mut procs = procs;
+    match order_goals(alloc, &mut procs, sigs, goals, exported)? {
         Orders::All => {
-            let judgement = by_determinism(alloc, procs, runs)?;
-            Ok(judgement)
+            let ruled = by_determinism(alloc, procs, runs)?;
+            Ok(ruled)
         }
-        Orders::Broken(list) => Ok(Judgement::Broken(list)),
+        Orders::Broken(list) => Ok(Ruled::Broken(list)),
     }
 }
 
 /// Judges procedures whose goals are in order by their determinisms.
-fn by_determinism(alloc: Global, procs: &mut Procs, runs: bool) -> Result<Judgement, Memory>
-    ensures { IfOk result (ByDeterminism runs procs.old procs.new) }
+fn by_determinism(alloc: Global, procs: Procs, runs: bool) -> Result<Ruled, Memory>
+    ensures { IfOk result (ByDeterminism runs procs) }
 {
-    determine(alloc, procs)?;
-    let found = faults(alloc, procs, runs)?;
+    let procs = determine(alloc, procs)?;
+    let found = faults(alloc, &procs, runs)?;
     procs.fit();
     if found.is_empty() {
-        Ok(Judgement::Keeps)
+        Ok(Ruled::Procs(procs))
     } else {
-        Ok(Judgement::Broken(found))
+        Ok(Ruled::Broken(found))
     }
 }
 
 /// Puts the goals of procedures in switch form, prunes them and infers their determinisms.
-fn determine(alloc: Global, procs: &mut Procs) -> Result<(), Memory>
-    ensures { OnOk result (Determined procs.old procs.new) }
+fn determine(alloc: Global, procs: Procs) -> Result<Procs, Memory>
+    ensures { IfOk result (Determined procs) }
 {
-    switches(alloc, procs)?;
-    prune_goals(alloc, procs)?;
-    infer(alloc, procs)?;
-    Ok(())
+    let mut procs = procs;
+    switches(alloc, &mut procs)?;
+    let pruned = prune_goals(alloc, procs)?;
+    let made = infer(alloc, pruned)?;
+    Ok(made)
 }

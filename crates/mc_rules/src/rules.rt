@@ -13,11 +13,10 @@ ghost use Rattle.mc_whole.specs.Goals.{HasNormalGoals};
 ghost use Rattle.mc_rules.specs.Premises.{HasInsts};
 ghost use Rattle.mc_rules.specs.Untidy.{AreUntidy};
 ghost use Rattle.mc_rules.specs.Rules.{Comes};
-ghost use Rattle.mc_rules.specs.code.Judged.{answered};
 ghost use Rattle.mc_rules.specs.code.Fitting.{ProgramIsFit};
 
 use crate::asked::asked_modes;
-use crate::judging::{Judgement, judged};
+use crate::judging::judged;
 use crate::premises::see_asked;
 use crate::signatures::signatures_fit;
 use crate::untidy::untidy_modes;
@@ -170,9 +169,9 @@ fn of_tidy(
         (λ ruled. (ds : List PlainInstDef) → HasInsts program ds insts
         → Comes program ds sigs.now goals.now exported.now runs ruled) }
 {
-    let mut procs = first_procs(alloc, program, insts, sigs)?;
-    let judgement = judged(alloc, &mut procs, sigs, goals, exported, runs)?;
-    Ok(answered(procs, judgement))
+    let procs = first_procs(alloc, program, insts, sigs)?;
+    let ruled = judged(alloc, procs, sigs, goals, exported, runs)?;
+    Ok(ruled)
 }
 
 /// Sees that a program's types and constructors fit, and that it has the library.
@@ -183,16 +182,6 @@ fn see_fits(alloc: Global, program: &Program) -> Result<(), Memory>
     see(constructors_fit(alloc, program)?)?;
     see(library_fits(program))?;
     Ok(())
-}
-
-/// Procedures as they are judged.
-fn answered(procs: Procs, judgement: Judgement) -> Ruled
-    ensures { result ≡ answered procs judgement }
-{
-    match judgement {
-        Judgement::Keeps => Ruled::Procs(procs),
-        Judgement::Broken(list) => Ruled::Broken(list),
-    }
 }
 
 /// The program with its insts, and with no procedure of its modes yet.

@@ -23,7 +23,7 @@ use Rattle.mc_procs.specs.VariableTypes.{type_in}
 use Rattle.mc_procs.proofs.Views.{plain_node-open, plain_arm-open}
 use Rattle.mc_mode_points.specs.Tables.{Entry}
 use Rattle.mc_det.proofs.Telling.{before, one_before, none_after}
-use Rattle.mc_det.proofs.Copies.{arms_before, one_arm_before, no_arm_after}
+use Rattle.mc_det.proofs.MarkedParts.{arms_before, one_arm_before, no_arm_after}
 use Rattle.mc_switch.specs.declared.around.Around.{Around}
 use Rattle.mc_switch.specs.declared.formed.Formed.{Formed}
 use Rattle.mc_switch.specs.declared.parts.FormedGoal.{FormedGoal}

@@ -9,4 +9,4 @@ abbrev pub known_in : List Fact → Known
 known_in [] x = None
 known_in (f ∷ facts) x =
     option_or (known_in facts x)
-    (if nat_eq x f.variable then Some (plain_label f.on.now) else None)
+    (if nat_eq x f.variable then Some (plain_label f.on) else None)

@@ -3,17 +3,15 @@ use Rattle.std.specs.Prelude.{◌≡◌, ℕ, ◌<◌, ◌||◌, Bool, List, len
 use Rattle.mc_program.specs.declared.ty.Ty.{Ty}
 use Rattle.mc_source.specs.Determinism.{Determinism, inferred, row_of, conj, disj, det, failure, erroneous}
 use Rattle.mc_source.specs.declared.det.Det.{Det}
-use Rattle.mc_model.specs.PlainGoals.{plain_sched}
 use Rattle.mc_model.specs.Scheduled.{Scheduled, Node, node, Nodes, no_nodes, node_then, Arms, no_arms, arm_then}
 use Rattle.mc_model.specs.Good.{System}
-use Rattle.mc_accepted.specs.Determined.{determined_in}
+use Rattle.mc_accepted.specs.Determined.{insts_after, determined_in}
 use Rattle.mc_accepted.specs.Inferred.{with_determinisms, join}
 use Rattle.mc_model.specs.declared.sched.Proc.{Proc}
 use Rattle.mc_procs.specs.Fitting.{ProcedureFits}
 use Rattle.mc_procs.specs.Procedures.{PlainProcs, procedure_at}
 use Rattle.mc_skeletons.specs.Least.{assigned}
-use Rattle.mc_det.specs.Marked.{marked_in}
-use Rattle.mc_det.specs.declared.mark.Told.{Told}
+use Rattle.mc_det.specs.Marked.{marked, marked_in}
 use Rattle.mc_det.specs.declared.walk.Walk.{Walk}
 use Rattle.mc_det.specs.code.Facts.{known_in}
 use Rattle.mc_det.specs.code.Points.{insts_in}
@@ -48,21 +46,37 @@ arms_told (arm_then l n arms) = join (mark_of n) (arms_told arms)
 abbrev pub switched : (is_missed : Bool) → Determinism → Determinism
 switched is_missed d = record { can_fail = is_missed || d.can_fail; most = d.most }
 
--- a goal whose parts are marked, with its own determinism, where procedures have these
-pub record IsTold
-    (q : PlainProcs) (types : List Ty) (ds : List Det) (at : Walk) (s : Scheduled) (told : Told)
-    : Type 0 where
-  pub goal :
+module _ (q : PlainProcs) (types : List Ty) (ds : List Det) (at : Walk) where
+  -- a goal with its mark and those of its parts, where procedures have these determinisms
+  abbrev pub NodeMarked : (before after : Node) → Type 0
+  NodeMarked n m =
+      InSystems q
+      (λ S. m ≡ marked (under ds S) (typed types) (insts_in at.point) (known_in at.known.items) n)
+
+  -- the same of a then part, which stands after its condition
+  abbrev pub ThenMarked : (condition before after : Node) → Type 0
+  ThenMarked c n m =
       InSystems q
       (λ S.
-      plain_sched told.goal
-      ≡ marked_in (under ds S) (typed types) (insts_in at.point) (known_in at.known.items) s)
-  pub det :
-      InSystems q
-      (λ S.
-      told.det
-      ≡ inferred
-      (determined_in (under ds S) (typed types) (insts_in at.point) (known_in at.known.items) s))
+      m
+      ≡ marked (under ds S) (typed types) (insts_after c (insts_in at.point))
+      (known_in at.known.items) n)
+
+  -- a goal whose parts are marked, and its own determinism
+  pub record IsTold (before after : Scheduled) (told : Det) : Type 0 where
+    pub goal :
+        InSystems q
+        (λ S.
+        after
+        ≡ marked_in (under ds S) (typed types) (insts_in at.point) (known_in at.known.items)
+        before)
+    pub det :
+        InSystems q
+        (λ S.
+        told
+        ≡ inferred
+        (determined_in (under ds S) (typed types) (insts_in at.point) (known_in at.known.items)
+        before))
 
 -- procedures that may stand in the places of others
 pub record AllStand (q : PlainProcs) (ps : List Proc) : Type 0 where

@@ -7,22 +7,17 @@ use Rattle.mc_program.specs.declared.ty.Ty.{Ty}
 use Rattle.mc_source.specs.Determinism.{is_zero}
 use Rattle.mc_source.specs.declared.det.Det.{Det}
 use Rattle.mc_model.specs.Outcomes.{Outcome}
-use Rattle.mc_model.specs.Scheduled.{Node, Scheduled, Nodes, nodes, Arms}
-use Rattle.mc_model.specs.PlainGoals.{plain_node, plain_sched, plain_arm, arms_of}
+use Rattle.mc_model.specs.Scheduled.{Node, Scheduled}
 use Rattle.mc_model.specs.Good.{System}
 use Rattle.mc_accepted.specs.Ordered.{times_in, variables_of_node}
 use Rattle.mc_accepted.specs.Determined.{insts_after}
 use Rattle.mc_accepted.specs.Inferred.{with_determinisms}
-use Rattle.mc_accepted.specs.MergedArms.{never_ends, never_ends_in, one_never_ends, each_never_ends, each_arm_never_ends}
+use Rattle.mc_accepted.specs.MergedArms.{never_ends, never_ends_in}
 use Rattle.mc_procs.specs.Procedures.{PlainProcs, as_system}
 use Rattle.mc_det.specs.Determinisms.{declared_procedure}
-use Rattle.mc_det.specs.Pruned.{pruned_node, pruned_in, pruned_all, pruned_each, pruned_arms}
+use Rattle.mc_det.specs.Pruned.{pruned_node, pruned_in}
 use Rattle.mc_det.specs.PrunedProcedures.{FollowDeclared}
 use Rattle.mc_det.specs.declared.prune.Pruning.{Pruning}
-use Rattle.mc_det.specs.declared.prune.PrunedGoal.{PrunedGoal}
-use Rattle.mc_det.specs.declared.prune.PrunedNode.{PrunedNode}
-use Rattle.mc_det.specs.declared.prune.PrunedNodes.{PrunedNodes}
-use Rattle.mc_det.specs.declared.prune.PrunedArms.{PrunedArms}
 use Rattle.mc_det.specs.code.Points.{insts_in}
 use Rattle.mc_det.specs.code.Walks.{typed}
 
@@ -64,93 +59,46 @@ pub record Keeps (before after : Pruning) : Type 0 where
   pub outside : after.outside ≡ before.outside
 
 module _ (q : PlainProcs) (types : List Ty) (at : Pruning) where
-  -- a goal, a node, the goals of a conjunction, disjuncts and arms, with their marks
-  pub record IsGoal (s : Scheduled) (part : PrunedGoal) : Type 0 where
+  -- a goal and a node with their marks, and whether the point after it is unreachable
+  pub record IsGoal (before after : Scheduled) (told : Bool) : Type 0 where
+    pub made :
+        (Q : List ℕ)
+        → Counted Q at.outside
+        → InDeclared q (λ S. after ≡ pruned_in S (typed types) Q (insts_in at.point) before)
+    pub never : InDeclared q (λ S. told ≡ never_ends_in S (typed types) (insts_in at.point) before)
+
+  pub record IsNode (before after : Node) (told : Bool) : Type 0 where
+    pub made :
+        (Q : List ℕ)
+        → Counted Q at.outside
+        → InDeclared q (λ S. after ≡ pruned_node S (typed types) Q (insts_in at.point) before)
+    pub never : InDeclared q (λ S. told ≡ never_ends S (typed types) (insts_in at.point) before)
+
+  -- a node that was counted as outside itself, one beside others, and a then part
+  pub record IsWithin (before after : Node) (told : Bool) : Type 0 where
+    pub made :
+        (Q : List ℕ)
+        → Counted (Q ++ variables_of_node before) at.outside
+        → InDeclared q (λ S. after ≡ pruned_node S (typed types) Q (insts_in at.point) before)
+    pub never : InDeclared q (λ S. told ≡ never_ends S (typed types) (insts_in at.point) before)
+
+  pub record IsBeside (beside : List ℕ) (before after : Node) (told : Bool) : Type 0 where
     pub made :
         (Q : List ℕ)
         → Counted Q at.outside
         → InDeclared q
-        (λ S. plain_sched part.goal ≡ pruned_in S (typed types) Q (insts_in at.point) s)
-    pub never :
-        InDeclared q (λ S. part.never_ends ≡ never_ends_in S (typed types) (insts_in at.point) s)
+        (λ S. after ≡ pruned_node S (typed types) (Q ++ beside) (insts_in at.point) before)
+    pub never : InDeclared q (λ S. told ≡ never_ends S (typed types) (insts_in at.point) before)
 
-  pub record IsNode (n : Node) (part : PrunedNode) : Type 0 where
-    pub made :
-        (Q : List ℕ)
-        → Counted Q at.outside
-        → InDeclared q
-        (λ S. plain_node part.node ≡ pruned_node S (typed types) Q (insts_in at.point) n)
-    pub never :
-        InDeclared q (λ S. part.never_ends ≡ never_ends S (typed types) (insts_in at.point) n)
-
-  pub record AreRun (ns : Nodes) (parts : PrunedNodes) : Type 0 where
-    pub made :
-        (Q : List ℕ)
-        → Counted Q at.outside
-        → InDeclared q
-        (λ S.
-        nodes (map plain_node parts.nodes)
-        ≡ pruned_all S (typed types) Q (insts_in at.point) ns)
-    pub never :
-        InDeclared q
-        (λ S. parts.never_end ≡ one_never_ends S (typed types) (insts_in at.point) ns)
-
-  pub record AreTried (ns : Nodes) (parts : PrunedNodes) : Type 0 where
-    pub made :
-        (Q : List ℕ)
-        → Counted Q at.outside
-        → InDeclared q
-        (λ S.
-        nodes (map plain_node parts.nodes)
-        ≡ pruned_each S (typed types) Q (insts_in at.point) ns)
-    pub never :
-        InDeclared q
-        (λ S. parts.never_end ≡ each_never_ends S (typed types) (insts_in at.point) ns)
-
-  pub record AreChosen (arms : Arms) (parts : PrunedArms) : Type 0 where
+  pub record IsThen (condition before after : Node) (told : Bool) : Type 0 where
     pub made :
         (Q : List ℕ)
         → Counted Q at.outside
         → InDeclared q
         (λ S.
-        arms_of (map plain_arm parts.arms)
-        ≡ pruned_arms S (typed types) Q (insts_in at.point) arms)
-    pub never :
-        InDeclared q
-        (λ S. parts.never_end ≡ each_arm_never_ends S (typed types) (insts_in at.point) arms)
-
-  -- a node that was counted as outside itself, one beside another, and a then part
-  pub record IsWithin (n : Node) (part : PrunedNode) : Type 0 where
-    pub made :
-        (Q : List ℕ)
-        → Counted (Q ++ variables_of_node n) at.outside
-        → InDeclared q
-        (λ S. plain_node part.node ≡ pruned_node S (typed types) Q (insts_in at.point) n)
-    pub never :
-        InDeclared q (λ S. part.never_ends ≡ never_ends S (typed types) (insts_in at.point) n)
-
-  pub record IsBeside (other n : Node) (part : PrunedNode) : Type 0 where
-    pub made :
-        (Q : List ℕ)
-        → Counted Q at.outside
-        → InDeclared q
-        (λ S.
-        plain_node part.node
-        ≡ pruned_node S (typed types) (Q ++ variables_of_node other) (insts_in at.point) n)
-    pub never :
-        InDeclared q (λ S. part.never_ends ≡ never_ends S (typed types) (insts_in at.point) n)
-
-  pub record IsThen (condition n : Node) (part : PrunedNode) : Type 0 where
-    pub made :
-        (Q : List ℕ)
-        → Counted Q at.outside
-        → InDeclared q
-        (λ S.
-        plain_node part.node
+        after
         ≡ pruned_node S (typed types) (Q ++ variables_of_node condition)
-        (insts_after condition (insts_in at.point)) n)
+        (insts_after condition (insts_in at.point)) before)
     pub never :
         InDeclared q
-        (λ S.
-        part.never_ends
-        ≡ never_ends S (typed types) (insts_after condition (insts_in at.point)) n)
+        (λ S. told ≡ never_ends S (typed types) (insts_after condition (insts_in at.point)) before)

@@ -4,7 +4,7 @@ use Rattle.mc_skeletons.specs.Least.{assigned}
 use Rattle.mc_det.proofs.Telling.{call_tells}
 use Rattle.mc_det.proofs.mark.call_told.Goals as goal
 
-pub returns-clause-det : goal.returns-clause-det
-returns-clause-det c =
-    c.atom.ensures.det ∙ c.called-det.ensures
+pub returns : goal.returns
+returns c =
+    c.called.ensures
     ∙ ap inferred (call_tells c.is_empty.result c.args.implied.now (row_of (assigned c.args.dets.now c.args.k)) c.is_empty.ensures.0 c.is_empty.ensures.1)

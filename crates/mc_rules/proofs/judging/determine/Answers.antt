@@ -4,10 +4,10 @@ pub returns : goal.returns
 returns c =
     record {
       switched = c.switches.new.procs;
-      between = c.prune_goals.new.procs;
+      between = c.in_ok-pruned.pruned;
       forms = c.in_ok-switches.ensures.switched;
-      pruned = c.in_ok-prune_goals.ensures.pruned;
-      inferred = c.in_ok-infer.ensures.inferred;
-      marks = c.in_ok-infer.ensures.marks;
-      least = c.in_ok-infer.ensures.least;
+      pruned = c.in_ok-pruned.ensures;
+      inferred = c.in_ok-made.ensures.inferred;
+      marks = c.in_ok-made.ensures.marks;
+      least = c.in_ok-made.ensures.least;
     }

@@ -5,7 +5,6 @@ use Rattle.mc_modes.specs.Signatures.{SigsFit}
 use Rattle.mc_orders.specs.Numbering.{mode_ids}
 use Rattle.mc_orders.specs.declared.modes.ModeId.{ModeId}
 use Rattle.mc_whole.specs.Goals.{HasNormalGoals}
-use Rattle.mc_rules.specs.code.Judged.{answered}
 use Rattle.mc_rules.proofs.Coming.{begins, begins_itself, comes}
 use Rattle.mc_rules.proofs.rules.of_tidy.Goals as goal
 
@@ -37,5 +36,4 @@ returns c =
     let q = c.in_ok-procs.procs in
     let begun = begins c.args.program ds c.args.sigs.now [] c.args.insts q (c.in_ok-procs.ensures {u = tt}) c.requires.fits.2 has c.requires.tidy in
     comes c.args.program ds c.args.sigs.now q begun c.args.goals.now c.args.exported.now c.args.runs
-    (answered c.judged.new.procs c.in_ok-judgement.judgement) c.answered.result
-    c.answered.ensures (c.in_ok-judgement.ensures {u = tt} ds (begins_itself c.args.program ds c.args.sigs.now q begun))
+    c.in_ok-ruled.ruled (c.in_ok-ruled.ensures {u = tt} ds (begins_itself c.args.program ds c.args.sigs.now q begun))

@@ -1,404 +1,308 @@
-use Rattle.std.proofs.Common.{◌≡◌, ℕ, List, length, map, false, refl, sym, ap, ◌∙◌, subst, arith}
-use Rattle.mc_program.specs.Values.{plain_value}
-use Rattle.mc_source.specs.Determinism.{inferred, row_of, det, semidet}
-use Rattle.mc_model.specs.Scheduled.{nodes, Scheduled, Assign, Test, Build, Const, TestConst, Call, Apply}
+use Rattle.std.proofs.Common.{◌≡◌, ◌+◌, ◌<◌, List, length, get_or, take, set, map, refl, sym, ap, ap₂, ◌∙◌, subst, arith, Box, Global, get_or-set_same, get_or-set_other}
+use Rattle.std.proofs.lemmas.List.{get_or_default, length-set, take_all, take_more_set}
+use Rattle.std.specs.Box.{with_value}
+use denote.Param.Weighed.{at_most}
+use borrow.Enum.Total.{values_d, values_d_at, values_o, values_o_at}
+use Rattle.mc_source.specs.Determinism.{inferred, row_of, negated, ite}
+use Rattle.mc_model.specs.Scheduled.{nodes, Not, Exists, Ite, Take}
 use Rattle.mc_model.specs.PlainGoals.{plain_node, plain_sched, plain_arm, arms_of}
-use Rattle.mc_model.specs.declared.sched.GoalNode.{GoalNode}
-use Rattle.mc_model.specs.declared.sched.Arm.{Arm}
-use Rattle.mc_accepted.specs.Determined.{insts_after, allowed_in, misses, then_tests, builtin_determinism}
-use Rattle.mc_procs.specs.Named.{Named, NamedIn}
+use Rattle.mc_model.specs.contracts.sched.Sched.{enum}
+use Rattle.mc_source.specs.declared.det.Det.{Det}
+use Rattle.mc_model.specs.declared.sched.Sched as D
+use Rattle.mc_model.specs.declared.sched.Arm.{Arm, size-Arm}
+use Rattle.mc_model.specs.declared.sched.GoalNode.{GoalNode, size-GoalNode}
+use Rattle.mc_model.specs.declared.sched.Sched.{the_lemmas}
+use Rattle.mc_procs.proofs.Views.{plain_sched-Not, plain_sched-Some, plain_sched-Ite, plain_sched-Take}
+use Rattle.mc_accepted.specs.Determined.{insts_after, allowed_in, misses}
+use Rattle.mc_procs.specs.Named.{Named}
 use Rattle.mc_procs.specs.Procedures.{as_system}
-use Rattle.mc_procs.proofs.Views.{plain_sched-Conj, plain_sched-Disj, plain_sched-Switch, plain_sched-Ite, plain_sched-Not, plain_sched-Some, plain_sched-Assign, plain_sched-Test, plain_sched-Build, plain_sched-Take, plain_sched-Const, plain_sched-TestConst, plain_sched-Call, plain_sched-Apply}
-use Rattle.mc_skeletons.specs.Least.{assigned}
-use Rattle.mc_det.specs.Marked.{marked, marked_all, marked_each, marked_arms}
+use Rattle.mc_det.specs.Marked.{marked_all, marked_each, marked_arms}
 use Rattle.mc_det.specs.declared.walk.Walk.{Walk}
 use Rattle.mc_det.specs.code.Facts.{known_in}
-use Rattle.mc_det.specs.code.Marks.{Stays, IsTold, under, switched, arms_told}
+use Rattle.mc_det.specs.code.Marks.{IsTold, NodeMarked, ThenMarked, under, all_told, any_told, arms_told}
 use Rattle.mc_det.specs.code.Points.{insts_in, undone}
-use Rattle.mc_det.specs.code.Walks.{typed, bounds_in, Ready, InSystems}
-use Rattle.mc_det.proofs.Walking.{each_named_at, taken_off}
-use Rattle.mc_det.proofs.Naming.{ready_same}
+use Rattle.mc_det.specs.code.Walks.{typed, bounds_in}
 use Rattle.mc_det.proofs.Declaring.{if_ok_as}
-use Rattle.mc_det.proofs.Copies.{all_are, each_are, arms_are, goal_run, goal_tried, arm_chosen, then_marked, on_ok_as, if_ok_both, atom_is, take_is, stays_both, node_marked, conj_is, disj_is, switch_is, not_is, some_is, ite_is}
+use Rattle.mc_det.proofs.Naming.{ready_same, item_named, arm_item_named}
+use Rattle.mc_det.proofs.Walking.{taken_off}
+use Rattle.mc_det.proofs.MarkedParts.{node_marked, told_as, conj_is, disj_is, switch_is, not_is, some_is, ite_is, marked_there, stays_both, still_named, goal_run, goal_tried, arm_chosen, then_marked, all_are, each_are, arms_are}
 use Rattle.mc_det.proofs.walk.Walk.+mark.Goals as goal
 
--- the parts of lists
-pub marked_conj-is_named-requires : goal.marked_conj-is_named-requires
-marked_conj-is_named-requires t c = record { all = c.requires.named; among = (c.loop-goal.goal-index, c.loop-goal-test.true, c.goal-item.is) }
-
-pub marked_disj-is_named-requires : goal.marked_disj-is_named-requires
-marked_disj-is_named-requires t c = record { all = c.requires.named; among = (c.loop-goal.goal-index, c.loop-goal-test.true, c.goal-item.is) }
-
-pub marked_arms-arm_is_named-requires : goal.marked_arms-arm_is_named-requires
-marked_arms-arm_is_named-requires t c = record { all = c.requires.named; among = (c.loop-arm.arm-index, c.loop-arm-test.true, c.arm-item.is) }
+-- what is in a box
+abbrev inside : Box GoalNode Global → GoalNode
+inside b = b.value
 
 -- a goal with its mark
-pub marked-returns : goal.marked-returns
-marked-returns t c =
-    let q = c.args.procs.now in
-    let types = c.args.types.now in
-    let ds = c.args.dets.now in
-    let a : Walk = c.args.self.now in
-    let g : GoalNode = c.args.goal.now in
-    record {
-      stays = c.in_ok-told.ensures.stays;
-      marked = node_marked q types ds a g c.with_mark.result c.in_ok-told.told c.with_mark.ensures.goal (c.with_mark.ensures.changes ∙ c.in_ok-changes.ensures) c.with_mark.ensures.pruned c.with_mark.ensures.det c.in_ok-told.ensures.told;
-    }
+pub mark-returns-clause-marked : goal.mark-returns-clause-marked
+mark-returns-clause-marked t c =
+    node_marked c.args.procs.now c.args.types.now c.args.dets.now c.args.self.now c.args.goal.now
+    (record { goal = c.mark_sched.new.goal; changes = c.args.goal.now.changes; det = c.goal_told-goal.result; pruned = c.args.goal.now.pruned })
+    c.in_ok-det.det refl refl c.goal_told-goal.ensures c.in_ok-det.ensures.told
 
 -- a conjunction
-pub marked_conj-enter-requires : goal.marked_conj-enter-requires
-marked_conj-enter-requires t c =
+pub mark_conj-mark-requires : goal.mark_conj-mark-requires
+mark_conj-mark-requires t c =
+    let inv = c.loop-n.invariant in
+    let gs : List GoalNode = c.args.goals.now in
+    let k = c.loop-n.n in
+    let g : GoalNode = c.index_mut.result.now in
+    let lt : k < length gs = omega (arith, c.loop-n-test.true, inv.end) in
+    let is : g ≡ get_or gs k g = c.index_mut.ensures.value ∙ inv.rest k g (omega arith) in
+    let one = at_most size-GoalNode gs k g lt in
+    (omega (arith, c.decreases, one, ap size-GoalNode is), (inv.ready, item_named (bounds_in c.args.procs.now (length c.args.types.now)) gs k g is lt c.requires.named))
+
+pub mark_conj-enter-requires-clause-named : goal.mark_conj-enter-requires-clause-named
+mark_conj-enter-requires-clause-named t c =
+    let inv = c.loop-n.invariant in
     let B = bounds_in c.args.procs.now (length c.args.types.now) in
-    record {
-      ready = subst (Ready c.args.procs.now c.args.types.now) (sym c.in_ok-marked.ensures.stays.point) c.loop-goal.invariant.ready;
-      named = subst (λ (g : GoalNode). Named B (plain_node g)) (sym c.goal-item.is) (each_named_at B c.args.goals.now c.loop-goal.goal-index c.goal-item.result c.loop-goal-test.true c.requires.named);
-    }
+    let gs : List GoalNode = c.args.goals.now in
+    let k = c.loop-n.n in
+    let g : GoalNode = c.index_mut.result.now in
+    let x : GoalNode = c.mark.new.goal in
+    let lt : k < length gs = omega (arith, c.loop-n-test.true, inv.end) in
+    let is : g ≡ get_or gs k g = c.index_mut.ensures.value ∙ inv.rest k g (omega arith) in
+    subst (λ (h : GoalNode). Named B (plain_node h)) (sym (c.index.ensures ∙ get_or-set_same c.loop-n.nodes.items k x _ (omega (arith, inv.count, lt))))
+    (still_named c.args.procs.now c.args.types.now c.args.dets.now B c.loop-n.self (plain_node g) (plain_node x) c.in_ok-mark.ensures.marked (item_named B gs k g is lt c.requires.named))
 
-pub marked_conj-loop-goal-preserved : goal.marked_conj-loop-goal-preserved
-marked_conj-loop-goal-preserved t c =
+pub mark_conj-loop-n-preserved : goal.mark_conj-loop-n-preserved
+mark_conj-loop-n-preserved t c =
+    let inv = c.loop-n.invariant in
     let q = c.args.procs.now in
     let types = c.args.types.now in
     let ds = c.args.dets.now in
-    let gs = c.args.goals.now in
+    let gs : List GoalNode = c.args.goals.now in
+    let ns : List GoalNode = c.loop-n.nodes.items in
+    let k = c.loop-n.n in
+    let g : GoalNode = c.index_mut.result.now in
+    let x : GoalNode = c.mark.new.goal in
     let a : Walk = c.args.self.now in
+    let lt : k < length gs = omega (arith, c.loop-n-test.true, inv.end) in
+    let lt_ns : k < length ns = omega (arith, inv.count, lt) in
     record {
+      end = inv.end;
+      count = length-set ns k x ∙ inv.count;
+      rest = λ j d le. get_or-set_other ns k j x d (let n : j ≡ k → ⊥ = omega arith in n) ∙ inv.rest j d (omega arith);
       ready = c.in_ok-enter.ensures.ready;
-      undone = c.in_ok-enter.ensures.found ∙ ap (undone c.loop-goal.found.items) c.in_ok-marked.ensures.stays.point ∙ c.loop-goal.invariant.undone;
-      known = c.in_ok-enter.ensures.known ∙ c.in_ok-marked.ensures.stays.known ∙ c.loop-goal.invariant.known;
+      undone = c.in_ok-enter.ensures.found ∙ ap (undone c.loop-n.found.items) c.in_ok-mark.ensures.stays.point ∙ inv.undone;
+      known = c.in_ok-enter.ensures.known ∙ c.in_ok-mark.ensures.stays.known ∙ inv.known;
       left =
-          goal_run q types ds a c.loop-goal.self c.marked.new.self c.enter.new.self.point gs c.loop-goal.goal-index c.goal-item.result c.in_ok-marked.field-0 c.loop-goal.copies.items c.push.new.self.items
+          goal_run q types ds a c.loop-n.self c.mark.new.self c.enter.new.self.point gs k g x (take k ns) (take (k + 1) (set ns k x))
           (λ S. marked_all (under ds S) (typed types) (insts_in a.point) (known_in a.known.items) (nodes (map plain_node gs)))
-          c.loop-goal.invariant.known c.loop-goal-test.true c.goal-item.is c.in_ok-marked.ensures.stays c.in_ok-enter.ensures.insts c.in_ok-marked.ensures.marked c.in_ok-push.ensures.items c.loop-goal.invariant.left;
+          inv.known lt (c.index_mut.ensures.value ∙ inv.rest k g (omega arith)) c.in_ok-mark.ensures.stays
+          (c.in_ok-enter.ensures.insts ∙ ap (λ (h : GoalNode). insts_after (plain_node h) (insts_in c.mark.new.self.point)) (c.index.ensures ∙ get_or-set_same ns k x _ lt_ns))
+          c.in_ok-mark.ensures.marked (take_more_set ns k x lt_ns) inv.left;
     }
 
-pub marked_conj-returns : goal.marked_conj-returns
-marked_conj-returns t c =
+pub mark_conj-returns-clause-told : goal.mark_conj-returns-clause-told
+mark_conj-returns-clause-told t c =
+    let inv = c.loop-n.invariant in
     let q = c.args.procs.now in
     let types = c.args.types.now in
     let ds = c.args.dets.now in
-    let gs = c.args.goals.now in
+    let gs : List GoalNode = c.args.goals.now in
+    let ns : List GoalNode = c.loop-n.nodes.items in
+    let k = c.loop-n.n in
     let a : Walk = c.args.self.now in
-    let l : Walk = c.loop-goal.self in
-    record {
-      stays = on_ok_as c.of.result _ (record { point = c.undo_all.ensures ∙ c.loop-goal.invariant.undone; known = c.loop-goal.invariant.known });
-      marked =
-          if_ok_as c.of.result _ (λ copies. InSystems q (λ S. nodes (map plain_node copies) ≡ marked_all (under ds S) (typed types) (insts_in a.point) (known_in a.known.items) (nodes (map plain_node gs))))
-          (λ copies is outcome.
-          ap (λ (l : List GoalNode). nodes (map plain_node l)) is
-          ∙ all_are (under ds (as_system outcome q)) (typed types) (insts_in l.point) (known_in a.known.items) gs c.loop-goal.copies.items c.loop-goal.goal-index
-          (marked_all (under ds (as_system outcome q)) (typed types) (insts_in a.point) (known_in a.known.items) (nodes (map plain_node gs)))
-          (omega arith) (c.loop-goal.invariant.left outcome))
-          c.of.ensures.elements;
-    }
+    let end : k ≡ length gs = omega (arith, inv.end, c.loop-n-test.false) in
+    conj_is q types ds a gs c.from_vec.result c.all_told-det.result
+    (c.all_told-det.ensures ∙ ap (λ (l : List GoalNode). inferred (all_told (nodes (map plain_node l)))) (c.as_slice.ensures.value ∙ sym c.from_vec.ensures))
+    (λ outcome.
+    let S = under ds (as_system outcome q) in
+    ap (λ (l : List GoalNode). nodes (map plain_node l)) (c.from_vec.ensures ∙ sym (take_all k ns (omega (arith, inv.count, end))))
+    ∙ all_are S (typed types) (insts_in c.loop-n.self.point) (known_in a.known.items) gs (take k ns) k (marked_all S (typed types) (insts_in a.point) (known_in a.known.items) (nodes (map plain_node gs))) end (inv.left outcome))
 
 -- a disjunction
-pub marked_disj-loop-goal-preserved : goal.marked_disj-loop-goal-preserved
-marked_disj-loop-goal-preserved t c =
+pub mark_disj-mark-requires : goal.mark_disj-mark-requires
+mark_disj-mark-requires t c =
+    let inv = c.loop-n.invariant in
+    let gs : List GoalNode = c.args.goals.now in
+    let k = c.loop-n.n in
+    let g : GoalNode = c.index_mut.result.now in
+    let lt : k < length gs = omega (arith, c.loop-n-test.true, inv.end) in
+    let is : g ≡ get_or gs k g = c.index_mut.ensures.value ∙ inv.rest k g (omega arith) in
+    let one = at_most size-GoalNode gs k g lt in
+    (omega (arith, c.decreases, one, ap size-GoalNode is), (inv.ready, item_named (bounds_in c.args.procs.now (length c.args.types.now)) gs k g is lt c.requires.named))
+
+pub mark_disj-loop-n-preserved : goal.mark_disj-loop-n-preserved
+mark_disj-loop-n-preserved t c =
+    let inv = c.loop-n.invariant in
     let q = c.args.procs.now in
     let types = c.args.types.now in
     let ds = c.args.dets.now in
-    let gs = c.args.goals.now in
+    let gs : List GoalNode = c.args.goals.now in
+    let ns : List GoalNode = c.loop-n.nodes.items in
+    let k = c.loop-n.n in
+    let g : GoalNode = c.index_mut.result.now in
+    let x : GoalNode = c.mark.new.goal in
     let a : Walk = c.args.self.now in
+    let lt : k < length gs = omega (arith, c.loop-n-test.true, inv.end) in
     record {
-      ready = ready_same q types c.loop-goal.self.point c.marked.new.self.point c.in_ok-marked.ensures.stays.point c.loop-goal.invariant.ready;
-      point = c.in_ok-marked.ensures.stays.point ∙ c.loop-goal.invariant.point;
-      known = c.in_ok-marked.ensures.stays.known ∙ c.loop-goal.invariant.known;
+      end = inv.end;
+      count = length-set ns k x ∙ inv.count;
+      rest = λ j d le. get_or-set_other ns k j x d (let n : j ≡ k → ⊥ = omega arith in n) ∙ inv.rest j d (omega arith);
+      ready = ready_same q types c.loop-n.self.point c.mark.new.self.point c.in_ok-mark.ensures.stays.point inv.ready;
+      point = c.in_ok-mark.ensures.stays.point ∙ inv.point;
+      known = c.in_ok-mark.ensures.stays.known ∙ inv.known;
       left =
-          goal_tried q types ds a c.loop-goal.self gs c.loop-goal.goal-index c.goal-item.result c.in_ok-marked.field-0 c.loop-goal.copies.items c.push.new.self.items
+          goal_tried q types ds a c.loop-n.self gs k g x (take k ns) (take (k + 1) (set ns k x))
           (λ S. marked_each (under ds S) (typed types) (insts_in a.point) (known_in a.known.items) (nodes (map plain_node gs)))
-          (record { point = c.loop-goal.invariant.point; known = c.loop-goal.invariant.known })
-          c.loop-goal-test.true c.goal-item.is c.in_ok-marked.ensures.marked c.in_ok-push.ensures.items c.loop-goal.invariant.left;
+          (record { point = inv.point; known = inv.known }) lt (c.index_mut.ensures.value ∙ inv.rest k g (omega arith))
+          c.in_ok-mark.ensures.marked (take_more_set ns k x (omega (arith, inv.count, lt))) inv.left;
     }
 
-pub marked_disj-returns : goal.marked_disj-returns
-marked_disj-returns t c =
+pub mark_disj-returns-clause-told : goal.mark_disj-returns-clause-told
+mark_disj-returns-clause-told t c =
+    let inv = c.loop-n.invariant in
     let q = c.args.procs.now in
     let types = c.args.types.now in
     let ds = c.args.dets.now in
-    let gs = c.args.goals.now in
+    let gs : List GoalNode = c.args.goals.now in
+    let ns : List GoalNode = c.loop-n.nodes.items in
+    let k = c.loop-n.n in
     let a : Walk = c.args.self.now in
-    record {
-      stays = on_ok_as c.of.result _ (record { point = c.loop-goal.invariant.point; known = c.loop-goal.invariant.known });
-      marked =
-          if_ok_as c.of.result _ (λ copies. InSystems q (λ S. nodes (map plain_node copies) ≡ marked_each (under ds S) (typed types) (insts_in a.point) (known_in a.known.items) (nodes (map plain_node gs))))
-          (λ copies is outcome.
-          ap (λ (l : List GoalNode). nodes (map plain_node l)) is
-          ∙ each_are (under ds (as_system outcome q)) (typed types) (insts_in a.point) (known_in a.known.items) gs c.loop-goal.copies.items c.loop-goal.goal-index
-          (marked_each (under ds (as_system outcome q)) (typed types) (insts_in a.point) (known_in a.known.items) (nodes (map plain_node gs)))
-          (omega arith) (c.loop-goal.invariant.left outcome))
-          c.of.ensures.elements;
-    }
+    let end : k ≡ length gs = omega (arith, inv.end, c.loop-n-test.false) in
+    disj_is q types ds a gs c.from_vec.result c.any_told-det.result
+    (c.any_told-det.ensures ∙ ap (λ (l : List GoalNode). inferred (any_told (nodes (map plain_node l)))) (c.as_slice.ensures.value ∙ sym c.from_vec.ensures))
+    (λ outcome.
+    let S = under ds (as_system outcome q) in
+    ap (λ (l : List GoalNode). nodes (map plain_node l)) (c.from_vec.ensures ∙ sym (take_all k ns (omega (arith, inv.count, end))))
+    ∙ each_are S (typed types) (insts_in a.point) (known_in a.known.items) gs (take k ns) k (marked_each S (typed types) (insts_in a.point) (known_in a.known.items) (nodes (map plain_node gs))) end (inv.left outcome))
 
 -- arms
-pub marked_arms-loop-arm-preserved : goal.marked_arms-loop-arm-preserved
-marked_arms-loop-arm-preserved t c =
+pub mark_arms-mark-requires : goal.mark_arms-mark-requires
+mark_arms-mark-requires t c =
+    let inv = c.loop-n.invariant in
+    let arms : List Arm = c.args.arms.now in
+    let k = c.loop-n.n in
+    let r : Arm = c.index_mut.result.now in
+    let lt : k < length arms = omega (arith, c.loop-n-test.true, inv.end) in
+    let is : r ≡ get_or arms k r = c.index_mut.ensures.value ∙ inv.rest k r (omega arith) in
+    let one = at_most size-Arm arms k r lt in
+    (omega (arith, the_lemmas, c.decreases, one, ap size-Arm is), (inv.ready, arm_item_named (bounds_in c.args.procs.now (length c.args.types.now)) arms k r is lt c.requires.named))
+
+pub mark_arms-loop-n-preserved : goal.mark_arms-loop-n-preserved
+mark_arms-loop-n-preserved t c =
+    let inv = c.loop-n.invariant in
     let q = c.args.procs.now in
     let types = c.args.types.now in
     let ds = c.args.dets.now in
-    let arms = c.args.arms.now in
-    let r : Arm = c.arm-item.result in
+    let arms : List Arm = c.args.arms.now in
+    let ns : List Arm = c.loop-n.bodies.items in
+    let k = c.loop-n.n in
+    let r : Arm = c.index_mut.result.now in
     let a : Walk = c.args.self.now in
-    let l : Walk = c.loop-arm.self in
+    let l : Walk = c.loop-n.self in
     let w : Walk = record l { known = c.push.new.self } in
-    let m : Walk = c.marked.new.self in
-    let copy : Arm = record { on = c.in_ok-copy_on.field-0; body = c.in_ok-body.body } in
+    let m : Walk = c.mark.new.self in
+    let x : Arm = record { on = r.on; body = c.mark.new.goal } in
+    let lt : k < length arms = omega (arith, c.loop-n-test.true, inv.end) in
+    let lt_ns : k < length ns = omega (arith, inv.count, lt) in
+    let on : c.in_ok-on.on ≡ r.on =
+    c.in_ok-on.ensures ∙ ap (λ (h : Arm). h.on) (c.index.ensures ∙ get_or_default ns k c.index.result.now r lt_ns ∙ sym c.index_mut.ensures.value) in
     record {
-      ready = ready_same q types l.point m.point c.in_ok-body.ensures.stays.point c.loop-arm.invariant.ready;
-      point = c.in_ok-body.ensures.stays.point ∙ c.loop-arm.invariant.point;
+      end = inv.end;
+      count = length-set ns k x ∙ inv.count;
+      rest = λ j d le. get_or-set_other ns k j x d (let n : j ≡ k → ⊥ = omega arith in n) ∙ inv.rest j d (omega arith);
+      ready = ready_same q types l.point m.point c.in_ok-mark.ensures.stays.point inv.ready;
+      point = c.in_ok-mark.ensures.stays.point ∙ inv.point;
       known =
-          taken_off c.last_fact.result l.known.items m.known.items c.last_fact.new.facts.items _ (c.in_ok-body.ensures.stays.known ∙ c.in_ok-push.ensures.items) c.last_fact.ensures
-          ∙ c.loop-arm.invariant.known;
+          taken_off c.last_fact.result l.known.items m.known.items c.last_fact.new.facts.items _ (c.in_ok-mark.ensures.stays.known ∙ c.in_ok-push.ensures.items) c.last_fact.ensures
+          ∙ inv.known;
       left =
-          arm_chosen q types ds a l w c.args.x _ arms c.loop-arm.arm-index r copy c.loop-arm.copies.items c.push-in-loop-arm.new.self.items
+          arm_chosen q types ds a l w c.args.x _ arms k r x (take k ns) (take (k + 1) (set ns k x))
           (λ S. marked_arms (under ds S) (typed types) (insts_in a.point) (known_in a.known.items) c.args.x (arms_of (map plain_arm arms)))
-          (record { point = c.loop-arm.invariant.point; known = c.loop-arm.invariant.known })
-          refl c.in_ok-push.ensures.items refl refl c.loop-arm-test.true c.arm-item.is c.in_ok-copy_on.ensures c.in_ok-body.ensures.marked c.in_ok-push-2.ensures.items c.loop-arm.invariant.left;
+          (record { point = inv.point; known = inv.known })
+          refl c.in_ok-push.ensures.items refl on lt (c.index_mut.ensures.value ∙ inv.rest k r (omega arith)) refl c.in_ok-mark.ensures.marked (take_more_set ns k x lt_ns) inv.left;
     }
 
-pub marked_arms-returns : goal.marked_arms-returns
-marked_arms-returns t c =
+pub mark_arms-returns-clause-told : goal.mark_arms-returns-clause-told
+mark_arms-returns-clause-told t c =
+    let inv = c.loop-n.invariant in
     let q = c.args.procs.now in
     let types = c.args.types.now in
     let ds = c.args.dets.now in
-    let arms = c.args.arms.now in
+    let arms : List Arm = c.args.arms.now in
+    let ns : List Arm = c.loop-n.bodies.items in
+    let k = c.loop-n.n in
     let a : Walk = c.args.self.now in
-    record {
-      stays = on_ok_as c.of.result _ (record { point = c.loop-arm.invariant.point; known = c.loop-arm.invariant.known });
-      marked =
-          if_ok_as c.of.result _ (λ copies. InSystems q (λ S. arms_of (map plain_arm copies) ≡ marked_arms (under ds S) (typed types) (insts_in a.point) (known_in a.known.items) c.args.x (arms_of (map plain_arm arms))))
-          (λ copies is outcome.
-          ap (λ (l : List Arm). arms_of (map plain_arm l)) is
-          ∙ arms_are (under ds (as_system outcome q)) (typed types) (insts_in a.point) (known_in a.known.items) c.args.x arms c.loop-arm.copies.items c.loop-arm.arm-index
-          (marked_arms (under ds (as_system outcome q)) (typed types) (insts_in a.point) (known_in a.known.items) c.args.x (arms_of (map plain_arm arms)))
-          (omega arith) (c.loop-arm.invariant.left outcome))
-          c.of.ensures.elements;
-    }
+    let end : k ≡ length arms = omega (arith, inv.end, c.loop-n-test.false) in
+    switch_is q types ds a c.args.x arms c.from_vec.result c.in_ok-is_missed.is_missed c.arms_told-told.result c.switch_told.result c.switch_told.ensures
+    (c.arms_told-told.ensures ∙ ap (λ (l : List Arm). inferred (arms_told (arms_of (map plain_arm l)))) (c.as_slice-2.ensures.value ∙ sym c.from_vec.ensures))
+    (λ outcome. c.in_ok-is_missed.ensures outcome ∙ ap (λ (l : List Arm). misses (as_system outcome q) (typed types) (allowed_in (as_system outcome q) (typed types) (typed types c.args.x) (insts_in a.point c.args.x)) (arms_of (map plain_arm l))) c.as_slice.ensures.items)
+    (λ outcome.
+    let S = under ds (as_system outcome q) in
+    ap (λ (l : List Arm). arms_of (map plain_arm l)) (c.from_vec.ensures ∙ sym (take_all k ns (omega (arith, inv.count, end))))
+    ∙ arms_are S (typed types) (insts_in a.point) (known_in a.known.items) c.args.x arms (take k ns) k (marked_arms S (typed types) (insts_in a.point) (known_in a.known.items) c.args.x (arms_of (map plain_arm arms))) end (inv.left outcome))
 
 -- a then part
-pub marked_then-returns : goal.marked_then-returns
-marked_then-returns t c =
-    let q = c.args.procs.now in
-    let types = c.args.types.now in
-    let ds = c.args.dets.now in
-    let a : Walk = c.args.self.now in
-    let b : Walk = c.enter.new.self in
-    record {
-      stays = record {
-        point = c.undo.ensures ∙ ap (undone c.enter.new.found.items) c.in_ok-copy.ensures.stays.point ∙ c.in_ok-enter.ensures.found ∙ ap (λ (l : List (ℕ × ℕ)). undone l a.point) c.new-found.ensures.items;
-        known = c.in_ok-copy.ensures.stays.known ∙ c.in_ok-enter.ensures.known;
-      };
-      marked = then_marked q types ds a b c.args.condition.now c.args.then_part.now c.in_ok-copy.copy c.in_ok-enter.ensures.known c.in_ok-enter.ensures.insts c.in_ok-copy.ensures.marked;
-    }
+pub mark_then-returns-clause-marked : goal.mark_then-returns-clause-marked
+mark_then-returns-clause-marked t c =
+    then_marked c.args.procs.now c.args.types.now c.args.dets.now c.args.self.now c.enter.new.self (plain_node c.args.condition.now) c.args.then_part.now c.mark.new.goal c.in_ok-enter.ensures.known c.in_ok-enter.ensures.insts c.in_ok-mark.ensures.marked
 
 -- the forms of goals
-pub marked_sched-returns-in_ok-copies-in-Conj : goal.marked_sched-returns-in_ok-copies-in-Conj
-marked_sched-returns-in_ok-copies-in-Conj t c =
+pub mark_sched-returns-in_ok-mark-in-Not-clause-told : goal.mark_sched-returns-in_ok-mark-in-Not-clause-told
+mark_sched-returns-in_ok-mark-in-Not-clause-told t c =
     let q = c.args.procs.now in
     let types = c.args.types.now in
     let ds = c.args.dets.now in
     let a : Walk = c.args.self.now in
-    let copies = c.in_ok-copies-in-Conj.copies in
-    record {
-      stays = c.in_ok-copies-in-Conj.ensures.stays;
-      told =
-          subst (λ (s : Scheduled). IsTold q types ds a s c.conj_told.result) (sym (ap plain_sched c.in-Conj.is ∙ plain_sched-Conj c.in-Conj.goals))
-          (conj_is q types ds a c.in-Conj.goals copies c.conj_told.result c.conj_told.ensures.goal c.conj_told.ensures.det
-          (subst (λ (l : List GoalNode). InSystems q (λ S. nodes (map plain_node copies) ≡ marked_all (under ds S) (typed types) (insts_in a.point) (known_in a.known.items) (nodes (map plain_node l)))) c.as_slice.ensures.items c.in_ok-copies-in-Conj.ensures.marked));
-    }
+    let g : GoalNode = c.in-Not.inner.value in
+    let x : GoalNode = c.mark-in-Not.new.goal in
+    rw (ap (values_o enum 4) c.in-Not.is ∙ values_o_at enum 4 (c.in-Not.inner, tt))
+    (told_as q types ds a _ _ (Not (plain_node g)) (Not (plain_node x)) _ (ap plain_sched c.in-Not.is ∙ plain_sched-Not c.in-Not.inner) (plain_sched-Not _)
+    (not_is q types ds a g x _ (c.negated.ensures ∙ ap (λ (h : GoalNode). inferred (negated (row_of h.det))) c.deref-in-Not.ensures)
+    (subst (λ (h : GoalNode). NodeMarked q types ds a (plain_node h) (plain_node x)) (c.deref_mut-in-Not.ensures.value ∙ ap inside c.in-Not.inner-is) c.in_ok-mark-in-Not.ensures.marked)))
 
-pub marked_sched-returns-in_ok-copies-in-Disj : goal.marked_sched-returns-in_ok-copies-in-Disj
-marked_sched-returns-in_ok-copies-in-Disj t c =
+pub mark_sched-returns-in_ok-mark-in-Some-clause-told : goal.mark_sched-returns-in_ok-mark-in-Some-clause-told
+mark_sched-returns-in_ok-mark-in-Some-clause-told t c =
     let q = c.args.procs.now in
     let types = c.args.types.now in
     let ds = c.args.dets.now in
     let a : Walk = c.args.self.now in
-    let copies = c.in_ok-copies-in-Disj.copies in
-    record {
-      stays = c.in_ok-copies-in-Disj.ensures.stays;
-      told =
-          subst (λ (s : Scheduled). IsTold q types ds a s c.disj_told.result) (sym (ap plain_sched c.in-Disj.is ∙ plain_sched-Disj c.in-Disj.goals))
-          (disj_is q types ds a c.in-Disj.goals copies c.disj_told.result c.disj_told.ensures.goal c.disj_told.ensures.det
-          (subst (λ (l : List GoalNode). InSystems q (λ S. nodes (map plain_node copies) ≡ marked_each (under ds S) (typed types) (insts_in a.point) (known_in a.known.items) (nodes (map plain_node l)))) c.as_slice-in-Disj.ensures.items c.in_ok-copies-in-Disj.ensures.marked));
-    }
+    let g : GoalNode = c.in-Some.inner.value in
+    let x : GoalNode = c.mark-in-Some.new.goal in
+    rw (ap (values_o enum 5) c.in-Some.is ∙ values_o_at enum 5 (c.in-Some.field-0, (c.in-Some.inner, tt)))
+    (told_as q types ds a _ _ (Exists c.in-Some.field-0 (plain_node g)) (Exists c.in-Some.field-0 (plain_node x)) _ (ap plain_sched c.in-Some.is ∙ plain_sched-Some c.in-Some.field-0 c.in-Some.inner) (plain_sched-Some c.in-Some.field-0 _)
+    (some_is q types ds a c.in-Some.field-0 g x _ (c.row.ensures ∙ ap (λ (h : GoalNode). inferred (row_of h.det)) c.deref-in-Some.ensures)
+    (subst (λ (h : GoalNode). NodeMarked q types ds a (plain_node h) (plain_node x)) (c.deref_mut-in-Some.ensures.value ∙ ap inside c.in-Some.inner-is) c.in_ok-mark-in-Some.ensures.marked)))
 
-pub marked_sched-switch_told-requires : goal.marked_sched-switch_told-requires
-marked_sched-switch_told-requires t c =
-    let B = bounds_in c.args.procs.now (length c.args.types.now) in
-    record {
-      ready = subst (Ready c.args.procs.now c.args.types.now) (sym c.in_ok-copies-in-Switch.ensures.stays.point) c.requires.ready;
-      there = (subst (NamedIn B) (ap plain_sched c.in-Switch.is ∙ plain_sched-Switch c.in-Switch.x c.in-Switch.arms) c.requires.named).0;
-    }
-
-pub marked_sched-returns-in_ok-copies-in-Switch : goal.marked_sched-returns-in_ok-copies-in-Switch
-marked_sched-returns-in_ok-copies-in-Switch t c =
+pub mark_sched-returns-in_ok-mark-in-Ite-2-clause-told : goal.mark_sched-returns-in_ok-mark-in-Ite-2-clause-told
+mark_sched-returns-in_ok-mark-in-Ite-2-clause-told t c =
     let q = c.args.procs.now in
     let types = c.args.types.now in
     let ds = c.args.dets.now in
     let a : Walk = c.args.self.now in
-    let b : Walk = c.marked_arms.new.self in
-    let x : ℕ = c.in-Switch.x in
-    let arms : List Arm = c.in-Switch.arms in
-    let copies = c.in_ok-copies-in-Switch.copies in
-    record {
-      stays = on_ok_as c.switch_told.result (Stays a b) c.in_ok-copies-in-Switch.ensures.stays;
-      told =
-          if_ok_both c.switch_told.result _ _ (λ told. IsTold q types ds a (plain_sched c.args.goal.now) told)
-          (λ told g d.
-          subst (λ (s : Scheduled). IsTold q types ds a s told) (sym (ap plain_sched c.in-Switch.is ∙ plain_sched-Switch x arms))
-          (switch_is q types ds a b x arms copies told c.in_ok-copies-in-Switch.ensures.stays g
-          (subst (λ (l : List Arm). InSystems q (λ S. told.det ≡ inferred (switched (misses S (typed types) (allowed_in S (typed types) (typed types x) (insts_in b.point x)) (arms_of (map plain_arm l))) (arms_told (arms_of (map plain_arm copies)))))) c.as_slice-in-Switch-2.ensures.items d)
-          (subst (λ (l : List Arm). InSystems q (λ S. arms_of (map plain_arm copies) ≡ marked_arms (under ds S) (typed types) (insts_in a.point) (known_in a.known.items) x (arms_of (map plain_arm l)))) c.as_slice-in-Switch.ensures.items c.in_ok-copies-in-Switch.ensures.marked)))
-          c.switch_told.ensures.goal c.switch_told.ensures.det;
-    }
+    let vs = c.in-Ite.field-0 in
+    let b = c.in-Ite.condition in
+    let d = c.in-Ite.then_part in
+    let e = c.in-Ite.else_part in
+    rw (ap (values_d enum 3 (vs, (b, (d, (e, tt))))) c.in-Ite.is ∙ values_d_at enum 3 (vs, (b, (d, (e, tt)))) (vs, (b, (d, (e, tt)))))
+    (told_as q types ds a _ _ (Ite vs (plain_node b.value) (plain_node d.value) (plain_node e.value)) (Ite vs (plain_node c.mark.new.goal) (plain_node c.mark_then.new.then_part) (plain_node c.mark-in-Ite.new.goal)) _
+    (ap plain_sched c.in-Ite.is ∙ plain_sched-Ite vs b d e)
+    (plain_sched-Ite vs (with_value b c.mark.new.goal) (with_value d c.mark_then.new.then_part) (with_value e c.mark-in-Ite.new.goal))
+    (ite_is q types ds a vs b.value d.value e.value c.mark.new.goal c.mark_then.new.then_part c.mark-in-Ite.new.goal _
+    (c.ite.ensures
+    ∙ ap (λ (h : GoalNode). inferred (ite (row_of h.det) (row_of c.deref-in-Ite-2.result.now.det) (row_of c.deref-in-Ite-3.result.now.det))) c.deref-in-Ite.ensures
+    ∙ ap₂ (λ (h i : GoalNode). inferred (ite (row_of c.mark.new.goal.det) (row_of h.det) (row_of i.det))) c.deref-in-Ite-2.ensures c.deref-in-Ite-3.ensures)
+    (marked_there q types ds a c.mark_then.new.self (plain_node b.value) (plain_node c.mark.new.goal) c.in_ok-mark_then-in-Ite.ensures.stays
+    (subst (λ (h : GoalNode). NodeMarked q types ds c.mark_then.new.self (plain_node h) (plain_node c.mark.new.goal)) (c.deref_mut-in-Ite.ensures.value ∙ ap inside c.in-Ite.condition-is) c.in_ok-mark-in-Ite.ensures.marked))
+    (subst (λ (h : GoalNode). ThenMarked q types ds a (plain_node b.value) (plain_node h) (plain_node c.mark_then.new.then_part)) (c.deref_mut.ensures.value ∙ ap inside c.in-Ite.then_part-is)
+    (subst (λ (h : GoalNode). ThenMarked q types ds a (plain_node h) (plain_node c.deref_mut.result.now) (plain_node c.mark_then.new.then_part)) (c.deref.ensures ∙ ap inside c.in-Ite.condition-is) c.in_ok-mark_then-in-Ite.ensures.marked))
+    (marked_there q types ds a c.mark.new.self (plain_node e.value) (plain_node c.mark-in-Ite.new.goal) (stays_both a c.mark_then.new.self c.mark.new.self c.in_ok-mark_then-in-Ite.ensures.stays c.in_ok-mark-in-Ite.ensures.stays)
+    (subst (λ (h : GoalNode). NodeMarked q types ds c.mark.new.self (plain_node h) (plain_node c.mark-in-Ite.new.goal)) (c.deref_mut-in-Ite-2.ensures.value ∙ ap inside c.in-Ite.else_part-is) c.in_ok-mark-in-Ite-2.ensures.marked))))
 
-pub marked_sched-returns-in_ok-third-in-Ite : goal.marked_sched-returns-in_ok-third-in-Ite
-marked_sched-returns-in_ok-third-in-Ite t c =
+pub mark_sched-returns-in-Take-clause-told : goal.mark_sched-returns-in-Take-clause-told
+mark_sched-returns-in-Take-clause-told t c =
     let q = c.args.procs.now in
     let types = c.args.types.now in
     let ds = c.args.dets.now in
     let a : Walk = c.args.self.now in
-    let b : Walk = c.marked.new.self in
-    let e : Walk = c.marked_then.new.self in
-    let z : Walk = c.marked-in-Ite.new.self in
-    let g : GoalNode = c.in-Ite.condition.value in
-    let h : GoalNode = c.in-Ite.then_part.value in
-    let k : GoalNode = c.in-Ite.else_part.value in
-    let first = c.in_ok-first-in-Ite.first in
-    let second = c.in_ok-second-in-Ite.second in
-    let third = c.in_ok-third-in-Ite.third in
-    let ab : Stays a b = c.in_ok-first-in-Ite.ensures.stays in
-    let be : Stays b e = c.in_ok-second-in-Ite.ensures.stays in
-    let ez : Stays e z = c.in_ok-third-in-Ite.ensures.stays in
-    record {
-      stays = on_ok_as c.ite_told.result (Stays a z) (stays_both a b z ab (stays_both b e z be ez));
-      told =
-          if_ok_both c.ite_told.result _ _ (λ told. IsTold q types ds a (plain_sched c.args.goal.now) told)
-          (λ told made is.
-          subst (λ (s : Scheduled). IsTold q types ds a s told) (sym (ap plain_sched c.in-Ite.is ∙ plain_sched-Ite c.in-Ite.vars c.in-Ite.condition c.in-Ite.then_part c.in-Ite.else_part))
-          (ite_is q types ds a b e c.in-Ite.vars g h k first second third told ab be made is
-          (subst (λ (n : GoalNode). InSystems q (λ S. plain_node first ≡ marked (under ds S) (typed types) (insts_in a.point) (known_in a.known.items) (plain_node n))) c.deref.ensures c.in_ok-first-in-Ite.ensures.marked)
-          (subst (λ (n : GoalNode). InSystems q (λ S. plain_node second ≡ marked (under ds S) (typed types) (insts_after (plain_node g) (insts_in b.point)) (known_in b.known.items) (plain_node n))) c.deref-in-Ite.ensures
-          (subst (λ (n : GoalNode). InSystems q (λ S. plain_node second ≡ marked (under ds S) (typed types) (insts_after (plain_node n) (insts_in b.point)) (known_in b.known.items) (plain_node c.deref-in-Ite.result.now))) c.deref-in-Ite-2.ensures c.in_ok-second-in-Ite.ensures.marked))
-          (subst (λ (n : GoalNode). InSystems q (λ S. plain_node third ≡ marked (under ds S) (typed types) (insts_in e.point) (known_in e.known.items) (plain_node n))) c.deref-in-Ite-3.ensures c.in_ok-third-in-Ite.ensures.marked)))
-          c.ite_told.ensures.goal c.ite_told.ensures.det;
-    }
-
-pub marked_sched-returns-in_ok-copy-in-Not : goal.marked_sched-returns-in_ok-copy-in-Not
-marked_sched-returns-in_ok-copy-in-Not t c =
-    let q = c.args.procs.now in
-    let types = c.args.types.now in
-    let ds = c.args.dets.now in
-    let a : Walk = c.args.self.now in
-    let copy = c.in_ok-copy-in-Not.copy in
-    record {
-      stays = on_ok_as c.not_told.result (Stays a c.marked-in-Not.new.self) c.in_ok-copy-in-Not.ensures.stays;
-      told =
-          if_ok_both c.not_told.result _ _ (λ told. IsTold q types ds a (plain_sched c.args.goal.now) told)
-          (λ told made is.
-          subst (λ (s : Scheduled). IsTold q types ds a s told) (sym (ap plain_sched c.in-Not.is ∙ plain_sched-Not c.in-Not.inner))
-          (not_is q types ds a c.in-Not.inner.value copy told made is
-          (subst (λ (n : GoalNode). InSystems q (λ S. plain_node copy ≡ marked (under ds S) (typed types) (insts_in a.point) (known_in a.known.items) (plain_node n))) c.deref-in-Not.ensures c.in_ok-copy-in-Not.ensures.marked)))
-          c.not_told.ensures.goal c.not_told.ensures.det;
-    }
-
-pub marked_sched-returns-in_ok-copy-in-Some : goal.marked_sched-returns-in_ok-copy-in-Some
-marked_sched-returns-in_ok-copy-in-Some t c =
-    let q = c.args.procs.now in
-    let types = c.args.types.now in
-    let ds = c.args.dets.now in
-    let a : Walk = c.args.self.now in
-    let copy = c.in_ok-copy-in-Some.copy in
-    record {
-      stays = on_ok_as c.some_told.result (Stays a c.marked-in-Some.new.self) c.in_ok-copy-in-Some.ensures.stays;
-      told =
-          if_ok_both c.some_told.result _ _ (λ told. IsTold q types ds a (plain_sched c.args.goal.now) told)
-          (λ told made is.
-          subst (λ (s : Scheduled). IsTold q types ds a s told) (sym (ap plain_sched c.in-Some.is ∙ plain_sched-Some c.in-Some.vars c.in-Some.inner))
-          (some_is q types ds a c.in-Some.vars c.in-Some.inner.value copy told made is
-          (subst (λ (n : GoalNode). InSystems q (λ S. plain_node copy ≡ marked (under ds S) (typed types) (insts_in a.point) (known_in a.known.items) (plain_node n))) c.deref-in-Some.ensures c.in_ok-copy-in-Some.ensures.marked)))
-          c.some_told.ensures.goal c.some_told.ensures.det;
-    }
-
-pub marked_sched-returns-in-Assign : goal.marked_sched-returns-in-Assign
-marked_sched-returns-in-Assign t c =
-    let x = c.in-Assign.x in
-    let y = c.in-Assign.y in
-    record {
-      stays = record { point = refl; known = refl };
-      told = atom_is c.args.procs.now c.args.types.now c.args.dets.now c.args.self.now c.args.goal.now (Assign x y) det c.atom.result (ap plain_sched c.in-Assign.is ∙ plain_sched-Assign x y) (ap plain_sched c.atom.ensures.goal ∙ plain_sched-Assign x y) c.atom.ensures.det (λ outcome. refl) (λ outcome. refl);
-    }
-
-pub marked_sched-returns-in-Test : goal.marked_sched-returns-in-Test
-marked_sched-returns-in-Test t c =
-    let x = c.in-Test.x in
-    let y = c.in-Test.y in
-    record {
-      stays = record { point = refl; known = refl };
-      told = atom_is c.args.procs.now c.args.types.now c.args.dets.now c.args.self.now c.args.goal.now (Test x y) semidet c.atom-in-Test.result (ap plain_sched c.in-Test.is ∙ plain_sched-Test x y) (ap plain_sched c.atom-in-Test.ensures.goal ∙ plain_sched-Test x y) c.atom-in-Test.ensures.det (λ outcome. refl) (λ outcome. refl);
-    }
-
-pub marked_sched-returns-in-Build : goal.marked_sched-returns-in-Build
-marked_sched-returns-in-Build t c =
-    let a : Walk = c.args.self.now in
-    record {
-      stays = on_ok_as c.build_told.result (Stays a a) (record { point = refl; known = refl });
-      told =
-          if_ok_both c.build_told.result _ _ (λ told. IsTold c.args.procs.now c.args.types.now c.args.dets.now a (plain_sched c.args.goal.now) told)
-          (λ told made is. atom_is c.args.procs.now c.args.types.now c.args.dets.now a c.args.goal.now (Build c.in-Build.x c.in-Build.symbol c.in-Build.args) det told (ap plain_sched c.in-Build.is ∙ plain_sched-Build c.in-Build.x c.in-Build.symbol c.in-Build.args) made is (λ outcome. refl) (λ outcome. refl))
-          c.build_told.ensures.goal c.build_told.ensures.det;
-    }
-
-pub marked_sched-returns-in-Take : goal.marked_sched-returns-in-Take
-marked_sched-returns-in-Take t c =
-    let a : Walk = c.args.self.now in
-    record {
-      stays = on_ok_as c.take_told.result (Stays a a) (record { point = refl; known = refl });
-      told =
-          if_ok_both c.take_told.result _ _ (λ told. IsTold c.args.procs.now c.args.types.now c.args.dets.now a (plain_sched c.args.goal.now) told)
-          (λ told made is. take_is c.args.procs.now c.args.types.now c.args.dets.now a c.args.goal.now c.in-Take.x c.in-Take.symbol c.in-Take.args told (ap plain_sched c.in-Take.is ∙ plain_sched-Take c.in-Take.x c.in-Take.symbol c.in-Take.args) made is)
-          c.take_told.ensures.goal c.take_told.ensures.det;
-    }
-
-pub marked_sched-returns-in-Const : goal.marked_sched-returns-in-Const
-marked_sched-returns-in-Const t c =
-    let a : Walk = c.args.self.now in
-    record {
-      stays = on_ok_as c.constant_told.result (Stays a a) (record { point = refl; known = refl });
-      told =
-          if_ok_both c.constant_told.result _ _ (λ told. IsTold c.args.procs.now c.args.types.now c.args.dets.now a (plain_sched c.args.goal.now) told)
-          (λ told made is. atom_is c.args.procs.now c.args.types.now c.args.dets.now a c.args.goal.now (Const c.in-Const.x (plain_value c.in-Const.value)) det told (ap plain_sched c.in-Const.is ∙ plain_sched-Const c.in-Const.x c.in-Const.value) made is (λ outcome. refl) (λ outcome. refl))
-          c.constant_told.ensures.goal c.constant_told.ensures.det;
-    }
-
-pub marked_sched-returns-in-TestConst : goal.marked_sched-returns-in-TestConst
-marked_sched-returns-in-TestConst t c =
-    let a : Walk = c.args.self.now in
-    record {
-      stays = on_ok_as c.test_told.result (Stays a a) (record { point = refl; known = refl });
-      told =
-          if_ok_both c.test_told.result _ _ (λ told. IsTold c.args.procs.now c.args.types.now c.args.dets.now a (plain_sched c.args.goal.now) told)
-          (λ told made is. atom_is c.args.procs.now c.args.types.now c.args.dets.now a c.args.goal.now (TestConst c.in-TestConst.x (plain_value c.in-TestConst.value)) _ told (ap plain_sched c.in-TestConst.is ∙ plain_sched-TestConst c.in-TestConst.x c.in-TestConst.value) made is (λ outcome. refl) (λ outcome. refl))
-          c.test_told.ensures.goal c.test_told.ensures.det;
-    }
-
-pub marked_sched-returns-in-Call : goal.marked_sched-returns-in-Call
-marked_sched-returns-in-Call t c =
-    let a : Walk = c.args.self.now in
-    record {
-      stays = on_ok_as c.call_told.result (Stays a a) (record { point = refl; known = refl });
-      told =
-          if_ok_both c.call_told.result _ _ (λ told. IsTold c.args.procs.now c.args.types.now c.args.dets.now a (plain_sched c.args.goal.now) told)
-          (λ told made is. atom_is c.args.procs.now c.args.types.now c.args.dets.now a c.args.goal.now (Call c.in-Call.k c.in-Call.args c.in-Call.implied false) (then_tests c.in-Call.implied (row_of (assigned c.args.dets.now c.in-Call.k))) told (ap plain_sched c.in-Call.is ∙ plain_sched-Call c.in-Call.k c.in-Call.args c.in-Call.implied) made is (λ outcome. refl) (λ outcome. refl))
-          c.call_told.ensures.goal c.call_told.ensures.det;
-    }
-
-pub marked_sched-returns-in-Apply : goal.marked_sched-returns-in-Apply
-marked_sched-returns-in-Apply t c =
-    let a : Walk = c.args.self.now in
-    record {
-      stays = on_ok_as c.apply_told.result (Stays a a) (record { point = refl; known = refl });
-      told =
-          if_ok_both c.apply_told.result _ _ (λ told. IsTold c.args.procs.now c.args.types.now c.args.dets.now a (plain_sched c.args.goal.now) told)
-          (λ told made is. atom_is c.args.procs.now c.args.types.now c.args.dets.now a c.args.goal.now (Apply c.in-Apply.op c.in-Apply.inputs c.in-Apply.outputs) (builtin_determinism c.in-Apply.op) told (ap plain_sched c.in-Apply.is ∙ plain_sched-Apply c.in-Apply.op c.in-Apply.inputs c.in-Apply.outputs) made is (λ outcome. refl) (λ outcome. refl))
-          c.apply_told.ensures.goal c.apply_told.ensures.det;
-    }
+    let x = c.in-Take.x in
+    let s = c.in-Take.symbol in
+    let args = c.in-Take.args in
+    rw (ap (values_d enum 9 (x, (s, (args, tt)))) c.in-Take.is ∙ values_d_at enum 9 (x, (s, (args, tt))) (x, (s, (args, tt))))
+    (if_ok_as c.take_told.result
+    (λ det. (dets : List Det) → IsTold q types dets a (Take x s args) (Take x s args) det)
+    (λ det. IsTold q types ds a (plain_sched c.args.goal.now) (plain_sched (D.Take x s args)) det)
+    (λ det told. told_as q types ds a _ _ (Take x s args) (Take x s args) det (ap plain_sched c.in-Take.is ∙ plain_sched-Take x s args) (plain_sched-Take x s args) (told ds))
+    (rw (ap (values_d enum 9 (x, (s, (args, tt)))) c.in-Take.is ∙ values_d_at enum 9 (x, (s, (args, tt))) (x, (s, (args, tt)))) at c.take_told.ensures))

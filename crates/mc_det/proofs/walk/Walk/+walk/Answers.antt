@@ -212,7 +212,7 @@ arms-loop-arm-preserved t c =
       left =
           one_chosen q types a l m c.loop-arm.arm-index
           (λ S. a.steps.items ++ skeleton_arms S (typed types) (insts_in a.point) (known_in a.known.items) c.args.x (arms_of (map plain_arm c.args.arms.now)))
-          c.loop-arm.invariant.known w c.args.x _ c.args.arms.now r r refl c.in_ok-push.ensures.items refl refl refl c.loop-arm.invariant.point c.loop-arm-test.true c.arm-item.is c.in_ok-goal.ensures c.loop-arm.invariant.left;
+          c.loop-arm.invariant.known w c.args.x _ c.args.arms.now r r refl c.in_ok-push.ensures.items refl refl c.in_ok-on.ensures c.loop-arm.invariant.point c.loop-arm-test.true c.arm-item.is c.in_ok-goal.ensures c.loop-arm.invariant.left;
     }
 
 pub arms-returns : goal.arms-returns

@@ -17,7 +17,7 @@ pub returns-clause-ready : goal.returns-clause-ready
 returns-clause-ready c =
     let p = c.args.self.now.point in
     both_ok c.enter.result
-    (λ e i. ready_after c.args.procs.now c.args.types.now p c.enter.new.self c.args.goal.now c.requires.ready c.requires.named e (i ∙ ap (λ (cs : List (ℕ × ℕ)). λ x. change_at x cs (insts_in p x)) c.as_slice.ensures.items))
+    (λ e i. ready_after c.args.procs.now c.args.types.now p c.enter.new.self c.args.goal.now.changes c.requires.ready (named_changes (bounds_in c.args.procs.now (length c.args.types.now)) c.args.goal.now c.requires.named) e (i ∙ ap (λ (cs : List (ℕ × ℕ)). λ x. change_at x cs (insts_in p x)) c.as_slice.ensures.items))
     c.enter.ensures.count c.enter.ensures.insts
 
 pub returns-clause-insts : goal.returns-clause-insts

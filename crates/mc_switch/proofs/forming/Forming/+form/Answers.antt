@@ -10,7 +10,7 @@ use Rattle.mc_model.specs.declared.sched.Sched.{the_lemmas}
 use Rattle.mc_accepted.specs.Ordered.{Insts, change_at}
 use Rattle.mc_accepted.specs.Determined.{insts_after}
 use Rattle.mc_procs.proofs.Views.{plain_sched-Conj, plain_sched-Disj, plain_sched-Switch, plain_sched-Ite, plain_sched-Not, plain_sched-Some}
-use Rattle.mc_det.proofs.Copies.{if_ok_both}
+use Rattle.mc_det.proofs.MarkedParts.{if_ok_both}
 use Rattle.mc_det.specs.code.Points.{undone}
 use Rattle.mc_det.specs.code.Walks.{bounds_in}
 use Rattle.mc_det.proofs.Naming.{item_named, arm_item_named, disj_named, condition_named, then_named, else_named}
