@@ -22,18 +22,27 @@ impl Decl {
             Decl::UnionType(head, constructors) => {
                 Decl::UnionType(
                     head.copied(alloc)?,
-                    copied_terms(alloc, constructors.as_slice())?,
+                    Box::new(alloc, copied_terms(alloc, constructors.as_slice())?)?,
                 )
             }
-            Decl::SameType(head, body) => Decl::SameType(head.copied(alloc)?, body.copied(alloc)?),
-            Decl::SameInst(head, body) => Decl::SameInst(head.copied(alloc)?, body.copied(alloc)?),
+            Decl::SameType(head, body) => Decl::SameType(
+                head.copied(alloc)?,
+                Box::new(alloc, body.copied(alloc)?)?,
+            ),
+            Decl::SameInst(head, body) => Decl::SameInst(
+                head.copied(alloc)?,
+                Box::new(alloc, body.copied(alloc)?)?,
+            ),
             Decl::BoundInst(head, symbols) => {
                 Decl::BoundInst(
                     head.copied(alloc)?,
-                    copied_terms(alloc, symbols.as_slice())?,
+                    Box::new(alloc, copied_terms(alloc, symbols.as_slice())?)?,
                 )
             }
-            Decl::ModeDef(head, body) => Decl::ModeDef(head.copied(alloc)?, body.copied(alloc)?),
+            Decl::ModeDef(head, body) => Decl::ModeDef(
+                head.copied(alloc)?,
+                Box::new(alloc, body.copied(alloc)?)?,
+            ),
             Decl::Pred(signature, determinism) => Decl::Pred(
                 signature.copied(alloc)?,
                 *determinism,

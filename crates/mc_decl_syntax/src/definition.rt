@@ -34,7 +34,7 @@ fn union_type(alloc: Global, head: Term, body: Term) -> Result<Option<Decl>, Mem
 {
     if parameters(alloc, &head)?.is_some() && has_constructors(&body) {
         let constructors = into_alternatives(alloc, body)?;
-        Ok(Some(Decl::UnionType(head, constructors)))
+        Ok(Some(Decl::UnionType(head, Box::new(alloc, constructors)?)))
     } else {
         Ok(None)
     }
@@ -45,7 +45,7 @@ fn same_type(alloc: Global, head: Term, body: Term) -> Result<Option<Decl>, Memo
         (λ item. option_map plain_item item ≡ same_type (plain_term head, plain_term body)) }
 {
     if parameters(alloc, &head)?.is_some() && is_type(&body) {
-        Ok(Some(Decl::SameType(head, body)))
+        Ok(Some(Decl::SameType(head, Box::new(alloc, body)?)))
     } else {
         Ok(None)
     }
@@ -80,7 +80,7 @@ fn bound_inst(alloc: Global, head: Term, body: Term) -> Result<Option<Decl>, Mem
 {
     if is_bound_body(alloc, &head, &body)? {
         let symbols = into_alternatives(alloc, body)?;
-        Ok(Some(Decl::BoundInst(head, symbols)))
+        Ok(Some(Decl::BoundInst(head, Box::new(alloc, symbols)?)))
     } else {
         Ok(None)
     }
@@ -91,7 +91,7 @@ fn same_inst(alloc: Global, head: Term, body: Term) -> Result<Option<Decl>, Memo
         (λ item. option_map plain_item item ≡ same_inst (plain_term head, plain_term body)) }
 {
     if is_inst_body(alloc, &head, &body)? {
-        Ok(Some(Decl::SameInst(head, body)))
+        Ok(Some(Decl::SameInst(head, Box::new(alloc, body)?)))
     } else {
         Ok(None)
     }
@@ -103,7 +103,7 @@ pub fn mode_definition(alloc: Global, head: Term, body: Term) -> Result<Option<D
         (λ item. option_map plain_item item ≡ mode_definition (plain_term head, plain_term body)) }
 {
     if is_mode_body(alloc, &head, &body)? {
-        Ok(Some(Decl::ModeDef(head, body)))
+        Ok(Some(Decl::ModeDef(head, Box::new(alloc, body)?)))
     } else {
         Ok(None)
     }

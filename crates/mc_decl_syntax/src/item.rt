@@ -6,7 +6,8 @@ use mc_term_data::Term;
 ///
 /// A definition's first term is its head; then come the term behind `==`, or the terms between the `;` behind
 /// `--->`. The term of `Pred`, `Func` and `Mode` is what stands behind the word, without `is D`. A clause is kept
-/// whole. A name is kept by its parts, the last part last.
+/// whole. A name is kept by its parts, the last part last. What stands behind the head of a definition has a block of
+/// its own: most items of a large file are facts, and no item takes more room than the largest variant.
 #[derive(Drop)]
 pub enum Decl {
     /// `:- module m.`
@@ -24,15 +25,15 @@ pub enum Decl {
     /// `:- type t(A).`
     AbstractType(Term),
     /// `:- type t(A) ---> c ; d(A).`
-    UnionType(Term, Row<Term>),
+    UnionType(Term, Box<Row<Term>>),
     /// `:- type t(A) == u(A).`
-    SameType(Term, Term),
+    SameType(Term, Box<Term>),
     /// `:- inst i(I) == j(I).`
-    SameInst(Term, Term),
+    SameInst(Term, Box<Term>),
     /// `:- inst i(I) ---> c ; d(I).`
-    BoundInst(Term, Row<Term>),
+    BoundInst(Term, Box<Row<Term>>),
     /// `:- mode m(I) == I >> J.`
-    ModeDef(Term, Term),
+    ModeDef(Term, Box<Term>),
     /// `:- pred p(t::m) is d.`
     Pred(Term, Option<Det>),
     /// `:- func f(t::m) = (t::m) is d.`

@@ -153,7 +153,7 @@ fn constructor(
         (tms (plain_term term.now ∷ []))) }
 {
     let alone = Row::one(alloc, term.copied(alloc)?)?;
-    let union = Decl::UnionType(bare_head(alloc, head)?, alone);
+    let union = Decl::UnionType(bare_head(alloc, head)?, Box::new(alloc, alone)?);
     let exported = item.section.is_shown();
     named(alloc, module, item, exported, union, symbol_name(term))
 }

@@ -35,11 +35,11 @@ returns-in_ok-fields-in-UnionType-clause-types c =
     c.in_ok-fields-in-UnionType.fields.items c.as_slice-in-UnionType-2.result.now
     c.in_ok-variables-in-UnionType.variables c.as_slice-in-UnionType.result.now
     (plain_item c.args.named.now.decl) (plain_term c.in-UnionType.head)
-    (tms (map plain_term c.in-UnionType.constructors)) (ap plain_item c.in-UnionType.is)
+    (tms (map plain_term c.in-UnionType.constructors.value)) (ap plain_item c.in-UnionType.is)
     c.home.ensures c.as_slice-in-UnionType.ensures.items c.in_ok-variables-in-UnionType.ensures
     c.as_slice-in-UnionType-2.ensures.value
     (c.in_ok-fields-in-UnionType.ensures
-    ∙ ap (λ ts. union_fields (tms (map plain_term ts))) c.as_slice.ensures.items)))
+    ∙ ap (λ ts. union_fields (tms (map plain_term ts))) (c.as_slice.ensures.items ∙ c.deref.ensures))))
     c.contents_of_fields.ensures.types
 
 pub returns-in_ok-fields-in-UnionType-clause-grown :
@@ -65,9 +65,9 @@ returns-in_ok-fields-in-UnionType-clause-grown c =
     c.in_ok-fields-in-UnionType.fields.items c.as_slice-in-UnionType-2.result.now
     c.in_ok-variables-in-UnionType.variables c.as_slice-in-UnionType.result.now
     (plain_item c.args.named.now.decl) (plain_term c.in-UnionType.head)
-    (tms (map plain_term c.in-UnionType.constructors)) (ap plain_item c.in-UnionType.is)
+    (tms (map plain_term c.in-UnionType.constructors.value)) (ap plain_item c.in-UnionType.is)
     c.home.ensures c.as_slice-in-UnionType.ensures.items c.in_ok-variables-in-UnionType.ensures
     c.as_slice-in-UnionType-2.ensures.value
     (c.in_ok-fields-in-UnionType.ensures
-    ∙ ap (λ ts. union_fields (tms (map plain_term ts))) c.as_slice.ensures.items)))
+    ∙ ap (λ ts. union_fields (tms (map plain_term ts))) (c.as_slice.ensures.items ∙ c.deref.ensures))))
     c.contents_of_fields.ensures.grown
