@@ -28,12 +28,13 @@ pub fn walk_steps<'a>(
     ensures { IfOk result (λ steps. map plain_walk_step steps.items
         ≡ steps_of (plain_unresolved_clause clause.now)) }
 {
-    let mut pending = Vec::new(alloc);
-    pending.push(Task::Goal(&clause.body))?;
     let head = clause.head.as_slice();
+    // A fact over constants takes no more room than this.
+    let mut pending = Vec::with_capacity(alloc, head.len().saturating_add(3))?;
+    let mut steps = Vec::with_capacity(alloc, head.len().saturating_add(1))?;
+    pending.push(Task::Goal(&clause.body))?;
     put(&mut pending, WalkStep::CloseHead(clause.pred, head.len()))?;
     put_terms(&mut pending, head)?;
-    let mut steps = Vec::new(alloc);
     while let Some(task) = pending.pop() {
         take(task, &mut pending, &mut steps)?;
     }

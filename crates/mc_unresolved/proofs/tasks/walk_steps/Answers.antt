@@ -7,8 +7,8 @@ use Rattle.mc_unresolved.proofs.tasks.walk_steps.Goals as goal
 
 pub loop-task-init : goal.loop-task-init
 loop-task-init c =
-    ap (λ (xs : List WalkStep). map plain_walk_step xs ++ agenda c.put_terms.new.pending.items) c.new-steps.ensures.items
-    ∙ started c.args.clause.now _ c.as_slice-head.result.now c.new-pending.result.items c.push.new.self.items c.put.new.pending.items c.put_terms.new.pending.items c.new-pending.ensures.items c.in_ok-push.ensures.items refl c.as_slice-head.ensures.items c.in_ok-put.ensures c.in_ok-put_terms.ensures
+    ap (λ (xs : List WalkStep). map plain_walk_step xs ++ agenda c.put_terms.new.pending.items) (c.in_ok-steps.ensures {u = tt}).items
+    ∙ started c.args.clause.now _ c.as_slice-head.result.now c.in_ok-pending.pending.items c.push.new.self.items c.put.new.pending.items c.put_terms.new.pending.items (c.in_ok-pending.ensures {u = tt}).items c.in_ok-push.ensures.items refl c.as_slice-head.ensures.items c.in_ok-put.ensures c.in_ok-put_terms.ensures
 
 pub loop-task-smaller : goal.loop-task-smaller
 loop-task-smaller c = taken_less c.in-Some.task _ _ _ _ _ c.in-Some.ensures.items c.in_ok-take.ensures
