@@ -43,9 +43,12 @@ fn given(alloc: Global, facts: u32) -> Result<Row<Given>, Memory> {
 }
 
 // How many clauses are typed, or how many rules they break.
-fn judged(alloc: Global, named: &Named) -> Result<usize, Memory> {
-    let files = named.files.as_slice().get(..1).unwrap_or(&[]);
-    let judged = judge(alloc, &named.names, files, 1, None)?;
+fn judged(alloc: Global, named: Named) -> Result<usize, Memory> {
+    let Named { files, names, .. } = named;
+    let mut files = files.into_vec();
+    files.truncate(1);
+    let files = Row::of(files)?;
+    let judged = judge(alloc, &names, files, 1, None)?.judged;
     Ok(if judged.broken.is_empty() {
         judged.clauses.len()
     } else {
@@ -68,7 +71,7 @@ fn counted(alloc: Global, facts: u32, stage: Stage) -> Result<usize, CompileFaul
     if stage == Stage::Table {
         return Ok(typed.types.len() as usize);
     }
-    Ok(judged(alloc, &typed.named)?)
+    Ok(judged(alloc, typed.named)?)
 }
 
 fn main(rt: HostRuntime) -> io::Result<()> {

@@ -12,7 +12,7 @@ use Rattle.mc_modules.specs.Linked.{Linked}
 use Rattle.mc_clauses.specs.Declarations.{parameter_counts}
 use Rattle.mc_clauses.specs.Typing.{TypingSays}
 use Rattle.mc_clause_phase.specs.Items.{Item}
-use Rattle.mc_clause_phase.specs.Judging.{source_of, AreFaults, AreTyped, IsJudged}
+use Rattle.mc_clause_phase.specs.Judging.{source_of, AreFaults, AreTyped, typed_clauses, IsJudged}
 use Rattle.mc_clause_phase.specs.code.Adding.{IsVerdict, WasPut, Adds}
 use Rattle.mc_clause_phase.specs.declared.checker.Verdict.{Verdict}
 use Rattle.mc_clause_phase.specs.declared.checker.Verdict.TheVariants as V
@@ -65,7 +65,7 @@ module _ (l : Linked) (seen : (own : ℕ) → ℕ → Option TypeTerm) where
         is = sym (append-nil j.broken.items);
         made = λ none. [];
         typed = λ none. refl;
-        added = λ none. sym (append-nil j.clauses.items);
+        added = λ none. sym (append-nil (typed_clauses j.clauses.items));
       }
 
   pub adds_both :
@@ -91,7 +91,7 @@ module _ (l : Linked) (seen : (own : ℕ) → ℕ → Option TypeTerm) where
             λ none.
             y.added none
             ∙ ap (λ xs. xs ++ y.made none) (x.added (before none))
-            ∙ append_assoc a.clauses.items (x.made (before none)) (y.made none);
+            ∙ append_assoc (typed_clauses a.clauses.items) (x.made (before none)) (y.made none);
       }
 
   pub adds_one :
@@ -154,6 +154,8 @@ module _ (l : Linked) (seen : (own : ℕ) → ℕ → Option TypeTerm) where
         typed =
             λ none.
             subst Typed
-            (sym (adds.added none ∙ ap (λ (rs : List TypedClause). rs ++ adds.made none) no_clause))
+            (sym
+            (adds.added none
+            ∙ ap (λ (rs : List TypedClause). rs ++ adds.made none) (ap typed_clauses no_clause)))
             (adds.typed none);
       }

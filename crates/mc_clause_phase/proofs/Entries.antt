@@ -1,7 +1,7 @@
 -- The clause that an item of a file is, where it is one.
-use Rattle.std.proofs.Common.{◌≡◌, ℕ, ◌+◌, ◌<◌, ◌≤◌, List, [], ◌∷◌, ◌++◌, Some, None, map, length, get_or, drop, refl, sym, ap, ◌∙◌}
+use Rattle.std.proofs.Common.{◌≡◌, ℕ, List, [], ◌∷◌, ◌++◌, Some, None, map, refl, sym, ap, ◌∙◌}
 use Rattle.std.specs.Prelude.{Option}
-use Rattle.std.proofs.lemmas.List.{append-nil, append_assoc, map-append, drop_more, drop_all}
+use Rattle.std.proofs.lemmas.List.{append-nil, append_assoc, map-append}
 use Rattle.mc_term_data.specs.Plain.{PlainTerm}
 use Rattle.mc_term_data.specs.declared.term.Term.{Term}
 use Rattle.mc_source.specs.declared.place.Place.{Place}
@@ -41,38 +41,33 @@ no_clause l own d at other = refl
 
 -- the clauses of a file's items, step by step
 pub items_more :
-    (l : Linked) (own : ℕ) (file : List Entry) (k : ℕ) (e : Entry) (done all : List Item)
-    → k < length file → e ≡ get_or file k e
-    → done ++ map (item_of l) (module_clauses l own (map plain_entry (drop k file))) ≡ all
+    (l : Linked) (own : ℕ) (before after : List Entry) (e : Entry) (done all : List Item)
+    → before ≡ e ∷ after
+    → done ++ map (item_of l) (module_clauses l own (map plain_entry before)) ≡ all
     → (done ++ map (item_of l) (entry_clauses l own (plain_entry e)))
-    ++ map (item_of l) (module_clauses l own (map plain_entry (drop (k + 1) file)))
+    ++ map (item_of l) (module_clauses l own (map plain_entry after))
     ≡ all
-items_more l own file k e done all below is so =
-    let rest = drop (k + 1) file in
-    let split : drop k file ≡ e ∷ rest =
-    drop_more file k e below ∙ ap (λ (x : Entry). x ∷ rest) (sym is)
-    in
+items_more l own before after e done all split so =
     append_assoc done (map (item_of l) (entry_clauses l own (plain_entry e)))
-    (map (item_of l) (module_clauses l own (map plain_entry rest)))
+    (map (item_of l) (module_clauses l own (map plain_entry after)))
     ∙ ap (λ (xs : List Item). done ++ xs)
     (sym
     (map-append (item_of l) (entry_clauses l own (plain_entry e))
-    (module_clauses l own (map plain_entry rest))))
+    (module_clauses l own (map plain_entry after))))
     ∙ ap
     (λ (es : List Entry). done ++ map (item_of l) (module_clauses l own (map plain_entry es)))
     (sym split)
     ∙ so
 
 pub items_all :
-    (l : Linked) (own : ℕ) (file : List Entry) (k : ℕ) (done all : List Item)
-    → length file ≤ k
-    → done ++ map (item_of l) (module_clauses l own (map plain_entry (drop k file))) ≡ all
-    → done ≡ all
-items_all l own file k done all past so =
+    (l : Linked) (own : ℕ) (rest : List Entry) (done all : List Item)
+    → rest ≡ []
+    → done ++ map (item_of l) (module_clauses l own (map plain_entry rest)) ≡ all → done ≡ all
+items_all l own rest done all none so =
     sym (append-nil done)
     ∙ ap
     (λ (es : List Entry). done ++ map (item_of l) (module_clauses l own (map plain_entry es)))
-    (sym (drop_all k file past))
+    (sym none)
     ∙ so
 
 -- the first of candidates that has a number

@@ -1,6 +1,6 @@
 -- The clauses of files, one file behind another.
-use Rattle.std.proofs.Common.{◌≡◌, ℕ, suc, ◌+◌, ◌<◌, ◌≤◌, List, ◌∷◌, ◌++◌, map, length, get_or, drop, sym, ap, ◌∙◌, arith}
-use Rattle.std.proofs.lemmas.List.{append-nil, append_assoc, map-append, drop_more, drop_all}
+use Rattle.std.proofs.Common.{◌≡◌, ℕ, suc, ◌+◌, List, [], ◌∷◌, ◌++◌, map, sym, ap, ◌∙◌, arith}
+use Rattle.std.proofs.lemmas.List.{append-nil, append_assoc, map-append}
 use Rattle.mc_items.specs.declared.entry.Entry.{Entry}
 use Rattle.mc_items.specs.Files.{plain_entry}
 use Rattle.mc_linking.specs.Files.{plain_files}
@@ -13,36 +13,31 @@ abbrev pub items_from : Linked → (own : ℕ) → List (List Entry) → List It
 items_from l own fs = map (clause_item l) (clauses_from l own (plain_files fs))
 
 pub files_more :
-    (l : Linked) (own next : ℕ) (files : List (List Entry)) (k : ℕ) (f : List Entry)
+    (l : Linked) (own next : ℕ) (before after : List (List Entry)) (f : List Entry)
     (done all : List Item)
-    → k < length files → f ≡ get_or files k f → next ≡ own + 1
-    → done ++ items_from l own (drop k files) ≡ all
+    → before ≡ f ∷ after → next ≡ own + 1 → done ++ items_from l own before ≡ all
     → (done ++ map (clause_item l) (module_clauses l own (map plain_entry f)))
-    ++ items_from l next (drop (k + 1) files)
+    ++ items_from l next after
     ≡ all
-files_more l own next files k f done all below is behind so =
-    let rest = drop (k + 1) files in
-    let split : drop k files ≡ f ∷ rest =
-    drop_more files k f below ∙ ap (λ (x : List Entry). x ∷ rest) (sym is)
-    in
+files_more l own next before after f done all split behind so =
     let up : next ≡ suc own = omega arith in
     append_assoc done (map (clause_item l) (module_clauses l own (map plain_entry f)))
-    (items_from l next rest)
+    (items_from l next after)
     ∙ ap
     (λ n.
-    done ++ (map (clause_item l) (module_clauses l own (map plain_entry f)) ++ items_from l n rest))
+    done ++ (map (clause_item l) (module_clauses l own (map plain_entry f)) ++ items_from l n after))
     up
     ∙ ap (λ (xs : List Item). done ++ xs)
     (sym
     (map-append (clause_item l) (module_clauses l own (map plain_entry f))
-    (clauses_from l (suc own) (plain_files rest))))
+    (clauses_from l (suc own) (plain_files after))))
     ∙ ap (λ (fs : List (List Entry)). done ++ items_from l own fs) (sym split)
     ∙ so
 
 pub files_all :
-    (l : Linked) (own : ℕ) (files : List (List Entry)) (k : ℕ) (done all : List Item)
-    → length files ≤ k → done ++ items_from l own (drop k files) ≡ all → done ≡ all
-files_all l own files k done all past so =
+    (l : Linked) (own : ℕ) (rest : List (List Entry)) (done all : List Item)
+    → rest ≡ [] → done ++ items_from l own rest ≡ all → done ≡ all
+files_all l own rest done all none so =
     sym (append-nil done)
-    ∙ ap (λ (fs : List (List Entry)). done ++ items_from l own fs) (sym (drop_all k files past))
+    ∙ ap (λ (fs : List (List Entry)). done ++ items_from l own fs) (sym none)
     ∙ so

@@ -1,8 +1,9 @@
 -- What is typed of a program: its clauses, each an item, and the goal of the query, an item of its own.
 -- (Mercury Language Reference Manual: Clauses; the query is this project's.)
-use Rattle.std.specs.Prelude.{ℕ, List, [], ◌∷◌, ◌++◌, map, length, Option, Some, None}
+use Rattle.std.specs.Prelude.{ℕ, Bool, true, false, List, [], ◌∷◌, ◌++◌, map, length, Option, Some, None, if◌then◌else◌}
 use Rattle.mc_term_data.specs.Plain.{PlainTerm}
 use Rattle.mc_source.specs.declared.place.Place.{Place}
+use Rattle.mc_decl_syntax.specs.Plain.{PlainDecl, Clause}
 use Rattle.mc_linking.specs.Files.{File}
 use Rattle.mc_modules.specs.Linked.{Linked}
 use Rattle.mc_state_variables.specs.Numbered.{numbered_goal, line_of}
@@ -35,3 +36,14 @@ query_item l number (Some goal) =
 abbrev pub items : Linked → List File → (number : ℕ) → Option PlainTerm → List Item
 items l files number goal =
     map (clause_item l) (clauses_from l 0 files) ++ query_item l number goal
+
+abbrev pub is_clause : PlainDecl → Bool
+is_clause (Clause t) = true
+is_clause i = false
+
+-- The items of a file that are no clause, in their order: what is left of it once its clauses are
+-- typed, since no later phase asks for them as they were read.
+abbrev pub without_clauses : File → File
+without_clauses [] = []
+without_clauses (e ∷ es) =
+    if is_clause e.0 then without_clauses es else e ∷ without_clauses es

@@ -1,6 +1,7 @@
 -- What typing says of items: the rule that each breaks (T1, T2 or L5), or what each is resolved to.
 -- (Mercury Language Reference Manual: Types, overloading; this project's rules.)
-use Rattle.std.specs.Prelude.{◌≡◌, ℕ, List, [], ◌∷◌, Option}
+use Rattle.std.specs.Prelude.{◌≡◌, ℕ, List, [], ◌∷◌, map, Option, Box}
+use Rattle.std.specs.declared.alloc.Global.{Global}
 use Rattle.mc_source.specs.declared.rule.Broken.{Broken}
 use Rattle.mc_source.specs.Rules.{Fault}
 use Rattle.mc_program.specs.Programs.{TypeTerm, Source}
@@ -43,9 +44,13 @@ module _ (l : Linked) (seen : (own : ℕ) → ℕ → Option TypeTerm) where
       (one : TypedClause) × (rest : List TypedClause)
       × IsTyped i one × AreTyped is rest × (typed ≡ one ∷ rest)
 
+-- clauses and a query as they are resolved, each out of its block
+abbrev pub typed_clauses : List (Box TypedClause Global) → List TypedClause
+typed_clauses = map (λ c. c.value)
+
 -- these are the rules that items break; and where they break none, this is what they are resolved to
 pub record IsJudged
     (l : Linked) (seen : (own : ℕ) → ℕ → Option TypeTerm) (items : List Item) (judged : Judged)
     : Type 0 where
   pub faults : AreFaults l seen items judged.broken.items
-  pub typed : judged.broken.items ≡ [] → AreTyped l seen items judged.clauses.items
+  pub typed : judged.broken.items ≡ [] → AreTyped l seen items (typed_clauses judged.clauses.items)

@@ -4,7 +4,8 @@ ghost use Rattle.mc_items.specs.Files.{plain_entry};
 ghost use Rattle.mc_modules.specs.Linked.{Linked, plain_names};
 ghost use Rattle.mc_type_table.specs.Sight.{definitions_seen};
 ghost use Rattle.mc_clauses.specs.Typing.{module_clauses};
-ghost use Rattle.mc_clause_phase.specs.code.ItemKinds.{is_clause, is_equivalence};
+ghost use Rattle.mc_clause_phase.specs.Items.{is_clause, without_clauses};
+ghost use Rattle.mc_clause_phase.specs.code.ItemKinds.{is_equivalence};
 
 use mc_decl_syntax::Decl;
 use mc_items::Entry;
@@ -13,8 +14,10 @@ use mc_type_table::sees_definition;
 
 /// Whether there is a clause among the items of a file.
 pub fn has_clauses(file: &[Entry]) -> bool
-    ensures { result ≡ false
+    ensures none { result ≡ false
         → (l : Linked) (own : ℕ) → module_clauses l own (map plain_entry file.now) ≡ [] }
+    ensures others { result ≡ false
+        → without_clauses (map plain_entry file.now) ≡ map plain_entry file.now }
 {
     for entry in file {
         if is_clause(&entry.decl) {
@@ -24,7 +27,8 @@ pub fn has_clauses(file: &[Entry]) -> bool
     false
 }
 
-fn is_clause(decl: &Decl) -> bool
+/// Whether an item is a clause.
+pub fn is_clause(decl: &Decl) -> bool
     ensures { result ≡ is_clause (plain_item decl.now) }
 {
     matches!(decl, Decl::Clause(_))

@@ -9,18 +9,20 @@ ghost use Rattle.mc_state_variables.specs.Numbered.{numbered_clause};
 ghost use Rattle.mc_unresolved.specs.Unresolved.{plain_unresolved_clause};
 ghost use Rattle.mc_clauses.specs.Unresolved.{unresolved_clause};
 ghost use Rattle.mc_check_clause.specs.Fitting.{IsSomeTable};
-ghost use Rattle.mc_clauses.specs.Typing.{number_among, clause_predicate, module_clauses};
-ghost use Rattle.mc_clause_phase.specs.Items.{clause_item as item_of, query_item};
-ghost use Rattle.mc_clause_phase.specs.code.Adding.{Checks, Adds, WasPut, entry_clauses, number_as};
+ghost use Rattle.mc_clauses.specs.Typing.{module_clauses};
+ghost use Rattle.mc_clause_phase.specs.Items.{clause_item as item_of, query_item, without_clauses};
+ghost use Rattle.mc_clause_phase.specs.Judging.{typed_clauses};
+ghost use Rattle.mc_clause_phase.specs.code.Adding.{Checks, Adds, WasPut, entry_clauses};
+ghost use Rattle.mc_clause_phase.specs.code.Subjects.{IsKnown};
 
 use crate::checker::{Checker, Verdict};
-use mc_base::Memory;
+use crate::subject::{Subject, clause_predicate};
+use crate::taken::Taken;
+use mc_base::{Memory, Row};
 use mc_clauses::{unresolved_clause, unresolved_query};
 use mc_decl_syntax::Decl;
-use mc_defs_uses::{Kind, clause_of};
 use mc_items::Entry;
 use mc_program::program::Resolved;
-use mc_source::name::Candidate;
 use mc_source::place::Place;
 use mc_source::rule::Broken;
 use mc_state_variables::{numbered_clause, numbered_goal, stays_as_written};
@@ -37,10 +39,11 @@ pub struct TypedClause {
 }
 
 /// What was judged of a program: its clauses and its query as they are resolved, in their order, where none of them
-/// breaks a rule; and the rules that they break, one for each faulty one.
+/// breaks a rule; and the rules that they break, one for each faulty one. A clause has a block of its own, so that it takes
+/// the room that a clause had as it was read, where that was given up.
 #[derive(Drop)]
 pub struct Judged {
-    pub clauses: Vec<TypedClause>,
+    pub clauses: Vec<Box<TypedClause>>,
     pub broken: Vec<Broken>,
 }
 
@@ -57,12 +60,12 @@ impl Judged {
     }
 
     // Puts what is said of a clause of a predicate behind the others.
-    fn put(&mut self, pred: u32, at: Place, verdict: Verdict) -> Result<(), Memory>
+    fn put(&mut self, alloc: Global, pred: u32, at: Place, verdict: Verdict) -> Result<(), Memory>
         ensures { OnOk result (WasPut pred at verdict self.old self.new) }
     {
         match verdict {
             Verdict::Typed(resolved) => {
-                self.put_typed(TypedClause { pred, resolved })?;
+                self.put_typed(alloc, TypedClause { pred, resolved })?;
                 Ok(())
             }
             Verdict::Faulty(rule, what) => {
@@ -73,45 +76,65 @@ impl Judged {
     }
 
     // Puts a clause as it is resolved behind the others, where none breaks a rule.
-    fn put_typed(&mut self, made: TypedClause) -> Result<(), Memory>
+    fn put_typed(&mut self, alloc: Global, made: TypedClause) -> Result<(), Memory>
         ensures broken { OnOk result (self.new.broken.items ≡ self.old.broken.items) }
         ensures clauses { OnOk result (self.old.broken.items ≡ []
-            → self.new.clauses.items ≡ self.old.clauses.items ++ made ∷ []) }
+            → typed_clauses self.new.clauses.items
+            ≡ typed_clauses self.old.clauses.items ++ made ∷ []) }
     {
         if !self.broken.is_empty() {
             return Ok(());
         }
-        self.clauses.push(made)?;
+        self.clauses.push(Box::new(alloc, made)?)?;
         Ok(())
     }
 
-    // Judges the clauses of a file.
-    pub fn judge_file(&mut self, checker: &Checker<'_>, file: &[Entry]) -> Result<(), Memory>
+    // Judges the clauses of a file, which are given up once they are judged, and gives back the other items.
+    pub fn judge_file(
+        &mut self,
+        checker: &Checker<'_>,
+        file: Row<Entry>,
+    ) -> Result<Row<Entry>, Memory>
         requires { IsSomeTable checker.now.signatures }
-        ensures { OnOk result ((l : Linked) (seen : (own : ℕ) → ℕ → Option TypeTerm)
+        ensures added { OnOk result ((l : Linked) (seen : (own : ℕ) → ℕ → Option TypeTerm)
             → Checks l (seen checker.now.at.own) checker.now
             → Adds l seen
-            (map (item_of l) (module_clauses l checker.now.at.own (map plain_entry file.now)))
+            (map (item_of l) (module_clauses l checker.now.at.own (map plain_entry file)))
             self.old self.new) }
+        ensures others { IfOk result
+            (λ others. map plain_entry others ≡ without_clauses (map plain_entry file)) }
     {
-        for entry in file {
-            self.judge_entry(checker, entry)?;
+        let mut taken = Taken::new(checker.at.alloc);
+        let mut known = None;
+        for entry in file.into_vec() {
+            self.judge_entry(checker, &entry, &mut known)?;
+            taken.put(checker.at.alloc, entry)?;
         }
-        Ok(())
+        let Taken { others, .. } = taken;
+        let others = Row::of(others)?;
+        Ok(others)
     }
 
     // Judges an item of a file, where it is a clause.
-    fn judge_entry(&mut self, checker: &Checker<'_>, entry: &Entry) -> Result<(), Memory>
-        requires { IsSomeTable checker.now.signatures }
-        ensures { OnOk result ((l : Linked) (seen : (own : ℕ) → ℕ → Option TypeTerm)
+    fn judge_entry(
+        &mut self,
+        checker: &Checker<'_>,
+        entry: &Entry,
+        known: &mut Option<Subject>,
+    ) -> Result<(), Memory>
+        requires some { IsSomeTable checker.now.signatures }
+        requires known { IsKnown (plain_names checker.now.at.names.now) checker.now.at.own known.old }
+        ensures added { OnOk result ((l : Linked) (seen : (own : ℕ) → ℕ → Option TypeTerm)
             → Checks l (seen checker.now.at.own) checker.now
             → Adds l seen
             (map (item_of l) (entry_clauses l checker.now.at.own (plain_entry entry.now)))
             self.old self.new) }
+        ensures known { OnOk result
+            (IsKnown (plain_names checker.now.at.names.now) checker.now.at.own known.new) }
     {
         match &entry.decl {
             Decl::Clause(term) => {
-                let number = clause_predicate(checker, &entry.decl)?;
+                let number = clause_predicate(checker, &entry.decl, known)?;
                 match number {
                     Some(pred) => {
                         self.judge_clause(checker, pred, entry.at, term)?;
@@ -143,7 +166,7 @@ impl Judged {
     {
         let clause = unresolved_of(checker, pred, at, term)?;
         let verdict = checker.verdict(&clause)?;
-        self.put(pred, at, verdict)?;
+        self.put(checker.at.alloc, pred, at, verdict)?;
         Ok(())
     }
 
@@ -168,7 +191,7 @@ impl Judged {
         let pred = checker.at.names.preds.len();
         let clause = unresolved_query(&checker.at, pred, at, &numbered)?;
         let verdict = checker.verdict(&clause)?;
-        self.put(pred, at, verdict)?;
+        self.put(checker.at.alloc, pred, at, verdict)?;
         Ok(())
     }
 }
@@ -194,45 +217,4 @@ fn unresolved_of(
     }
     let numbered = numbered_clause(checker.at.alloc, term)?;
     unresolved_clause(&checker.at, pred, at, &numbered)
-}
-
-// The number of what an item is a clause of, which its own module declares.
-fn clause_predicate(checker: &Checker<'_>, decl: &Decl) -> Result<Option<u32>, Memory>
-    ensures { IfOk result (λ number. number
-        ≡ clause_predicate (plain_names checker.now.at.names.now) checker.now.at.own
-        (clause_of (plain_item decl.now))) }
-{
-    match clause_of(decl) {
-        Some(definition) => {
-            let id = definition.id;
-            let all = checker
-                .at
-                .names
-                .own_candidates(checker.at.alloc, checker.at.own, id.name, id.arity)?;
-            Ok(number_among(definition.kind, all.as_slice()))
-        }
-        None => Ok(None),
-    }
-}
-
-// The first of these that is a predicate, or a function.
-fn number_among(kind: Kind, candidates: &[Candidate]) -> Option<u32>
-    ensures { result ≡ number_among kind candidates.now }
-{
-    for candidate in candidates {
-        if let Some(number) = number_as(kind, *candidate) {
-            return Some(number);
-        }
-    }
-    None
-}
-
-fn number_as(kind: Kind, candidate: Candidate) -> Option<u32>
-    ensures { result ≡ number_as kind candidate }
-{
-    match (kind, candidate) {
-        (Kind::Pred, Candidate::Pred(number)) => Some(number),
-        (Kind::Func, Candidate::Func(number)) => Some(number),
-        _ => None,
-    }
 }

@@ -7,7 +7,9 @@ mod difference;
 mod judged;
 mod law;
 mod phase;
+mod subject;
+mod taken;
 
 pub use judged::{Judged, TypedClause};
 pub use law::at_most_one_list;
-pub use phase::judge;
+pub use phase::{Judgement, judge};

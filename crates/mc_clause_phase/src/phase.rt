@@ -7,7 +7,7 @@ ghost use Rattle.mc_type_table.specs.Sight.{definitions_seen};
 ghost use Rattle.mc_check_clause.specs.Fitting.{IsSomeTable};
 ghost use Rattle.mc_items.specs.Files.{plain_entry};
 ghost use Rattle.mc_clauses.specs.Typing.{module_clauses, clauses_from};
-ghost use Rattle.mc_clause_phase.specs.Items.{items, clause_item, query_item};
+ghost use Rattle.mc_clause_phase.specs.Items.{items, clause_item, query_item, without_clauses};
 ghost use Rattle.mc_clause_phase.specs.Judging.{IsJudged};
 ghost use Rattle.mc_clause_phase.specs.code.Adding.{Checks, Adds, IsAtHand};
 
@@ -27,8 +27,15 @@ use std::alloc::Global;
 /// How many parts the types may have that are written out while a module's declarations are made.
 const MOST_PARTS: u32 = 4_194_304;
 
+/// What was judged of files and a query, and the files without their clauses, which were given up as they were judged.
+#[derive(Drop)]
+pub struct Judgement {
+    pub judged: Judged,
+    pub others: Row<Row<Entry>>,
+}
+
 /// Judges the clauses of files whose names are linked, in their order, and behind them the goal of a query, which stands
-/// in a file of a number of its own.
+/// in a file of a number of its own. The files are given back without their clauses.
 ///
 /// # Errors
 ///
@@ -36,78 +43,90 @@ const MOST_PARTS: u32 = 4_194_304;
 pub fn judge(
     alloc: Global,
     names: &Names,
-    files: &[Row<Entry>],
+    files: Row<Row<Entry>>,
     number: u32,
     goal: Option<&Term>,
-) -> Result<Judged, Memory>
-    ensures { IfOk result
-        (λ judged.
+) -> Result<Judgement, Memory>
+    ensures judged { IfOk result
+        (λ judgement.
         IsJudged (plain_names names.now) (definitions_seen (plain_names names.now))
-        (items (plain_names names.now) (plain_files files.now) number
-        (option_map (λ t. plain_term t.now) goal.entry)) judged) }
+        (items (plain_names names.now) (plain_files files) number
+        (option_map (λ t. plain_term t.now) goal.entry)) judgement.judged) }
+    ensures others { IfOk result
+        (λ judgement.
+        plain_files judgement.others ≡ map without_clauses (plain_files files)) }
 {
     let mut judged = Judged::new(alloc);
-    let at_hand = judge_files(alloc, names, files, &mut judged)?;
+    let (at_hand, others) = judge_files(alloc, names, files, &mut judged)?;
     match goal {
         Some(goal) => {
             let checker = checker_for(alloc, names, at_hand, 0)?;
             judged.judge_query(&checker, number, goal)?;
-            Ok(judged)
+            Ok(Judgement { judged, others })
         }
-        None => Ok(judged),
+        None => Ok(Judgement { judged, others }),
     }
 }
 
-// Judges the clauses of files, and tells the checker that is then at hand, where one was made.
+// Judges the clauses of files, and tells the checker that is then at hand, where one was made, and the files without
+// their clauses.
 fn judge_files<'n>(
     alloc: Global,
     names: &'n Names,
-    files: &[Row<Entry>],
+    files: Row<Row<Entry>>,
     judged: &mut Judged,
-) -> Result<Option<Checker<'n>>, Memory>
-    ensures at_hand { IfOk result (IsAtHand (plain_names names.now)) }
+) -> Result<(Option<Checker<'n>>, Row<Row<Entry>>), Memory>
+    ensures at_hand { IfOk result (λ made. IsAtHand (plain_names names.now) made.0) }
     ensures added { OnOk result
         (Adds (plain_names names.now) (definitions_seen (plain_names names.now))
         (map (clause_item (plain_names names.now))
-        (clauses_from (plain_names names.now) 0 (plain_files files.now)))
+        (clauses_from (plain_names names.now) 0 (plain_files files)))
         judged.old judged.new) }
+    ensures others { IfOk result
+        (λ made. plain_files made.1 ≡ map without_clauses (plain_files files)) }
 {
+    let mut others = Vec::with_capacity(alloc, files.len() as usize)?;
     let mut own: u32 = 0;
     let mut at_hand = None;
-    for file in files {
-        let next = judge_module(alloc, names, at_hand, own, file.as_slice(), judged)?;
-        at_hand = next;
+    for file in files.into_vec() {
+        let (checker, other) = judge_module(alloc, names, at_hand, own, file, judged)?;
+        at_hand = checker;
+        others.push(other)?;
         if own == u32::MAX {
             return Err(Memory);
         }
         own += 1;
     }
-    Ok(at_hand)
+    let others = Row::of(others)?;
+    Ok((at_hand, others))
 }
 
-// Judges the clauses of a module's file, and tells the checker that is then at hand. Where there is no clause none is made.
+// Judges the clauses of a module's file, and tells the checker that is then at hand, and the file without them. Where
+// there is no clause no checker is made, and the file stays as it is.
 fn judge_module<'n>(
     alloc: Global,
     names: &'n Names,
     at_hand: Option<Checker<'n>>,
     own: u32,
-    file: &[Entry],
+    file: Row<Entry>,
     judged: &mut Judged,
-) -> Result<Option<Checker<'n>>, Memory>
+) -> Result<(Option<Checker<'n>>, Row<Entry>), Memory>
     requires { IsAtHand (plain_names names.now) at_hand }
-    ensures at_hand { IfOk result (IsAtHand (plain_names names.now)) }
+    ensures at_hand { IfOk result (λ made. IsAtHand (plain_names names.now) made.0) }
     ensures added { OnOk result
         (Adds (plain_names names.now) (definitions_seen (plain_names names.now))
         (map (clause_item (plain_names names.now))
-        (module_clauses (plain_names names.now) own (map plain_entry file.now)))
+        (module_clauses (plain_names names.now) own (map plain_entry file)))
         judged.old judged.new) }
+    ensures others { IfOk result
+        (λ made. map plain_entry made.1 ≡ without_clauses (map plain_entry file)) }
 {
-    if !has_clauses(file) {
-        return Ok(at_hand);
+    if !has_clauses(file.as_slice()) {
+        return Ok((at_hand, file));
     }
     let checker = checker_for(alloc, names, at_hand, own)?;
-    judged.judge_file(&checker, file)?;
-    Ok(Some(checker))
+    let others = judged.judge_file(&checker, file)?;
+    Ok((Some(checker), others))
 }
 
 // The checker of a module's clauses: the one at hand, where its module sees the same definitions of types.

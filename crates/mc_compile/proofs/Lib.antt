@@ -7,8 +7,9 @@ mod SomeFiles
 mod Links
 mod Types
 mod Clauses
+mod WithoutClauses
+mod Insts
 pub mod Asked
 mod Modes
-mod Procedures
 mod Queries
 mod Mains

@@ -3,21 +3,22 @@ ghost use Rattle.mc_modules.specs.Linked.{plain_names};
 ghost use Rattle.mc_type_table.specs.Sight.{definitions_seen};
 ghost use Rattle.mc_clause_phase.specs.Judging.{IsJudged};
 ghost use Rattle.mc_compile.specs.Linking.{plain_named};
-ghost use Rattle.mc_compile.specs.Checking.{items_of};
+ghost use Rattle.mc_compile.specs.Checking.{clauses_left_out, items_of};
 
 use crate::given::CompileFault;
 use crate::named::Named;
 use crate::typed::Typed;
 use mc_base::{Memory, Row};
-use mc_clause_phase::{Judged, TypedClause, judge};
+use mc_clause_phase::{Judged, Judgement, TypedClause, judge};
 use std::alloc::Global;
 
 /// Sources whose clauses are typed: what has a table of types, and the clauses of the given files and of the library's
-/// modules, in their order, and the query behind them, each with its predicate and what it is resolved to.
+/// modules, in their order, and the query behind them, each with its predicate and what it is resolved to. Of the files
+/// the other items are left: a clause as it was read is given up once it is typed.
 #[derive(Drop)]
 pub struct Checked {
     pub typed: Typed,
-    pub clauses: Vec<TypedClause>,
+    pub clauses: Vec<Box<TypedClause>>,
 }
 
 // The number of the query, which follows those of the given files.
@@ -28,19 +29,31 @@ fn query_number(named: &Named) -> u32
     named.given.min(named.files.len())
 }
 
-// What typing says of the clauses of all files and of the query.
-fn judged(alloc: Global, typed: &Typed) -> Result<Judged, Memory>
-    ensures { IfOk result
-        (λ judged.
-        IsJudged (plain_names typed.now.named.names)
-        (definitions_seen (plain_names typed.now.named.names))
-        (items_of (plain_named typed.now.named)) judged) }
+// What typing says of the clauses of all files and of the query, and what is linked without these clauses.
+fn judged(alloc: Global, named: Named) -> Result<(Named, Judged), Memory>
+    ensures named { IfOk result
+        (λ made. plain_named made.0 ≡ clauses_left_out (plain_named named)) }
+    ensures judged { IfOk result
+        (λ made.
+        IsJudged (plain_names named.names) (definitions_seen (plain_names named.names))
+        (items_of (plain_named named)) made.1) }
 {
-    let named = &typed.named;
-    let number = query_number(named);
-    let files = named.files.as_slice();
-    let judged = judge(alloc, &named.names, files, number, named.goal.as_ref())?;
-    Ok(judged)
+    let number = query_number(&named);
+    let Named {
+        files,
+        given,
+        names,
+        goal,
+    } = named;
+    let judgement = judge(alloc, &names, files, number, goal.as_ref())?;
+    let Judgement { judged, others } = judgement;
+    let named = Named {
+        files: others,
+        given,
+        names,
+        goal,
+    };
+    Ok((named, judged))
 }
 
 impl Checked {
@@ -57,8 +70,11 @@ impl Checked {
     pub fn of(alloc: Global, typed: Typed) -> Result<Checked, CompileFault>
         ensures { Tells Clauses Shows (plain_typed typed) result }
     {
-        let Judged { clauses, broken } = judged(alloc, &typed)?;
+        let Typed { named, types } = typed;
+        let (named, judged) = judged(alloc, named)?;
+        let Judged { clauses, broken } = judged;
         if broken.is_empty() {
+            let typed = Typed { named, types };
             return Ok(Checked { typed, clauses });
         }
         Err(CompileFault::Rejected(Row::of(broken)?))

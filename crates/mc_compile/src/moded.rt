@@ -1,13 +1,13 @@
 ghost use Rattle.std.specs.Prelude.{◌≡◌, ◌++◌, map, IfOk};
-ghost use Rattle.mc_modules.specs.Linked.{plain_names};
-ghost use Rattle.mc_type_table.specs.Sight.{definitions_seen};
 ghost use Rattle.mc_compile.specs.Reading.{plain_goal};
-ghost use Rattle.mc_clause_phase.specs.Judging.{AreTyped};
+ghost use Rattle.mc_insts.specs.Defining.{plain_definitions, DefinitionsFit};
+ghost use Rattle.mc_whole.specs.Goals.{HasNormalGoals};
+ghost use Rattle.mc_clause_phase.specs.Judging.{typed_clauses};
 ghost use Rattle.mc_compile.specs.Phases.{Tells, Viewed};
 ghost use Rattle.mc_compile.specs.Sources.{Sources};
 ghost use Rattle.mc_compile.specs.Linking.{plain_named};
-ghost use Rattle.mc_compile.specs.Typing.{plain_typed};
-ghost use Rattle.mc_compile.specs.Checking.{items_of};
+ghost use Rattle.mc_compile.specs.Typing.{PlainTyped};
+ghost use Rattle.mc_compile.specs.Checking.{Shows};
 ghost use Rattle.mc_whole_program.specs.Wholes.{numbered_clause};
 ghost use Rattle.mc_compile.specs.Ruling.{numbered, query_determinism, query_number, query_sigs, IsModed, Modes};
 ghost use Rattle.mc_compile.specs.code.Parts.{IsParted};
@@ -46,29 +46,27 @@ impl Moded {
     ///
     /// `Memory` where there is no room.
     pub fn of(alloc: Global, checked: Checked, first: bool) -> Result<Moded, CompileFault>
-        requires { AreTyped (plain_names checked.typed.named.names)
-            (definitions_seen (plain_names checked.typed.named.names))
-            (items_of (plain_named checked.typed.named)) checked.clauses.items }
-        ensures { (s : Sources) → s.first ≡ first
-            → Tells (Modes s) (Viewed (λ m. m)) (plain_typed checked.typed) result }
+        ensures goals { IfOk result
+            (λ moded. HasNormalGoals moded.whole.program moded.whole.goals.items) }
+        ensures defs { IfOk result (λ moded. DefinitionsFit 4 (plain_definitions moded.defs)) }
+        ensures tells { (s : Sources) (plain : PlainTyped) → s.first ≡ first → Shows checked plain
+            → Tells (Modes s) (Viewed (λ m. m)) plain result }
     {
-        let Checked { typed, clauses } = checked;
-        let moded = with_modes(alloc, &typed.named, clauses, first)?;
+        let moded = with_modes(alloc, checked, first)?;
         Ok(moded)
     }
 }
 
 // The program with its declared modes.
-fn with_modes(
-    alloc: Global,
-    named: &Named,
-    clauses: Vec<TypedClause>,
-    first: bool,
-) -> Result<Moded, Memory>
-    requires { AreTyped (plain_names named.now.names) (definitions_seen (plain_names named.now.names))
-        (items_of (plain_named named.now)) clauses.items }
-    ensures { IfOk result (IsModed first (plain_named named.now)) }
+fn with_modes(alloc: Global, checked: Checked, first: bool) -> Result<Moded, Memory>
+    ensures goals { IfOk result
+        (λ moded. HasNormalGoals moded.whole.program moded.whole.goals.items) }
+    ensures defs { IfOk result (λ moded. DefinitionsFit 4 (plain_definitions moded.defs)) }
+    ensures moded { IfOk result
+        (λ moded. (plain : PlainTyped) → Shows checked plain → IsModed first plain.named moded) }
 {
+    let Checked { typed, clauses } = checked;
+    let named = &typed.named;
     let (clauses, query) = parted(clauses, named.goal.is_some())?;
     let whole = whole_program(alloc, &named.names, numbered(alloc, clauses)?, query)?;
     let rows = declared_modes(alloc, &named.names, named.files.as_slice())?;
@@ -85,10 +83,12 @@ fn with_modes(
 
 // Typed clauses, and the query behind them where there is one.
 fn parted(
-    clauses: Vec<TypedClause>,
+    clauses: Vec<Box<TypedClause>>,
     has_query: bool,
-) -> Result<(Vec<TypedClause>, Option<Resolved>), Memory>
-    ensures { IfOk result (λ parts. IsParted clauses.items has_query parts.0.items parts.1) }
+) -> Result<(Vec<Box<TypedClause>>, Option<Resolved>), Memory>
+    ensures { IfOk result
+        (λ parts.
+        IsParted (typed_clauses clauses.items) has_query (typed_clauses parts.0.items) parts.1) }
 {
     let mut clauses = clauses;
     if !has_query {
@@ -96,19 +96,20 @@ fn parted(
     }
     // A query is typed, so there is one.
     match clauses.pop() {
-        Some(query) => Ok((clauses, Some(query.resolved))),
+        Some(query) => Ok((clauses, Some(Box::into_inner(query).resolved))),
         None => Err(Memory),
     }
 }
 
 // Typed clauses with the numbers of their predicates.
-fn numbered(alloc: Global, clauses: Vec<TypedClause>) -> Result<Vec<(u32, Resolved)>, Memory>
+fn numbered(alloc: Global, clauses: Vec<Box<TypedClause>>) -> Result<Vec<(u32, Resolved)>, Memory>
     ensures { IfOk result
-        (λ pairs. map numbered_clause pairs.items ≡ map numbered clauses.items) }
+        (λ pairs.
+        map numbered_clause pairs.items ≡ map numbered (typed_clauses clauses.items)) }
 {
     let mut pairs = Vec::with_capacity(alloc, clauses.len())?;
     for clause in clauses {
-        let TypedClause { pred, resolved } = clause;
+        let TypedClause { pred, resolved } = Box::into_inner(clause);
         pairs.push((pred, resolved))?;
     }
     Ok(pairs)

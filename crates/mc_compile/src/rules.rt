@@ -1,16 +1,12 @@
 ghost use Rattle.std.specs.Prelude.{◌≡◌, List};
 ghost use Rattle.std.specs.Option.{option_copied};
-ghost use Rattle.mc_modules.specs.Linked.{plain_names};
-ghost use Rattle.mc_type_table.specs.Sight.{definitions_seen};
-ghost use Rattle.mc_clause_phase.specs.Judging.{AreTyped};
 ghost use Rattle.mc_insts.specs.Defining.{plain_definitions, DefinitionsFit};
 ghost use Rattle.mc_whole.specs.Goals.{HasNormalGoals};
 ghost use Rattle.mc_compile.specs.declared.given.Given.{Given};
 ghost use Rattle.mc_compile.specs.Phases.{Tells, Then, Viewed};
 ghost use Rattle.mc_compile.specs.Sources.{Sources, is_first, sources_of};
-ghost use Rattle.mc_compile.specs.Linking.{plain_named};
-ghost use Rattle.mc_compile.specs.Typing.{plain_typed};
-ghost use Rattle.mc_compile.specs.Checking.{items_of};
+ghost use Rattle.mc_compile.specs.Typing.{PlainTyped, plain_typed};
+ghost use Rattle.mc_compile.specs.Checking.{Shows, clauses_given_up};
 ghost use Rattle.mc_compile.specs.Ruling.{Insts, Modes, Procedures, Rules, goal_of, plain_executable};
 
 use crate::checked::Checked;
@@ -38,12 +34,9 @@ pub fn rules(
     query: Option<&Query>,
     want_main: bool,
 ) -> Result<Executable, CompileFault>
-    requires { AreTyped (plain_names checked.typed.named.names)
-        (definitions_seen (plain_names checked.typed.named.names))
-        (items_of (plain_named checked.typed.named)) checked.clauses.items }
-    ensures { (files : List Given)
+    ensures { (files : List Given) (plain : PlainTyped) → Shows checked plain
         → Tells (Rules (sources_of files (option_copied query.entry) want_main))
-        (Viewed plain_executable) (plain_typed checked.typed) result }
+        (Viewed plain_executable) plain result }
 {
     match sound_insts(alloc, &checked.typed) {
         Ok(()) => with_modes(alloc, checked, query, want_main),
@@ -53,7 +46,8 @@ pub fn rules(
 
 // Whether no item breaks a rule of insts.
 fn sound_insts(alloc: Global, typed: &Typed) -> Result<(), CompileFault>
-    ensures { Tells Insts (λ _ plain. plain_typed typed.now ≡ plain) (plain_typed typed.now) result }
+    ensures { (plain : PlainTyped) → plain_typed typed.now ≡ clauses_given_up plain
+        → Tells Insts (λ _ after. plain ≡ after) plain result }
 {
     let named = &typed.named;
     let broken = inst_faults(alloc, &named.names, named.files.as_slice())?;
@@ -70,14 +64,11 @@ fn with_modes(
     query: Option<&Query>,
     want_main: bool,
 ) -> Result<Executable, CompileFault>
-    requires { AreTyped (plain_names checked.typed.named.names)
-        (definitions_seen (plain_names checked.typed.named.names))
-        (items_of (plain_named checked.typed.named)) checked.clauses.items }
-    ensures { (files : List Given)
+    ensures { (files : List Given) (plain : PlainTyped) → Shows checked plain
         → Tells
         (Then (Modes (sources_of files (option_copied query.entry) want_main))
         (Procedures (sources_of files (option_copied query.entry) want_main)))
-        (Viewed plain_executable) (plain_typed checked.typed) result }
+        (Viewed plain_executable) plain result }
 {
     match Moded::of(alloc, checked, is_first(query)) {
         Ok(moded) => executable(alloc, moded, want_main),

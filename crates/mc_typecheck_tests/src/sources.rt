@@ -61,15 +61,18 @@ fn typed(alloc: Global, row: &str) -> Result<Typed, CompileFault> {
 }
 
 /// What typing says of the given files and the query.
-fn judged(alloc: Global, named: &Named) -> Result<Judged, Memory> {
-    let given = named.files.as_slice().get(..named.given as usize);
-    judge(
-        alloc,
-        &named.names,
-        given.unwrap_or(&[]),
-        named.given,
-        named.goal.as_ref(),
-    )
+fn judged(alloc: Global, named: Named) -> Result<(Names, Judged), Memory> {
+    let Named {
+        files,
+        given,
+        names,
+        goal,
+    } = named;
+    let mut files = files.into_vec();
+    files.truncate(given as usize);
+    let files = Row::of(files)?;
+    let judgement = judge(alloc, &names, files, given, goal.as_ref())?;
+    Ok((names, judgement.judged))
 }
 
 /// What typing says of the sources of a row, behind whose files ` ? ` and the goal of a query may stand: the types of
@@ -77,7 +80,7 @@ fn judged(alloc: Global, named: &Named) -> Result<Judged, Memory> {
 pub fn shown(alloc: Global, row: &str) -> Result<Vec<u8>, Memory> {
     let mut out = Vec::new(alloc);
     match typed(alloc, row) {
-        Ok(typed) => put_judged(alloc, &mut out, &typed.named)?,
+        Ok(typed) => put_judged(alloc, &mut out, typed.named)?,
         Err(CompileFault::Rejected(broken)) => put_rules(alloc, &mut out, broken.as_slice())?,
         Err(CompileFault::Memory) => out.extend_from_slice(b"memory")?,
     }
@@ -87,16 +90,16 @@ pub fn shown(alloc: Global, row: &str) -> Result<Vec<u8>, Memory> {
 /// Whether sources break no rule up to typing.
 pub fn is_typed(alloc: Global, row: &str) -> Result<bool, Memory> {
     match typed(alloc, row) {
-        Ok(typed) => Ok(judged(alloc, &typed.named)?.broken.is_empty()),
+        Ok(typed) => Ok(judged(alloc, typed.named)?.1.broken.is_empty()),
         Err(CompileFault::Memory) => Err(Memory),
         Err(_) => Ok(false),
     }
 }
 
 /// Puts what typing says of sources behind a text.
-fn put_judged(alloc: Global, out: &mut Vec<u8>, named: &Named) -> Result<(), Memory> {
-    let judged = match judged(alloc, named) {
-        Ok(judged) => judged,
+fn put_judged(alloc: Global, out: &mut Vec<u8>, named: Named) -> Result<(), Memory> {
+    let (names, judged) = match judged(alloc, named) {
+        Ok(made) => made,
         Err(Memory) => {
             out.extend_from_slice(b"memory")?;
             return Ok(());
@@ -106,7 +109,7 @@ fn put_judged(alloc: Global, out: &mut Vec<u8>, named: &Named) -> Result<(), Mem
         return put_rules(alloc, out, judged.broken.as_slice());
     }
     for clause in &judged.clauses {
-        put_clause(alloc, out, &named.names, &clause.resolved)?;
+        put_clause(alloc, out, &names, &clause.resolved)?;
     }
     Ok(())
 }

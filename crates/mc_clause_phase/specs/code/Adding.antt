@@ -20,7 +20,7 @@ use Rattle.mc_type_table.specs.Sight.{definitions_seen}
 use Rattle.mc_check_clause.specs.Fitting.{IsSomeTable}
 use Rattle.mc_check_clause.specs.Checked.{IsResolved}
 use Rattle.mc_clause_phase.specs.Items.{Item}
-use Rattle.mc_clause_phase.specs.Judging.{AreFaults, AreTyped}
+use Rattle.mc_clause_phase.specs.Judging.{AreFaults, AreTyped, typed_clauses}
 use Rattle.mc_clause_phase.specs.declared.checker.Checker.{Checker}
 use Rattle.mc_clause_phase.specs.declared.checker.Verdict.{Verdict}
 use Rattle.mc_clause_phase.specs.declared.checker.Verdict.TheVariants as V
@@ -39,7 +39,8 @@ abbrev pub WasPut : (pred : ℕ) → Place → Verdict → (before after : Judge
 WasPut pred at (V.Typed made) before after =
     (after.broken.items ≡ before.broken.items)
     × (before.broken.items ≡ []
-    → after.clauses.items ≡ before.clauses.items ++ record { pred = pred; resolved = made } ∷ [])
+    → typed_clauses after.clauses.items
+    ≡ typed_clauses before.clauses.items ++ record { pred = pred; resolved = made } ∷ [])
 WasPut pred at (V.Faulty rule what) before after =
     after.broken.items ≡ before.broken.items ++ record { rule = rule; at = at; what = what } ∷ []
 
@@ -69,7 +70,8 @@ pub record Adds
   pub made : after.broken.items ≡ [] → List TypedClause
   pub typed : (none : after.broken.items ≡ []) → AreTyped l seen items (made none)
   pub added :
-      (none : after.broken.items ≡ []) → after.clauses.items ≡ before.clauses.items ++ made none
+      (none : after.broken.items ≡ [])
+      → typed_clauses after.clauses.items ≡ typed_clauses before.clauses.items ++ made none
 
 -- A checker that is at hand has what its module sees that the program declares.
 abbrev pub IsAtHand : Linked → Option Checker → Type 0

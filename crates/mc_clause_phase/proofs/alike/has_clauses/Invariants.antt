@@ -2,10 +2,17 @@ use Rattle.std.proofs.Common.{◌≡◌, ℕ, [], map, drop}
 use Rattle.mc_items.specs.Files.{plain_entry}
 use Rattle.mc_modules.specs.Linked.{Linked}
 use Rattle.mc_clauses.specs.Typing.{module_clauses}
+use Rattle.mc_clause_phase.specs.Items.{without_clauses}
 use Rattle.mc_clause_phase.proofs.alike.has_clauses.Given as goal
 
 abbrev pub invariant-loop-entry : goal.invariant-loop-entry
-invariant-loop-entry l =
-    (names : Linked) (own : ℕ)
-    → module_clauses names own (map plain_entry (drop l.entry-index l.file)) ≡ []
-    → module_clauses names own (map plain_entry l.file) ≡ []
+invariant-loop-entry l = record {
+  none :
+      (names : Linked) (own : ℕ)
+      → module_clauses names own (map plain_entry (drop l.entry-index l.file)) ≡ []
+      → module_clauses names own (map plain_entry l.file) ≡ [];
+  others :
+      without_clauses (map plain_entry (drop l.entry-index l.file))
+      ≡ map plain_entry (drop l.entry-index l.file)
+      → without_clauses (map plain_entry l.file) ≡ map plain_entry l.file;
+}

@@ -12,11 +12,11 @@ use Rattle.mc_clause_phase.proofs.Adding.{adds_both, judged_all}
 use Rattle.mc_clause_phase.proofs.FilesOf.{items_from}
 use Rattle.mc_clause_phase.proofs.phase.judge.Goals as goal
 
-pub returns-in_ok-judge_query-in-Some : goal.returns-in_ok-judge_query-in-Some
-returns-in_ok-judge_query-in-Some c =
+pub returns-in_ok-judge_query-in-Some-clause-judged : goal.returns-in_ok-judge_query-in-Some-clause-judged
+returns-in_ok-judge_query-in-Some-clause-judged c =
     let l = plain_names c.args.names.now in
     let sees = definitions_seen l in
-    let files = c.args.files.now in
+    let files = c.args.files in
     let g = plain_term c.in-Some.goal.now in
     let clauses = items_from l 0 files in
     let number = c.args.number in
@@ -36,11 +36,11 @@ returns-in_ok-judge_query-in-Some c =
     c.in_ok-at_hand.ensures.added
     (c.in_ok-judge_query-in-Some.ensures l sees c.in_ok-checker-in-Some.ensures.checks)))
 
-pub returns-in-None : goal.returns-in-None
-returns-in-None c =
+pub returns-in-None-clause-judged : goal.returns-in-None-clause-judged
+returns-in-None-clause-judged c =
     let l = plain_names c.args.names.now in
     let sees = definitions_seen l in
-    let files = c.args.files.now in
+    let files = c.args.files in
     let clauses = items_from l 0 files in
     let asked : None ≡ option_map (λ t. plain_term t.now) c.args.goal =
     ap (option_map (λ t. plain_term t.now)) (sym c.in-None.is)

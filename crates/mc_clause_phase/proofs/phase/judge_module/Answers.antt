@@ -1,9 +1,10 @@
-use Rattle.std.proofs.Common.{ℕ, List, map, sym, subst}
+use Rattle.std.proofs.Common.{◌≡◌, ℕ, List, [], map, sym, ap, subst, ◌∙◌}
+use Rattle.mc_items.specs.declared.entry.Entry.{Entry}
 use Rattle.mc_items.specs.Files.{plain_entry}
 use Rattle.mc_modules.specs.Linked.{plain_names}
 use Rattle.mc_type_table.specs.Sight.{definitions_seen}
 use Rattle.mc_clauses.specs.Typing.{ModuleClause, module_clauses}
-use Rattle.mc_clause_phase.specs.Items.{clause_item}
+use Rattle.mc_clause_phase.specs.Items.{clause_item, without_clauses}
 use Rattle.mc_clause_phase.specs.code.Adding.{Adds}
 use Rattle.mc_clause_phase.proofs.Adding.{adds_none}
 use Rattle.mc_clause_phase.proofs.phase.judge_module.Goals as goal
@@ -12,21 +13,33 @@ pub returns-then-not-has_clauses-clause-added : goal.returns-then-not-has_clause
 returns-then-not-has_clauses-clause-added c =
     let l = plain_names c.args.names.now in
     let sees = definitions_seen l in
+    let own = c.args.own in
+    let none : module_clauses l own (map plain_entry c.args.file) ≡ [] =
+    ap (λ (es : List Entry). module_clauses l own (map plain_entry es))
+    (sym c.as_slice.ensures.items)
+    ∙ c.has_clauses.ensures.none c.if-not-has_clauses.true l own
+    in
     let Q : List ModuleClause → Type 0 =
     λ cs. Adds l sees (map (clause_item l) cs) c.args.judged.now c.args.judged.now
     in
-    subst Q (sym (c.has_clauses.ensures c.if-not-has_clauses.true l c.args.own))
-    (adds_none l sees c.args.judged.now)
+    subst Q (sym none) (adds_none l sees c.args.judged.now)
+
+pub returns-then-not-has_clauses-clause-others : goal.returns-then-not-has_clauses-clause-others
+returns-then-not-has_clauses-clause-others c =
+    let AllLeft : List Entry → Type 0 =
+    λ es. map plain_entry es ≡ without_clauses (map plain_entry es)
+    in
+    subst AllLeft c.as_slice.ensures.items
+    (sym (c.has_clauses.ensures.others c.if-not-has_clauses.true))
 
 pub returns-clause-added : goal.returns-clause-added
 returns-clause-added c =
     let l = plain_names c.args.names.now in
     let sees = definitions_seen l in
-    let file = c.args.file.now in
     let Q : ℕ → Type 0 =
     λ n.
-    Adds l sees (map (clause_item l) (module_clauses l n (map plain_entry file))) c.args.judged.now
-    c.judge_file.new.self
+    Adds l sees (map (clause_item l) (module_clauses l n (map plain_entry c.args.file)))
+    c.args.judged.now c.judge_file.new.self
     in
     subst Q c.in_ok-checker.ensures.own
-    (c.in_ok-judge_file.ensures l sees c.in_ok-checker.ensures.checks)
+    (c.in_ok-others.ensures.added l sees c.in_ok-checker.ensures.checks)

@@ -10,14 +10,14 @@ use Rattle.mc_clause_phase.proofs.Adding.{adds_none}
 use Rattle.mc_clause_phase.proofs.Entries.{clause_there, clause_of_none, no_clause}
 use Rattle.mc_clause_phase.proofs.judged.Judged.judge_entry.Goals as goal
 
-pub returns-in_ok-judge_clause-in-Some : goal.returns-in_ok-judge_clause-in-Some
-returns-in_ok-judge_clause-in-Some c l seen k =
+pub returns-in_ok-judge_clause-in-Some-clause-added : goal.returns-in_ok-judge_clause-in-Some-clause-added
+returns-in_ok-judge_clause-in-Some-clause-added c l seen k =
     let own = c.args.checker.now.at.own in
     let entry = c.args.entry.now in
     let i = plain_item entry.decl in
     let number : clause_predicate l own (clause_of i) ≡ Some c.in-Some.pred =
     ap (λ (m : Linked). clause_predicate m own (clause_of i)) (sym k.names)
-    ∙ sym c.in_ok-number-in-Clause.ensures
+    ∙ sym c.in_ok-number-in-Clause.ensures.number
     ∙ c.in-Some.is
     in
     let Q : List ModuleClause → Type 0 =
@@ -29,14 +29,14 @@ returns-in_ok-judge_clause-in-Some c l seen k =
     (ap plain_item c.in-Clause.is) number))
     (c.in_ok-judge_clause-in-Some.ensures l seen k)
 
-pub returns-in-None : goal.returns-in-None
-returns-in-None c l seen k =
+pub returns-in-None-clause-added : goal.returns-in-None-clause-added
+returns-in-None-clause-added c l seen k =
     let own = c.args.checker.now.at.own in
     let entry = c.args.entry.now in
     let i = plain_item entry.decl in
     let number : clause_predicate l own (clause_of i) ≡ None =
     ap (λ (m : Linked). clause_predicate m own (clause_of i)) (sym k.names)
-    ∙ sym c.in_ok-number-in-Clause.ensures
+    ∙ sym c.in_ok-number-in-Clause.ensures.number
     ∙ c.in-None.is
     in
     let Q : List ModuleClause → Type 0 =
@@ -44,8 +44,8 @@ returns-in-None c l seen k =
     in
     subst Q (sym (clause_of_none l own i entry.at number)) (adds_none l seen c.args.self.now)
 
-pub returns-in_default : goal.returns-in_default
-returns-in_default c l seen k =
+pub returns-in_default-clause-added : goal.returns-in_default-clause-added
+returns-in_default-clause-added c l seen k =
     let own = c.args.checker.now.at.own in
     let entry = c.args.entry.now in
     let Q : List ModuleClause → Type 0 =
