@@ -1,6 +1,7 @@
 #!/usr/bin/env bash
 # Measures what each part takes of the way from a module of facts to its types: reading, linking with the library, the
-# table of types, the types of clauses. Each row is the whole up to there; memory is the greatest resident set.
+# table of types, the types of clauses. Each row is the whole up to there; memory is the greatest resident set. It ends with
+# status 1 where the types of 280,000 facts take more than 0.4 s on top of linking, or more than 120 MB in all.
 set -u
 root=$(cd "$(dirname "$0")/.." && pwd) || exit 2
 cd "$root/crates/bench_types" || exit 2
@@ -22,8 +23,13 @@ def run(words):
 
 print("| facts | up to | time | most memory | said |")
 print("|---|---|---|---|---|")
+row = {}
 for facts in ("70000", "140000", "280000"):
     for stage in ("read", "link", "table", "types"):
-        time, memory, said = run([facts, stage])
+        row[stage] = time, memory, said = run([facts, stage])
         print("| %s | %s | %.2f s | %d KiB | %s |" % (facts, stage, time, memory, said))
+taken, room = row["types"][0] - row["link"][0], row["types"][1] * 1024
+good = taken <= 0.4 and room <= 120e6
+print("types on top of linking: %.2f s; %.0f MB in all%s" % (taken, room / 1e6, "" if good else "   WANTED: 0.4 s, 120 MB"))
+sys.exit(0 if good else 1)
 PY
