@@ -1,16 +1,15 @@
 -- The rules of the phase that infers determinisms, procedure by procedure. (Mercury Language
 -- Reference Manual: Determinism; this project's profile of io, its rules and texts.)
-use Rattle.std.specs.Prelude.{ℕ, Bool, true, false, not, nat_eq, nat_lt, nat_le, ◌&&◌, ◌||◌, List, [], ◌∷◌, ◌++◌, Option, Some, None, codes, decimal, if◌then◌else◌}
+use Rattle.std.specs.Prelude.{ℕ, Bool, true, false, not, nat_eq, nat_le, ◌&&◌, ◌||◌, List, [], ◌∷◌, ◌++◌, Option, Some, None, codes, decimal, if◌then◌else◌}
 use Rattle.std.specs.List.{list_any}
 use Rattle.std.specs.Option.{option_or}
 use Rattle.std.specs.Cmp.Lexicographic.{pointwise}
 use Rattle.mc_program.specs.Programs.{TypeTerm, FullName}
 use Rattle.mc_source.specs.Determinism.{Determinism, row_of, rank, is_many}
-use Rattle.mc_source.specs.Rules.{Fault, broken_at, first_rules}
+use Rattle.mc_source.specs.Rules.{Fault, broken_at, by_place, first_rules}
 use Rattle.mc_source.specs.declared.det.Det.{Det}
 use Rattle.mc_source.specs.declared.det.Most.{Most}
 use Rattle.mc_source.specs.declared.det.Most.TheVariants.{Zero, One, Many}
-use Rattle.mc_source.specs.declared.place.Place.{Place}
 use Rattle.mc_source.specs.declared.rule.Broken.{Broken}
 use Rattle.mc_source.specs.declared.rule.Rule.TheVariants as R
 use Rattle.mc_model.specs.Lists.{from}
@@ -227,18 +226,6 @@ is_main S d =
 abbrev pub main_fault : (runs : Bool) → (has_main : Bool) → Option Fault
 main_fault true false = Some (R.E4, codes "main is not a det or cc_multi predicate on io")
 main_fault _ _ = None
-
--- Broken rules by their places; of those in one place the first comes first.
-abbrev pub stands_before : Place → Place → Bool
-stands_before p q = nat_lt p.file q.file || (nat_eq p.file q.file && nat_lt p.line q.line)
-
-abbrev pub put_in : Broken → List Broken → List Broken
-put_in b [] = b ∷ []
-put_in b (c ∷ cs) = if stands_before c.at b.at then c ∷ put_in b cs else b ∷ c ∷ cs
-
-abbrev pub by_place : List Broken → List Broken
-by_place [] = []
-by_place (b ∷ bs) = put_in b (by_place bs)
 
 -- The rules that a program's procedures break where they have these determinisms: what `run` asks
 -- of `main` first, then each faulty procedure's first rule, in the order of the places where they

@@ -1,11 +1,11 @@
 -- Where no rule is broken, no procedure has a fault.
 use Rattle.std.proofs.Common.{◌≡◌, ℕ, zero, suc, ◌+◌, ◌<◌, List, [], ◌∷◌, ◌++◌, length, get_or, Bool, true, false, Option, Some, None, if◌then◌else◌, refl, sym, ap, ◌∙◌, subst, arith}
 use Rattle.std.specs.List.{list_any}
-use Rattle.mc_source.specs.Rules.{Fault, broken_at, first_rules}
+use Rattle.mc_source.specs.Rules.{Fault, broken_at, first_rules, stands_before, put_in, by_place}
 use Rattle.mc_source.specs.declared.place.Place.{Place}
 use Rattle.mc_source.specs.declared.rule.Broken.{Broken}
 use Rattle.mc_model.specs.Lists.{from}
-use Rattle.mc_accepted.specs.DeterminismFaults.{stands_before, put_in, by_place, is_main, main_fault, procedure_fault}
+use Rattle.mc_accepted.specs.DeterminismFaults.{is_main, main_fault, procedure_fault}
 use Rattle.mc_accepted.specs.Inferred.{system_of}
 use Rattle.mc_determinism_laws.specs.FaultLaws.{NoFaultAnywhere}
 

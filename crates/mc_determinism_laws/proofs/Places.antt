@@ -3,7 +3,7 @@ use Rattle.std.proofs.Common.{◌≡◌, ℕ, ◌<◌, List, [], ◌∷◌, leng
 use Rattle.std.proofs.lemmas.Bool.{eqb-true, ltb-true, and_parts}
 use Rattle.mc_source.specs.declared.place.Place.{Place}
 use Rattle.mc_source.specs.declared.rule.Broken.{Broken}
-use Rattle.mc_accepted.specs.DeterminismFaults.{stands_before, put_in, by_place}
+use Rattle.mc_source.specs.Rules.{stands_before, put_in, by_place}
 use Rattle.mc_determinism_laws.specs.FaultLaws.{FirstNotBefore, InPlaces, ByPlaceIsInPlaces}
 
 -- a place that stands before another is in an earlier file, or on an earlier line of the same

@@ -13,7 +13,8 @@ use Rattle.mc_accepted.specs.Determined.{Known, nothing_known, Placed, IoPlaced}
 use Rattle.mc_accepted.specs.Fits.{type_of}
 use Rattle.mc_accepted.specs.Accepted.{entered}
 use Rattle.mc_accepted.specs.Inferred.{join, DeclaredSystem, system_of, body_determinism, Closed, LeastClosed}
-use Rattle.mc_accepted.specs.DeterminismFaults.{allows, first_misplaced, misplaces_io, procedure_fault, determinism_faults, stands_before, by_place}
+use Rattle.mc_accepted.specs.DeterminismFaults.{allows, first_misplaced, misplaces_io, procedure_fault, determinism_faults}
+use Rattle.mc_source.specs.Rules.{stands_before, by_place}
 
 -- the test of allowing tells it
 abbrev pub AllowsTells : Type 0

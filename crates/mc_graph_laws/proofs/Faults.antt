@@ -5,7 +5,7 @@ use Rattle.std.specs.Option.{option_or}
 use Rattle.std.proofs.lemmas.Bool.{ltb-true, ltb-false}
 use Rattle.mc_program.specs.Programs.{TypeTerm, Source}
 use Rattle.mc_source.specs.Determinism.{Determinism, row_of, rank, Allows}
-use Rattle.mc_source.specs.Rules.{Fault, broken_at, first_rules}
+use Rattle.mc_source.specs.Rules.{Fault, broken_at, first_rules, by_place}
 use Rattle.mc_source.specs.declared.det.Det.{Det}
 use Rattle.mc_source.specs.declared.det.Most.{Most}
 use Rattle.mc_source.specs.declared.det.Most.TheVariants.{Zero, One, Many}
@@ -17,7 +17,7 @@ use Rattle.mc_model.specs.Lists.{In, from}
 use Rattle.mc_model.specs.Scheduled.{Procedure}
 use Rattle.mc_accepted.specs.Accepted.{entered}
 use Rattle.mc_accepted.specs.Determined.{nothing_known}
-use Rattle.mc_accepted.specs.DeterminismFaults.{not_allowed, undeclared, shown_procedure, call_fault, misplaced_call, procedure_fault, is_main_name, are_states, is_det_or_cc_multi, is_main, main_fault, by_place, determinism_faults}
+use Rattle.mc_accepted.specs.DeterminismFaults.{not_allowed, undeclared, shown_procedure, call_fault, misplaced_call, procedure_fault, is_main_name, are_states, is_det_or_cc_multi, is_main, main_fault, determinism_faults}
 use Rattle.mc_accepted.specs.Fits.{type_of}
 use Rattle.mc_accepted.specs.Inferred.{DeclaredProcedure, DeclaredSystem, system_of, body_determinism, Closed, LeastClosed}
 use Rattle.mc_graph_laws.specs.DeterminismLaws.{SystemsAlike, DeterminedAlike}

@@ -17,7 +17,7 @@ use Rattle.mc_model.specs.PlainGoals.{plain_node}
 use Rattle.mc_model.specs.declared.inst.Sig.{Sig}
 use Rattle.mc_model.specs.declared.sched.Proc.{Proc}
 use Rattle.mc_accepted.specs.Arranged.{in_order}
-use Rattle.mc_accepted.specs.DeterminismFaults.{by_place}
+use Rattle.mc_source.specs.Rules.{by_place}
 use Rattle.mc_accepted.specs.InstRules.{PlainInstDef}
 use Rattle.mc_insts.specs.declared.insts.Insts.{Insts}
 use Rattle.mc_insts.specs.Graphs.{graph_of}

@@ -3,7 +3,7 @@ use Rattle.std.proofs.Common.{◌≡◌, ◌<◌, inl, inr, ℕ, Bool, true, fal
 use Rattle.std.specs.List.{AllZip}
 use Rattle.std.proofs.lemmas.List.{map-append, append-nil, get_or-map, length-map, length-take-le}
 use Rattle.std.proofs.lemmas.List.Elements.{All-nil, All-push, All-weaker}
-use Rattle.mc_source.specs.Rules.{Fault, broken_at, first_rules}
+use Rattle.mc_source.specs.Rules.{Fault, broken_at, first_rules, put_in, by_place, stands_before}
 use Rattle.mc_source.specs.declared.rule.Broken.{Broken}
 use Rattle.mc_source.specs.declared.place.Place.{Place}
 use Rattle.mc_model.specs.PlainGoals.{plain_flat, plain_node}
@@ -11,7 +11,6 @@ use Rattle.mc_model.specs.declared.inst.Sig.{Sig}
 use Rattle.mc_model.specs.declared.flat.Normal.{Normal}
 use Rattle.mc_model.specs.declared.sched.Proc.{Proc}
 use Rattle.mc_accepted.specs.Arranged.{Verdict, in_order}
-use Rattle.mc_accepted.specs.DeterminismFaults.{put_in, by_place, stands_before}
 use Rattle.mc_procs.specs.Procedures.{PlainProcs, with_insts}
 use Rattle.mc_mode_points.specs.declared.state.State.{State}
 use Rattle.mc_modes.specs.Arrangements.{Becomes}

@@ -2,14 +2,13 @@
 -- project's rules.)
 use Rattle.std.specs.Prelude.{◌≡◌, ◌++◌, Bool, false, List, [], length, map, get_or, All}
 use Rattle.std.specs.List.{AllZip}
-use Rattle.mc_source.specs.Rules.{first_rules}
+use Rattle.mc_source.specs.Rules.{first_rules, by_place}
 use Rattle.mc_source.specs.declared.rule.Broken.{Broken}
 use Rattle.mc_model.specs.PlainGoals.{plain_flat}
 use Rattle.mc_model.specs.declared.flat.Normal.{Normal}
 use Rattle.mc_model.specs.declared.inst.Sig.{Sig}
 use Rattle.mc_model.specs.declared.sched.Proc.{Proc}
 use Rattle.mc_accepted.specs.Arranged.{Verdict}
-use Rattle.mc_accepted.specs.DeterminismFaults.{by_place}
 use Rattle.mc_insts.specs.Growing.{Grown}
 use Rattle.mc_procs.specs.Procedures.{PlainProcs, source_of}
 use Rattle.mc_mode_points.specs.declared.state.State.{State}

@@ -9,7 +9,7 @@ use Rattle.std.specs.List.Sorted.{IsSortedBy, IsStableBy, ties}
 use Rattle.std.specs.Ordering.{is_lt, nat_cmp, ordering_then}
 use Rattle.std.specs.declared.cmp.Ordering.TheVariants.{Less, Equal, Greater}
 use Rattle.mc_source.specs.declared.rule.Broken.{Broken}
-use Rattle.mc_accepted.specs.DeterminismFaults.{stands_before, put_in, by_place}
+use Rattle.mc_source.specs.Rules.{stands_before, put_in, by_place}
 
 -- Lists in order that hold, of each class of elements that tie, the same ones in the same order, are
 -- one list.

@@ -1,5 +1,5 @@
 ghost use Rattle.std.specs.Prelude.{◌≡◌, OnOk};
-ghost use Rattle.mc_accepted.specs.DeterminismFaults.{by_place};
+ghost use Rattle.mc_source.specs.Rules.{by_place};
 
 use mc_base::Memory;
 use mc_source::rule::Broken;

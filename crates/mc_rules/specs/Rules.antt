@@ -11,7 +11,8 @@ use Rattle.mc_program.specs.declared.program.Program.{Program}
 use Rattle.mc_model.specs.Outcomes.{Outcome}
 use Rattle.mc_model.specs.declared.flat.Normal.{Normal}
 use Rattle.mc_model.specs.declared.inst.Sig.{Sig}
-use Rattle.mc_accepted.specs.DeterminismFaults.{determinism_faults, by_place}
+use Rattle.mc_accepted.specs.DeterminismFaults.{determinism_faults}
+use Rattle.mc_source.specs.Rules.{by_place}
 use Rattle.mc_accepted.specs.InstRules.{PlainInstDef}
 use Rattle.mc_procs.specs.Fitting.{AllFit}
 use Rattle.mc_procs.specs.Procedures.{PlainProcs, insts_of}

@@ -1,9 +1,9 @@
 use Rattle.std.proofs.Common.{◌∙◌, ℕ, Bool, List, ◌++◌, length}
 use Rattle.std.specs.List.{list_any}
-use Rattle.mc_source.specs.Rules.{first_rules}
+use Rattle.mc_source.specs.Rules.{first_rules, by_place}
 use Rattle.mc_model.specs.Lists.{from}
 use Rattle.mc_accepted.specs.Inferred.{DeclaredSystem, system_of}
-use Rattle.mc_accepted.specs.DeterminismFaults.{by_place, is_main, procedure_fault}
+use Rattle.mc_accepted.specs.DeterminismFaults.{is_main, procedure_fault}
 use Rattle.mc_procs.specs.Procedures.{source_of}
 use Rattle.mc_det.specs.Determinisms.{declared_procedure, declared_system}
 use Rattle.mc_det_rules.specs.code.Entry.{main_by}

@@ -1,9 +1,9 @@
 use Rattle.std.proofs.Common.{List, ◌++◌, length, sym, ap, ap₂, ◌∙◌}
-use Rattle.mc_source.specs.Rules.{broken_at, first_rules}
+use Rattle.mc_source.specs.Rules.{broken_at, first_rules, by_place}
 use Rattle.mc_source.specs.declared.rule.Broken.{Broken}
 use Rattle.mc_model.specs.Lists.{from}
 use Rattle.mc_model.specs.Good.{System}
-use Rattle.mc_accepted.specs.DeterminismFaults.{procedure_fault, by_place}
+use Rattle.mc_accepted.specs.DeterminismFaults.{procedure_fault}
 use Rattle.mc_skeletons.specs.Least.{assigned}
 use Rattle.mc_det.specs.Determinisms.{declared_procedure}
 use Rattle.mc_det.specs.MarkedProcedures.{determinisms_of}

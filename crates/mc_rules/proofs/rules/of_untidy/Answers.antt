@@ -2,7 +2,7 @@ use Rattle.std.proofs.Common.{◌≡◌, ℕ, List, length, sym, ap, subst, ◌�
 use Rattle.std.specs.List.{All}
 use Rattle.mc_program.specs.PlainPrograms.{plain_program}
 use Rattle.mc_model.specs.Insts.{Graph}
-use Rattle.mc_accepted.specs.DeterminismFaults.{by_place}
+use Rattle.mc_source.specs.Rules.{by_place}
 use Rattle.mc_insts.specs.Graphs.{graph_of, count_of}
 use Rattle.mc_procs.specs.Procedures.{PlainProcs, insts_of}
 use Rattle.mc_modes.specs.Signatures.{SigsFit}
