@@ -11,8 +11,6 @@ mod procs_run;
 mod run;
 mod status;
 mod stop;
-#[cfg(test)]
-mod tests;
 mod top;
 mod write;
 

@@ -9,6 +9,3 @@ mod words;
 pub use goal::query_text;
 pub use limits::Bounds;
 pub use words::{Command, read_words};
-
-#[cfg(test)]
-mod tests;

@@ -6,8 +6,6 @@ mod coming_back;
 mod law;
 mod numbering;
 mod search;
-#[cfg(test)]
-mod tests;
 
 pub use coming_back::{one_comes_back, reaches_itself};
 pub use law::reached_by_ways;

@@ -4,4 +4,12 @@
 #[cfg(test)]
 mod base_tests;
 #[cfg(test)]
+mod copy_tests;
+#[cfg(test)]
+mod data_tests;
+#[cfg(test)]
+mod det_tests;
+#[cfg(test)]
 mod outside_tests;
+#[cfg(test)]
+mod var_set_tests;

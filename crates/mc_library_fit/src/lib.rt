@@ -6,8 +6,6 @@ mod declared;
 mod fit;
 mod laws;
 mod predicates;
-#[cfg(test)]
-mod tests;
 mod types;
 
 pub use fit::library_fits;

@@ -6,8 +6,6 @@ ghost use Rattle.mc_print_roundtrip.specs.Whole.{ValuesReadBack, PrintedValuesRe
 ghost use Rattle.mc_print_roundtrip.specs.code.Examples.{OpenList, Quotes, NoOthers};
 
 mod back;
-#[cfg(test)]
-mod tests;
 
 pub use back::read_back;
 use mc_term_parser::at_most_one_term;

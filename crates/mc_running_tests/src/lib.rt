@@ -3,3 +3,5 @@
 
 #[cfg(test)]
 mod builtins;
+#[cfg(test)]
+mod values_tests;

@@ -6,3 +6,5 @@
 mod search_tests;
 #[cfg(test)]
 mod subst_tests;
+#[cfg(test)]
+mod components_tests;

@@ -479,6 +479,3 @@ impl Heap {
         Ok(true)
     }
 }
-
-#[cfg(test)]
-mod tests;
