@@ -1,7 +1,8 @@
 //! Reads the items of a file from standard input, and says how many there are, or how many are faulty.
 #![tactic(auto)]
 
-use mc_items::{ItemsFault, read_items};
+use mc_decl_syntax::ItemsFault;
+use mc_items::read_items;
 use std::alloc::Global;
 use std::io::{self, Read};
 

@@ -4,7 +4,8 @@
 #![tactic(auto)]
 
 use mc_base::Row;
-use mc_items::{Entry, ItemsFault, read_items};
+use mc_decl_syntax::{Entry, ItemsFault};
+use mc_items::read_items;
 use mc_modules::link;
 use std::alloc::{AllocError, Global};
 use std::{env, io};

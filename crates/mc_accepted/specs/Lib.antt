@@ -18,6 +18,7 @@ pub mod Least
 pub mod MergedArms
 pub mod Normal
 pub mod MostGeneral
+pub mod NormalGoals
 pub mod NormalTypes
 pub mod Ordered
 pub mod Proper

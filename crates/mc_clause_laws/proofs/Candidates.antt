@@ -9,10 +9,10 @@ use lib.Utf8.{scalar, scalars}
 use Rattle.mc_source.specs.declared.name.Candidate.{Candidate}
 use Rattle.mc_source.specs.declared.name.Candidate.TheVariants as C
 use Rattle.mc_decl_syntax.specs.Plain.{Path}
-use Rattle.mc_defs_uses.specs.Plain.{PlainNameArity, id, qualifiers, last_part}
-use Rattle.mc_linking.specs.Visible.{sole, sole_character, character}
-use Rattle.mc_modules.specs.Linked.{Defined, Linked}
-use Rattle.mc_modules.specs.Candidates.{defined_by, fits, fitting, fitting_in, looked_in, as_character, candidates}
+use Rattle.mc_names.specs.Plain.{PlainNameArity, id, qualifiers, last_part}
+use Rattle.mc_names.specs.Characters.{sole, sole_character, character}
+use Rattle.mc_names.specs.Linked.{Defined, Linked}
+use Rattle.mc_names.specs.Candidates.{defined_by, fits, fitting, fitting_in, looked_in, as_character, candidates}
 use Rattle.mc_clauses.specs.Unresolved.{meanings}
 use Rattle.mc_clause_laws.specs.ClauseLaws.{IsThere}
 

@@ -10,7 +10,7 @@ use Rattle.mc_program.specs.Programs.{Source}
 use Rattle.mc_model.specs.Lists.{In}
 use Rattle.mc_model.specs.Types.{IsValue}
 use Rattle.mc_accepted.specs.Resolving.{Unresolved, any_variable, any_number, any_text, any_name, Unresolved_terms, no_terms, term_then, Unresolved_goal, equation, atom, all_of, one_of, choice, negation, exists, Unresolved_goals, no_goals, goal_then, count, Step, push_variable, push_number, push_text, equate, choose, call, close_head, term_steps, terms_steps, goal_steps, goals_steps}
-use Rattle.mc_modules.specs.Linked.{Linked}
+use Rattle.mc_names.specs.Linked.{Linked}
 use Rattle.mc_made_types.specs.Known.{HasValues, AllHaveValues, GoalHasValues, GoalsHaveValues, AllLess, HasNames, AllHaveNames, GoalHasNames, GoalsHaveNames}
 use Rattle.mc_laws.proofs.FlatGoals.{in_left, in_right}
 use Rattle.mc_clauses.specs.Variables.{Met, nothing_met}

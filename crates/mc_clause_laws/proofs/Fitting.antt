@@ -11,20 +11,22 @@ use Rattle.mc_source.specs.declared.place.Place.{Place}
 use Rattle.mc_program.specs.Programs.{TypeTerm}
 use Rattle.mc_accepted.specs.Resolving.{Unresolved, any_variable, any_number, any_text, any_name, Unresolved_terms, no_terms, term_then, Unresolved_goal, equation, atom, all_of, one_of, choice, negation, exists, Unresolved_goals, no_goals, goal_then, Unresolved_clause, count, Step, equate, choose, call, close_head, term_steps, terms_steps, goal_steps, goals_steps, steps_of}
 use Rattle.mc_decl_syntax.specs.Plain.{PlainDecl, ModuleStart, ModuleEnd, Interface, Implementation, Imports, UseOnly, AbstractType, UnionType, SameType, SameInst, BoundInst, ModeDef, Pred, Func, Mode, Pragma, Clause}
-use Rattle.mc_defs_uses.specs.declared.definition.Kind.{Kind}
-use Rattle.mc_defs_uses.specs.declared.definition.Kind.TheVariants as K
-use Rattle.mc_defs_uses.specs.Plain.{PlainDefinition, definition, is_definition}
-use Rattle.mc_defs_uses.specs.Definitions.{head_name}
+use Rattle.mc_names.specs.declared.definition.Kind.{Kind}
+use Rattle.mc_names.specs.declared.definition.Kind.TheVariants as K
+use Rattle.mc_names.specs.Plain.{PlainDefinition, definition, is_definition}
+use Rattle.mc_names.specs.Definitions.{head_name}
 use Rattle.mc_defs_uses.specs.Clauses.{clause_of}
-use Rattle.mc_linking.specs.Files.{File, PlainItemInFile, items_in_file, definitions_of, shown_of, has}
-use Rattle.mc_modules.specs.Linked.{Defined, Linked, linked, defined, types_by, types_in, types_of, constructors, symbols_by, symbols_in, symbols_of, name_of, each, flat}
-use Rattle.mc_modules.specs.Candidates.{fitting}
+use Rattle.mc_decl_syntax.specs.Entries.{File}
+use Rattle.mc_linking.specs.Files.{PlainItemInFile, items_in_file, definitions_of, shown_of, has}
+use Rattle.mc_names.specs.Linked.{Defined, Linked, home}
+use Rattle.mc_modules.specs.Linked.{linked, defined, types_by, types_in, types_of, constructors, symbols_by, symbols_in, symbols_of, name_of, each, flat}
+use Rattle.mc_names.specs.Candidates.{fitting}
 use Rattle.mc_typecheck.specs.declared.table.Signatures.{Signatures}
 use Rattle.mc_check_clause.specs.Fitting.{is_there, all_there, step_fits, each_fits}
-use Rattle.mc_type_table.specs.Written.{home, parameters_of}
+use Rattle.mc_names.specs.Parameters.{parameters_of}
 use Rattle.mc_clauses.specs.Unresolved.{unresolved_clause, unresolved_query}
-use Rattle.mc_clauses.specs.Declarations.{constructors_in, constructors_by, constructors_from}
-use Rattle.mc_clauses.specs.Typing.{ModuleClause, number_among, clause_predicate, clause_item, module_clauses, clauses_from}
+use Rattle.mc_declarations.specs.Declarations.{constructors_in, constructors_by, constructors_from}
+use Rattle.mc_clause_phase.specs.Typing.{ModuleClause, number_among, clause_predicate, clause_item, module_clauses, clauses_from}
 use Rattle.mc_made_types.specs.Known.{HasNames, AllHaveNames, GoalHasNames, GoalsHaveNames}
 use Rattle.mc_clause_laws.specs.ClauseLaws.{IsThere}
 use Rattle.mc_clause_laws.specs.FitLaws.{HasAll, ClausesFit, PredicatesAreThere, ConstructorsAreLinked}

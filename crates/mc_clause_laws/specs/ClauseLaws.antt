@@ -9,7 +9,7 @@ use Rattle.mc_program.specs.Values.{int, str}
 use Rattle.mc_program.specs.Programs.{Source}
 use Rattle.mc_model.specs.Types.{IsValue}
 use Rattle.mc_accepted.specs.Resolving.{Step, choose, call, steps_of}
-use Rattle.mc_modules.specs.Linked.{Linked}
+use Rattle.mc_names.specs.Linked.{Linked}
 use Rattle.mc_made_types.specs.Known.{ClauseHasValues, ClauseHasNames}
 use Rattle.mc_clauses.specs.Unresolved.{Numbered_clause, unresolved_clause, unresolved_query}
 use Rattle.mc_clause_laws.specs.Mentioned.{ClauseNamesItsOwn}

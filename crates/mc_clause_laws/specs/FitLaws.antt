@@ -1,18 +1,18 @@
 -- Clauses and queries fit the table of what their program declares: their variables have names, and
 -- what their names may mean, and the predicate that they are of, stand there. (Mercury Language
 -- Reference Manual: Types; this project's profile.)
-use Rattle.std.specs.Prelude.{◌≡◌, ◌<◌, ℕ, suc, true, List, length, Contains}
+use Rattle.std.specs.Prelude.{◌≡◌, ◌<◌, ℕ, suc, true, List, length, Contains, Option}
 use Rattle.mc_term_data.specs.Plain.{PlainTerm}
 use Rattle.mc_program.specs.Programs.{TypeTerm}
-use Rattle.std.specs.Prelude.{Option}
 use Rattle.mc_accepted.specs.Resolving.{steps_of}
-use Rattle.mc_linking.specs.Files.{File}
-use Rattle.mc_modules.specs.Linked.{Linked, linked}
+use Rattle.mc_decl_syntax.specs.Entries.{File}
+use Rattle.mc_names.specs.Linked.{Linked}
+use Rattle.mc_modules.specs.Linked.{linked}
 use Rattle.mc_typecheck.specs.declared.table.Signatures.{Signatures}
 use Rattle.mc_check_clause.specs.Fitting.{each_fits}
 use Rattle.mc_clauses.specs.Unresolved.{Numbered_clause, unresolved_clause, unresolved_query}
-use Rattle.mc_clauses.specs.Declarations.{constructors_from}
-use Rattle.mc_clauses.specs.Typing.{ModuleClause, clauses_from}
+use Rattle.mc_declarations.specs.Declarations.{constructors_from}
+use Rattle.mc_clause_phase.specs.Typing.{ModuleClause, clauses_from}
 
 -- a table has the constructors of a program and its predicates, and behind these that of a query
 pub record HasAll (l : Linked) (table : Signatures) : Type 0 where

@@ -8,9 +8,9 @@ use Rattle.mc_program.specs.Programs.{TypeTerm}
 use Rattle.mc_accepted.specs.Resolving.{Unresolved_clause}
 use Rattle.mc_unresolved.specs.Unresolved.{plain_unresolved_clause}
 use Rattle.mc_unresolved.specs.declared.clause.UnresolvedClause.{UnresolvedClause}
-use Rattle.mc_modules.specs.Linked.{Linked}
-use Rattle.mc_clauses.specs.Declarations.{parameter_counts}
-use Rattle.mc_clauses.specs.Typing.{TypingSays}
+use Rattle.mc_names.specs.Linked.{Linked}
+use Rattle.mc_declarations.specs.Declarations.{parameter_counts}
+use Rattle.mc_clause_phase.specs.Typing.{TypingSays}
 use Rattle.mc_clause_phase.specs.Items.{Item}
 use Rattle.mc_clause_phase.specs.Judging.{source_of, AreFaults, AreTyped, typed_clauses, IsJudged}
 use Rattle.mc_clause_phase.specs.code.Adding.{IsVerdict, WasPut, Adds}

@@ -3,8 +3,8 @@ use Rattle.std.proofs.Common.{◌≡◌, ℕ, ◌+◌, ◌<◌, ◌≤◌, Bool,
 use Rattle.std.specs.Prelude.{Option, if◌then◌else◌}
 use Rattle.std.proofs.lemmas.List.{at_drop_more, drop_more, drop_all}
 use Rattle.mc_source.specs.declared.name.Candidate.{Candidate}
-use Rattle.mc_defs_uses.specs.declared.definition.Kind.{Kind}
-use Rattle.mc_clauses.specs.Typing.{same_candidate, first_difference, number_among}
+use Rattle.mc_names.specs.declared.definition.Kind.{Kind}
+use Rattle.mc_clause_phase.specs.Typing.{same_candidate, first_difference, number_among}
 use Rattle.mc_clause_phase.specs.code.Adding.{number_as}
 use Rattle.mc_clause_phase.proofs.Entries.{first_number, other_number}
 

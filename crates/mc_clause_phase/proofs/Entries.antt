@@ -11,12 +11,12 @@ use Rattle.mc_decl_syntax.specs.declared.item.Decl.{Decl}
 use Rattle.mc_decl_syntax.specs.declared.item.Decl.TheVariants as D
 use Rattle.mc_decl_syntax.specs.Plain.{PlainDecl, Clause, plain_item}
 use Rattle.mc_defs_uses.specs.Clauses.{clause_of}
-use Rattle.mc_defs_uses.specs.declared.definition.Kind.{Kind}
-use Rattle.mc_defs_uses.specs.declared.definition.Kind.TheVariants as K
-use Rattle.mc_items.specs.declared.entry.Entry.{Entry}
-use Rattle.mc_items.specs.Files.{plain_entry}
-use Rattle.mc_modules.specs.Linked.{Linked}
-use Rattle.mc_clauses.specs.Typing.{clause_item, clause_predicate, number_among, module_clauses}
+use Rattle.mc_names.specs.declared.definition.Kind.{Kind}
+use Rattle.mc_names.specs.declared.definition.Kind.TheVariants as K
+use Rattle.mc_decl_syntax.specs.declared.entry.Entry.{Entry}
+use Rattle.mc_decl_syntax.specs.Entries.{plain_entry}
+use Rattle.mc_names.specs.Linked.{Linked}
+use Rattle.mc_clause_phase.specs.Typing.{clause_item, clause_predicate, number_among, module_clauses}
 use Rattle.mc_clause_phase.specs.Items.{Item, clause_item as item_of}
 use Rattle.mc_clause_phase.specs.code.Adding.{entry_clauses, number_as}
 

@@ -1,11 +1,10 @@
 -- The clauses of files, one file behind another.
 use Rattle.std.proofs.Common.{◌≡◌, ℕ, suc, ◌+◌, List, [], ◌∷◌, ◌++◌, map, sym, ap, ◌∙◌, arith}
 use Rattle.std.proofs.lemmas.List.{append-nil, append_assoc, map-append}
-use Rattle.mc_items.specs.declared.entry.Entry.{Entry}
-use Rattle.mc_items.specs.Files.{plain_entry}
-use Rattle.mc_linking.specs.Files.{plain_files}
-use Rattle.mc_modules.specs.Linked.{Linked}
-use Rattle.mc_clauses.specs.Typing.{module_clauses, clauses_from}
+use Rattle.mc_decl_syntax.specs.declared.entry.Entry.{Entry}
+use Rattle.mc_decl_syntax.specs.Entries.{plain_entry, plain_files}
+use Rattle.mc_names.specs.Linked.{Linked}
+use Rattle.mc_clause_phase.specs.Typing.{module_clauses, clauses_from}
 use Rattle.mc_clause_phase.specs.Items.{Item, clause_item}
 
 -- the items of the files from one on

@@ -3,7 +3,7 @@ use Rattle.std.proofs.Common.{◌≡◌, ℕ, subst}
 use Rattle.std.specs.Prelude.{Option, Some}
 use Rattle.std.proofs.Math.Path.{fun_ext}
 use Rattle.mc_program.specs.Programs.{TypeTerm}
-use Rattle.mc_modules.specs.Linked.{Linked}
+use Rattle.mc_names.specs.Linked.{Linked}
 use Rattle.mc_type_table.specs.Sight.{definitions_seen}
 use Rattle.mc_check_clause.specs.Fitting.{IsSomeTable}
 use Rattle.mc_clause_phase.specs.code.Adding.{Checks, IsAtHand}

@@ -8,8 +8,8 @@ use Rattle.mc_source.specs.declared.rule.Rule.TheVariants as R
 use Rattle.mc_program.specs.Programs.{TypeTerm, Source}
 use Rattle.mc_accepted.specs.ProperTypes.{Parameters}
 use Rattle.mc_accepted.specs.Resolving.{Unresolved_clause, WellTyped, FirstTwo, Before, Earlier, names_of, steps_of}
-use Rattle.mc_modules.specs.Linked.{Linked}
-use Rattle.mc_clauses.specs.Typing.{TypingSays, too_many, has_none, has_two, has_one, difference}
+use Rattle.mc_names.specs.Linked.{Linked}
+use Rattle.mc_clause_phase.specs.Typing.{TypingSays, too_many, has_none, has_two, has_one, difference}
 use Rattle.mc_clause_phase.specs.Items.{Item}
 use Rattle.mc_clause_phase.specs.Judging.{AreFaults}
 

@@ -5,11 +5,10 @@ use Rattle.std.proofs.lemmas.List.{append-nil, append_assoc, map-append, drop_mo
 use Rattle.mc_source.specs.declared.place.Place.{Place}
 use Rattle.mc_decl_syntax.specs.Plain.{PlainDecl, Clause, plain_item}
 use Rattle.mc_defs_uses.specs.Clauses.{clause_of}
-use Rattle.mc_items.specs.declared.entry.Entry.{Entry}
-use Rattle.mc_items.specs.Files.{plain_entry}
-use Rattle.mc_linking.specs.Files.{File, plain_files}
-use Rattle.mc_modules.specs.Linked.{Linked}
-use Rattle.mc_clauses.specs.Typing.{ModuleClause, clause_item, clause_predicate, module_clauses}
+use Rattle.mc_decl_syntax.specs.declared.entry.Entry.{Entry}
+use Rattle.mc_decl_syntax.specs.Entries.{plain_entry, File, plain_files}
+use Rattle.mc_names.specs.Linked.{Linked}
+use Rattle.mc_clause_phase.specs.Typing.{ModuleClause, clause_item, clause_predicate, module_clauses}
 use Rattle.mc_clause_phase.specs.Items.{is_clause, without_clauses}
 
 -- an item that is no clause adds none

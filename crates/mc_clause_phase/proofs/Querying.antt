@@ -6,8 +6,8 @@ use Rattle.mc_term_data.specs.declared.term.Term.{Term}
 use Rattle.mc_term_data.specs.declared.term.Node.TheFolds.{fold-roll-Term}
 use Rattle.mc_source.specs.declared.place.Place.{Place}
 use Rattle.mc_state_variables.specs.Numbered.{numbered_goal, line_of}
-use Rattle.mc_modules.specs.declared.names.Names.{Names}
-use Rattle.mc_modules.specs.Linked.{Linked, plain_names, plain_named}
+use Rattle.mc_names.specs.declared.names.Names.{Names}
+use Rattle.mc_names.specs.Linked.{Linked, plain_names, plain_named}
 use Rattle.mc_clauses.specs.Unresolved.{unresolved_query}
 
 line_so : (t : Term) → t.line ≡ line_of (plain_term t)

@@ -8,9 +8,9 @@ use Rattle.mc_program.specs.PlainPrograms.{plain_program}
 use Rattle.mc_program.specs.declared.program.TypeDef.{TypeDef}
 use Rattle.mc_accepted.specs.ProperTypes.{Parameters}
 use Rattle.mc_unresolved.specs.declared.clause.UnresolvedClause.{UnresolvedClause}
-use Rattle.mc_modules.specs.Linked.{Defined, Linked, plain_names}
+use Rattle.mc_names.specs.Linked.{Defined, Linked, plain_names}
 use Rattle.mc_type_table.specs.Table.{constructor_count, table_from}
-use Rattle.mc_clauses.specs.Declarations.{declarations, parameter_counts}
+use Rattle.mc_declarations.specs.Declarations.{declarations, parameter_counts}
 use Rattle.mc_check_clause.specs.Tables.{parameters_in, IsTable}
 use Rattle.mc_clause_phase.specs.code.Adding.{IsVerdict, Checks}
 use Rattle.mc_clause_phase.specs.declared.checker.Checker.{Checker}

@@ -7,10 +7,9 @@ use Rattle.std.proofs.lemmas.List.{length-map}
 use Rattle.std.proofs.lemmas.Option.{slice_get_past, slice_get-map, slice_get_read}
 use Rattle.mc_program.specs.Programs.{TypeTerm}
 use Rattle.mc_decl_syntax.specs.Plain.{PlainDecl, SameType, plain_item}
-use Rattle.mc_modules.specs.declared.names.Named.{Named}
-use Rattle.mc_modules.specs.declared.names.Names.{Names}
-use Rattle.mc_modules.specs.Linked.{Defined, Linked, plain_named, plain_names}
-use Rattle.mc_type_table.specs.Written.{home}
+use Rattle.mc_names.specs.declared.names.Named.{Named}
+use Rattle.mc_names.specs.declared.names.Names.{Names}
+use Rattle.mc_names.specs.Linked.{Defined, Linked, plain_named, plain_names, home}
 use Rattle.mc_type_table.specs.Expanded.{equivalent, equivalent_by, equivalent_of}
 use Rattle.mc_type_table.specs.Rules.{definitions, goes_round}
 use Rattle.mc_type_table.specs.Sight.{sees_definition, definitions_seen}

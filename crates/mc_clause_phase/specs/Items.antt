@@ -4,11 +4,11 @@ use Rattle.std.specs.Prelude.{ℕ, Bool, true, false, List, [], ◌∷◌, ◌++
 use Rattle.mc_term_data.specs.Plain.{PlainTerm}
 use Rattle.mc_source.specs.declared.place.Place.{Place}
 use Rattle.mc_decl_syntax.specs.Plain.{PlainDecl, Clause}
-use Rattle.mc_linking.specs.Files.{File}
-use Rattle.mc_modules.specs.Linked.{Linked}
+use Rattle.mc_decl_syntax.specs.Entries.{File}
+use Rattle.mc_names.specs.Linked.{Linked}
 use Rattle.mc_state_variables.specs.Numbered.{numbered_goal, line_of}
 use Rattle.mc_clauses.specs.Unresolved.{Numbered_clause, unresolved_query}
-use Rattle.mc_clauses.specs.Typing.{ModuleClause, clauses_from, unresolved_of}
+use Rattle.mc_clause_phase.specs.Typing.{ModuleClause, clauses_from, unresolved_of}
 
 -- a clause before its names are resolved, the number of the module in which it stands, and its place
 pub record Item : Type 0 where

@@ -7,9 +7,9 @@ use Rattle.mc_source.specs.Rules.{Fault}
 use Rattle.mc_program.specs.Programs.{TypeTerm, Source}
 use Rattle.mc_unresolved.specs.Unresolved.{plain_unresolved_clause}
 use Rattle.mc_unresolved.specs.declared.clause.UnresolvedClause.{UnresolvedClause}
-use Rattle.mc_modules.specs.Linked.{Linked}
-use Rattle.mc_clauses.specs.Declarations.{declarations, parameter_counts}
-use Rattle.mc_clauses.specs.Typing.{TypingSays, AreTypingFaults}
+use Rattle.mc_names.specs.Linked.{Linked}
+use Rattle.mc_declarations.specs.Declarations.{declarations, parameter_counts}
+use Rattle.mc_clause_phase.specs.Typing.{TypingSays, AreTypingFaults}
 use Rattle.mc_check_clause.specs.Checked.{IsResolved}
 use Rattle.mc_clause_phase.specs.Items.{Item}
 use Rattle.mc_clause_phase.specs.declared.judged.TypedClause.{TypedClause}

@@ -1,3 +1,4 @@
+pub mod Typing
 pub mod Items
 pub mod Judging
 pub mod Laws

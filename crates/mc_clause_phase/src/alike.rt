@@ -1,15 +1,14 @@
 ghost use Rattle.std.specs.Prelude.{◌≡◌, ℕ, true, false, [], map};
 ghost use Rattle.mc_decl_syntax.specs.Plain.{plain_item};
-ghost use Rattle.mc_items.specs.Files.{plain_entry};
-ghost use Rattle.mc_modules.specs.Linked.{Linked, plain_names};
+ghost use Rattle.mc_decl_syntax.specs.Entries.{plain_entry};
+ghost use Rattle.mc_names.specs.Linked.{Linked, plain_names};
 ghost use Rattle.mc_type_table.specs.Sight.{definitions_seen};
-ghost use Rattle.mc_clauses.specs.Typing.{module_clauses};
+ghost use Rattle.mc_clause_phase.specs.Typing.{module_clauses};
 ghost use Rattle.mc_clause_phase.specs.Items.{is_clause, without_clauses};
 ghost use Rattle.mc_clause_phase.specs.code.ItemKinds.{is_equivalence};
 
-use mc_decl_syntax::Decl;
-use mc_items::Entry;
-use mc_modules::Names;
+use mc_decl_syntax::{Decl, Entry};
+use mc_names::Names;
 use mc_type_table::sees_definition;
 
 /// Whether there is a clause among the items of a file.

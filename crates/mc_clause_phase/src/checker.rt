@@ -1,6 +1,6 @@
 ghost use Rattle.std.specs.Prelude.{◌≡◌, IfOk};
 ghost use Rattle.mc_program.specs.PlainPrograms.{plain_program};
-ghost use Rattle.mc_modules.specs.Linked.{plain_names};
+ghost use Rattle.mc_names.specs.Linked.{plain_names};
 ghost use Rattle.mc_check_clause.specs.Fitting.{IsSomeTable};
 ghost use Rattle.mc_check_clause.specs.Tables.{parameters_in, IsTable};
 ghost use Rattle.mc_clause_phase.specs.code.Adding.{IsVerdict};

@@ -1,11 +1,11 @@
 ghost use Rattle.std.specs.Prelude.{◌≡◌, ◌++◌, [], map, slice_get, IfOk, OnOk};
 ghost use Rattle.mc_program.specs.PlainPrograms.{plain_program};
-ghost use Rattle.mc_modules.specs.Linked.{plain_named, plain_names};
-ghost use Rattle.mc_clauses.specs.Typing.{same_candidate, first_difference, either_name, candidate_name, candidate_text, whole_name, whole_name_of, name_or, difference};
+ghost use Rattle.mc_names.specs.Linked.{plain_named, plain_names};
+ghost use Rattle.mc_clause_phase.specs.Typing.{same_candidate, first_difference, either_name, candidate_name, candidate_text, whole_name, whole_name_of, name_or, difference};
 
 use itoa::Buffer;
 use mc_base::{Memory, Row, Text};
-use mc_modules::{Named, Names};
+use mc_names::{Named, Names};
 use mc_program::program::Program;
 use mc_source::name::{Candidate, Name};
 use std::alloc::Global;

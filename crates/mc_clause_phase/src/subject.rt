@@ -1,16 +1,17 @@
 ghost use Rattle.std.specs.Prelude.{◌≡◌, true, IfOk, OnOk};
 ghost use Rattle.mc_decl_syntax.specs.Plain.{plain_item};
 ghost use Rattle.mc_defs_uses.specs.Clauses.{clause_of};
-ghost use Rattle.mc_defs_uses.specs.Plain.{plain_definition};
-ghost use Rattle.mc_modules.specs.Linked.{plain_names};
-ghost use Rattle.mc_clauses.specs.Typing.{number_among, clause_predicate};
+ghost use Rattle.mc_names.specs.Plain.{plain_definition};
+ghost use Rattle.mc_names.specs.Linked.{plain_names};
+ghost use Rattle.mc_clause_phase.specs.Typing.{number_among, clause_predicate};
 ghost use Rattle.mc_clause_phase.specs.code.Adding.{number_as};
 ghost use Rattle.mc_clause_phase.specs.code.Subjects.{plain_subject, IsKnown};
 
 use crate::checker::Checker;
 use mc_base::{Memory, Text};
 use mc_decl_syntax::Decl;
-use mc_defs_uses::{Definition, Kind, clause_of};
+use mc_defs_uses::clause_of;
+use mc_names::{Definition, Kind};
 use mc_source::name::Candidate;
 use std::alloc::Global;
 

@@ -1,10 +1,10 @@
 ghost use Rattle.std.specs.Prelude.{◌≡◌, ◌++◌, ◌∷◌, [], map, OnOk};
-ghost use Rattle.mc_items.specs.Files.{plain_entry};
+ghost use Rattle.mc_decl_syntax.specs.Entries.{plain_entry};
 ghost use Rattle.mc_clause_phase.specs.Items.{without_clauses};
 
 use crate::alike::is_clause;
 use mc_base::Memory;
-use mc_items::Entry;
+use mc_decl_syntax::Entry;
 use std::alloc::Global;
 
 /// How many judged clauses are given up together.

@@ -5,7 +5,7 @@ use Rattle.mc_term_data.specs.declared.term.Term.{Term}
 use Rattle.mc_clause_syntax.specs.declared.goal_form.GoalForm.{GoalForm}
 use Rattle.mc_clause_syntax.specs.declared.goal_form.GoalForm.TheVariants as G
 use Rattle.mc_decl_syntax.specs.Plain.{Path}
-use Rattle.mc_modules.specs.Linked.{Linked}
+use Rattle.mc_names.specs.Linked.{Linked}
 use Rattle.mc_clauses.specs.Unresolved.{true_goal, goal_by}
 use Rattle.mc_clauses.specs.code.Views.{goal_over, goals_at}
 

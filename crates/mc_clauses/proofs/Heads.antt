@@ -2,7 +2,7 @@
 use Rattle.std.proofs.Common.{Bor, ◌≡◌, ℕ, List, [], ◌∷◌, ◌++◌, map, refl, ap, ap₂, sym, ◌∙◌}
 use Rattle.mc_term_data.specs.Plain.{PlainTerm, PlainTerms, no_term, more_terms}
 use Rattle.mc_accepted.specs.Resolving.{Unresolved as PlainUnresolved, Unresolved_terms, no_terms, term_then}
-use Rattle.mc_modules.specs.Linked.{Linked}
+use Rattle.mc_names.specs.Linked.{Linked}
 use Rattle.mc_unresolved.specs.declared.term.Unresolved.{Unresolved}
 use Rattle.mc_unresolved.specs.Unresolved.{plain_unresolved, unresolved_terms}
 use Rattle.mc_clauses.specs.Variables.{Numbers, Met}

@@ -3,7 +3,7 @@ use Rattle.std.proofs.Common.{Bor, ◌≡◌, ℕ, Bool, true, false, List, [], 
 use Rattle.mc_term_data.specs.Plain.{PlainTerm, plain_term, tms}
 use Rattle.mc_term_data.specs.declared.term.Term.{Term}
 use Rattle.mc_accepted.specs.Resolving.{Unresolved_goal, all_of, one_of, choice, negation, exists, Unresolved_goals, no_goals, goal_then}
-use Rattle.mc_modules.specs.Linked.{Linked, plain_names}
+use Rattle.mc_names.specs.Linked.{Linked, plain_names}
 use Rattle.mc_unresolved.specs.declared.goal.UnresolvedGoal.{UnresolvedGoal, AllOf, OneOf}
 use Rattle.mc_unresolved.proofs.Views.{plain-AllOf, plain-OneOf}
 use Rattle.mc_unresolved.specs.Unresolved.{plain_unresolved_goal, unresolved_goals}

@@ -7,7 +7,7 @@ use Rattle.std.specs.Option.{option_flatten}
 use Rattle.std.specs.Str.{bytes_eq}
 use Rattle.indexmap.specs.IndexMap.{insert_entry}
 use Rattle.mc_clause_syntax.specs.Limits.{is_anonymous}
-use Rattle.mc_linking.specs.Visibilities.{number_of}
+use Rattle.mc_names.specs.Numbers.{number_of}
 use Rattle.std.proofs.lemmas.Slice.Eq.{bytes_eq-Decides}
 use Rattle.mc_clauses.specs.Variables.{Numbers, Met, Quantified, named, variable_of}
 use Rattle.mc_clauses.specs.declared.variables.Variables.{Variables}

@@ -7,7 +7,7 @@ use Rattle.mc_accepted.specs.Resolving.{Unresolved as PlainUnresolved, any_name,
 use Rattle.mc_source.specs.declared.name.Candidate.{Candidate}
 use Rattle.mc_decl_syntax.specs.Plain.{Path}
 use Rattle.mc_defs_uses.specs.Occurrences.{cell_path}
-use Rattle.mc_modules.specs.Linked.{Linked}
+use Rattle.mc_names.specs.Linked.{Linked}
 use Rattle.mc_unresolved.specs.declared.term.Unresolved.{Unresolved, Name}
 use Rattle.mc_unresolved.proofs.Views.{plain-Name}
 use Rattle.mc_unresolved.specs.Unresolved.{plain_unresolved, unresolved_terms}

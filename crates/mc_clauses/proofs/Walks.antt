@@ -4,7 +4,7 @@ use Rattle.std.proofs.lemmas.Slice.Eq.{bytes_eq-Decides}
 use Rattle.std.specs.Str.{bytes_eq}
 use Rattle.mc_term_data.specs.Plain.{PlainTerm, PlainTerms, at, no_term, more_terms, Var, Int, Str, App, Items, Tailed, Conj, Disj}
 use Rattle.mc_clause_syntax.specs.Limits.{is_anonymous}
-use Rattle.mc_linking.specs.Visibilities.{number_of}
+use Rattle.mc_names.specs.Numbers.{number_of}
 use Rattle.mc_accepted.specs.Resolving.{any_variable}
 use Rattle.mc_clauses.specs.Variables.{Numbers, Met, Quantified, named, known_or_new, variable_of, one_quantified, all_quantified, listed, quantified_by}
 use Rattle.mc_clauses.specs.Unresolved.{Walk, made, on_made, both, under, variable_walk}

@@ -1,5 +1,3 @@
 pub mod Variables
 pub mod Unresolved
-pub mod Declarations
-pub mod Typing
 pub mod code

@@ -3,7 +3,7 @@
 use Rattle.std.specs.Prelude.{ℕ, List, [], ◌∷◌, ◌++◌, length, Option, Some, None, if◌then◌else◌}
 use Rattle.mc_term_data.specs.Plain.{PlainTerm, PlainTerms, at, no_term, more_terms, Var, Items}
 use Rattle.mc_clause_syntax.specs.Limits.{is_anonymous}
-use Rattle.mc_linking.specs.Visibilities.{number_of}
+use Rattle.mc_names.specs.Numbers.{number_of}
 
 -- names with the numbers of the variables that they mean, the innermost first
 abbrev pub Numbers : Type 0

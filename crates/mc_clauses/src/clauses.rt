@@ -1,6 +1,6 @@
 ghost use Rattle.std.specs.Prelude.{◌≡◌, IfOk, map};
 ghost use Rattle.mc_term_data.specs.Plain.{plain_term, tms};
-ghost use Rattle.mc_modules.specs.Linked.{plain_names};
+ghost use Rattle.mc_names.specs.Linked.{plain_names};
 ghost use Rattle.mc_unresolved.specs.Unresolved.{plain_unresolved, unresolved_terms, plain_unresolved_clause};
 ghost use Rattle.mc_clauses.specs.Unresolved.{unresolved_clause, unresolved_query, arguments_of, source_name};
 ghost use Rattle.mc_clauses.specs.code.Walking.{Walked};

@@ -2,14 +2,14 @@ ghost use Rattle.std.specs.Prelude.{◌≡◌, IfOk, map, ◌∷◌, []};
 ghost use Rattle.mc_accepted.specs.Resolving.{any_name, no_terms};
 ghost use Rattle.mc_defs_uses.specs.Occurrences.{nil_path};
 ghost use Rattle.mc_term_data.specs.Plain.{plain_term};
-ghost use Rattle.mc_modules.specs.Linked.{plain_names};
+ghost use Rattle.mc_names.specs.Linked.{plain_names};
 ghost use Rattle.mc_unresolved.specs.Unresolved.{plain_unresolved, unresolved_terms};
 ghost use Rattle.mc_clauses.specs.Unresolved.{meanings};
 ghost use Rattle.mc_clauses.specs.code.Walking.{Walked, term_walk, terms_walk, cells_over, joined_over, nested_over};
 
 use crate::variables::Variables;
 use mc_base::{Copied, Memory, Row, Text};
-use mc_modules::Names;
+use mc_names::Names;
 use mc_source::name::Candidate;
 use mc_term_data::{Node, Term};
 use mc_unresolved::Unresolved;

@@ -5,7 +5,7 @@ use Rattle.mc_term_data.specs.Plain.{PlainTerm}
 use Rattle.mc_term_data.specs.declared.term.Term.{Term}
 use Rattle.mc_source.specs.declared.rule.Broken.{Broken}
 use Rattle.mc_items.specs.Queries.{IsQueryRefusal}
-use Rattle.mc_items.specs.declared.entry.ItemsFault.TheVariants as I
+use Rattle.mc_decl_syntax.specs.declared.entry.ItemsFault.TheVariants as I
 use Rattle.mc_model.specs.declared.inst.Sig.{Sig}
 use Rattle.mc_procs.specs.Procedures.{PlainProcs}
 use Rattle.mc_rules.specs.declared.rules.Ruled.{Ruled}

@@ -2,10 +2,9 @@
 use Rattle.std.proofs.Common.{◌≡◌, ℕ, List, [], map, take, length, min, Ok, Err, sym, ap, ap₂, ◌∙◌, subst}
 use Rattle.std.proofs.lemmas.List.{length-map, length-take, take-map}
 use Rattle.mc_source.specs.declared.rule.Broken.{Broken}
-use Rattle.mc_items.specs.declared.entry.Entry.{Entry}
-use Rattle.mc_items.specs.Files.{plain_entry}
-use Rattle.mc_linking.specs.Files.{File, plain_files}
-use Rattle.mc_modules.specs.Linked.{plain_names}
+use Rattle.mc_decl_syntax.specs.declared.entry.Entry.{Entry}
+use Rattle.mc_decl_syntax.specs.Entries.{plain_entry, File, plain_files}
+use Rattle.mc_names.specs.Linked.{plain_names}
 use Rattle.mc_type_table.specs.Sight.{definitions_seen}
 use Rattle.mc_clause_phase.specs.Items.{without_clauses}
 use Rattle.mc_clause_phase.specs.Judging.{IsJudged}

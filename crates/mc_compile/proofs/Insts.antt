@@ -1,8 +1,8 @@
 -- What the phase of insts makes and refuses, of files whose clauses were given up.
 use Rattle.std.proofs.Common.{◌≡◌, List, [], Ok, Err, refl, sym, ◌∙◌, subst}
 use Rattle.mc_source.specs.declared.rule.Broken.{Broken}
-use Rattle.mc_linking.specs.Files.{plain_files}
-use Rattle.mc_modules.specs.Linked.{plain_names}
+use Rattle.mc_decl_syntax.specs.Entries.{plain_files}
+use Rattle.mc_names.specs.Linked.{plain_names}
 use Rattle.mc_inst_table.specs.Rules.{items_from, AreInstFaults}
 use Rattle.mc_compile.specs.declared.given.CompileFault.TheVariants as F
 use Rattle.mc_compile.specs.declared.typed.Typed.{Typed}

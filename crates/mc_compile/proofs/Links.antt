@@ -4,19 +4,18 @@ use Rattle.std.proofs.lemmas.List.{length-map, take-map}
 use Rattle.std.proofs.Math.Seq.{take-append_seam}
 use Rattle.mc_term_data.specs.Plain.{PlainTerm}
 use Rattle.mc_source.specs.declared.rule.Broken.{Broken}
-use Rattle.mc_items.specs.declared.entry.Entry.{Entry}
-use Rattle.mc_items.specs.Files.{plain_entry}
-use Rattle.mc_linking.specs.Files.{File, plain_files}
-use Rattle.mc_modules.specs.declared.names.Names.{Names}
-use Rattle.mc_modules.specs.Linked.{Linked, linked, plain_names}
-use Rattle.mc_compile.specs.Reading.{plain_goal}
+use Rattle.mc_decl_syntax.specs.declared.entry.Entry.{Entry}
+use Rattle.mc_decl_syntax.specs.Entries.{plain_entry, File, plain_files}
+use Rattle.mc_names.specs.declared.names.Names.{Names}
+use Rattle.mc_names.specs.Linked.{Linked, plain_names}
+use Rattle.mc_modules.specs.Linked.{linked}
+use Rattle.mc_compile.specs.Reading.{plain_goal, plain_read}
 use Rattle.mc_compile.specs.declared.given.CompileFault.{CompileFault}
 use Rattle.mc_compile.specs.declared.given.CompileFault.TheVariants as F
 use Rattle.mc_compile.specs.declared.named.Named.{Named}
 use Rattle.mc_compile.specs.declared.reading.Read.{Read}
 use Rattle.mc_compile.specs.Phases.{Breaks, Tells, Viewed}
 use Rattle.mc_compile.specs.Library.{library_texts}
-use Rattle.mc_compile.specs.Reading.{plain_read}
 use Rattle.mc_compile.specs.Linking.{library_behind, rules_in, linking_rules_of, PlainNamed, plain_named, linked_with, Links}
 use Rattle.mc_compile.specs.code.Reader.{IsRejected, IsWithLibrary}
 use Rattle.mc_compile.proofs.Chains.{broken_up, none_broken}

@@ -8,8 +8,8 @@ use Rattle.mc_term_data.specs.Plain.{PlainTerm}
 use Rattle.mc_program.specs.declared.program.Resolved.{Resolved}
 use Rattle.mc_model.specs.declared.inst.Sig.{Sig}
 use Rattle.mc_state_variables.specs.Numbered.{line_of}
-use Rattle.mc_linking.specs.Files.{plain_files}
-use Rattle.mc_modules.specs.Linked.{plain_names}
+use Rattle.mc_decl_syntax.specs.Entries.{plain_files}
+use Rattle.mc_names.specs.Linked.{plain_names}
 use Rattle.mc_type_table.specs.Sight.{definitions_seen}
 use Rattle.mc_goals.specs.Resolved.{typed_clause}
 use Rattle.mc_clause_phase.specs.Items.{without_clauses}

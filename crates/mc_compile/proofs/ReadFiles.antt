@@ -4,18 +4,17 @@ use Rattle.std.proofs.lemmas.List.{append-nil, map-append, take_all}
 use Rattle.mc_term_data.specs.Plain.{PlainTerm}
 use Rattle.mc_term_data.specs.declared.term.Term.{Term}
 use Rattle.mc_source.specs.declared.rule.Broken.{Broken}
-use Rattle.mc_items.specs.declared.entry.Entry.{Entry}
+use Rattle.mc_decl_syntax.specs.declared.entry.Entry.{Entry}
 use Rattle.mc_items.specs.Verdicts.{PlainVerdict, kept, breaks}
-use Rattle.mc_items.specs.declared.entry.ItemsFault.TheVariants as I
-use Rattle.mc_items.specs.Files.{plain_entry, broken_in, too_long_in, IsWhole, IsRefusal}
-use Rattle.mc_linking.specs.Files.{File, plain_files}
-use Rattle.mc_compile.specs.Reading.{plain_goal}
+use Rattle.mc_decl_syntax.specs.declared.entry.ItemsFault.TheVariants as I
+use Rattle.mc_decl_syntax.specs.Entries.{plain_entry, File, plain_files}
+use Rattle.mc_items.specs.Files.{broken_in, too_long_in, IsWhole, IsRefusal}
+use Rattle.mc_compile.specs.Reading.{plain_goal, greatest_sources, Reading, FileReads, FilesRead, QueryReads, counted, rules_of, rules_from, items_of, items_from, AreRead, PlainRead, plain_read, reading_rules, read_as, Reads}
 use Rattle.mc_compile.specs.declared.given.CompileFault.{CompileFault}
 use Rattle.mc_compile.specs.declared.given.CompileFault.TheVariants as C
 use Rattle.mc_compile.specs.declared.reader.Reader.{Reader}
 use Rattle.mc_compile.specs.Phases.{Breaks, Tells, Viewed}
 use Rattle.mc_compile.specs.Sources.{Sources}
-use Rattle.mc_compile.specs.Reading.{greatest_sources, Reading, FileReads, FilesRead, QueryReads, counted, rules_of, rules_from, items_of, items_from, AreRead, PlainRead, plain_read, reading_rules, read_as, Reads}
 use Rattle.mc_compile.specs.code.Reader.{IsRejected, IsOneMore, IsQueryRead, IsLibraryRead}
 use Rattle.mc_compile.proofs.Chains.{broken_up, none_broken}
 use Rattle.mc_compile.proofs.Lists.{first_empty, second_empty, both_empty, map_more}

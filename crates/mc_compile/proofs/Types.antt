@@ -2,7 +2,7 @@
 use Rattle.std.proofs.Common.{◌≡◌, List, [], Ok, Err, ap, sym, subst, ◌∙◌}
 use Rattle.mc_source.specs.declared.rule.Broken.{Broken}
 use Rattle.mc_program.specs.declared.program.TypeDef.{TypeDef}
-use Rattle.mc_modules.specs.Linked.{plain_names}
+use Rattle.mc_names.specs.Linked.{plain_names}
 use Rattle.mc_type_table.specs.Rules.{type_faults}
 use Rattle.mc_type_table.specs.Table.{table}
 use Rattle.mc_compile.specs.declared.given.CompileFault.TheVariants as F

@@ -7,9 +7,8 @@ use Rattle.std.proofs.Math.Path.{fun_ext}
 use Rattle.mc_source.specs.declared.place.Place.{Place}
 use Rattle.mc_source.specs.declared.rule.Broken.{Broken}
 use Rattle.mc_decl_syntax.specs.Plain.{PlainDecl, Clause}
-use Rattle.mc_linking.specs.Files.{File}
-use Rattle.mc_modules.specs.Linked.{Defined, Linked}
-use Rattle.mc_type_table.specs.Written.{home}
+use Rattle.mc_decl_syntax.specs.Entries.{File}
+use Rattle.mc_names.specs.Linked.{Defined, Linked, home}
 use Rattle.mc_clause_phase.specs.Items.{is_clause, without_clauses}
 use Rattle.mc_inst_table.specs.Rules.{InstItem, module_items, items_from, InstSays, is_sound, AreInstFaults, item_then}
 use Rattle.mc_declared_modes.specs.WrittenModes.{PlainMode, Callable, callable, callable_of, is_that, mode_by, modes_by, modes_among, modes_of, or_default, declared_modes}

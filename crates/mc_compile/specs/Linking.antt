@@ -4,12 +4,13 @@ use Rattle.std.specs.Prelude.{◌≡◌, ℕ, ◌+◌, List, [], ◌++◌, lengt
 use Rattle.mc_term_data.specs.Plain.{PlainTerm}
 use Rattle.mc_source.specs.declared.rule.Broken.{Broken}
 use Rattle.mc_source.specs.Rules.{broken_at}
-use Rattle.mc_items.specs.declared.entry.Entry.{Entry}
+use Rattle.mc_decl_syntax.specs.declared.entry.Entry.{Entry}
 use Rattle.mc_state_variables.specs.Numbered.{line_of}
-use Rattle.mc_linking.specs.Files.{File, plain_files}
+use Rattle.mc_decl_syntax.specs.Entries.{File, plain_files}
 use Rattle.mc_linking.specs.Faults.{link_faults, goal_fault}
-use Rattle.mc_modules.specs.Linked.{Linked, linked, plain_names}
-use Rattle.mc_modules.specs.declared.names.Names.{Names}
+use Rattle.mc_names.specs.Linked.{Linked, plain_names}
+use Rattle.mc_modules.specs.Linked.{linked}
+use Rattle.mc_names.specs.declared.names.Names.{Names}
 use Rattle.mc_compile.specs.declared.named.Named.{Named}
 use Rattle.mc_compile.specs.Phases.{Refusal, unless_broken}
 use Rattle.mc_compile.specs.Library.{library_texts}

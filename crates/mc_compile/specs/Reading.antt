@@ -7,8 +7,8 @@ use Rattle.mc_source.specs.declared.rule.Broken.{Broken}
 use Rattle.mc_items.specs.Verdicts.{PlainVerdict}
 use Rattle.mc_items.specs.Files.{Items, kept_in, broken_in, too_long_in, greatest_text}
 use Rattle.mc_items.specs.Queries.{IsGoal, IsQueryRefusal}
-use Rattle.mc_items.specs.declared.entry.ItemsFault.TheVariants as I
-use Rattle.mc_linking.specs.Files.{File, plain_files}
+use Rattle.mc_decl_syntax.specs.declared.entry.ItemsFault.TheVariants as I
+use Rattle.mc_decl_syntax.specs.Entries.{File, plain_files}
 use Rattle.mc_compile.specs.declared.reading.Read.{Read}
 use Rattle.mc_compile.specs.Phases.{Refusal, unless_broken}
 use Rattle.mc_compile.specs.Sources.{Sources}

@@ -1,8 +1,9 @@
 ghost use Rattle.std.specs.Prelude.{◌≡◌, ℕ, ◌+◌, ◌<◌, ◌^◌, [], ◌++◌, map, length, IfOk, IfErr};
-ghost use Rattle.mc_linking.specs.Files.{plain_files};
+ghost use Rattle.mc_decl_syntax.specs.Entries.{plain_files};
 ghost use Rattle.mc_compile.specs.Reading.{plain_goal};
 ghost use Rattle.mc_compile.specs.Library.{library_texts};
-ghost use Rattle.mc_modules.specs.Linked.{linked, plain_names};
+ghost use Rattle.mc_modules.specs.Linked.{linked};
+ghost use Rattle.mc_names.specs.Linked.{plain_names};
 ghost use Rattle.mc_compile.specs.Linking.{goal_rules_in, rules_in};
 ghost use Rattle.mc_compile.specs.code.Reader.{IsLibraryRead, IsRejected, IsWithLibrary};
 
@@ -12,8 +13,9 @@ use crate::named::Named;
 use crate::reader::Reader;
 use crate::reading::Read;
 use mc_base::{Memory, Row};
-use mc_items::Entry;
-use mc_modules::{Linking, Names};
+use mc_decl_syntax::Entry;
+use mc_modules::{Linking, program_names};
+use mc_names::Names;
 use mc_source::place::Place;
 use mc_source::rule::Broken;
 use mc_term_data::Term;
@@ -116,7 +118,7 @@ fn names(
     let linking = Linking::of(alloc, files.as_slice())?;
     let broken = rules(alloc, &linking, number, goal)?;
     if broken.is_empty() {
-        return Ok(Names::of(alloc, &linking)?);
+        return Ok(program_names(alloc, &linking)?);
     }
     Err(CompileFault::Rejected(Row::of(broken)?))
 }

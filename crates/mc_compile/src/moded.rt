@@ -1,7 +1,7 @@
 ghost use Rattle.std.specs.Prelude.{◌≡◌, ◌++◌, map, IfOk};
 ghost use Rattle.mc_compile.specs.Reading.{plain_goal};
 ghost use Rattle.mc_insts.specs.Defining.{plain_definitions, DefinitionsFit};
-ghost use Rattle.mc_whole.specs.Goals.{HasNormalGoals};
+ghost use Rattle.mc_accepted.specs.NormalGoals.{HasNormalGoals};
 ghost use Rattle.mc_clause_phase.specs.Judging.{typed_clauses};
 ghost use Rattle.mc_compile.specs.Phases.{Tells, Viewed};
 ghost use Rattle.mc_compile.specs.Sources.{Sources};

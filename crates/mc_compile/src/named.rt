@@ -1,6 +1,6 @@
 use mc_base::Row;
-use mc_items::Entry;
-use mc_modules::Names;
+use mc_decl_syntax::Entry;
+use mc_names::Names;
 use mc_term_data::Term;
 
 /// Sources with their names: the items of each file and behind them those of the library's modules, how many files are

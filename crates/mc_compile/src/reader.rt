@@ -5,7 +5,8 @@ ghost use Rattle.mc_compile.specs.code.Reader.{IsOneMore, IsQueryRead, IsRejecte
 
 use crate::given::{CompileFault, Query};
 use mc_base::{Memory, Row};
-use mc_items::{Entry, GREATEST_TEXT, ItemsFault, read_items, read_query, too_long};
+use mc_decl_syntax::{Entry, ItemsFault};
+use mc_items::{GREATEST_TEXT, read_items, read_query, too_long};
 use mc_source::rule::Broken;
 use mc_term_data::Term;
 use std::alloc::Global;

@@ -1,7 +1,7 @@
 use crate::given::{CompileFault, Given, Query};
 use crate::reader::Reader;
 use mc_base::Row;
-use mc_items::Entry;
+use mc_decl_syntax::Entry;
 use mc_term_data::Term;
 use std::alloc::Global;
 

@@ -1,7 +1,7 @@
 ghost use Rattle.std.specs.Prelude.{◌≡◌, List};
 ghost use Rattle.std.specs.Option.{option_copied};
 ghost use Rattle.mc_insts.specs.Defining.{plain_definitions, DefinitionsFit};
-ghost use Rattle.mc_whole.specs.Goals.{HasNormalGoals};
+ghost use Rattle.mc_accepted.specs.NormalGoals.{HasNormalGoals};
 ghost use Rattle.mc_compile.specs.declared.given.Given.{Given};
 ghost use Rattle.mc_compile.specs.Phases.{Tells, Then, Viewed};
 ghost use Rattle.mc_compile.specs.Sources.{Sources, is_first, sources_of};

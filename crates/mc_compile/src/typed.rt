@@ -1,7 +1,7 @@
 use crate::given::CompileFault;
 use crate::named::Named;
 use mc_base::Row;
-use mc_items::ItemsFault;
+use mc_decl_syntax::ItemsFault;
 use mc_program::program::TypeDef;
 use mc_type_table::type_table;
 use std::alloc::Global;

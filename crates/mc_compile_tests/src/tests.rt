@@ -1,7 +1,9 @@
 use mc_base::{Memory, Row, Text};
 use mc_compile::{Checked, CompileFault, Given, LIBRARY, Named, Query, Read, Typed};
-use mc_defs_uses::{Definition, DefinitionSet, Kind, clause_of, definitions};
-use mc_items::{ItemsFault, read_items};
+use mc_decl_syntax::ItemsFault;
+use mc_defs_uses::{DefinitionSet, clause_of, definitions};
+use mc_items::read_items;
+use mc_names::{Definition, Kind};
 use mc_source::rule::Broken;
 use std::alloc::Global;
 use std::test::Fail;

@@ -1,4 +1,5 @@
 pub mod Plain
+pub mod Entries
 pub mod Terms
 pub mod Types
 pub mod Insts

@@ -6,6 +6,7 @@ mod declaring;
 mod definition;
 mod determinism;
 mod directive;
+mod entry;
 mod head;
 mod insts;
 mod item;
@@ -16,5 +17,6 @@ mod types;
 
 pub use declaring::declaration;
 pub use directive::{declared_part, is_declaration};
+pub use entry::{Entry, ItemsFault};
 pub use item::Decl;
 pub use signature::are_moded;

@@ -16,14 +16,15 @@ use Rattle.mc_accepted.specs.ProperTypes.{ProperType, ProperTypes, EachProper, B
 use Rattle.mc_accepted.specs.Fits.{FitsTypes}
 use Rattle.mc_decl_syntax.specs.Plain.{PlainDecl, UnionType, SameType}
 use Rattle.mc_decl_syntax.specs.Types.{is_field, are_fields, is_constructor, are_constructors}
-use Rattle.mc_defs_uses.specs.Definitions.{symbol_name}
-use Rattle.mc_modules.specs.Linked.{Defined, Linked}
-use Rattle.mc_type_table.specs.Written.{written_type, parameters_of, home}
+use Rattle.mc_names.specs.Definitions.{symbol_name}
+use Rattle.mc_names.specs.Linked.{Defined, Linked, home}
+use Rattle.mc_type_table.specs.Written.{written_type}
+use Rattle.mc_names.specs.Parameters.{parameters_of}
 use Rattle.mc_type_table.specs.Expanded.{equivalent_by, equivalent_of, equivalent, after_rounds, expanded}
 use Rattle.mc_type_table.specs.Rules.{fields, constructor_fields, union_fields, named_parameters, stray, first_of, stray_in, variable_fault, goes_round, definitions, type_fault, type_faults, numbered}
 use Rattle.mc_type_table.specs.Sight.{sees_definition, definitions_seen}
 use Rattle.mc_clauses.specs.Variables.{nothing_met}
-use Rattle.mc_clauses.specs.Declarations.{parameter_counts, declared_types, listed_types, type_terms_of, constructor_of, constructors_in, constructors_by, constructors_from, predicate_of, declarations}
+use Rattle.mc_declarations.specs.Declarations.{parameter_counts, declared_types, listed_types, type_terms_of, constructor_of, constructors_in, constructors_by, constructors_from, predicate_of, declarations}
 use Rattle.mc_declarations.specs.Proper.{IsHeadOf, IsMeant, EachMeant, IsWellWritten, AreWellWritten, DeclarationsFit, AllDeclarationsFit}
 use Rattle.mc_declarations.proofs.Replaced.{AreProper, proper_replaced, below_replaced, proper_rounds}
 use Rattle.mc_declarations.proofs.Meaning.{proper_written, all_proper_declared, count_names, Places, head_places, below_written}

@@ -5,7 +5,7 @@ use Rattle.std.proofs.lemmas.List.{at_drop_more}
 use Rattle.mc_program.specs.Programs.{FullName}
 use Rattle.mc_program.specs.declared.builtin.Builtin.{Builtin}
 use Rattle.mc_accepted.specs.BuiltinTypes.{builtin_name}
-use Rattle.mc_clauses.specs.Declarations.{is_builtin, builtin_among}
+use Rattle.mc_declarations.specs.Declarations.{is_builtin, builtin_among}
 
 pub builtin_here :
     (bs : List Builtin) (i : ℕ) (d : Builtin) (n : FullName) (f : Bool) (all : Option Builtin)

@@ -12,14 +12,15 @@ use Rattle.mc_program.specs.Programs.{TypeTerm, state_type, union_type, TypeTerm
 use Rattle.mc_accepted.specs.ProperTypes.{Parameters, count_types, ProperType, ProperTypes, Below, AllBelow}
 use Rattle.mc_decl_syntax.specs.Plain.{Path}
 use Rattle.mc_decl_syntax.specs.Terms.{with_name, names_in}
-use Rattle.mc_defs_uses.specs.Plain.{PlainNameArity, id, is_name_arity, qualifiers, last_part}
-use Rattle.mc_modules.specs.Linked.{Defined, Linked}
-use Rattle.mc_modules.specs.Numbers.{numbers_where}
-use Rattle.mc_modules.specs.Candidates.{is_module, fits, type_fits, type_numbers, type_candidates, looked_in}
-use Rattle.mc_type_table.specs.Written.{builtin_rows, builtin, is_state_type, first_meaning, builtin_or_first, named_type, place_of, written_type, written_types, name_of, variable_names}
+use Rattle.mc_names.specs.Plain.{PlainNameArity, id, is_name_arity, qualifiers, last_part}
+use Rattle.mc_names.specs.Linked.{Defined, Linked}
+use Rattle.mc_names.specs.Numbers.{numbers_where}
+use Rattle.mc_names.specs.Candidates.{is_module, fits, type_fits, type_numbers, type_candidates, looked_in}
+use Rattle.mc_type_table.specs.Written.{builtin_rows, builtin, is_state_type, first_meaning, builtin_or_first, named_type, written_type, written_types}
+use Rattle.mc_names.specs.Parameters.{place_of, name_of, variable_names}
 use Rattle.mc_type_table.specs.Rules.{stray, first_stray}
 use Rattle.mc_clauses.specs.Variables.{Met}
-use Rattle.mc_clauses.specs.Declarations.{parameter_counts, declared_type, declared_types}
+use Rattle.mc_declarations.specs.Declarations.{parameter_counts, declared_type, declared_types}
 use Rattle.mc_declarations.specs.Proper.{Means, IsMeant, AreMeant}
 
 -- ENTRIES OF TABLES

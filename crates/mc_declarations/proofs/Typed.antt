@@ -6,11 +6,10 @@ use Rattle.mc_term_data.specs.Plain.{PlainTerm, PlainTerms, tms}
 use Rattle.mc_program.specs.Programs.{TypeTerm}
 use Rattle.mc_program.specs.PlainPrograms.{plain_type, type_terms}
 use Rattle.mc_program.specs.declared.ty.Ty.{Ty}
-use Rattle.mc_modules.specs.Linked.{Defined, plain_names}
-use Rattle.mc_type_table.specs.Written.{home}
+use Rattle.mc_names.specs.Linked.{Defined, plain_names, home}
 use Rattle.mc_type_table.specs.Expanded.{replaced}
 use Rattle.mc_clauses.specs.Variables.{nothing_met}
-use Rattle.mc_clauses.specs.Declarations.{declared_types, listed_types, type_terms_of}
+use Rattle.mc_declarations.specs.Declarations.{declared_types, listed_types, type_terms_of}
 use Rattle.mc_clauses.specs.declared.terms.Module.{Module}
 use Rattle.mc_clauses.specs.declared.variables.Variables.{Variables}
 use Rattle.mc_declarations.specs.code.Walking.{Comes, types_walk}

@@ -16,10 +16,10 @@ use Rattle.mc_program.specs.declared.ty.Ty.TheVariants.{rolls-Var as rolls-type_
 use Rattle.mc_program.specs.declared.ty.Ty.TheOpen as TO
 use Rattle.mc_program.specs.declared.ty.Ty.TheFolds.{fold-roll-Ty}
 use Rattle.mc_accepted.specs.ProperTypes.{count_types}
-use Rattle.mc_modules.specs.Linked.{Linked, plain_names}
+use Rattle.mc_names.specs.Linked.{Linked, plain_names}
 use Rattle.mc_type_table.specs.Written.{named_type}
 use Rattle.mc_clauses.specs.Variables.{Numbers, Met, variable_of}
-use Rattle.mc_clauses.specs.Declarations.{declared_type, declared_types}
+use Rattle.mc_declarations.specs.Declarations.{declared_type, declared_types}
 use Rattle.mc_clauses.specs.code.Meanings.{Knows}
 use Rattle.mc_clauses.specs.declared.terms.Module.{Module}
 use Rattle.mc_clauses.specs.declared.variables.Variables.{Variables}

@@ -7,10 +7,10 @@ use Rattle.mc_program.specs.declared.program.Program.{Program}
 use Rattle.mc_program.specs.declared.program.Pred.{Pred}
 use Rattle.mc_program.specs.declared.program.TypeDef.{TypeDef}
 use Rattle.mc_decl_syntax.specs.Plain.{plain_item}
-use Rattle.mc_modules.specs.declared.names.Named.{Named}
-use Rattle.mc_modules.specs.Linked.{Defined, Linked, plain_named}
+use Rattle.mc_names.specs.declared.names.Named.{Named}
+use Rattle.mc_names.specs.Linked.{Defined, Linked, plain_named}
 use Rattle.mc_type_table.specs.Table.{table}
-use Rattle.mc_clauses.specs.Declarations.{constructors_from, predicate_of, is_function}
+use Rattle.mc_declarations.specs.Declarations.{constructors_from, predicate_of, is_function}
 use Rattle.mc_declarations.specs.Made.{DeclaredAs}
 use Rattle.mc_declarations.specs.code.With.{all_with, predicate_with}
 use Rattle.mc_declarations.proofs.With.{rounds, same_definitions, all_so, preds_so}

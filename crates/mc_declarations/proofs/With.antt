@@ -4,11 +4,11 @@ use Rattle.std.specs.Prelude.{Option}
 use mathlib.Core.Path.{fun_ext}
 use Rattle.mc_term_data.specs.Plain.{PlainTerms, no_term, more_terms}
 use Rattle.mc_program.specs.Programs.{TypeTerm}
-use Rattle.mc_modules.specs.Linked.{Defined, Linked}
+use Rattle.mc_names.specs.Linked.{Defined, Linked, home}
 use Rattle.mc_type_table.specs.Expanded.{after_rounds}
 use Rattle.mc_decl_syntax.specs.Plain.{PlainDecl, UnionType}
-use Rattle.mc_type_table.specs.Written.{parameters_of, home}
-use Rattle.mc_clauses.specs.Declarations.{constructor_of, constructors_in, constructors_by, constructors_from, predicate_of}
+use Rattle.mc_names.specs.Parameters.{parameters_of}
+use Rattle.mc_declarations.specs.Declarations.{constructor_of, constructors_in, constructors_by, constructors_from, predicate_of}
 use Rattle.mc_declarations.specs.code.With.{constructors_of, constructors_with, all_with, predicate_with}
 
 pub same_definitions :

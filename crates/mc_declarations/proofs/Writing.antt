@@ -4,7 +4,7 @@ use Rattle.mc_term_data.specs.Plain.{PlainTerm, plain_term, tms, more_terms}
 use Rattle.mc_term_data.specs.Names.{count}
 use Rattle.mc_term_data.specs.declared.term.Term.{Term}
 use Rattle.mc_clauses.specs.Unresolved.{and_result}
-use Rattle.mc_clauses.specs.Declarations.{without_mode, without_modes}
+use Rattle.mc_declarations.specs.Declarations.{without_mode, without_modes}
 
 pub without_each :
     (ts : List Term)

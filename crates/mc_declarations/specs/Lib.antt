@@ -1,3 +1,4 @@
+pub mod Declarations
 pub mod Made
 pub mod Proper
 pub mod code

@@ -5,9 +5,9 @@ use Rattle.mc_program.specs.Programs.{TypeTerm}
 use Rattle.mc_program.specs.PlainPrograms.{plain_symbol, plain_pred, plain_program}
 use Rattle.mc_program.specs.declared.program.Program.{Program}
 use Rattle.mc_program.specs.declared.program.Pred.{Pred}
-use Rattle.mc_modules.specs.Linked.{Defined, Linked}
+use Rattle.mc_names.specs.Linked.{Defined, Linked}
 use Rattle.mc_type_table.specs.Table.{table}
-use Rattle.mc_clauses.specs.Declarations.{declarations, constructors_from, predicate_of, is_function}
+use Rattle.mc_declarations.specs.Declarations.{declarations, constructors_from, predicate_of, is_function}
 
 -- This program has what is declared, and no clauses: its types are the table, and its constructors,
 -- functions and predicates have their numbers.

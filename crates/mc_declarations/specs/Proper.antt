@@ -7,13 +7,13 @@ use Rattle.mc_accepted.specs.ProperTypes.{EachProper}
 use Rattle.mc_accepted.specs.Fits.{FitsTypes}
 use Rattle.mc_decl_syntax.specs.Plain.{Path, PlainDecl, UnionType, SameType}
 use Rattle.mc_decl_syntax.specs.Types.{are_constructors}
-use Rattle.mc_defs_uses.specs.Plain.{id, qualifiers, last_part}
-use Rattle.mc_modules.specs.Linked.{Defined, Linked}
-use Rattle.mc_modules.specs.Candidates.{type_candidates}
-use Rattle.mc_type_table.specs.Written.{builtin, home}
+use Rattle.mc_names.specs.Plain.{id, qualifiers, last_part}
+use Rattle.mc_names.specs.Linked.{Defined, Linked, home}
+use Rattle.mc_names.specs.Candidates.{type_candidates}
+use Rattle.mc_type_table.specs.Written.{builtin}
 use Rattle.mc_type_table.specs.Rules.{union_fields, definitions, type_faults}
 use Rattle.mc_type_table.specs.Sight.{definitions_seen}
-use Rattle.mc_clauses.specs.Declarations.{declarations, parameter_counts, type_terms_of}
+use Rattle.mc_declarations.specs.Declarations.{declarations, parameter_counts, type_terms_of}
 
 -- the head of what defines a type is a name over as many terms as the type has parameters
 abbrev pub IsHeadOf : Defined → PlainTerm → Type 0

@@ -1,7 +1,7 @@
 ghost use Rattle.std.specs.Prelude.{◌≡◌};
 ghost use Rattle.mc_program.specs.PlainPrograms.{plain_name};
 ghost use Rattle.mc_accepted.specs.BuiltinTypes.{builtin_name, function_of, predicate_of};
-ghost use Rattle.mc_clauses.specs.Declarations.{is_builtin, builtins, builtin_among};
+ghost use Rattle.mc_declarations.specs.Declarations.{is_builtin, builtins, builtin_among};
 ghost use Rattle.mc_declarations.specs.code.LibraryNames.{plain_library_name};
 
 use mc_program::builtin::Builtin;

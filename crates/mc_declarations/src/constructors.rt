@@ -1,7 +1,7 @@
 ghost use Rattle.std.specs.Prelude.{◌≡◌, ◌++◌, ◌∷◌, [], IfOk, OnOk, map};
 ghost use Rattle.mc_term_data.specs.Plain.{plain_term, tms};
 ghost use Rattle.mc_program.specs.PlainPrograms.{plain_type, plain_symbol};
-ghost use Rattle.mc_modules.specs.Linked.{plain_named, plain_names};
+ghost use Rattle.mc_names.specs.Linked.{plain_named, plain_names};
 ghost use Rattle.mc_type_table.specs.Rules.{constructor_fields};
 ghost use Rattle.mc_type_table.specs.Held.{held};
 ghost use Rattle.mc_decl_syntax.specs.Plain.{plain_item};
@@ -10,15 +10,12 @@ ghost use Rattle.mc_declarations.specs.code.With.{field_with, constructor_with, 
 use crate::declaring::Declaring;
 use mc_base::{Memory, Row, Text};
 use mc_decl_syntax::Decl;
-use mc_defs_uses::symbol_name;
-use mc_modules::Named;
+use mc_names::{Named, home, parameters_of, symbol_name};
 use mc_program::program::Symbol;
 use mc_program::ty::Ty;
 use mc_source::name::Name;
 use mc_term_data::Term;
-use mc_type_table::{
-    Room, constructor_fields, home, parameters_of, type_of_term, with_definitions,
-};
+use mc_type_table::{Room, constructor_fields, type_of_term, with_definitions};
 
 /// A union type whose constructors are declared: its number, the name and the number of its module, and its parameters.
 #[derive(Clone, Copy)]

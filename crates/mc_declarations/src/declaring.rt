@@ -4,7 +4,7 @@ ghost use Rattle.mc_type_table.specs.Expanded.{replaced};
 ghost use Rattle.mc_type_table.specs.Held.{held};
 
 use mc_base::{Copied, Memory, Row};
-use mc_modules::Names;
+use mc_names::Names;
 use mc_program::ty::Ty;
 use mc_source::name::Name;
 use mc_type_table::{Room, with_definitions};

@@ -1,9 +1,9 @@
 ghost use Rattle.std.specs.Prelude.{◌≡◌, [], ◌∷◌, IfOk, map};
 ghost use Rattle.mc_decl_syntax.specs.Plain.{plain_item};
 ghost use Rattle.mc_program.specs.PlainPrograms.{plain_type, plain_pred};
-ghost use Rattle.mc_modules.specs.Linked.{plain_named, plain_names};
+ghost use Rattle.mc_names.specs.Linked.{plain_named, plain_names};
 ghost use Rattle.mc_type_table.specs.Held.{held};
-ghost use Rattle.mc_clauses.specs.Declarations.{is_function};
+ghost use Rattle.mc_declarations.specs.Declarations.{is_function};
 ghost use Rattle.mc_declarations.specs.code.With.{types_with, predicate_with};
 
 use crate::builtins::builtin_of;
@@ -13,10 +13,10 @@ use crate::terms::type_terms;
 use mc_base::{Memory, Row};
 use mc_clauses::{Module, Variables};
 use mc_decl_syntax::Decl;
-use mc_modules::Named;
+use mc_names::{Named, home};
 use mc_program::program::Pred;
 use mc_program::ty::Ty;
-use mc_type_table::{Room, home};
+use mc_type_table::Room;
 
 /// The predicates and functions of a program, which have no clauses yet.
 pub fn predicates(at: &Declaring<'_>, room: &mut Room) -> Result<Row<Pred>, Memory>

@@ -1,6 +1,6 @@
 ghost use Rattle.std.specs.Prelude.{◌≡◌, ℕ, Option, IfOk, length};
 ghost use Rattle.mc_program.specs.Programs.{TypeTerm};
-ghost use Rattle.mc_modules.specs.Linked.{plain_names};
+ghost use Rattle.mc_names.specs.Linked.{plain_names};
 ghost use Rattle.mc_type_table.specs.Expanded.{after_rounds};
 ghost use Rattle.mc_type_table.specs.Held.{held};
 ghost use Rattle.mc_declarations.specs.Made.{DeclaredAs};
@@ -9,7 +9,7 @@ use crate::constructors::constructors;
 use crate::declaring::Declaring;
 use crate::predicates::predicates;
 use mc_base::Memory;
-use mc_modules::Names;
+use mc_names::Names;
 use mc_program::program::Program;
 use mc_program::ty::Ty;
 use mc_type_table::{Room, types_of};

@@ -3,7 +3,7 @@ ghost use Rattle.mc_term_data.specs.Plain.{plain_term, tms};
 ghost use Rattle.mc_term_data.specs.Shapes.{operands};
 ghost use Rattle.mc_decl_syntax.specs.Plain.{plain_item};
 ghost use Rattle.mc_clauses.specs.Unresolved.{arguments_of};
-ghost use Rattle.mc_clauses.specs.Declarations.{without_mode, without_modes, with_result, type_terms_of};
+ghost use Rattle.mc_declarations.specs.Declarations.{without_mode, without_modes, with_result, type_terms_of};
 
 use mc_base::Memory;
 use mc_decl_syntax::Decl;

@@ -4,9 +4,9 @@ use Rattle.std.proofs.lemmas.List.{at_drop_more, take_more}
 use Rattle.mc_term_data.specs.Plain.{plain_term, tms}
 use Rattle.mc_term_data.specs.Shapes.{operands}
 use Rattle.mc_term_data.specs.declared.term.Term.{Term}
-use Rattle.mc_items.specs.declared.entry.Entry.{Entry}
-use Rattle.mc_modules.specs.declared.names.Named.{Named}
-use Rattle.mc_modules.specs.Linked.{Defined, Linked, plain_named}
+use Rattle.mc_decl_syntax.specs.declared.entry.Entry.{Entry}
+use Rattle.mc_names.specs.declared.names.Named.{Named}
+use Rattle.mc_names.specs.Linked.{Defined, Linked, plain_named}
 use Rattle.mc_inst_table.specs.declared.inst.Mode.{Mode}
 use Rattle.mc_inst_table.specs.Plain.{plain_mode}
 use Rattle.mc_inst_table.specs.Written.{ModeTerm, written_mode}

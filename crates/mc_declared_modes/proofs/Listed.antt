@@ -4,7 +4,7 @@ use Rattle.std.specs.Cmp.Lexicographic.{nat_list_eq_equiv}
 use Rattle.std.specs.Map.{lookup}
 use Rattle.std.specs.Str.{bytes_eq}
 use Rattle.indexmap.specs.IndexMap.{insert_entry}
-use Rattle.mc_modules.specs.code.Index.{Index, listed}
+use Rattle.mc_names.specs.code.Index.{Index, listed}
 
 module _ {K V A : Type 0} (name : K → List ℕ) (group : V → List A) where
   abbrev pub entries_of : List (K × V) → Index A

@@ -5,11 +5,10 @@ use Rattle.std.specs.Str.{bytes_eq}
 use Rattle.std.proofs.lemmas.List.{at_drop_more}
 use Rattle.mc_source.specs.declared.place.Place.{Place}
 use Rattle.mc_decl_syntax.specs.Plain.{PlainDecl}
-use Rattle.mc_items.specs.declared.entry.Entry.{Entry}
-use Rattle.mc_items.specs.Files.{plain_entry}
-use Rattle.mc_linking.specs.Files.{File}
-use Rattle.mc_modules.specs.Linked.{Linked}
-use Rattle.mc_modules.specs.code.Index.{listed}
+use Rattle.mc_decl_syntax.specs.declared.entry.Entry.{Entry}
+use Rattle.mc_decl_syntax.specs.Entries.{plain_entry, File}
+use Rattle.mc_names.specs.Linked.{Linked}
+use Rattle.mc_names.specs.code.Index.{listed}
 use Rattle.mc_declared_modes.specs.WrittenModes.{Callable, callable, same_sort, is_that, mode_by, modes_by, modes_among}
 use Rattle.mc_declared_modes.specs.declared.by_name.ItemsByName.{ItemsByName}
 use Rattle.mc_declared_modes.specs.code.ByName.{entry_behind, items_kept, if_named, of_name, AreIndices}

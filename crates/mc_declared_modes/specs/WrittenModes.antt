@@ -9,12 +9,11 @@ use Rattle.mc_source.specs.declared.det.Most.TheVariants as M
 use Rattle.mc_term_data.specs.Plain.{PlainTerm, PlainTerms, at, no_term, more_terms, App}
 use Rattle.mc_term_data.specs.Shapes.{operands}
 use Rattle.mc_decl_syntax.specs.Plain.{PlainDecl, Pred, Func, Mode}
-use Rattle.mc_defs_uses.specs.Plain.{PlainNameArity, id, is_name_arity}
-use Rattle.mc_defs_uses.specs.Definitions.{head_name, func_name}
+use Rattle.mc_names.specs.Plain.{PlainNameArity, id, is_name_arity}
+use Rattle.mc_names.specs.Definitions.{head_name, func_name}
 use Rattle.mc_defs_uses.specs.Clauses.{is_mode_too}
-use Rattle.mc_linking.specs.Files.{File}
-use Rattle.mc_modules.specs.Linked.{Defined, Linked}
-use Rattle.mc_type_table.specs.Written.{home}
+use Rattle.mc_decl_syntax.specs.Entries.{File}
+use Rattle.mc_names.specs.Linked.{Defined, Linked, home}
 use Rattle.mc_accepted.specs.InstRules.{inst_node}
 use Rattle.mc_inst_table.specs.Written.{ModeTerm, from_to, written_mode}
 use Rattle.mc_inst_table.specs.declared.inst.Mode.{Mode as KeptMode}

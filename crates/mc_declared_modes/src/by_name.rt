@@ -1,15 +1,14 @@
 ghost use Rattle.std.specs.Prelude.{◌≡◌, ℕ, ◌++◌, ◌∷◌, [], List, map, if◌then◌else◌, IfOk, OnOk};
 ghost use Rattle.std.specs.Str.{bytes_eq};
-ghost use Rattle.mc_items.specs.Files.{plain_entry};
-ghost use Rattle.mc_linking.specs.Files.{plain_files};
-ghost use Rattle.mc_modules.specs.code.Index.{listed};
+ghost use Rattle.mc_decl_syntax.specs.Entries.{plain_entry, plain_files};
+ghost use Rattle.mc_names.specs.code.Index.{listed};
 ghost use Rattle.mc_declared_modes.specs.WrittenModes.{callable};
 ghost use Rattle.mc_declared_modes.specs.code.ByName.{entry_behind, items_kept, if_named, of_name, AreIndices};
 
 use crate::callable::of_item;
 use indexmap::IndexMap;
 use mc_base::{Memory, Row};
-use mc_items::Entry;
+use mc_decl_syntax::Entry;
 use std::alloc::Global;
 
 /// The items of a file by the names of what they declare a mode of. A look-up takes the time of one hash.

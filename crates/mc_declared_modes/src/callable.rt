@@ -3,15 +3,14 @@ ghost use Rattle.std.specs.Option.{option_map};
 ghost use Rattle.mc_term_data.specs.Plain.{plain_term};
 ghost use Rattle.mc_term_data.specs.Shapes.{operands};
 ghost use Rattle.mc_decl_syntax.specs.Plain.{plain_item};
-ghost use Rattle.mc_defs_uses.specs.Definitions.{head_name, func_name};
-ghost use Rattle.mc_defs_uses.specs.Plain.{plain_name_arity};
-ghost use Rattle.mc_modules.specs.Linked.{plain_named};
+ghost use Rattle.mc_names.specs.Definitions.{head_name, func_name};
+ghost use Rattle.mc_names.specs.Plain.{plain_name_arity};
+ghost use Rattle.mc_names.specs.Linked.{plain_named};
 ghost use Rattle.mc_declared_modes.specs.WrittenModes.{same_sort, is_that, callable, of_further, is_function, callable_of};
 ghost use Rattle.mc_declared_modes.specs.code.Callables.{plain_callable};
 
 use mc_decl_syntax::Decl;
-use mc_defs_uses::{NameArity, head_name};
-use mc_modules::Named;
+use mc_names::{NameArity, Named, head_name};
 use mc_term_data::{Term, operands};
 
 /// A predicate or a function, by its name.

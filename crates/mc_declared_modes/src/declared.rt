@@ -1,10 +1,9 @@
 ghost use Rattle.std.specs.Prelude.{◌≡◌, ◌++◌, ◌∷◌, [], List, map, replicate, IfOk, OnOk, slice_index_or};
 ghost use Rattle.std.specs.Option.{option_map, option_to_list};
-ghost use Rattle.mc_items.specs.Files.{plain_entry};
-ghost use Rattle.mc_linking.specs.Files.{File, plain_files};
+ghost use Rattle.mc_decl_syntax.specs.Entries.{plain_entry, File, plain_files};
 ghost use Rattle.mc_accepted.specs.InstRules.{inst_node};
-ghost use Rattle.mc_modules.specs.Linked.{plain_named, plain_names};
-ghost use Rattle.mc_modules.specs.code.Index.{listed};
+ghost use Rattle.mc_names.specs.Linked.{plain_named, plain_names};
+ghost use Rattle.mc_names.specs.code.Index.{listed};
 ghost use Rattle.mc_inst_table.specs.Plain.{plain_mode};
 ghost use Rattle.mc_inst_table.specs.Written.{from_to};
 ghost use Rattle.mc_declared_modes.specs.WrittenModes.{plain_written, is_function, modes_by, modes_among, default_mode, or_default, modes_of, declared_modes};
@@ -15,12 +14,11 @@ use crate::by_name::{ItemsByName, indices};
 use crate::callable::{Callable, callable_of, is_of};
 use crate::written::{WrittenMode, mode_by};
 use mc_base::{Memory, Row};
+use mc_decl_syntax::Entry;
 use mc_inst_table::{Inst, Mode};
-use mc_items::Entry;
-use mc_modules::{Named, Names};
+use mc_names::{Named, Names, home};
 use mc_source::det::{Det, Most};
 use mc_source::place::Place;
-use mc_type_table::home;
 use std::alloc::Global;
 
 /// The declared modes of the predicates and functions of a program, by their numbers, each as its item writes it, in the

@@ -1,4 +1,3 @@
-mod Parts
 mod Steps
 mod Views
 pub mod Laws

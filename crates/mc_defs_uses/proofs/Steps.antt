@@ -6,10 +6,10 @@ use Rattle.mc_term_data.specs.declared.term.Term.{Term}
 use Rattle.mc_clause_syntax.specs.declared.goal_form.Stand.{Stand}
 use Rattle.mc_clause_syntax.specs.declared.goal_form.Parts.TheVariants.{Goals}
 use Rattle.mc_decl_syntax.specs.Plain.{Path}
-use Rattle.mc_defs_uses.specs.declared.definition.Kind.TheVariants as K
-use Rattle.mc_defs_uses.specs.declared.occurrence.Occurrence.{Occurrence}
-use Rattle.mc_defs_uses.specs.Plain.{PlainOccurrence, plain_occurrence}
-use Rattle.mc_defs_uses.specs.Occurrences.{used, cell_path, nil_path, terms_in, terms_over, cells_in, elements_in, between, call_by, all_goals, goal_by}
+use Rattle.mc_names.specs.declared.definition.Kind.TheVariants as K
+use Rattle.mc_names.specs.declared.occurrence.Occurrence.{Occurrence}
+use Rattle.mc_names.specs.Plain.{PlainOccurrence, plain_occurrence, used}
+use Rattle.mc_defs_uses.specs.Occurrences.{cell_path, nil_path, terms_in, terms_over, cells_in, elements_in, between, call_by, all_goals, goal_by}
 use Rattle.mc_defs_uses.specs.code.Steps.{behind}
 
 pub append_none : (us : List PlainOccurrence) → us ++ [] ≡ us

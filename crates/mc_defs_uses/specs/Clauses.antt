@@ -7,9 +7,9 @@ use Rattle.mc_clause_syntax.specs.Limits.{argument_count}
 use Rattle.mc_term_data.specs.Shapes.{operands, has_none}
 use Rattle.mc_decl_syntax.specs.Plain.{PlainDecl, Pred, Mode, Clause}
 use Rattle.mc_decl_syntax.specs.Declarations.{are_moded}
-use Rattle.mc_defs_uses.specs.declared.definition.Kind.TheVariants as K
-use Rattle.mc_defs_uses.specs.Plain.{PlainNameArity, id, PlainDefinition, definition}
-use Rattle.mc_defs_uses.specs.Definitions.{head_name}
+use Rattle.mc_names.specs.declared.definition.Kind.TheVariants as K
+use Rattle.mc_names.specs.Plain.{PlainNameArity, id, PlainDefinition, definition}
+use Rattle.mc_names.specs.Definitions.{head_name}
 
 -- a name over the arguments of a clause's head, where both versions of a state variable are two
 abbrev pub clause_head : PlainTerm → PlainNameArity

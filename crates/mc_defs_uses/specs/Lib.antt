@@ -1,5 +1,3 @@
-pub mod Plain
-pub mod Definitions
 pub mod Occurrences
 pub mod Twice
 pub mod Clauses

@@ -4,7 +4,7 @@ use Rattle.std.specs.Prelude.{ℕ, Bool, true, false, nat_eq, ◌&&◌, List, []
 use Rattle.std.specs.Option.{is_some}
 use Rattle.mc_term_data.specs.Plain.{PlainTerm, PlainTerms, at, no_term, more_terms, App, Items, Tailed, Conj, Disj}
 use Rattle.mc_term_data.specs.Names.{count}
-use Rattle.mc_term_parser.specs.Table.{infix_row}
+use Rattle.mc_operators.specs.Table.{infix_row}
 use Rattle.mc_clause_syntax.specs.declared.goal_form.Parts.{Parts}
 use Rattle.mc_clause_syntax.specs.declared.goal_form.Parts.TheVariants.{Nothing, Goals, Quantified, Sides, Arguments}
 use Rattle.mc_clause_syntax.specs.GoalForms.{goal_form, parts}
@@ -12,13 +12,8 @@ use Rattle.mc_clause_syntax.specs.StateVariables.{is_state}
 use Rattle.mc_clause_syntax.specs.Limits.{argument_count}
 use Rattle.mc_term_data.specs.Shapes.{operands, is_the_word}
 use Rattle.mc_decl_syntax.specs.Plain.{Path, PlainDecl, UnionType, SameType, SameInst, BoundInst, ModeDef, Pred, Func, Mode, Clause}
-use Rattle.mc_defs_uses.specs.declared.definition.Kind.{Kind}
-use Rattle.mc_defs_uses.specs.declared.definition.Kind.TheVariants as K
-use Rattle.mc_defs_uses.specs.Plain.{PlainOccurrence, id, qualifiers, last_part}
-
--- a use of a name over so many arguments
-abbrev pub used : Kind → Path → ℕ → List PlainOccurrence
-used k w n = record { kind = k; qualifiers = qualifiers w; id = id (last_part w) n } ∷ []
+use Rattle.mc_names.specs.declared.definition.Kind.TheVariants as K
+use Rattle.mc_names.specs.Plain.{PlainOccurrence, used}
 
 -- An infix operator stands between its operands, and every other name before its arguments.
 abbrev pub is_infix : Path → Bool

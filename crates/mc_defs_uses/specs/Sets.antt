@@ -1,7 +1,7 @@
 -- Lists of definitions without repetition.
 use Rattle.std.specs.Prelude.{List, [], ◌∷◌, ◌++◌, if◌then◌else◌}
 use Rattle.std.specs.Set.{is_member}
-use Rattle.mc_defs_uses.specs.Plain.{PlainDefinition, is_definition}
+use Rattle.mc_names.specs.Plain.{PlainDefinition, is_definition}
 
 -- The definitions with one more put in. A definition that is there stays where it came first.
 abbrev pub put : List PlainDefinition → PlainDefinition → List PlainDefinition

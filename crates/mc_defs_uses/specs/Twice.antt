@@ -6,8 +6,8 @@ use Rattle.mc_term_data.specs.Plain.{PlainTerm, PlainTerms, at, no_term, more_te
 use Rattle.mc_term_data.specs.Names.{count}
 use Rattle.mc_decl_syntax.specs.Plain.{PlainDecl, UnionType, SameInst, BoundInst, ModeDef, Pred, Func, Mode}
 use Rattle.mc_term_data.specs.Shapes.{operands, is_the_word}
-use Rattle.mc_defs_uses.specs.Plain.{PlainNameArity, is_name_arity}
-use Rattle.mc_defs_uses.specs.Definitions.{symbol_name}
+use Rattle.mc_names.specs.Plain.{PlainNameArity, is_name_arity}
+use Rattle.mc_names.specs.Definitions.{symbol_name}
 
 -- the first constructor of a union whose name stands before it too, in the union or among these
 -- names

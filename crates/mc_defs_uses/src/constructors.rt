@@ -1,12 +1,12 @@
 ghost use Rattle.std.specs.Prelude.{◌≡◌, ◌++◌, codes, map, OnOk};
 ghost use Rattle.mc_term_data.specs.Plain.{plain_term, tms};
 ghost use Rattle.mc_term_data.specs.Shapes.{operands};
-ghost use Rattle.mc_defs_uses.specs.Plain.{plain_occurrence};
+ghost use Rattle.mc_names.specs.Plain.{plain_occurrence};
 ghost use Rattle.mc_defs_uses.specs.Occurrences.{field_by, all_fields, constructor_in, all_constructors};
 
-use crate::occurrence::Occurrence;
 use crate::types::add_types;
 use mc_base::Memory;
+use mc_names::Occurrence;
 use mc_term_data::{Node, Term, operands};
 
 /// Adds the types in the constructors of a union.

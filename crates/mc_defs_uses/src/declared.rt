@@ -2,13 +2,12 @@ ghost use Rattle.std.specs.Prelude.{◌≡◌, ◌∷◌, ◌++◌, [], codes, m
 ghost use Rattle.mc_term_data.specs.Plain.{plain_term, tms};
 ghost use Rattle.mc_decl_syntax.specs.Plain.{plain_item};
 ghost use Rattle.mc_term_data.specs.Shapes.{operands};
-ghost use Rattle.mc_defs_uses.specs.Plain.{plain_name_arity, plain_definition, definition};
-ghost use Rattle.mc_defs_uses.specs.Definitions as T;
+ghost use Rattle.mc_names.specs.Plain.{plain_name_arity, plain_definition, definition};
+ghost use Rattle.mc_names.specs.Definitions as T;
 
-use crate::definition::{Definition, Kind, NameArity};
-use crate::head::{head_name, symbol_name};
 use mc_base::Memory;
 use mc_decl_syntax::Decl;
+use mc_names::{Definition, Kind, NameArity, head_name, symbol_name};
 use mc_term_data::{Term, operands};
 use std::alloc::Global;
 

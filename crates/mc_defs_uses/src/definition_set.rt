@@ -1,11 +1,11 @@
 ghost use Rattle.std.specs.Prelude.{◌≡◌, [], not, false, IfOk, OnOk, OnErr};
 ghost use Rattle.std.specs.Set.{is_member};
-ghost use Rattle.mc_defs_uses.specs.Plain.{is_definition, is_kind, plain_definition};
+ghost use Rattle.mc_names.specs.Plain.{is_definition, is_kind, plain_definition};
 ghost use Rattle.mc_defs_uses.specs.Sets.{put};
 
-use crate::definition::{Definition, Kind};
 use indexmap::IndexSet;
 use mc_base::Memory;
+use mc_names::{Definition, Kind};
 use std::alloc::Global;
 use std::marker::Model;
 
@@ -19,7 +19,7 @@ pub struct DefinitionSet<'a> {
 
 impl<'a> Model for DefinitionSet<'a> {
     ghost use Rattle.std.specs.Prelude.{List, map};
-    ghost use Rattle.mc_defs_uses.specs.Plain.{PlainDefinition, plain_definition};
+    ghost use Rattle.mc_names.specs.Plain.{PlainDefinition, plain_definition};
 
     ghost Value = { List PlainDefinition };
 

@@ -2,14 +2,13 @@ ghost use Rattle.std.specs.Prelude.{◌≡◌, ◌++◌, map, OnOk};
 ghost use Rattle.mc_term_data.specs.Plain.{plain_term, tms};
 ghost use Rattle.mc_term_data.specs.Names.{count};
 ghost use Rattle.mc_clause_syntax.specs.GoalForms.{goal_form, parts};
-ghost use Rattle.mc_defs_uses.specs.Plain.{plain_occurrence};
+ghost use Rattle.mc_names.specs.Plain.{plain_occurrence};
 ghost use Rattle.mc_defs_uses.specs.Occurrences.{goals_in, goal_by, all_goals};
 
-use crate::definition::Kind;
-use crate::occurrence::Occurrence;
 use crate::terms::{add_all_terms, add_over};
 use mc_base::{Memory, Row, Text};
 use mc_clause_syntax::{GoalForm, Parts};
+use mc_names::{Kind, Occurrence};
 use mc_term_data::{Node, Term, arity};
 
 /// Adds the predicates in a goal, and what its terms use.

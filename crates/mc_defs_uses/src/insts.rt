@@ -2,12 +2,12 @@ ghost use Rattle.std.specs.Prelude.{◌≡◌, ◌++◌, [], cond, codes, false,
 ghost use Rattle.mc_term_data.specs.Plain.{plain_term, tms};
 ghost use Rattle.mc_term_data.specs.Names.{count};
 ghost use Rattle.mc_term_data.specs.Shapes.{is_the_word};
-ghost use Rattle.mc_defs_uses.specs.Plain.{plain_occurrence};
-ghost use Rattle.mc_defs_uses.specs.Occurrences.{used, is_infix, insts_in, insts_over, all_insts, symbols_in, all_symbols, modes_in, all_modes};
+ghost use Rattle.mc_names.specs.Plain.{plain_occurrence, used};
+ghost use Rattle.mc_defs_uses.specs.Occurrences.{is_infix, insts_in, insts_over, all_insts, symbols_in, all_symbols, modes_in, all_modes};
 
-use crate::definition::Kind;
-use crate::occurrence::{Occurrence, stands_between};
+use crate::infixes::stands_between;
 use mc_base::{Memory, Row, Text};
+use mc_names::{Kind, Occurrence};
 use mc_term_data::{Node, Term, arity, is_the_word};
 
 /// Adds the insts in an inst; the symbols that `bound` lists aren't looked up.

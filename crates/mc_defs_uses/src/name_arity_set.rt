@@ -1,11 +1,11 @@
 ghost use Rattle.std.specs.Prelude.{◌≡◌, [], not, IfOk, OnOk};
 ghost use Rattle.std.specs.Set.{is_member};
-ghost use Rattle.mc_defs_uses.specs.Plain.{is_name_arity, plain_name_arity};
+ghost use Rattle.mc_names.specs.Plain.{is_name_arity, plain_name_arity};
 ghost use Rattle.mc_defs_uses.specs.code.Steps.{with_name_arity};
 
-use crate::definition::NameArity;
 use indexmap::IndexSet;
 use mc_base::Memory;
+use mc_names::NameArity;
 use std::alloc::Global;
 use std::marker::Model;
 
@@ -17,7 +17,7 @@ pub struct NameAritySet<'a> {
 
 impl<'a> Model for NameAritySet<'a> {
     ghost use Rattle.std.specs.Prelude.{List, map};
-    ghost use Rattle.mc_defs_uses.specs.Plain.{PlainNameArity, plain_name_arity};
+    ghost use Rattle.mc_names.specs.Plain.{PlainNameArity, plain_name_arity};
 
     ghost Value = { List PlainNameArity };
 

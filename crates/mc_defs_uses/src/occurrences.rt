@@ -2,19 +2,19 @@ ghost use Rattle.std.specs.Prelude.{◌≡◌, ◌++◌, codes, map, IfOk, OnOk}
 ghost use Rattle.mc_term_data.specs.Plain.{plain_term};
 ghost use Rattle.mc_term_data.specs.Shapes.{operands};
 ghost use Rattle.mc_decl_syntax.specs.Plain.{plain_item};
-ghost use Rattle.mc_defs_uses.specs.Plain.{plain_occurrence};
+ghost use Rattle.mc_names.specs.Plain.{plain_occurrence};
 ghost use Rattle.mc_defs_uses.specs.Occurrences.{goals_in, arguments_of, head_in, clause_by};
 ghost use Rattle.mc_defs_uses.specs.Occurrences as O;
 
 use crate::constructors::add_all_constructors;
 use crate::goals::add_goals;
 use crate::insts::{add_all_symbols, add_insts, add_modes};
-use crate::occurrence::Occurrence;
 use crate::signatures::{add_func, add_further, add_parameters_of};
 use crate::terms::{add_all_terms, add_terms};
 use crate::types::add_types;
 use mc_base::Memory;
 use mc_decl_syntax::Decl;
+use mc_names::Occurrence;
 use mc_term_data::{Node, Term, operands};
 use std::alloc::Global;
 

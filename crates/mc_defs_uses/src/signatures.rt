@@ -1,13 +1,13 @@
 ghost use Rattle.std.specs.Prelude.{◌≡◌, ◌++◌, codes, map, OnOk};
 ghost use Rattle.mc_term_data.specs.Plain.{plain_term, tms};
 ghost use Rattle.mc_term_data.specs.Shapes.{operands};
-ghost use Rattle.mc_defs_uses.specs.Plain.{plain_occurrence};
+ghost use Rattle.mc_names.specs.Plain.{plain_occurrence};
 ghost use Rattle.mc_defs_uses.specs.Occurrences.{parameter_in, all_parameters, parameters_of, func_by, modes_of, further_by};
 
 use crate::insts::{add_all_modes, add_modes};
-use crate::occurrence::Occurrence;
 use crate::types::add_types;
 use mc_base::Memory;
+use mc_names::Occurrence;
 use mc_term_data::{Node, Term, operands};
 
 /// Adds the types and modes of a predicate's or a function's arguments.

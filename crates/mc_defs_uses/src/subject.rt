@@ -3,13 +3,12 @@ ghost use Rattle.std.specs.Option.{option_map};
 ghost use Rattle.mc_term_data.specs.Plain.{plain_term};
 ghost use Rattle.mc_term_data.specs.Shapes.{operands};
 ghost use Rattle.mc_decl_syntax.specs.Plain.{plain_item};
-ghost use Rattle.mc_defs_uses.specs.Plain.{plain_name_arity, plain_definition};
+ghost use Rattle.mc_names.specs.Plain.{plain_name_arity, plain_definition};
 ghost use Rattle.mc_defs_uses.specs.Clauses.{clause_head, of_head, of_rule, clause_of, of_mode, mode_of, is_mode_too, without_mode};
 
-use crate::definition::{Definition, Kind, NameArity};
-use crate::head::head_name;
 use mc_clause_syntax::argument_count;
 use mc_decl_syntax::{Decl, are_moded};
+use mc_names::{Definition, Kind, NameArity, head_name};
 use mc_term_data::{Node, Term, has_none, operands};
 use std::alloc::Global;
 

@@ -2,14 +2,14 @@ ghost use Rattle.std.specs.Prelude.{◌≡◌, ◌∷◌, ◌++◌, [], true, na
 ghost use Rattle.mc_term_data.specs.Plain.{plain_term, tms};
 ghost use Rattle.mc_term_data.specs.Names.{count};
 ghost use Rattle.mc_clause_syntax.specs.Limits.{argument_count};
-ghost use Rattle.mc_defs_uses.specs.Plain.{plain_occurrence};
-ghost use Rattle.mc_defs_uses.specs.Occurrences.{used, is_infix, terms_in, all_terms, cells_in, elements_in, between, call_by};
+ghost use Rattle.mc_names.specs.Plain.{plain_occurrence, used};
+ghost use Rattle.mc_defs_uses.specs.Occurrences.{is_infix, terms_in, all_terms, cells_in, elements_in, between, call_by};
 ghost use Rattle.mc_defs_uses.specs.code.Steps.{behind};
 
-use crate::definition::Kind;
-use crate::occurrence::{Occurrence, stands_between};
+use crate::infixes::stands_between;
 use mc_base::{Memory, Row, Text};
 use mc_clause_syntax::{argument_count, is_state};
+use mc_names::{Kind, Occurrence};
 use mc_term_data::{Node, Term, arity};
 
 /// Adds the constructors, functions and characters in a term.

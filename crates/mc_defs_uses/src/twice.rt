@@ -4,15 +4,14 @@ ghost use Rattle.mc_term_data.specs.Plain.{plain_term, tms};
 ghost use Rattle.mc_term_data.specs.Names.{count};
 ghost use Rattle.mc_decl_syntax.specs.Plain.{plain_item};
 ghost use Rattle.mc_term_data.specs.Shapes.{operands, is_the_word};
-ghost use Rattle.mc_defs_uses.specs.Plain.{plain_name_arity};
+ghost use Rattle.mc_names.specs.Plain.{plain_name_arity};
 ghost use Rattle.mc_defs_uses.specs.Twice as T;
 
-use crate::definition::NameArity;
-use crate::head::symbol_name;
 use crate::insts::is_bound;
 use crate::name_arity_set::NameAritySet;
 use mc_base::{Memory, Row, Text};
 use mc_decl_syntax::Decl;
+use mc_names::{NameArity, symbol_name};
 use mc_term_data::{Node, Term, operands};
 use std::alloc::Global;
 

@@ -1,12 +1,12 @@
 ghost use Rattle.std.specs.Prelude.{◌≡◌, ◌++◌, nat_eq, ◌&&◌, map, OnOk};
 ghost use Rattle.mc_term_data.specs.Plain.{plain_term, tms};
 ghost use Rattle.mc_term_data.specs.Names.{count};
-ghost use Rattle.mc_defs_uses.specs.Plain.{plain_occurrence};
+ghost use Rattle.mc_names.specs.Plain.{plain_occurrence};
 ghost use Rattle.mc_defs_uses.specs.Occurrences.{is_infix, types_in, types_over, all_types};
 
-use crate::definition::Kind;
-use crate::occurrence::{Occurrence, stands_between};
+use crate::infixes::stands_between;
 use mc_base::{Memory, Text};
+use mc_names::{Kind, Occurrence};
 use mc_term_data::{Node, Term, arity};
 
 /// Adds the types in a type.

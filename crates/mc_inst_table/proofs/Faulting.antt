@@ -6,15 +6,13 @@ use Rattle.mc_source.specs.declared.place.Place.{Place}
 use Rattle.mc_source.specs.declared.rule.Broken.{Broken}
 use Rattle.mc_source.specs.Rules.{Fault, broken_at}
 use Rattle.mc_decl_syntax.specs.Plain.{PlainDecl}
-use Rattle.mc_defs_uses.specs.Plain.{PlainNameArity, id, is_name_arity}
+use Rattle.mc_names.specs.Plain.{PlainNameArity, id, is_name_arity, shown}
 use Rattle.std.specs.Str.{bytes_eq}
-use Rattle.mc_items.specs.declared.entry.Entry.{Entry}
-use Rattle.mc_items.specs.Files.{plain_entry}
-use Rattle.mc_linking.specs.Files.{File, plain_files}
-use Rattle.mc_linking.specs.Faults.{shown}
-use Rattle.mc_modules.specs.Linked.{Defined, Linked}
-use Rattle.mc_modules.specs.Numbers.{numbers_where}
-use Rattle.mc_modules.specs.Candidates.{type_fits, is_module, fits}
+use Rattle.mc_decl_syntax.specs.declared.entry.Entry.{Entry}
+use Rattle.mc_decl_syntax.specs.Entries.{plain_entry, File, plain_files}
+use Rattle.mc_names.specs.Linked.{Defined, Linked}
+use Rattle.mc_names.specs.Numbers.{numbers_where}
+use Rattle.mc_names.specs.Candidates.{type_fits, is_module, fits}
 use Rattle.mc_accepted.specs.InstRules.{InstTerm, bound_over, InstTerms, no_insts, Bodies, Mentions, Reaches, in_body, in_body_of, ComesBack, ReachesOthers, NotWellFounded, free_inside, not_well_founded}
 use Rattle.mc_inst_table.specs.declared.inst.Inst.{Inst}
 use Rattle.mc_inst_table.specs.Plain.{plain_insts}

@@ -5,9 +5,9 @@ use Rattle.std.proofs.Math.Path.{fun_ext}
 use Rattle.mc_accepted.specs.InstRules.{InstTerm, Bodies, ComesBack}
 use Rattle.mc_components.specs.Reached.{reaches}
 use Rattle.mc_components.specs.Components.{steps, NumbersComponents}
-use Rattle.mc_modules.specs.declared.names.Named.{Named}
-use Rattle.mc_modules.specs.declared.names.Names.{Names}
-use Rattle.mc_modules.specs.Linked.{Linked, plain_named, plain_names}
+use Rattle.mc_names.specs.declared.names.Named.{Named}
+use Rattle.mc_names.specs.declared.names.Names.{Names}
+use Rattle.mc_names.specs.Linked.{Linked, plain_named, plain_names}
 use Rattle.mc_inst_table.specs.declared.inst.Inst.{Inst}
 use Rattle.mc_inst_table.specs.declared.heads.Head.{Head}
 use Rattle.mc_inst_table.specs.declared.rings.InstDefinitions.{InstDefinitions}

@@ -8,9 +8,9 @@ use Rattle.mc_components.specs.Components.{steps, NumbersComponents}
 use Rattle.mc_components.proofs.Reaching.{reached_by_ways}
 use Rattle.mc_components.proofs.Certified.{in_head, in_cases}
 use Rattle.mc_components.proofs.Returning.{begins}
-use Rattle.mc_modules.specs.declared.names.Named.{Named}
-use Rattle.mc_modules.specs.declared.names.Names.{Names}
-use Rattle.mc_modules.specs.Linked.{Linked, plain_named, plain_names}
+use Rattle.mc_names.specs.declared.names.Named.{Named}
+use Rattle.mc_names.specs.declared.names.Names.{Names}
+use Rattle.mc_names.specs.Linked.{Linked, plain_named, plain_names}
 use Rattle.mc_inst_table.specs.declared.mode_rings.ModeRings.{ModeRings}
 use Rattle.mc_inst_table.specs.Rules.{mode_named_of, mode_named}
 use Rattle.mc_inst_table.specs.code.Leading.{one_or_none, AreModeRings}

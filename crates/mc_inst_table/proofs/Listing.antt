@@ -3,7 +3,7 @@ use Rattle.std.proofs.Common.{◌≡◌, ℕ, ◌+◌, ◌<◌, List, [], ◌∷
 use Rattle.std.proofs.lemmas.List.{take_more}
 use Rattle.mc_term_data.specs.Plain.{plain_term, tms}
 use Rattle.mc_term_data.specs.declared.term.Term.{Term}
-use Rattle.mc_defs_uses.specs.Definitions.{symbol_name}
+use Rattle.mc_names.specs.Definitions.{symbol_name}
 use Rattle.mc_accepted.specs.InstRules.{Functor}
 use Rattle.mc_inst_table.specs.declared.inst.Functor.{Functor as Listed}
 use Rattle.mc_inst_table.specs.Plain.{plain_functor}

@@ -2,10 +2,10 @@
 use Rattle.std.proofs.Common.{◌≡◌, ℕ, ◌+◌, ◌<◌, List, [], ◌∷◌, ◌++◌, length, get_or, drop, refl, sym, ap, ◌∙◌}
 use Rattle.std.specs.Prelude.{Some, None, slice_get}
 use Rattle.std.proofs.lemmas.List.{at_drop_more}
-use Rattle.mc_defs_uses.specs.Plain.{PlainNameArity}
-use Rattle.mc_modules.specs.Linked.{Defined, Linked}
-use Rattle.mc_modules.specs.Numbers.{numbers_where}
-use Rattle.mc_modules.specs.Candidates.{type_fits}
+use Rattle.mc_names.specs.Plain.{PlainNameArity}
+use Rattle.mc_names.specs.Linked.{Defined, Linked}
+use Rattle.mc_names.specs.Numbers.{numbers_where}
+use Rattle.mc_names.specs.Candidates.{type_fits}
 use Rattle.mc_inst_table.specs.Written.{numbers_among, first_or}
 
 first_here : (n k : ℕ) (xs ys : List ℕ) → Some k ≡ slice_get xs 0 → k ≡ first_or n (xs ++ ys)

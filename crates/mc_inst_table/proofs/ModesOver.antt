@@ -5,7 +5,7 @@ use Rattle.mc_term_data.specs.Plain.{plain_term, tms}
 use Rattle.mc_term_data.specs.Shapes.{is_the_word}
 use Rattle.mc_term_data.specs.declared.term.Term.{Term}
 use Rattle.mc_accepted.specs.InstRules.{inst_node}
-use Rattle.mc_modules.specs.Linked.{Linked}
+use Rattle.mc_names.specs.Linked.{Linked}
 use Rattle.mc_inst_table.specs.Written.{from_to, over_one, written_inst, written_insts}
 
 pub none_over :

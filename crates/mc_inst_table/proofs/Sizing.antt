@@ -9,9 +9,9 @@ use Rattle.mc_model.specs.Lists.{is_in}
 use Rattle.mc_components.specs.Components.{steps, NumbersComponents}
 use Rattle.mc_components.proofs.Certified.{in_head, in_tail, in_cases}
 use Rattle.mc_accepted.specs.InstRules.{InstTerm, bound_over, no_insts, inst_then, Bodies, InstTerms, Mentions, ReachesOthers}
-use Rattle.mc_modules.specs.declared.names.Named.{Named}
-use Rattle.mc_modules.specs.declared.names.Names.{Names}
-use Rattle.mc_modules.specs.Linked.{Linked, plain_named, plain_names}
+use Rattle.mc_names.specs.declared.names.Named.{Named}
+use Rattle.mc_names.specs.declared.names.Names.{Names}
+use Rattle.mc_names.specs.Linked.{Linked, plain_named, plain_names}
 use Rattle.mc_inst_table.specs.declared.inst.Inst.{Inst}
 use Rattle.mc_inst_table.specs.declared.links.Link.{Link}
 use Rattle.mc_inst_table.specs.declared.others.Given.{Given}

@@ -3,10 +3,10 @@ use Rattle.std.proofs.Common.{◌≡◌, ◌≢◌, ℕ, suc, ◌+◌, ◌<◌, 
 use Rattle.std.proofs.lemmas.List.{take_more}
 use Rattle.mc_term_data.specs.Plain.{PlainTerm, PlainTerms, plain_term, tms, more_terms, no_term}
 use Rattle.mc_term_data.specs.Names.{count as count_of}
-use Rattle.mc_type_table.proofs.Rows.{count_is_length}
+use Rattle.mc_names.proofs.Places.{count_is_length}
 use Rattle.mc_term_data.specs.declared.term.Term.{Term}
 use Rattle.mc_accepted.specs.InstRules.{InstTerm, InstTerms, no_insts, inst_then}
-use Rattle.mc_modules.specs.Linked.{Linked}
+use Rattle.mc_names.specs.Linked.{Linked}
 use Rattle.mc_inst_table.specs.declared.inst.Inst.{Inst}
 use Rattle.mc_inst_table.specs.Plain.{plain_inst, plain_insts}
 use Rattle.mc_term_data.specs.Shapes.{operands}

@@ -8,12 +8,11 @@ use Rattle.mc_source.specs.declared.place.Place.{Place}
 use Rattle.mc_source.specs.declared.rule.Broken.{Broken}
 use Rattle.mc_source.specs.Rules.{Fault, broken_at}
 use Rattle.mc_decl_syntax.specs.Plain.{PlainDecl, SameInst, BoundInst, ModeDef, Pred, Func, Mode}
-use Rattle.mc_defs_uses.specs.Plain.{PlainNameArity, id, PlainDefinition}
-use Rattle.mc_defs_uses.specs.Definitions.{definitions}
-use Rattle.mc_linking.specs.Files.{File}
-use Rattle.mc_linking.specs.Faults.{shown}
-use Rattle.mc_modules.specs.Linked.{Defined, Linked}
-use Rattle.mc_type_table.specs.Written.{parameters_of, home}
+use Rattle.mc_names.specs.Plain.{PlainNameArity, id, PlainDefinition, shown}
+use Rattle.mc_names.specs.Definitions.{definitions}
+use Rattle.mc_decl_syntax.specs.Entries.{File}
+use Rattle.mc_names.specs.Linked.{Defined, Linked, home}
+use Rattle.mc_names.specs.Parameters.{parameters_of}
 use Rattle.mc_accepted.specs.InstRules.{InstTerm, defined, bound_over, InstTerms, no_insts, inst_then, Bodies, NotWellFounded, PutsFreeInside, OneIs, ModeIsUnfounded, free_inside, not_well_founded}
 use Rattle.mc_inst_table.specs.Written.{numbers_among, first_or, functors, written_inst, all_listed, append_insts, ModeTerm, from_to, defined_mode, written_mode, insts_of_mode}
 

@@ -5,12 +5,12 @@ use Rattle.mc_term_data.specs.Plain.{PlainTerm, PlainTerms, at, no_term, more_te
 use Rattle.mc_term_data.specs.Names.{count, Row, row, found}
 use Rattle.mc_term_data.specs.Shapes.{is_the_word, operands}
 use Rattle.mc_decl_syntax.specs.Plain.{Path}
-use Rattle.mc_defs_uses.specs.Plain.{PlainNameArity, id, qualifiers, last_part}
-use Rattle.mc_defs_uses.specs.Definitions.{symbol_name}
-use Rattle.mc_modules.specs.Linked.{Defined, Linked}
-use Rattle.mc_modules.specs.Numbers.{numbers_where}
-use Rattle.mc_modules.specs.Candidates.{looked_in, type_fits}
-use Rattle.mc_type_table.specs.Written.{place_of}
+use Rattle.mc_names.specs.Plain.{PlainNameArity, id, qualifiers, last_part}
+use Rattle.mc_names.specs.Definitions.{symbol_name}
+use Rattle.mc_names.specs.Linked.{Defined, Linked}
+use Rattle.mc_names.specs.Numbers.{numbers_where}
+use Rattle.mc_names.specs.Candidates.{looked_in, type_fits}
+use Rattle.mc_names.specs.Parameters.{place_of}
 use Rattle.mc_accepted.specs.InstRules.{Functor, InstTerm, parameter, inst_node, defined, bound_over, InstTerms, no_insts, inst_then}
 
 -- the builtin insts, by their nodes

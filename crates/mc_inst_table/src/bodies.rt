@@ -1,8 +1,8 @@
 ghost use Rattle.std.specs.Prelude.{◌≡◌, map, Some, IfOk};
 ghost use Rattle.mc_term_data.specs.Plain.{plain_term, tms};
 ghost use Rattle.mc_accepted.specs.InstRules.{bound_over};
-ghost use Rattle.mc_modules.specs.Linked.{plain_named, plain_names};
-ghost use Rattle.mc_type_table.specs.Written.{parameters_of};
+ghost use Rattle.mc_names.specs.Linked.{plain_named, plain_names};
+ghost use Rattle.mc_names.specs.Parameters.{parameters_of};
 ghost use Rattle.mc_inst_table.specs.Plain.{plain_inst};
 ghost use Rattle.mc_inst_table.specs.Written.{functors, written_inst, all_listed};
 ghost use Rattle.mc_inst_table.specs.Rules.{inst_body_of};
@@ -12,9 +12,8 @@ use crate::inst::Inst;
 use crate::written::{inst_of_term, insts_listed};
 use mc_base::{Memory, Row};
 use mc_decl_syntax::Decl;
-use mc_modules::{Named, Names};
+use mc_names::{Named, Names, home, parameters_of};
 use mc_term_data::Term;
-use mc_type_table::{home, parameters_of};
 use std::alloc::Global;
 
 /// What the inst definitions of a program stand for, over their parameters, by their numbers.

@@ -1,12 +1,12 @@
 ghost use Rattle.std.specs.Prelude.{◌≡◌, ◌∷◌, [], map, IfOk};
 ghost use Rattle.mc_term_data.specs.Plain.{plain_term, tms};
-ghost use Rattle.mc_defs_uses.specs.Definitions.{symbol_name};
+ghost use Rattle.mc_names.specs.Definitions.{symbol_name};
 ghost use Rattle.mc_inst_table.specs.Plain.{plain_functor};
 ghost use Rattle.mc_inst_table.specs.Written.{functor, functors, listed_functors};
 
 use crate::inst::Functor;
 use mc_base::{Memory, Row, Text};
-use mc_defs_uses::symbol_name;
+use mc_names::symbol_name;
 use mc_term_data::{Node, Term};
 use std::alloc::Global;
 

@@ -4,7 +4,7 @@ ghost use Rattle.mc_term_data.specs.Plain.{plain_term, tms};
 ghost use Rattle.mc_term_data.specs.Shapes.{operands};
 ghost use Rattle.mc_decl_syntax.specs.Plain.{plain_item};
 ghost use Rattle.mc_accepted.specs.InstRules.{no_insts, inst_then};
-ghost use Rattle.mc_modules.specs.Linked.{plain_names};
+ghost use Rattle.mc_names.specs.Linked.{plain_names};
 ghost use Rattle.mc_inst_table.specs.Plain.{plain_inst, plain_insts, plain_mode};
 ghost use Rattle.mc_inst_table.specs.Written.{append_insts, written_mode, insts_of_mode};
 ghost use Rattle.mc_inst_table.specs.Rules.{insts_of_modes, insts_of_moded, insts_of_arguments, insts_of_signature, insts_of_function, insts_of_mode_head, insts_of_further, insts_written};
@@ -14,9 +14,8 @@ use crate::inst::{Inst, Mode};
 use crate::modes::mode_of_term;
 use mc_base::{Memory, Row, Text};
 use mc_decl_syntax::Decl;
-use mc_modules::Names;
+use mc_names::{Names, parameters_of};
 use mc_term_data::{Node, Term, operands};
-use mc_type_table::parameters_of;
 use std::alloc::Global;
 
 /// The insts that are written in an item of the module of a number: what an inst is defined as, and those of the modes in

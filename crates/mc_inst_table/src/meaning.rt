@@ -1,15 +1,13 @@
 ghost use Rattle.std.specs.Prelude.{◌≡◌, ◌<◌, ◌^◌, ℕ, List, length, map, slice_get, IfOk};
-ghost use Rattle.mc_defs_uses.specs.Plain.{plain_name_arity};
-ghost use Rattle.mc_modules.specs.Linked.{plain_named, plain_names};
-ghost use Rattle.mc_modules.specs.Numbers.{numbers_where};
-ghost use Rattle.mc_modules.specs.Candidates.{is_module, named_so, looked_in, type_fits};
+ghost use Rattle.mc_names.specs.Plain.{plain_name_arity};
+ghost use Rattle.mc_names.specs.Linked.{plain_named, plain_names};
+ghost use Rattle.mc_names.specs.Numbers.{numbers_where};
+ghost use Rattle.mc_names.specs.Candidates.{is_module, named_so, looked_in, type_fits};
 ghost use Rattle.mc_inst_table.specs.Written.{numbers_among, first_or, meaning};
 ghost use Rattle.mc_inst_table.specs.Rules.{own_number};
 
 use mc_base::{Copied, Memory, Row, Text};
-use mc_defs_uses::{Kind, NameArity, Occurrence};
-use mc_linking::joined;
-use mc_modules::{Named, Names};
+use mc_names::{Kind, NameArity, Named, Names, Occurrence, joined};
 use std::alloc::Global;
 
 /// Which of some definitions a name over so many arguments means in a module, by its number. Where there is none, which

@@ -1,6 +1,6 @@
 ghost use Rattle.std.specs.Prelude.{◌≡◌, ◌<◌, ◌↔◌, ℕ, true, length, map, Some, IfOk};
 ghost use Rattle.mc_accepted.specs.InstRules.{ModeIsUnfounded};
-ghost use Rattle.mc_modules.specs.Linked.{Linked, plain_named, plain_names};
+ghost use Rattle.mc_names.specs.Linked.{Linked, plain_named, plain_names};
 ghost use Rattle.mc_inst_table.specs.Rules.{mode_named_of, mode_named};
 ghost use Rattle.mc_inst_table.specs.code.Leading.{one_or_none, AreModeRings};
 
@@ -9,8 +9,7 @@ use crate::modes::mode_of_term;
 use mc_base::{Memory, Row};
 use mc_components::{components, reaches_itself};
 use mc_decl_syntax::Decl;
-use mc_modules::{Named, Names};
-use mc_type_table::{home, parameters_of};
+use mc_names::{Named, Names, home, parameters_of};
 use std::alloc::Global;
 
 /// The mode definitions of a program, by their numbers: to which other one each leads, and the components of that graph.

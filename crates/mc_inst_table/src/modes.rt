@@ -3,7 +3,7 @@ ghost use Rattle.std.specs.Option.{option_map};
 ghost use Rattle.mc_term_data.specs.Plain.{plain_term, tms};
 ghost use Rattle.mc_term_data.specs.Names.{count, found};
 ghost use Rattle.mc_accepted.specs.InstRules.{no_insts};
-ghost use Rattle.mc_modules.specs.Linked.{plain_names};
+ghost use Rattle.mc_names.specs.Linked.{plain_names};
 ghost use Rattle.mc_inst_table.specs.Plain.{plain_mode};
 ghost use Rattle.mc_inst_table.specs.Written.{builtin_modes, builtin, over_one, defined_mode, meaning, mode_over, user_mode, written_insts, named_mode, written_mode};
 
@@ -11,7 +11,7 @@ use crate::inst::{Inst, Mode};
 use crate::meaning::meaning;
 use crate::written::{inst_of_term, insts_of_terms};
 use mc_base::{Memory, Row, Text};
-use mc_modules::Names;
+use mc_names::Names;
 use mc_term_data::{Node, Term, is_the_word, operands};
 use std::alloc::Global;
 
@@ -69,7 +69,7 @@ fn named_mode(
 }
 
 // The mode that a name over terms writes.
-#[tactic(auto, using(mc_type_table::proofs::Rows::count_is_length))]
+#[tactic(auto, using(mc_names::proofs::Places::count_is_length))]
 fn mode_over(
     alloc: Global,
     names: &Names,
@@ -120,7 +120,7 @@ fn user_mode(
 }
 
 // A definition's name over terms.
-#[tactic(auto, using(mc_type_table::proofs::Rows::count_is_length))]
+#[tactic(auto, using(mc_names::proofs::Places::count_is_length))]
 fn defined_over(
     alloc: Global,
     names: &Names,

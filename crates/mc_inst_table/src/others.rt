@@ -1,6 +1,6 @@
 ghost use Rattle.std.specs.Prelude.{◌≡◌, ◌≢◌, ◌↔◌, ◌<◌, ◌≤◌, ℕ, true, false, length, map, IfOk, slice_get, slice_index, slice_index_or};
 ghost use Rattle.mc_accepted.specs.InstRules.{ReachesOthers};
-ghost use Rattle.mc_modules.specs.Linked.{Linked, plain_names};
+ghost use Rattle.mc_names.specs.Linked.{Linked, plain_names};
 ghost use Rattle.mc_inst_table.specs.Rules.{inst_bodies};
 ghost use Rattle.mc_inst_table.specs.code.Places.{place, width_at, links_at};
 ghost use Rattle.mc_inst_table.specs.code.Others.{inst_arity, AreSized, to_of, AreMarked, AreGiven};
@@ -11,7 +11,7 @@ use crate::needs::needs_if_full;
 use crate::places::{Places, firsts_of, graph_of, number_at, place, spoiled};
 use mc_base::{Memory, Row};
 use mc_components::components;
-use mc_modules::Names;
+use mc_names::Names;
 use std::alloc::Global;
 
 /// What is given for the parameters of the inst definitions of a program on the ways by which those reach themselves.

@@ -1,6 +1,6 @@
 ghost use Rattle.std.specs.Prelude.{◌≡◌, ◌++◌, ◌↔◌, ◌<◌, [], ℕ, true, map, IfOk, OnOk, slice_index_or};
 ghost use Rattle.mc_accepted.specs.InstRules.{ComesBack};
-ghost use Rattle.mc_modules.specs.Linked.{Linked, plain_names};
+ghost use Rattle.mc_names.specs.Linked.{Linked, plain_names};
 ghost use Rattle.mc_inst_table.specs.Plain.{plain_inst, plain_insts};
 ghost use Rattle.mc_inst_table.specs.Rules.{inst_bodies, OnePutsFreeInside};
 ghost use Rattle.mc_inst_table.specs.code.Insides.{is_free_end, has_free_end};
@@ -15,7 +15,7 @@ use crate::inst::Inst;
 use crate::needs::{are_full, needs_if_full};
 use mc_base::{Memory, Row};
 use mc_components::{components, reaches_itself};
-use mc_modules::Names;
+use mc_names::Names;
 use std::alloc::Global;
 
 /// The inst definitions of a program, by their numbers: what each stands for, over how many parameters at least, and

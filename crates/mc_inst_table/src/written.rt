@@ -3,8 +3,8 @@ ghost use Rattle.mc_term_data.specs.Plain.{plain_term, tms, more_terms, no_term}
 ghost use Rattle.mc_term_data.specs.Names.{found};
 ghost use Rattle.mc_term_data.specs.Shapes.{is_the_word};
 ghost use Rattle.mc_accepted.specs.InstRules.{defined, no_insts, inst_then};
-ghost use Rattle.mc_modules.specs.Linked.{plain_names};
-ghost use Rattle.mc_type_table.specs.Written.{place_of};
+ghost use Rattle.mc_names.specs.Linked.{plain_names};
+ghost use Rattle.mc_names.specs.Parameters.{place_of};
 ghost use Rattle.mc_inst_table.specs.Plain.{plain_inst, plain_insts};
 ghost use Rattle.mc_inst_table.specs.Written.{builtin_insts, builtin, named_inst, append_insts, inst_over, written_inst, written_insts, listed_insts, all_listed};
 
@@ -12,7 +12,7 @@ use crate::functors::listed_functors;
 use crate::inst::Inst;
 use crate::meaning::meaning;
 use mc_base::{Memory, Row, Text};
-use mc_modules::Names;
+use mc_names::{Names, place_of};
 use mc_term_data::{Node, Term, is_the_word};
 use std::alloc::Global;
 
@@ -234,23 +234,6 @@ fn no_inst(alloc: Global, names: &Names) -> Inst
     ensures { plain_inst result ≡ defined (length (plain_names names.now).insts) no_insts }
 {
     Inst::Defined(names.insts.len(), Row::new(alloc))
-}
-
-// The place of a name among names, or that of their end.
-fn place_of(name: &[u8], names: &[Text]) -> Result<u32, Memory>
-    ensures { IfOk result (λ k. k ≡ place_of name.now names.now) }
-{
-    if names.len() > u32::MAX as usize {
-        return Err(Memory);
-    }
-    let mut place = 0;
-    for known in names {
-        if known.bytes() == name {
-            return Ok(place);
-        }
-        place += 1;
-    }
-    Ok(place)
 }
 
 // An inst's name over insts, in the module of a number.

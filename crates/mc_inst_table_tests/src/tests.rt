@@ -1,7 +1,8 @@
 use mc_base::{Memory, Row};
+use mc_decl_syntax::{Entry, ItemsFault};
 use mc_declared_modes::{WrittenMode, declared_modes};
 use mc_inst_table::{Inst, Mode, inst_faults};
-use mc_items::{Entry, ItemsFault, read_items};
+use mc_items::read_items;
 use mc_modules::link;
 use std::alloc::Global;
 use std::process::Abort;

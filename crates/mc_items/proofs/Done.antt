@@ -5,13 +5,14 @@ use Rattle.mc_source.specs.declared.place.Place.{Place}
 use Rattle.mc_source.specs.declared.rule.Broken.{Broken}
 use Rattle.mc_terms.specs.Answers.{IsOver}
 use Rattle.mc_decl_syntax.specs.Plain.{PlainDecl}
-use Rattle.mc_items.specs.declared.entry.Entry.{Entry}
+use Rattle.mc_decl_syntax.specs.declared.entry.Entry.{Entry}
 use Rattle.std.specs.Prelude.{IfOk, IfErr, IfNone}
-use Rattle.mc_items.specs.declared.entry.ItemsFault.{ItemsFault}
-use Rattle.mc_items.specs.declared.entry.ItemsFault.TheVariants as I
+use Rattle.mc_decl_syntax.specs.declared.entry.ItemsFault.{ItemsFault}
+use Rattle.mc_decl_syntax.specs.declared.entry.ItemsFault.TheVariants as I
 use Rattle.mc_items.specs.declared.next.Next.{Next}
 use Rattle.mc_items.specs.Verdicts.{PlainVerdict, kept, breaks}
-use Rattle.mc_items.specs.Files.{IsItem, Items, over, item, kept_in, broken_in, plain_entry, IsWhole, IsFaulty, IsRefusal, greatest_text}
+use Rattle.mc_items.specs.Files.{IsItem, Items, over, item, kept_in, broken_in, IsWhole, IsFaulty, IsRefusal, greatest_text}
+use Rattle.mc_decl_syntax.specs.Entries.{plain_entry}
 use Rattle.mc_items.specs.code.Faults.{IsBrokenIn}
 
 pub kept_append : (file : ℕ) (vs ws : List (PlainVerdict × ℕ)) → kept_in file (vs ++ ws) ≡ kept_in file vs ++ kept_in file ws

@@ -6,8 +6,8 @@ use Rattle.mc_source.specs.declared.rule.Rule.{Rule}
 use Rattle.mc_source.specs.declared.rule.Rule.TheVariants as R
 use Rattle.mc_terms.specs.declared.fault.ReadKind.{ReadKind}
 use Rattle.mc_terms.specs.Answers.{IsOver, IsItem, IsRefused, StandsAt, item_line}
-use Rattle.mc_items.specs.declared.entry.ItemsFault.{ItemsFault}
-use Rattle.mc_items.specs.declared.entry.ItemsFault.TheVariants as I
+use Rattle.mc_decl_syntax.specs.declared.entry.ItemsFault.{ItemsFault}
+use Rattle.mc_decl_syntax.specs.declared.entry.ItemsFault.TheVariants as I
 use Rattle.mc_items.specs.Verdicts.{unread}
 use Rattle.mc_items.specs.Files.{greatest_text, place}
 use Rattle.mc_items.specs.code.Faults.{IsBrokenIn}

@@ -7,7 +7,7 @@ use Rattle.mc_source.specs.declared.rule.Rule.{Rule}
 use Rattle.mc_term_parser.specs.Tree.{term}
 use Rattle.mc_term_parser.specs.Laws.{AtMostOne}
 use Rattle.mc_terms.specs.Answers.{IsOver}
-use Rattle.mc_items.specs.declared.entry.ItemsFault.TheVariants as F
+use Rattle.mc_decl_syntax.specs.declared.entry.ItemsFault.TheVariants as F
 use Rattle.mc_items.specs.Verdicts.{PlainVerdict, breaks}
 use Rattle.mc_items.specs.Files.{place, IsUnread, IsTooLong}
 use Rattle.mc_items.specs.Queries.{query_verdict, ReadsAs, IsGoal, Breaks, empty, unread, followed, refused, IsNoGoal, IsQueryRefusal}

@@ -19,8 +19,8 @@ use Rattle.mc_terms.specs.declared.fault.ReadKind.TheVariants.{Token, NotATerm, 
 use Rattle.mc_terms.specs.Lines.{line_at}
 use Rattle.mc_terms.specs.Lexemes.{lexemes}
 use Rattle.mc_terms.specs.Answers.{AreItemTokens, AreNoTerm, ItemReads, IsOver, BeginsOn, place_of, item_line, token_line, IsRefused, StandsAt}
-use Rattle.mc_items.specs.declared.entry.Entry.{Entry}
-use Rattle.mc_items.specs.declared.entry.ItemsFault.TheVariants as F
+use Rattle.mc_decl_syntax.specs.declared.entry.Entry.{Entry}
+use Rattle.mc_decl_syntax.specs.declared.entry.ItemsFault.TheVariants as F
 use Rattle.mc_items.specs.Verdicts.{PlainVerdict, breaks, judged, unread}
 use Rattle.mc_items.specs.Files.{IsItem, IsUnread, Items, over, item, broken_in, IsWhole, IsFaulty, IsTooLong, IsRefusal}
 use Rattle.mc_items.specs.Laws.{AtMostOneList}

@@ -7,10 +7,11 @@ use Rattle.mc_source.specs.Rules.{Fault, first_rules}
 use Rattle.mc_term_parser.specs.Tree.{Tree, depth, too_large, term}
 use Rattle.mc_terms.specs.declared.fault.ReadKind.{ReadKind}
 use Rattle.mc_terms.specs.Answers.{IsOver, ItemReads, IsRefused, StandsAt, item_line}
-use Rattle.mc_decl_syntax.specs.Plain.{PlainDecl, plain_item}
-use Rattle.mc_items.specs.declared.entry.Entry.{Entry}
-use Rattle.mc_items.specs.declared.entry.ItemsFault.{ItemsFault}
-use Rattle.mc_items.specs.declared.entry.ItemsFault.TheVariants as I
+use Rattle.mc_decl_syntax.specs.Plain.{PlainDecl}
+use Rattle.mc_decl_syntax.specs.declared.entry.Entry.{Entry}
+use Rattle.mc_decl_syntax.specs.declared.entry.ItemsFault.{ItemsFault}
+use Rattle.mc_decl_syntax.specs.declared.entry.ItemsFault.TheVariants as I
+use Rattle.mc_decl_syntax.specs.Entries.{plain_entry}
 use Rattle.mc_items.specs.Verdicts.{PlainVerdict, kept, breaks, judged, unread, rule_of}
 use Rattle.mc_items.specs.Words as W
 
@@ -63,10 +64,6 @@ kept_in file ((breaks r w, line) ∷ vs) = kept_in file vs
 -- the rules that are broken, with their places
 abbrev pub broken_in : ℕ → List (PlainVerdict × ℕ) → List Broken
 broken_in file vs = first_rules (λ v. place file v.1) (λ v. rule_of v.0) vs
-
--- an entry as plain data
-abbrev pub plain_entry : Entry → PlainDecl × Place
-plain_entry e = (plain_item e.decl, e.at)
 
 -- Each item of the text has a form and breaks no rule, and these are the items.
 pub record IsWhole (file : ℕ) (text : List ℕ) (entries : List Entry) : Type 0 where

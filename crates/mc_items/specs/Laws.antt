@@ -3,8 +3,8 @@ use Rattle.std.specs.Prelude.{◌≡◌, ℕ, List}
 use Rattle.mc_term_data.specs.Plain.{plain_term}
 use Rattle.mc_term_data.specs.declared.term.Term.{Term}
 use Rattle.mc_source.specs.declared.rule.Broken.{Broken}
-use Rattle.mc_items.specs.declared.entry.Entry.{Entry}
-use Rattle.mc_items.specs.declared.entry.ItemsFault.TheVariants as I
+use Rattle.mc_decl_syntax.specs.declared.entry.Entry.{Entry}
+use Rattle.mc_decl_syntax.specs.declared.entry.ItemsFault.TheVariants as I
 use Rattle.mc_items.specs.Verdicts.{PlainVerdict}
 use Rattle.mc_items.specs.Files.{Items, IsWhole, IsRefusal}
 use Rattle.mc_items.specs.Queries.{IsGoal, IsQueryRefusal}

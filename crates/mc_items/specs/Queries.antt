@@ -13,8 +13,8 @@ use Rattle.mc_unsupported.specs.declared.reason.LeftOut.{LeftOut}
 use Rattle.mc_unsupported.specs.Reasons.{goal_left_out}
 use Rattle.mc_clause_syntax.specs.Clauses.{is_query}
 use Rattle.mc_clause_syntax.specs.Limits.{too_many_arguments, too_many_variables}
-use Rattle.mc_items.specs.declared.entry.ItemsFault.{ItemsFault}
-use Rattle.mc_items.specs.declared.entry.ItemsFault.TheVariants as I
+use Rattle.mc_decl_syntax.specs.declared.entry.ItemsFault.{ItemsFault}
+use Rattle.mc_decl_syntax.specs.declared.entry.ItemsFault.TheVariants as I
 use Rattle.mc_items.specs.Verdicts.{breaks}
 use Rattle.mc_items.specs.Files.{greatest_text, place, IsUnread, IsTooLong}
 use Rattle.mc_items.specs.Words as W

@@ -1,7 +1,6 @@
 //! The items of a file, with each faulty item's first broken rule, and the goal of a query.
 #![tactic(auto)]
 
-mod entry;
 mod goal;
 mod judged;
 mod law;
@@ -10,8 +9,7 @@ mod next;
 mod query;
 mod read;
 
-pub use entry::{Entry, ItemsFault};
 pub use law::{at_most_one_answer, at_most_one_goal, at_most_one_list};
-pub use mc_decl_syntax::Decl;
+pub use mc_decl_syntax::{Decl, Entry, ItemsFault};
 pub use query::read_query;
 pub use read::{GREATEST_TEXT, read_items, too_long};

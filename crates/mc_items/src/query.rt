@@ -5,11 +5,11 @@ ghost use Rattle.mc_items.specs.code.Faults.{IsBrokenIn};
 ghost use Rattle.mc_items.specs.Queries.{IsGoal, IsQueryRefusal};
 ghost use Rattle.mc_items.specs.Words as W;
 
-use crate::entry::ItemsFault;
 use crate::goal::query_rule;
 use crate::messages::fault_rule;
 use crate::read::{GREATEST_TEXT, too_long};
 use mc_base::{Memory, Row, Text};
+use mc_decl_syntax::ItemsFault;
 use mc_source::place::Place;
 use mc_source::rule::{Broken, Rule};
 use mc_term_data::Term;

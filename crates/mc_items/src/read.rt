@@ -1,12 +1,13 @@
 ghost use Rattle.std.specs.Prelude.{◌≡◌, ◌++◌, IfOk, IfErr, OnOk, [], ◌∷◌, map, length, ◌≤◌};
-ghost use Rattle.mc_items.specs.Files.{IsWhole, IsRefusal, plain_entry, kept_in, broken_in, too_long_in};
+ghost use Rattle.mc_items.specs.Files.{IsWhole, IsRefusal, kept_in, broken_in, too_long_in};
+ghost use Rattle.mc_decl_syntax.specs.Entries.{plain_entry};
 ghost use Rattle.mc_items.specs.code.Faults.{IsBrokenIn};
 ghost use Rattle.mc_items.specs.code.VerdictViews.{plain_verdict};
 
-use crate::entry::{Entry, ItemsFault};
 use crate::judged::Verdict;
 use crate::next::next_item;
 use mc_base::{Memory, Row, Text};
+use mc_decl_syntax::{Entry, ItemsFault};
 use mc_source::place::Place;
 use mc_source::rule::{Broken, Rule};
 use mc_terms::Position;

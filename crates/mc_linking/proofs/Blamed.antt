@@ -3,16 +3,16 @@ use Rattle.std.proofs.Common.{◌≡◌, ℕ, ◌+◌, ◌-◌, ◌<◌, ◌≤�
 use Rattle.std.proofs.lemmas.List.{append-nil, length-map}
 use Rattle.std.specs.Bool.{◌==◌}
 use Rattle.std.proofs.Math.Dec.{eqb-suc-zero}
-use Rattle.mc_defs_uses.specs.Plain.{PlainDefinition}
+use Rattle.mc_names.specs.Plain.{PlainDefinition}
 use Rattle.mc_defs_uses.specs.Sets.{put_all}
-use Rattle.mc_defs_uses.specs.Definitions.{definitions}
+use Rattle.mc_names.specs.Definitions.{definitions}
 use Rattle.mc_decl_syntax.specs.Plain.{PlainDecl}
-use Rattle.mc_items.specs.declared.entry.Entry.{Entry}
-use Rattle.mc_items.specs.Files.{plain_entry}
+use Rattle.mc_decl_syntax.specs.declared.entry.Entry.{Entry}
+use Rattle.mc_decl_syntax.specs.Entries.{plain_entry, File, plain_files}
 use Rattle.mc_source.specs.declared.rule.Broken.{Broken}
 use Rattle.mc_linking.specs.declared.item_in_file.ItemInFile.{ItemInFile}
 use Rattle.mc_linking.specs.Kept.{plain_item_in_file}
-use Rattle.mc_linking.specs.Files.{File, PlainItemInFile, items_in_file, plain_files}
+use Rattle.mc_linking.specs.Files.{PlainItemInFile, items_in_file}
 use Rattle.mc_linking.specs.Visible.{is_library, file_at}
 use Rattle.mc_linking.specs.Faults.{again, double_fault, fault, with_before, faults_of, faults_from}
 use Rattle.mc_source.specs.Rules.{broken_at}

@@ -2,9 +2,9 @@
 use Rattle.std.proofs.Common.{◌≡◌, ℕ, ◌+◌, ◌<◌, suc, zero, Bool, true, false, cond, nat_eq, nat_lt, ◌&&◌, ◌||◌, not, List, [], ◌∷◌, length, Option, Some, None, refl, ap, sym, ◌∙◌, arith}
 use Rattle.std.specs.Set.{is_member}
 use Rattle.std.proofs.Math.Dec.{eqb-suc-zero}
-use Rattle.mc_defs_uses.specs.declared.definition.Kind.{Kind}
-use Rattle.mc_defs_uses.specs.Plain.{PlainOccurrence}
-use Rattle.mc_linking.specs.Files.{File, joined}
+use Rattle.mc_names.specs.declared.definition.Kind.{Kind}
+use Rattle.mc_names.specs.Plain.{PlainOccurrence, joined}
+use Rattle.mc_decl_syntax.specs.Entries.{File}
 use Rattle.mc_linking.specs.Visible.{module_of, seen, unqualified, among, searched, is_qualified, is_builtin, has_definition, how_many, meanings_as}
 
 one_more : (n : ℕ) → nat_eq (1 + n) 0 ≡ false

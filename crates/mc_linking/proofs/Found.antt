@@ -3,12 +3,13 @@ use Rattle.std.specs.Prelude.{codes, ◌&&◌, not, nat_lt}
 use Rattle.std.proofs.Common.{◌≡◌, ℕ, ◌<◌, ◌≤◌, suc, true, List, [], ◌∷◌, ◌++◌, length, map, drop, get_or, slice_index_or, Some, ap, sym, ◌∙◌, arith}
 use Rattle.std.proofs.Math.Seq.{drop-cons}
 use Rattle.mc_source.specs.declared.rule.Rule.TheVariants as R
-use Rattle.mc_defs_uses.specs.declared.definition.Definition.{Definition}
-use Rattle.mc_defs_uses.specs.declared.occurrence.Occurrence.{Occurrence}
-use Rattle.mc_defs_uses.specs.Plain.{plain_definition, plain_occurrence}
-use Rattle.mc_linking.specs.Files.{File, PlainItemInFile}
+use Rattle.mc_names.specs.declared.definition.Definition.{Definition}
+use Rattle.mc_names.specs.declared.occurrence.Occurrence.{Occurrence}
+use Rattle.mc_names.specs.Plain.{plain_definition, plain_occurrence, shown}
+use Rattle.mc_decl_syntax.specs.Entries.{File}
+use Rattle.mc_linking.specs.Files.{PlainItemInFile}
 use Rattle.mc_linking.specs.Visible.{meanings, is_qualified}
-use Rattle.mc_linking.specs.Faults.{is_undefined, undefined_fault, is_single, ambiguous, shown}
+use Rattle.mc_linking.specs.Faults.{is_undefined, undefined_fault, is_single, ambiguous}
 
 pub first-undefined : (all : List PlainItemInFile) (ds : List Definition) (d : Definition) (what : List ℕ)
     → 1 ≤ length ds

@@ -1,14 +1,14 @@
 -- What is kept of each file, by its number.
 use Rattle.std.proofs.Common.{◌≡◌, ℕ, ◌+◌, ◌<◌, ◌≤◌, suc, zero, Bool, true, false, cond, nat_eq, List, [], ◌∷◌, map, length, get_or, refl, ap, sym, ◌∙◌, arith}
 use Rattle.std.proofs.lemmas.List.{get_or-map, length-map}
-use Rattle.mc_defs_uses.specs.declared.definition.Kind.{Kind}
-use Rattle.mc_defs_uses.specs.declared.definition.Kind.TheVariants as K
-use Rattle.mc_defs_uses.specs.Plain.{PlainNameArity}
-use Rattle.mc_items.specs.declared.entry.Entry.{Entry}
-use Rattle.mc_items.specs.Files.{plain_entry}
+use Rattle.mc_names.specs.declared.definition.Kind.{Kind}
+use Rattle.mc_names.specs.declared.definition.Kind.TheVariants as K
+use Rattle.mc_names.specs.Plain.{PlainNameArity}
+use Rattle.mc_decl_syntax.specs.declared.entry.Entry.{Entry}
+use Rattle.mc_decl_syntax.specs.Entries.{plain_entry, File, plain_files}
 use Rattle.mc_linking.specs.declared.visibility.Visibility.{Visibility}
 use Rattle.mc_linking.specs.declared.table.Table.{Table}
-use Rattle.mc_linking.specs.Files.{File, PlainItemInFile, items_in_file, definitions_of, shown_of, has, plain_files}
+use Rattle.mc_linking.specs.Files.{PlainItemInFile, items_in_file, definitions_of, shown_of, has}
 use Rattle.mc_linking.specs.Visible.{file_at, has_definition}
 use Rattle.mc_linking.specs.Visibilities.{visibility}
 use Rattle.mc_linking.specs.code.Visibilities.{visibilities_from}

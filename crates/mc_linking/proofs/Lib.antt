@@ -5,6 +5,4 @@ mod ItemLists
 mod Kept
 mod ModulesSeen
 pub mod Numbers
-mod Parts
-mod Sole
 pub mod Tables

@@ -5,11 +5,12 @@ use Rattle.std.specs.Set.{is_member}
 use Rattle.std.proofs.lemmas.Cmp.{nat_eq_equiv}
 use Rattle.std.proofs.lemmas.List.{get_or-map, length-map}
 use Rattle.mc_decl_syntax.specs.Plain.{Path, PlainDecl, Imports, UseOnly}
-use Rattle.mc_items.specs.declared.entry.Entry.{Entry}
-use Rattle.mc_items.specs.Files.{plain_entry}
+use Rattle.mc_decl_syntax.specs.declared.entry.Entry.{Entry}
+use Rattle.mc_decl_syntax.specs.Entries.{plain_entry, File, plain_files}
 use Rattle.mc_linking.specs.declared.section.Section.{Section}
 use Rattle.mc_linking.specs.declared.section.Section.TheVariants as S
-use Rattle.mc_linking.specs.Files.{File, items_in_file_from, joined, module_name, module_names, plain_files, section_after}
+use Rattle.mc_linking.specs.Files.{items_in_file_from, module_name, module_names, section_after}
+use Rattle.mc_names.specs.Plain.{joined}
 use Rattle.mc_linking.specs.Visible.{has_name, first_named, or_first, module_of, with_module, with_modules, imported_by, used_by, imported, only_used, unqualified, seen, file_at}
 use Rattle.mc_linking.specs.Visibilities.{visibility}
 use Rattle.mc_linking.specs.code.Visibilities.{put_name, named_behind, imports, only_uses, with_named, with_named_in, visibilities_from}

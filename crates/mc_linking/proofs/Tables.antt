@@ -1,11 +1,11 @@
 -- The sets of a file's items.
 use Rattle.std.proofs.Common.{◌≡◌, cond, List, [], ◌∷◌, ◌++◌, refl, sym, ◌∙◌}
 use Rattle.std.specs.Set.{is_member}
-use Rattle.mc_defs_uses.specs.declared.definition.Kind.{Kind}
-use Rattle.mc_defs_uses.specs.declared.definition.Kind.TheVariants as K
-use Rattle.mc_defs_uses.specs.Plain.{PlainNameArity, PlainDefinition, definition, is_definition}
+use Rattle.mc_names.specs.declared.definition.Kind.{Kind}
+use Rattle.mc_names.specs.declared.definition.Kind.TheVariants as K
+use Rattle.mc_names.specs.Plain.{PlainNameArity, PlainDefinition, definition, is_definition}
 use Rattle.mc_defs_uses.specs.Sets.{put, put_all}
-use Rattle.mc_defs_uses.specs.Definitions.{definitions}
+use Rattle.mc_names.specs.Definitions.{definitions}
 use Rattle.mc_defs_uses.specs.Clauses.{clause_of, mode_of}
 use Rattle.mc_defs_uses.proofs.Laws.{is_member-put_all}
 use Rattle.mc_linking.specs.declared.table.Table.{Table}

@@ -1,6 +1,6 @@
 -- The rules of the phase that links, item by item (the Mercury manual: The module system; this
 -- project's rules and texts).
-use Rattle.std.specs.Prelude.{ℕ, ◌+◌, Bool, true, false, not, nat_eq, nat_lt, ◌&&◌, ◌||◌, List, [], ◌∷◌, ◌++◌, Option, Some, None, codes, decimal, if◌then◌else◌}
+use Rattle.std.specs.Prelude.{ℕ, ◌+◌, Bool, true, false, not, nat_eq, nat_lt, ◌&&◌, ◌||◌, List, [], ◌∷◌, ◌++◌, Option, Some, None, codes, if◌then◌else◌}
 use Rattle.std.specs.Option.{option_or, option_map}
 use Rattle.std.specs.Str.{bytes_eq}
 use Rattle.std.specs.Set.{is_member}
@@ -9,21 +9,18 @@ use Rattle.mc_source.specs.declared.rule.Broken.{Broken}
 use Rattle.mc_source.specs.declared.rule.Rule.TheVariants as R
 use Rattle.mc_source.specs.Rules.{Fault, broken_at, first_rules}
 use Rattle.mc_decl_syntax.specs.Plain.{Path, PlainDecl, ModuleStart, ModuleEnd, Interface, Implementation, Imports, UseOnly, Clause}
-use Rattle.mc_defs_uses.specs.declared.definition.Kind.{Kind}
-use Rattle.mc_defs_uses.specs.declared.definition.Kind.TheVariants as K
-use Rattle.mc_defs_uses.specs.Plain.{PlainNameArity, PlainDefinition, definition, is_definition, PlainOccurrence}
-use Rattle.mc_defs_uses.specs.Definitions.{definitions}
+use Rattle.mc_names.specs.declared.definition.Kind.{Kind}
+use Rattle.mc_names.specs.declared.definition.Kind.TheVariants as K
+use Rattle.mc_names.specs.Plain.{PlainNameArity, PlainDefinition, definition, is_definition, PlainOccurrence, joined, shown}
+use Rattle.mc_names.specs.Definitions.{definitions}
 use Rattle.mc_defs_uses.specs.Occurrences.{uses, goals_in}
 use Rattle.mc_defs_uses.specs.Twice.{twice_in}
 use Rattle.mc_defs_uses.specs.Clauses.{clause_of, mode_of, without_mode}
 use Rattle.mc_linking.specs.declared.section.Section.{Section}
 use Rattle.mc_linking.specs.declared.section.Section.TheVariants as S
-use Rattle.mc_linking.specs.Files.{File, PlainItemInFile, items_in_file, joined, module_name, definitions_of, clauses_of, modes_of}
+use Rattle.mc_decl_syntax.specs.Entries.{File}
+use Rattle.mc_linking.specs.Files.{PlainItemInFile, items_in_file, module_name, definitions_of, clauses_of, modes_of}
 use Rattle.mc_linking.specs.Visible.{is_library, file_at, module_of, meanings, is_qualified}
-
--- `name/arity`
-abbrev pub shown : PlainNameArity → List ℕ
-shown x = x.name ++ (47 ∷ decimal x.arity)
 
 abbrev pub is_nowhere : Section → Bool
 is_nowhere S.Nowhere = true

@@ -1,22 +1,17 @@
 -- The files that are linked, where the items of a file stand, and what they declare (the Mercury
 -- manual: The module system).
-use Rattle.std.specs.Prelude.{ℕ, Bool, true, false, ◌||◌, List, [], ◌∷◌, ◌++◌, map, Option, Some, None, if◌then◌else◌}
+use Rattle.std.specs.Prelude.{ℕ, Bool, true, false, ◌||◌, List, [], ◌∷◌, ◌++◌, Option, Some, None, if◌then◌else◌}
 use Rattle.std.specs.Set.{is_member}
 use Rattle.mc_source.specs.declared.place.Place.{Place}
-use Rattle.mc_decl_syntax.specs.Plain.{Path, PlainDecl, ModuleStart, Interface, Implementation}
-use Rattle.mc_defs_uses.specs.declared.definition.Kind.{Kind}
-use Rattle.mc_defs_uses.specs.declared.definition.Kind.TheVariants as K
-use Rattle.mc_defs_uses.specs.Plain.{PlainNameArity, PlainDefinition, definition, is_definition}
-use Rattle.mc_defs_uses.specs.Definitions.{definitions}
+use Rattle.mc_decl_syntax.specs.Plain.{PlainDecl, ModuleStart, Interface, Implementation}
+use Rattle.mc_names.specs.declared.definition.Kind.{Kind}
+use Rattle.mc_names.specs.declared.definition.Kind.TheVariants as K
+use Rattle.mc_names.specs.Plain.{PlainNameArity, PlainDefinition, definition, is_definition, joined}
+use Rattle.mc_names.specs.Definitions.{definitions}
 use Rattle.mc_defs_uses.specs.Clauses.{clause_of, mode_of}
-use Rattle.mc_items.specs.declared.entry.Entry.{Entry}
-use Rattle.mc_items.specs.Files.{plain_entry}
+use Rattle.mc_decl_syntax.specs.Entries.{File}
 use Rattle.mc_linking.specs.declared.section.Section.{Section}
 use Rattle.mc_linking.specs.declared.section.Section.TheVariants as S
-
--- a file: its items, each with its place
-abbrev pub File : Type 0
-File = List (PlainDecl × Place)
 
 -- the section behind an item
 abbrev pub section_after : Section → PlainDecl → Section
@@ -46,12 +41,6 @@ items_in_file_from is_first s (e ∷ es) =
 -- the items of a file, each as it stands there
 abbrev pub items_in_file : File → List PlainItemInFile
 items_in_file es = items_in_file_from true S.Nowhere es
-
--- a name by its parts, with a full stop between them
-abbrev pub joined : Path → List ℕ
-joined [] = []
-joined (w ∷ []) = w
-joined (w ∷ (v ∷ vs)) = w ++ (46 ∷ joined (v ∷ vs))
 
 -- the name of the module that a file is
 abbrev pub module_name : File → Option (List ℕ)
@@ -96,7 +85,3 @@ has K.DefinedType x ts =
     is_member is_definition ts (definition K.DefinedType x)
     || is_member is_definition ts (definition K.AbstractType x)
 has k x ts = is_member is_definition ts (definition k x)
-
--- files as they were read
-abbrev pub plain_files : List (List Entry) → List File
-plain_files fs = map (map plain_entry) fs

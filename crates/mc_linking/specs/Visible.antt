@@ -1,13 +1,15 @@
 -- What a module sees (the Mercury manual: The module system).
 use Rattle.std.specs.Prelude.{ℕ, ◌+◌, ◌-◌, Bool, true, false, not, nat_eq, nat_le, ◌&&◌, List, [], ◌∷◌, ◌++◌, length, Option, Some, None, codes, drop, slice_index_or, if◌then◌else◌}
 use Rattle.std.specs.Option.{is_some}
-use Rattle.std.specs.Str.{bytes_eq, chars, is_utf8}
+use Rattle.std.specs.Str.{bytes_eq}
 use Rattle.std.specs.Set.{is_member}
 use Rattle.mc_decl_syntax.specs.Plain.{Path, PlainDecl, Imports, UseOnly}
-use Rattle.mc_defs_uses.specs.declared.definition.Kind.{Kind}
-use Rattle.mc_defs_uses.specs.declared.definition.Kind.TheVariants as K
-use Rattle.mc_defs_uses.specs.Plain.{PlainNameArity, id, is_name_arity, PlainOccurrence}
-use Rattle.mc_linking.specs.Files.{File, PlainItemInFile, items_in_file, joined, module_names, definitions_of, shown_of, has}
+use Rattle.mc_names.specs.declared.definition.Kind.{Kind}
+use Rattle.mc_names.specs.declared.definition.Kind.TheVariants as K
+use Rattle.mc_names.specs.Plain.{PlainNameArity, id, is_name_arity, PlainOccurrence, joined}
+use Rattle.mc_decl_syntax.specs.Entries.{File}
+use Rattle.mc_linking.specs.Files.{PlainItemInFile, items_in_file, module_names, definitions_of, shown_of, has}
+use Rattle.mc_names.specs.Characters.{character}
 
 -- the library's modules are the last nine files
 abbrev pub library_size : ℕ
@@ -122,19 +124,6 @@ abbrev pub meanings_as : List File → (own : ℕ) → Kind → PlainOccurrence 
 meanings_as files own k u =
     (if not (is_qualified u.qualifiers) && is_builtin k u.id then 1 else 0)
     + how_many files own k u.id (searched files own u.qualifiers)
-
-abbrev pub sole : List ℕ → Option ℕ
-sole (c ∷ []) = Some c
-sole _ = None
-
--- the character that a name is, where it is just one
-abbrev pub sole_character : List ℕ → Option ℕ
-sole_character w = if is_utf8 w then sole (chars w) else None
-
--- the character that a name without qualifiers and arguments may mean
-abbrev pub character : (qualifiers : Path) → PlainNameArity → Option ℕ
-character [] x = if nat_eq x.arity 0 then sole_character x.name else None
-character _ x = None
 
 -- How many meanings a name has: a term's name is a constructor, a function or a character.
 abbrev pub meanings_of : List File → (own : ℕ) → Kind → PlainOccurrence → ℕ

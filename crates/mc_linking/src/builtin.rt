@@ -1,8 +1,8 @@
 ghost use Rattle.std.specs.Prelude.{◌≡◌};
-ghost use Rattle.mc_defs_uses.specs.Plain.{plain_name_arity, is_name_arity, id as id_of};
+ghost use Rattle.mc_names.specs.Plain.{plain_name_arity, is_name_arity, id as id_of};
 ghost use Rattle.mc_linking.specs.Visible.{is_builtin};
 
-use mc_defs_uses::{Kind, NameArity};
+use mc_names::{Kind, NameArity};
 
 /// Whether a name is a type, an inst or a mode that every module sees.
 pub fn is_builtin(kind: Kind, id: &NameArity<'_>) -> bool

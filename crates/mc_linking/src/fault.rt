@@ -2,12 +2,13 @@ ghost use Rattle.std.specs.Prelude.{◌≡◌, ◌<◌, length, map, IfOk};
 ghost use Rattle.std.specs.Option.{option_map, option_or};
 ghost use Rattle.std.specs.Set.{is_member};
 ghost use Rattle.mc_decl_syntax.specs.Plain.{plain_item};
-ghost use Rattle.mc_defs_uses.specs.Plain.{definition as definition_of, is_definition, plain_name_arity, plain_definition, plain_occurrence};
-ghost use Rattle.mc_defs_uses.specs.Definitions.{definitions as definitions_of};
+ghost use Rattle.mc_names.specs.Plain.{definition as definition_of, is_definition, plain_name_arity, plain_definition, plain_occurrence, joined};
+ghost use Rattle.mc_names.specs.Definitions.{definitions as definitions_of};
 ghost use Rattle.mc_defs_uses.specs.Occurrences.{uses as uses_of};
 ghost use Rattle.mc_defs_uses.specs.Clauses.{clause_of, mode_of, without_mode};
 ghost use Rattle.mc_defs_uses.specs.Twice.{twice_in};
-ghost use Rattle.mc_linking.specs.Files.{joined, modes_of, definitions_of as definitions_in, items_in_file, plain_files};
+ghost use Rattle.mc_linking.specs.Files.{modes_of, definitions_of as definitions_in, items_in_file};
+ghost use Rattle.mc_decl_syntax.specs.Entries.{plain_files};
 ghost use Rattle.mc_linking.specs.Visible.{file_at, module_of};
 ghost use Rattle.mc_linking.specs.Faults.{twice_given, is_number, not_found, missing, import_fault, invisible, again, double_fault, is_undefined, undefined_fault, undeclared, ambiguous, mode_fault, fault};
 ghost use Rattle.mc_linking.specs.code.Steps.{definition_fault};
@@ -19,10 +20,8 @@ use crate::messages;
 use crate::structure::structure_fault;
 use mc_base::{Memory, Row, Text};
 use mc_decl_syntax::Decl;
-use mc_defs_uses::{
-    Definition, DefinitionSet, Kind, NameArity, Occurrence, clause_of, mode_of, twice_in, uses,
-    without_mode,
-};
+use mc_defs_uses::{DefinitionSet, clause_of, mode_of, twice_in, uses, without_mode};
+use mc_names::{Definition, Kind, NameArity, Occurrence};
 use mc_source::rule::Rule;
 use std::alloc::Global;
 

@@ -1,6 +1,7 @@
 ghost use Rattle.std.specs.Prelude.{◌≡◌, ◌++◌, ◌<◌, List, [], length, map, IfOk, OnOk};
 ghost use Rattle.mc_source.specs.Rules.{broken_at};
-ghost use Rattle.mc_linking.specs.Files.{File, items_in_file, plain_files};
+ghost use Rattle.mc_decl_syntax.specs.Entries.{File, plain_files};
+ghost use Rattle.mc_linking.specs.Files.{items_in_file};
 ghost use Rattle.mc_linking.specs.Visible.{file_at};
 ghost use Rattle.mc_linking.specs.Faults.{fault, faults_of, link_faults};
 ghost use Rattle.mc_linking.specs.Kept.{plain_item_in_file};
@@ -10,8 +11,8 @@ use crate::item_in_file::ItemInFile;
 use crate::linking::Linking;
 use crate::table::put_all;
 use mc_base::{Memory, Row, Text};
+use mc_decl_syntax::Entry;
 use mc_defs_uses::DefinitionSet;
-use mc_items::Entry;
 use mc_source::place::Place;
 use mc_source::rule::{Broken, Rule};
 use std::alloc::Global;

@@ -1,12 +1,12 @@
 ghost use Rattle.std.specs.Prelude.{◌≡◌, ◌<◌, length, IfOk};
 ghost use Rattle.mc_term_data.specs.Plain.{plain_term};
-ghost use Rattle.mc_linking.specs.Files.{plain_files};
+ghost use Rattle.mc_decl_syntax.specs.Entries.{plain_files};
 ghost use Rattle.mc_linking.specs.Faults.{goal_fault};
 
 use crate::linking::Linking;
 use mc_base::{Memory, Row, Text};
+use mc_decl_syntax::Entry;
 use mc_defs_uses::goal_uses;
-use mc_items::Entry;
 use mc_source::rule::Rule;
 use mc_term_data::Term;
 use std::alloc::Global;

@@ -1,11 +1,11 @@
 ghost use Rattle.std.specs.Prelude.{◌≡◌, map};
 ghost use Rattle.mc_decl_syntax.specs.Plain.{plain_item};
-ghost use Rattle.mc_defs_uses.specs.Plain.{plain_definition};
-ghost use Rattle.mc_defs_uses.specs.Definitions as spec;
+ghost use Rattle.mc_names.specs.Plain.{plain_definition};
+ghost use Rattle.mc_names.specs.Definitions as spec;
 
 use crate::section::Section;
-use mc_defs_uses::Definition;
-use mc_items::Entry;
+use mc_decl_syntax::Entry;
+use mc_names::Definition;
 
 /// An item as it stands in its file, with what it declares and defines.
 #[derive(Drop)]

@@ -1,14 +1,14 @@
 ghost use Rattle.std.specs.Prelude.{◌≡◌, map, IfOk};
-ghost use Rattle.mc_items.specs.Files.{plain_entry};
-ghost use Rattle.mc_linking.specs.Files.{items_in_file, plain_files};
+ghost use Rattle.mc_decl_syntax.specs.Entries.{plain_entry, plain_files};
+ghost use Rattle.mc_linking.specs.Files.{items_in_file};
 ghost use Rattle.mc_linking.specs.Kept.{plain_item_in_file};
 ghost use Rattle.mc_linking.specs.code.Tables.{all_items};
 
 use crate::item_in_file::ItemInFile;
 use crate::section::Section;
 use mc_base::{Memory, Row};
+use mc_decl_syntax::Entry;
 use mc_defs_uses::definitions;
-use mc_items::Entry;
 use std::alloc::Global;
 
 // The items of a file, each as it stands there.

@@ -2,7 +2,6 @@
 #![tactic(auto)]
 
 mod builtin;
-mod character;
 mod examples;
 mod fault;
 mod faults;
@@ -18,13 +17,12 @@ mod structure;
 mod table;
 mod visibility;
 
-pub use character::sole_character;
 pub use examples::linked_files;
 pub use faults::link_faults;
 pub use goal::goal_rule;
 pub use item_in_file::ItemInFile;
 pub use linking::Linking;
-pub use module_names::{ModuleNames, joined, module_name};
+pub use module_names::{ModuleNames, module_name};
 pub use section::Section;
 pub use table::Table;
 pub use visibility::Visibility;

@@ -1,8 +1,8 @@
 ghost use Rattle.std.specs.Prelude.{◌≡◌, ◌-◌, ◌<◌, ◌^◌, nat_eq, length, map, IfOk};
 ghost use Rattle.std.specs.Set.{is_member};
-ghost use Rattle.mc_defs_uses.specs.Plain.{plain_name_arity};
-ghost use Rattle.mc_items.specs.Files.{plain_entry};
-ghost use Rattle.mc_linking.specs.Files.{joined, items_in_file, plain_files};
+ghost use Rattle.mc_names.specs.Plain.{plain_name_arity, joined};
+ghost use Rattle.mc_decl_syntax.specs.Entries.{plain_entry, plain_files};
+ghost use Rattle.mc_linking.specs.Files.{items_in_file};
 ghost use Rattle.mc_linking.specs.Visible.{library_size, module_of, unqualified, seen, file_at, has_definition};
 ghost use Rattle.mc_linking.specs.Visibilities.{visibility};
 ghost use Rattle.mc_linking.specs.Kept.{plain_item_in_file, table};
@@ -13,8 +13,8 @@ use crate::module_names::{LIBRARY_SIZE, ModuleNames};
 use crate::table::{Table, tables};
 use crate::visibility::{Visibility, visibilities};
 use mc_base::{Memory, Row, Text};
-use mc_defs_uses::{Kind, NameArity};
-use mc_items::Entry;
+use mc_decl_syntax::Entry;
+use mc_names::{Kind, NameArity};
 use std::alloc::Global;
 use std::marker::Model;
 
@@ -31,7 +31,7 @@ pub struct Linking<'a> {
 
 impl<'a> Model for Linking<'a> {
     ghost use Rattle.std.specs.Prelude.{List};
-    ghost use Rattle.mc_items.specs.declared.entry.Entry.{Entry};
+    ghost use Rattle.mc_decl_syntax.specs.declared.entry.Entry.{Entry};
 
     ghost Value = { List (List Entry) };
 

@@ -1,15 +1,15 @@
 ghost use Rattle.std.specs.Prelude.{◌≡◌, ◌<◌, ◌≤◌, ◌^◌, ◌&&◌, not, nat_eq, nat_lt, [], length, IfOk};
 ghost use Rattle.std.specs.Option.{is_some};
-ghost use Rattle.mc_defs_uses.specs.Plain.{plain_name_arity, plain_occurrence};
-ghost use Rattle.mc_linking.specs.Files.{plain_files};
-ghost use Rattle.mc_linking.specs.Visible.{how_many, meanings, meanings_as, is_qualified, character};
+ghost use Rattle.mc_names.specs.Plain.{plain_name_arity, plain_occurrence};
+ghost use Rattle.mc_decl_syntax.specs.Entries.{plain_files};
+ghost use Rattle.mc_linking.specs.Visible.{how_many, meanings, meanings_as, is_qualified};
+ghost use Rattle.mc_names.specs.Characters.{character};
 ghost use Rattle.mc_linking.specs.Faults.{is_single};
 
 use crate::builtin::is_builtin;
-use crate::character::sole_character;
 use crate::linking::Linking;
 use mc_base::Memory;
-use mc_defs_uses::{Kind, NameArity, Occurrence};
+use mc_names::{Kind, NameArity, Occurrence, sole_character};
 use std::alloc::Global;
 
 impl<'a> Linking<'a> {

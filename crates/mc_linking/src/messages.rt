@@ -1,12 +1,9 @@
 ghost use Rattle.std.specs.Prelude.{◌≡◌, ◌++◌, codes, IfOk};
-ghost use Rattle.mc_defs_uses.specs.Plain.{plain_name_arity};
-ghost use Rattle.mc_linking.specs.Files.{joined};
-ghost use Rattle.mc_linking.specs.Faults.{shown};
+ghost use Rattle.mc_names.specs.Plain.{plain_name_arity, joined, shown};
 
-use crate::module_names::joined;
 use itoa::Buffer;
 use mc_base::{Memory, Text};
-use mc_defs_uses::NameArity;
+use mc_names::{NameArity, joined};
 use std::alloc::Global;
 
 /// A name with the number of its arguments, and what is said of it.

@@ -1,37 +1,21 @@
 ghost use Rattle.std.specs.Prelude.{◌≡◌, ◌≤◌, length, map, drop, Some, IfOk, OnOk};
 ghost use Rattle.std.specs.Option.{option_map};
-ghost use Rattle.mc_items.specs.Files.{plain_entry};
-ghost use Rattle.mc_linking.specs.Files.{joined, module_name, module_names, plain_files};
+ghost use Rattle.mc_decl_syntax.specs.Entries.{plain_entry, plain_files};
+ghost use Rattle.mc_names.specs.Plain.{joined};
+ghost use Rattle.mc_linking.specs.Files.{module_name, module_names};
 ghost use Rattle.mc_linking.specs.Visible.{module_of};
-ghost use Rattle.mc_linking.specs.Visibilities.{number_of};
+ghost use Rattle.mc_names.specs.Numbers.{number_of};
 ghost use Rattle.mc_linking.specs.code.Visibilities.{named_behind, put_name};
 
 use indexmap::IndexMap;
 use mc_base::{Memory, Row, Text};
-use mc_decl_syntax::Decl;
-use mc_items::Entry;
+use mc_decl_syntax::{Decl, Entry};
+use mc_names::joined;
 use std::alloc::Global;
 use std::marker::Model;
 
 /// The last nine files are the modules of the library.
 pub const LIBRARY_SIZE: usize = 9;
-
-/// A name by its parts, with a full stop between them.
-pub fn joined(alloc: Global, name: &[Text]) -> Result<Text, Memory>
-    ensures { IfOk result (λ text. text ≡ joined name.now) }
-{
-    match name {
-        [] => Ok(Text::empty(alloc)),
-        [first, others @ ..] => {
-            let mut text = Text::new(alloc, first.bytes())?;
-            for part in others {
-                text.push(b'.')?;
-                text.extend(part.bytes())?;
-            }
-            Ok(text)
-        }
-    }
-}
 
 /// The name of the module that a file is, by its parts.
 pub fn module_name(file: &[Entry]) -> Option<&[Text]>

@@ -1,15 +1,16 @@
 ghost use Rattle.std.specs.Prelude.{◌≡◌, map, IfOk};
-ghost use Rattle.mc_items.specs.Files.{plain_entry};
-ghost use Rattle.mc_linking.specs.Files.{joined, module_name};
+ghost use Rattle.mc_decl_syntax.specs.Entries.{plain_entry};
+ghost use Rattle.mc_names.specs.Plain.{joined};
+ghost use Rattle.mc_linking.specs.Files.{module_name};
 ghost use Rattle.mc_linking.specs.Faults.{is_misplaced, is_module_of, structure_fault};
 ghost use Rattle.mc_linking.specs.Kept.{plain_item_in_file};
 
 use crate::item_in_file::ItemInFile;
-use crate::module_names::{joined, module_name};
+use crate::module_names::module_name;
 use crate::section::Section;
 use mc_base::{Memory, Text};
-use mc_decl_syntax::Decl;
-use mc_items::Entry;
+use mc_decl_syntax::{Decl, Entry};
+use mc_names::joined;
 use mc_source::rule::Rule;
 use std::alloc::Global;
 

@@ -1,6 +1,6 @@
 ghost use Rattle.std.specs.Prelude.{◌≡◌, cond, [], map, OnOk, IfOk};
 ghost use Rattle.std.specs.Option.{option_map};
-ghost use Rattle.mc_defs_uses.specs.Plain.{plain_name_arity, plain_definition};
+ghost use Rattle.mc_names.specs.Plain.{plain_name_arity, plain_definition};
 ghost use Rattle.mc_defs_uses.specs.Sets.{put_all};
 ghost use Rattle.mc_linking.specs.Files.{as_list, has};
 ghost use Rattle.mc_linking.specs.Kept.{plain_item_in_file, table};
@@ -8,7 +8,8 @@ ghost use Rattle.mc_linking.specs.code.Tables.{with_item, tables};
 
 use crate::item_in_file::ItemInFile;
 use mc_base::{Memory, Row};
-use mc_defs_uses::{Definition, DefinitionSet, Kind, NameArity, clause_of, mode_of};
+use mc_defs_uses::{DefinitionSet, clause_of, mode_of};
+use mc_names::{Definition, Kind, NameArity};
 use std::alloc::Global;
 
 /// What the items of a file declare, what its interface shows of that, and what its clauses and further modes are of.

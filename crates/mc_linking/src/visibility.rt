@@ -1,15 +1,14 @@
 ghost use Rattle.std.specs.Prelude.{◌≡◌, ◌<◌, length, map, Some, IfOk, OnOk};
 ghost use Rattle.mc_decl_syntax.specs.Plain.{plain_item};
-ghost use Rattle.mc_items.specs.Files.{plain_entry};
-ghost use Rattle.mc_linking.specs.Files.{plain_files};
+ghost use Rattle.mc_decl_syntax.specs.Entries.{plain_entry, plain_files};
 ghost use Rattle.mc_linking.specs.Visible.{module_of, with_module};
-ghost use Rattle.mc_linking.specs.Visibilities.{number_of, visibility};
+ghost use Rattle.mc_names.specs.Numbers.{number_of};
+ghost use Rattle.mc_linking.specs.Visibilities.{visibility};
 ghost use Rattle.mc_linking.specs.code.Visibilities.{imports, only_uses, with_named, with_named_in, visibilities_from};
 
 use crate::module_names::ModuleNames;
 use mc_base::{Copied, Memory, Row, Text};
-use mc_decl_syntax::Decl;
-use mc_items::Entry;
+use mc_decl_syntax::{Decl, Entry};
 use std::alloc::Global;
 
 /// What a module sees: the numbers of the modules whose names it may write unqualified, its own first, then those that

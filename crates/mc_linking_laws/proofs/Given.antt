@@ -8,12 +8,13 @@ use Rattle.mc_source.specs.declared.rule.Broken.{Broken}
 use Rattle.mc_source.specs.declared.rule.Rule.TheVariants as R
 use Rattle.mc_source.specs.Rules.{Fault, broken_at, first_rules}
 use Rattle.mc_decl_syntax.specs.Plain.{Path, PlainDecl, ModuleStart, ModuleEnd, Interface, Implementation, Imports, UseOnly, AbstractType, UnionType, SameType, SameInst, BoundInst, ModeDef, Pred, Func, Mode, Pragma, Clause}
-use Rattle.mc_defs_uses.specs.Plain.{PlainDefinition}
-use Rattle.mc_defs_uses.specs.Definitions.{definitions}
+use Rattle.mc_names.specs.Plain.{PlainDefinition, joined}
+use Rattle.mc_names.specs.Definitions.{definitions}
 use Rattle.mc_defs_uses.specs.Occurrences.{uses}
 use Rattle.mc_linking.specs.declared.section.Section.{Section}
 use Rattle.mc_linking.specs.declared.section.Section.TheVariants as S
-use Rattle.mc_linking.specs.Files.{File, PlainItemInFile, items_in_file, items_in_file_from, section_after, is_empty, joined, module_name}
+use Rattle.mc_decl_syntax.specs.Entries.{File}
+use Rattle.mc_linking.specs.Files.{PlainItemInFile, items_in_file, items_in_file_from, section_after, is_empty, module_name}
 use Rattle.mc_linking.specs.Visible.{is_library, library_size, file_at, module_of}
 use Rattle.mc_linking.specs.Faults.{structure_fault, is_number, twice_given, import_fault, invisible, fault, with_before, faults_of, faults_from}
 use Rattle.mc_modules.specs.Linked.{name_of}

@@ -4,10 +4,11 @@ use Rattle.std.specs.Prelude.{Option, Some, None, slice_get, if◌then◌else◌
 use Rattle.std.specs.Str.{bytes_eq}
 use Rattle.std.proofs.lemmas.List.{get_or-drop}
 use Rattle.std.proofs.lemmas.Slice.Eq.{bytes_eq-Decides}
-use Rattle.mc_linking.specs.Files.{File, module_name, module_names}
+use Rattle.mc_decl_syntax.specs.Entries.{File}
+use Rattle.mc_linking.specs.Files.{module_name, module_names}
 use Rattle.mc_linking.specs.Visible.{library_size, has_name, first_named, or_first, module_of, file_at}
 use Rattle.mc_modules.specs.Linked.{name_of, scope, scopes_from}
-use Rattle.mc_type_table.specs.Written.{module_from}
+use Rattle.mc_names.specs.Linked.{module_from}
 
 -- MODULES BY NAMES
 

@@ -8,13 +8,15 @@ use Rattle.std.proofs.lemmas.List.Folds.{list_any-append}
 use Rattle.mc_source.specs.Rules.{Fault}
 use Rattle.mc_source.specs.declared.rule.Rule.TheVariants as R
 use Rattle.mc_decl_syntax.specs.Plain.{Path, PlainDecl, ModuleStart, ModuleEnd, Interface, Implementation, Imports, UseOnly, AbstractType, UnionType, SameType, SameInst, BoundInst, ModeDef, Pred, Func, Mode, Pragma, Clause}
-use Rattle.mc_defs_uses.specs.declared.definition.Kind.{Kind}
-use Rattle.mc_defs_uses.specs.declared.definition.Kind.TheVariants as K
-use Rattle.mc_defs_uses.specs.Plain.{PlainNameArity, PlainOccurrence}
+use Rattle.mc_names.specs.declared.definition.Kind.{Kind}
+use Rattle.mc_names.specs.declared.definition.Kind.TheVariants as K
+use Rattle.mc_names.specs.Plain.{PlainNameArity, PlainOccurrence, joined, shown}
 use Rattle.mc_defs_uses.specs.Occurrences.{uses}
-use Rattle.mc_linking.specs.Files.{File, PlainItemInFile, items_in_file, joined, module_names, definitions_of, shown_of, has}
-use Rattle.mc_linking.specs.Visible.{is_library, library_size, has_name, first_named, or_first, module_of, file_at, with_module, with_modules, imported_by, used_by, imported, only_used, unqualified, seen, is_builtin, has_definition, how_many, among, is_qualified, searched, meanings_as, character, meanings_of, meanings}
-use Rattle.mc_linking.specs.Faults.{shown, invisible}
+use Rattle.mc_decl_syntax.specs.Entries.{File}
+use Rattle.mc_linking.specs.Files.{PlainItemInFile, items_in_file, module_names, definitions_of, shown_of, has}
+use Rattle.mc_linking.specs.Visible.{is_library, library_size, has_name, first_named, or_first, module_of, file_at, with_module, with_modules, imported_by, used_by, imported, only_used, unqualified, seen, is_builtin, has_definition, how_many, among, is_qualified, searched, meanings_as, meanings_of, meanings}
+use Rattle.mc_names.specs.Characters.{character}
+use Rattle.mc_linking.specs.Faults.{invisible}
 use Rattle.mc_modules.specs.Linked.{name_of}
 use Rattle.mc_linking_laws.specs.WellWritten.{AreKnown, IsLinked, LibraryStaysLinked}
 use Rattle.mc_linking_laws.proofs.Meanings.{never}

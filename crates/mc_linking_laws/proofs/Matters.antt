@@ -4,7 +4,7 @@ use Rattle.std.specs.Prelude.{codes}
 use Rattle.mc_source.specs.declared.place.Place.{Place}
 use Rattle.mc_term_data.specs.Plain.{PlainTerm, at, no_term, App}
 use Rattle.mc_decl_syntax.specs.Plain.{ModuleStart, Implementation, SameType}
-use Rattle.mc_linking.specs.Files.{File}
+use Rattle.mc_decl_syntax.specs.Entries.{File}
 use Rattle.mc_modules.specs.Linked.{linked}
 use Rattle.mc_type_table.specs.Written.{builtin_rows}
 use Rattle.mc_declarations.specs.Proper.{AreWellWritten}

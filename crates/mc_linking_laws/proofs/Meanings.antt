@@ -12,14 +12,16 @@ use Rattle.std.proofs.lemmas.Slice.Eq.{bytes_eq-Decides}
 use Rattle.mc_term_data.specs.Plain.{PlainTerm, PlainTerms, no_term, more_terms}
 use Rattle.mc_term_data.specs.Names.{Row, found}
 use Rattle.mc_decl_syntax.specs.Plain.{Path, PlainDecl, ModuleStart, ModuleEnd, Interface, Implementation, Imports, UseOnly, AbstractType, UnionType, SameType, SameInst, BoundInst, ModeDef, Pred, Func, Mode, Pragma, Clause}
-use Rattle.mc_defs_uses.specs.declared.definition.Kind.TheVariants as K
-use Rattle.mc_defs_uses.specs.Plain.{PlainNameArity, id, is_name_arity, PlainDefinition, definition, is_definition, PlainOccurrence, qualifiers, last_part}
-use Rattle.mc_defs_uses.specs.Definitions.{head_name, symbols, definitions}
-use Rattle.mc_linking.specs.Files.{File, PlainItemInFile, items_in_file, joined, definitions_of, is_shown, shown_of, has}
+use Rattle.mc_names.specs.declared.definition.Kind.TheVariants as K
+use Rattle.mc_names.specs.Plain.{PlainNameArity, id, is_name_arity, PlainDefinition, definition, is_definition, PlainOccurrence, qualifiers, last_part, joined}
+use Rattle.mc_names.specs.Definitions.{head_name, symbols, definitions}
+use Rattle.mc_decl_syntax.specs.Entries.{File}
+use Rattle.mc_linking.specs.Files.{PlainItemInFile, items_in_file, definitions_of, is_shown, shown_of, has}
 use Rattle.mc_linking.specs.Visible.{file_at, unqualified, seen, is_builtin, has_definition, how_many, among, is_qualified, searched, meanings, module_of}
-use Rattle.mc_modules.specs.Linked.{Defined, linked, defined, types_by, types_in, types_of, name_of, each, flat, scope}
-use Rattle.mc_modules.specs.Numbers.{numbers_where}
-use Rattle.mc_modules.specs.Candidates.{is_module, named_so, looked_in, type_fits, type_numbers}
+use Rattle.mc_names.specs.Linked.{Defined}
+use Rattle.mc_modules.specs.Linked.{linked, defined, types_by, types_in, types_of, name_of, each, flat, scope}
+use Rattle.mc_names.specs.Numbers.{numbers_where}
+use Rattle.mc_names.specs.Candidates.{is_module, named_so, looked_in, type_fits, type_numbers}
 use Rattle.mc_type_table.specs.Written.{builtin_rows, builtin}
 use Rattle.mc_declarations.specs.Proper.{Means}
 use Rattle.mc_linking_laws.proofs.Homes.{means_name, scope_at}

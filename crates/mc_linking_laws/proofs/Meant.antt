@@ -11,15 +11,15 @@ use Rattle.mc_decl_syntax.specs.Plain.{Path}
 use Rattle.mc_decl_syntax.specs.Types.{is_type, are_types, is_field_name, field_of, is_field, are_fields, is_constructor, are_constructors}
 use Rattle.mc_decl_syntax.specs.Insts.{is_mode}
 use Rattle.mc_decl_syntax.specs.Declarations.{moded_as, is_moded, plain_as, is_plain, are_moded, are_plain, is_pred, is_func_over, is_func}
-use Rattle.mc_defs_uses.specs.Plain.{PlainOccurrence}
+use Rattle.mc_names.specs.Plain.{PlainOccurrence, shown}
 use Rattle.mc_defs_uses.specs.Occurrences as U
-use Rattle.mc_linking.specs.Files.{File}
+use Rattle.mc_decl_syntax.specs.Entries.{File}
 use Rattle.mc_linking.specs.Visible.{meanings}
-use Rattle.mc_linking.specs.Faults.{shown, invisible}
+use Rattle.mc_linking.specs.Faults.{invisible}
 use Rattle.mc_modules.specs.Linked.{linked}
 use Rattle.mc_type_table.specs.Rules.{field_by, field, fields, constructor_fields, union_fields}
 use Rattle.mc_clauses.specs.Unresolved.{arguments_of, and_result}
-use Rattle.mc_clauses.specs.Declarations.{without_mode_by, without_mode, without_modes, with_result}
+use Rattle.mc_declarations.specs.Declarations.{without_mode_by, without_mode, without_modes, with_result}
 use Rattle.mc_declarations.specs.Proper.{IsMeant, AreMeant, EachMeant}
 use Rattle.mc_linking_laws.proofs.Meanings.{never, means}
 

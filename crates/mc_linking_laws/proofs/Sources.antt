@@ -1,7 +1,7 @@
 -- What sources declare is well written.
 use Rattle.std.proofs.Common.{◌≡◌, ℕ, suc, ◌+◌, List, [], ◌∷◌, ◌++◌, length, refl, ap, ◌∙◌}
 use Rattle.std.specs.Prelude.{Some, None}
-use Rattle.mc_linking.specs.Files.{File}
+use Rattle.mc_decl_syntax.specs.Entries.{File}
 use Rattle.mc_linking.specs.Faults.{link_faults}
 use Rattle.mc_compile.specs.Reading.{Reading, counted, FilesRead, items_from}
 use Rattle.mc_compile.specs.Linking.{goal_rules_in}

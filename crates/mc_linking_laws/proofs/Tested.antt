@@ -5,7 +5,7 @@ use Rattle.std.specs.Option.{is_none}
 use Rattle.std.proofs.lemmas.Bool.{and_parts}
 use Rattle.mc_source.specs.Rules.{Fault}
 use Rattle.mc_defs_uses.specs.Occurrences.{uses}
-use Rattle.mc_linking.specs.Files.{File}
+use Rattle.mc_decl_syntax.specs.Entries.{File}
 use Rattle.mc_linking.specs.Visible.{file_at, module_of}
 use Rattle.mc_linking.specs.Faults.{is_number, invisible}
 use Rattle.mc_modules.specs.Linked.{name_of}

@@ -7,18 +7,19 @@ use Rattle.mc_term_data.specs.Plain.{PlainTerm, at, Var, Int, Str, App, Items, T
 use Rattle.mc_term_data.specs.Shapes.{operands}
 use Rattle.mc_decl_syntax.specs.Plain.{PlainDecl, ModuleStart, ModuleEnd, Interface, Implementation, Imports, UseOnly, AbstractType, UnionType, SameType, SameInst, BoundInst, ModeDef, Pred, Func, Mode, Pragma, Clause}
 use Rattle.mc_decl_syntax.specs.Terms.{parameters}
-use Rattle.mc_defs_uses.specs.declared.definition.Kind.TheVariants as K
-use Rattle.mc_defs_uses.specs.Plain.{PlainNameArity, definition, is_definition}
-use Rattle.mc_defs_uses.specs.Definitions.{head_name, func_name, definitions}
+use Rattle.mc_names.specs.declared.definition.Kind.TheVariants as K
+use Rattle.mc_names.specs.Plain.{PlainNameArity, definition, is_definition}
+use Rattle.mc_names.specs.Definitions.{head_name, func_name, definitions}
 use Rattle.mc_defs_uses.specs.Occurrences.{uses}
 use Rattle.mc_linking.specs.declared.section.Section.{Section}
 use Rattle.mc_linking.specs.declared.section.Section.TheVariants as S
-use Rattle.mc_linking.specs.Files.{File, PlainItemInFile, items_in_file, items_in_file_from, section_after, is_empty, definitions_of, is_shown, shown_of, has}
+use Rattle.mc_decl_syntax.specs.Entries.{File}
+use Rattle.mc_linking.specs.Files.{PlainItemInFile, items_in_file, items_in_file_from, section_after, is_empty, definitions_of, is_shown, shown_of, has}
 use Rattle.mc_linking.specs.Visible.{is_library, file_at}
-use Rattle.mc_modules.specs.Linked.{Defined, linked, defined, types_by, types_in, of_kind, is_pred, sorted_in, name_of, types_of, preds_of, each, flat, scopes_from}
-use Rattle.mc_type_table.specs.Written.{home, module_from}
+use Rattle.mc_names.specs.Linked.{Defined, home, module_from}
+use Rattle.mc_modules.specs.Linked.{linked, defined, types_by, types_in, of_kind, is_pred, sorted_in, name_of, types_of, preds_of, each, flat, scopes_from}
 use Rattle.mc_type_table.specs.Rules.{union_fields}
-use Rattle.mc_clauses.specs.Declarations.{type_terms_of}
+use Rattle.mc_declarations.specs.Declarations.{type_terms_of}
 use Rattle.mc_declarations.specs.Proper.{IsHeadOf, IsMeant, AreMeant, EachMeant, IsWellWritten, AreWellWritten}
 use Rattle.mc_linking_laws.specs.WellWritten.{HasForm, HaveForm, AllHaveForm, AreKnown, IsLinked, WellWritten}
 use Rattle.mc_linking_laws.proofs.Given.{given_are_linked}

@@ -1,3 +1,4 @@
 pub mod WellWritten
 pub mod Tested
 pub mod Sources
+pub mod Examples

@@ -3,7 +3,7 @@
 use Rattle.std.specs.Prelude.{◌≡◌, ℕ, ◌+◌, Bool, true, ◌&&◌, List, [], ◌∷◌, ◌++◌, length}
 use Rattle.std.specs.Option.{is_none}
 use Rattle.mc_defs_uses.specs.Occurrences.{uses}
-use Rattle.mc_linking.specs.Files.{File}
+use Rattle.mc_decl_syntax.specs.Entries.{File}
 use Rattle.mc_linking.specs.Visible.{library_size, file_at, module_of}
 use Rattle.mc_linking.specs.Faults.{is_number, invisible}
 use Rattle.mc_modules.specs.Linked.{name_of}

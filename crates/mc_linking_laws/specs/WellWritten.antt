@@ -10,7 +10,7 @@ use Rattle.mc_decl_syntax.specs.Declarations.{is_pred, is_func}
 use Rattle.mc_defs_uses.specs.Occurrences.{uses}
 use Rattle.mc_items.specs.Verdicts.{PlainVerdict}
 use Rattle.mc_items.specs.Files.{Items, kept_in}
-use Rattle.mc_linking.specs.Files.{File}
+use Rattle.mc_decl_syntax.specs.Entries.{File}
 use Rattle.mc_linking.specs.Visible.{is_library, library_size, file_at, module_of}
 use Rattle.mc_linking.specs.Faults.{invisible, link_faults}
 use Rattle.mc_modules.specs.Linked.{linked, name_of}

@@ -1,5 +1,6 @@
 use mc_base::{Memory, Row, Text};
-use mc_items::{Entry, ItemsFault, read_items};
+use mc_decl_syntax::{Entry, ItemsFault};
+use mc_items::read_items;
 use mc_modules::{Linking, goal_rule, link_faults};
 use mc_term_data::{Node, Term};
 use std::alloc::Global;

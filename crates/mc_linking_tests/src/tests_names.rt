@@ -1,7 +1,8 @@
 use crate::tests::files;
 use mc_base::{Row, Text};
 use mc_decl_syntax::Decl;
-use mc_modules::{Candidate, Named, Names, link};
+use mc_modules::link;
+use mc_names::{Candidate, Named, Names};
 use std::alloc::Global;
 use std::process::Abort;
 use std::test::Fail;

@@ -1,9 +1,9 @@
 -- What one pass over the items of a file finds is what the file has.
 use Rattle.std.proofs.Common.{◌≡◌, ℕ, List, [], ◌∷◌, ◌++◌, refl, ap, ◌∙◌}
 use Rattle.mc_decl_syntax.specs.Plain.{PlainDecl, AbstractType, UnionType, SameType}
-use Rattle.mc_defs_uses.specs.declared.definition.Kind.TheVariants as K
-use Rattle.mc_defs_uses.specs.Plain.{definition}
-use Rattle.mc_defs_uses.specs.Definitions.{head_name}
+use Rattle.mc_names.specs.declared.definition.Kind.TheVariants as K
+use Rattle.mc_names.specs.Plain.{definition}
+use Rattle.mc_names.specs.Definitions.{head_name}
 use Rattle.mc_linking.proofs.Tables.{has-set, is_member_set}
 use Rattle.mc_linking.specs.Files.{PlainItemInFile, definitions_of, shown_of}
 use Rattle.mc_linking.specs.Kept.{table}

@@ -1,12 +1,13 @@
 -- Files by their places.
 use Rattle.std.proofs.Common.{◌≡◌, ℕ, suc, ◌+◌, ◌<◌, List, [], ◌∷◌, map, length, drop, refl, ap, sym, ◌∙◌, arith, add-one, drop-cons}
 use Rattle.std.proofs.lemmas.List.{length-map, get_or-map}
-use Rattle.mc_items.specs.declared.entry.Entry.{Entry}
-use Rattle.mc_items.specs.Files.{plain_entry}
-use Rattle.mc_modules.specs.declared.names.Named.{Named}
-use Rattle.mc_linking.specs.Files.{File, plain_files, items_in_file, definitions_of}
+use Rattle.mc_decl_syntax.specs.declared.entry.Entry.{Entry}
+use Rattle.mc_decl_syntax.specs.Entries.{plain_entry, File, plain_files}
+use Rattle.mc_names.specs.declared.names.Named.{Named}
+use Rattle.mc_linking.specs.Files.{items_in_file, definitions_of}
 use Rattle.mc_linking.specs.Visible.{file_at}
-use Rattle.mc_modules.specs.Linked.{Defined, each, plain_named, numbered, before, symbols_of, preds_of, declared_from, scope, scopes_from}
+use Rattle.mc_names.specs.Linked.{Defined, plain_named}
+use Rattle.mc_modules.specs.Linked.{each, numbered, before, symbols_of, preds_of, declared_from, scope, scopes_from}
 
 length-each : (of : File → List Defined) (fs : List File) → length (each of fs) ≡ length fs
 length-each of [] = refl

@@ -1,6 +1,6 @@
 -- Definitions that are put in one list after another.
 use Rattle.std.proofs.Common.{◌≡◌, ℕ, ◌+◌, ◌<◌, List, [], ◌∷◌, ◌++◌, length, get_or, drop, refl, ap, sym, ◌∙◌, drop-cons, add-one, append_assoc}
-use Rattle.mc_defs_uses.specs.Plain.{PlainDefinition}
+use Rattle.mc_names.specs.Plain.{PlainDefinition}
 use Rattle.mc_defs_uses.specs.Sets.{put_all}
 use Rattle.mc_linking.proofs.Tables.{put_all-append}
 

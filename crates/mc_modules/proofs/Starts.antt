@@ -1,9 +1,11 @@
 -- Numbers of what each file has.
 use Rattle.std.proofs.Common.{◌≡◌, ℕ, ◌+◌, ◌<◌, ◌≤◌, Bool, true, false, ◌||◌, List, [], ◌∷◌, ◌++◌, zero, suc, map, length, take, get_or, refl, ap, sym, ◌∙◌, arith, length-append}
 use Rattle.std.proofs.lemmas.List.{length-map, get_or_past, get_or-map}
-use Rattle.mc_modules.specs.declared.names.Named.{Named}
-use Rattle.mc_modules.specs.Linked.{Defined, numbers, before, has_of, flat, plain_named}
-use Rattle.mc_modules.specs.code.Passes.{starts_from, kept}
+use Rattle.mc_names.specs.declared.names.Named.{Named}
+use Rattle.mc_names.specs.Linked.{Defined, plain_named}
+use Rattle.mc_modules.specs.Linked.{numbers, before, has_of, flat}
+use Rattle.mc_modules.specs.code.Passes.{starts_from}
+use Rattle.mc_names.specs.code.Kept.{kept}
 
 pub length-starts_from : {A : Type 0} (n : ℕ) (xss : List (List A)) → length (starts_from n xss) ≡ length xss
 length-starts_from n [] = refl

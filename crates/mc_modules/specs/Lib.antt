@@ -1,5 +1,3 @@
 pub mod Linked
-pub mod Numbers
-pub mod Candidates
 pub mod Refused
 pub mod code

@@ -1,30 +1,20 @@
 -- The names of a program (the Mercury manual: The module system).
-use Rattle.std.specs.Prelude.{ℕ, ◌+◌, Bool, true, false, nat_eq, ◌||◌, List, [], ◌∷◌, ◌++◌, map, length, take, slice_index_or, Option, Some, None, if◌then◌else◌}
+use Rattle.std.specs.Prelude.{ℕ, ◌+◌, Bool, true, false, nat_eq, ◌||◌, List, [], ◌∷◌, ◌++◌, length, take, slice_index_or, Option, Some, None, if◌then◌else◌}
 use Rattle.std.specs.Set.{is_member}
 use Rattle.mc_term_data.specs.Plain.{PlainTerm, PlainTerms, at, no_term, more_terms, App}
 use Rattle.mc_source.specs.declared.name.Name.{Name}
-use Rattle.mc_source.specs.declared.place.Place.{Place}
-use Rattle.mc_decl_syntax.specs.Plain.{PlainDecl, AbstractType, UnionType, SameType, SameInst, BoundInst, ModeDef, Pred, Func, plain_item}
-use Rattle.mc_defs_uses.specs.declared.definition.Kind.{Kind}
-use Rattle.mc_defs_uses.specs.declared.definition.Kind.TheVariants as K
-use Rattle.mc_defs_uses.specs.Plain.{PlainNameArity, PlainDefinition, definition, is_definition}
-use Rattle.mc_defs_uses.specs.Definitions.{head_name, symbol_name, definitions}
+use Rattle.mc_decl_syntax.specs.Plain.{PlainDecl, AbstractType, UnionType, SameType, SameInst, BoundInst, ModeDef, Pred, Func}
+use Rattle.mc_names.specs.declared.definition.Kind.{Kind}
+use Rattle.mc_names.specs.declared.definition.Kind.TheVariants as K
+use Rattle.mc_names.specs.Plain.{PlainNameArity, PlainDefinition, definition, is_definition}
+use Rattle.mc_names.specs.Definitions.{head_name, symbol_name, definitions}
 use Rattle.mc_source.specs.declared.name.Candidate.{Candidate}
 use Rattle.mc_source.specs.declared.name.Candidate.TheVariants as C
-use Rattle.mc_modules.specs.declared.names.Named.{Named}
-use Rattle.mc_modules.specs.declared.names.Scope.{Scope}
-use Rattle.mc_modules.specs.declared.names.Names.{Names}
-use Rattle.mc_linking.specs.Files.{File, PlainItemInFile, items_in_file, module_name, definitions_of, shown_of, is_shown, has}
+use Rattle.mc_names.specs.declared.names.Scope.{Scope}
+use Rattle.mc_decl_syntax.specs.Entries.{File}
+use Rattle.mc_linking.specs.Files.{PlainItemInFile, items_in_file, module_name, definitions_of, shown_of, is_shown, has}
 use Rattle.mc_linking.specs.Visible.{unqualified, seen, file_at}
-
--- what is declared or defined: its name, its item, where that stands, whether other modules see it,
--- and whether they see its item
-pub record Defined : Type 0 where
-  pub name : Name
-  pub item : PlainDecl
-  pub at : Place
-  pub exported : Bool
-  pub shown : Bool
+use Rattle.mc_names.specs.Linked.{Defined, Linked}
 
 -- a file's name; a file that is no module has none
 abbrev pub name_or_none : Option (List ℕ) → List ℕ
@@ -210,17 +200,6 @@ declared_from files own (f ∷ fs) =
     (definitions_of (items_in_file f))
     ∷ declared_from files (own + 1) fs
 
--- The names of a program: what is defined, in the order of the files and their items; what each
--- module sees; and what each has that a name in a term or a goal may mean.
-pub record Linked : Type 0 where
-  pub types : List Defined
-  pub symbols : List Defined
-  pub preds : List Defined
-  pub insts : List Defined
-  pub modes : List Defined
-  pub scopes : List Scope
-  pub declared : List (List Candidate)
-
 abbrev pub linked : List File → Linked
 linked files =
     record {
@@ -231,27 +210,4 @@ linked files =
       modes = flat (each modes_defined files);
       scopes = scopes_from files 0 files;
       declared = declared_from files 0 files;
-    }
-
--- the values that these stand for
-abbrev pub plain_named : Named → Defined
-plain_named d =
-    record {
-      name = d.name;
-      item = plain_item d.decl;
-      at = d.at;
-      exported = d.exported;
-      shown = d.shown;
-    }
-
-abbrev pub plain_names : Names → Linked
-plain_names n =
-    record {
-      types = map plain_named n.types;
-      symbols = map plain_named n.symbols;
-      preds = map plain_named n.preds;
-      insts = map plain_named n.insts;
-      modes = map plain_named n.modes;
-      scopes = n.scopes;
-      declared = n.declared;
     }

@@ -1,8 +1,8 @@
 -- Why a program isn't linked.
 use Rattle.std.specs.Prelude.{◌≡◌, ◌≢◌, List, []}
-use Rattle.mc_items.specs.declared.entry.ItemsFault.{ItemsFault}
-use Rattle.mc_items.specs.declared.entry.ItemsFault.TheVariants as I
-use Rattle.mc_linking.specs.Files.{File}
+use Rattle.mc_decl_syntax.specs.declared.entry.ItemsFault.{ItemsFault}
+use Rattle.mc_decl_syntax.specs.declared.entry.ItemsFault.TheVariants as I
+use Rattle.mc_decl_syntax.specs.Entries.{File}
 use Rattle.mc_linking.specs.Faults.{link_faults}
 
 abbrev pub IsRefusedLink : List File → ItemsFault → Type 0

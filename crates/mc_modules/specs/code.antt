@@ -1,4 +1,1 @@
-pub mod Chosen
-pub mod Index
 pub mod Passes
-pub mod Searched

@@ -1,9 +1,10 @@
 ghost use Rattle.std.specs.Prelude.{◌≡◌, ◌<◌, ◌++◌, length, nat_eq, map, IfOk, OnOk};
-ghost use Rattle.mc_modules.specs.Linked.{numbers, before, has_of, visible, flat, plain_named};
-ghost use Rattle.mc_modules.specs.code.Passes.{starts_from, kept};
+ghost use Rattle.mc_modules.specs.Linked.{numbers, before, has_of, visible, flat};
+ghost use Rattle.mc_names.specs.Linked.{plain_named};
+ghost use Rattle.mc_modules.specs.code.Passes.{starts_from};
 
-use crate::names::Named;
 use mc_base::{Memory, Row};
+use mc_names::{Named, put_where};
 use std::alloc::Global;
 
 /// What each file has of one sort, and how many the files before it have.
@@ -99,16 +100,6 @@ fn put_numbers(own: bool, start: u32, names: &[Named], all: &mut Vec<u32>) -> Re
             return Err(Memory);
         }
         number += 1;
-    }
-    Ok(())
-}
-
-/// Puts something in, where a test holds.
-pub fn put_where<T: Copy + Drop>(holds: bool, item: T, all: &mut Vec<T>) -> Result<(), Memory>
-    ensures { OnOk result (all.new.items ≡ all.old.items ++ kept holds item) }
-{
-    if holds {
-        all.push(item)?;
     }
     Ok(())
 }

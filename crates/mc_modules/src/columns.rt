@@ -1,15 +1,15 @@
 ghost use Rattle.std.specs.Prelude.{◌≡◌, ◌++◌, ◌∷◌, ◌<◌, [], length, map, IfOk, OnOk};
-ghost use Rattle.mc_linking.specs.Files.{plain_files};
+ghost use Rattle.mc_decl_syntax.specs.Entries.{plain_files};
 ghost use Rattle.mc_linking.specs.Visible.{file_at};
-ghost use Rattle.mc_modules.specs.Linked.{types_of, symbols_of, preds_of, insts_of, modes_defined, plain_named};
+ghost use Rattle.mc_modules.specs.Linked.{types_of, symbols_of, preds_of, insts_of, modes_defined};
+ghost use Rattle.mc_names.specs.Linked.{plain_named};
 ghost use Rattle.mc_modules.specs.code.Passes.{AreParts};
 
 use crate::column::Column;
-use crate::names::Named;
 use crate::part::part_of;
-use crate::sorts::{Sorts, nothing};
 use mc_base::{Memory, Row};
 use mc_linking::Linking;
+use mc_names::{Named, Sorts, nothing};
 use std::alloc::Global;
 
 // Puts what a file has behind what the others have.

@@ -1,16 +1,16 @@
 ghost use Rattle.std.specs.Prelude.{◌≡◌, ◌∷◌, ◌++◌, [], map, IfOk, OnOk};
 ghost use Rattle.mc_term_data.specs.Plain.{plain_term, tms};
 ghost use Rattle.mc_decl_syntax.specs.Plain.{plain_item};
-ghost use Rattle.mc_defs_uses.specs.Plain.{plain_name_arity};
-ghost use Rattle.mc_defs_uses.specs.Definitions.{definitions};
+ghost use Rattle.mc_names.specs.Plain.{plain_name_arity};
+ghost use Rattle.mc_names.specs.Definitions.{definitions};
 ghost use Rattle.mc_linking.specs.Kept.{plain_item_in_file};
-ghost use Rattle.mc_modules.specs.Linked.{defined, bare_head, constructors, symbols_by, of_kind, plain_named};
+ghost use Rattle.mc_modules.specs.Linked.{defined, bare_head, constructors, symbols_by, of_kind};
+ghost use Rattle.mc_names.specs.Linked.{plain_named};
 
-use crate::names::Named;
 use mc_base::{Copied, Memory, Row, Text};
 use mc_decl_syntax::Decl;
-use mc_defs_uses::{NameArity, symbol_name};
 use mc_linking::ItemInFile;
+use mc_names::{NameArity, Named, symbol_name};
 use mc_source::name::Name;
 use mc_term_data::{Node, Term};
 use std::alloc::Global;

@@ -1,15 +1,15 @@
 ghost use Rattle.std.specs.Prelude.{◌≡◌, ◌+◌, ◌++◌, List, [], map, length, IfOk, OnOk};
-ghost use Rattle.mc_defs_uses.specs.Plain.{PlainDefinition, plain_definition};
-ghost use Rattle.mc_linking.specs.Files.{definitions_of, plain_files};
+ghost use Rattle.mc_names.specs.Plain.{PlainDefinition, plain_definition};
+ghost use Rattle.mc_linking.specs.Files.{definitions_of};
+ghost use Rattle.mc_decl_syntax.specs.Entries.{plain_files};
 ghost use Rattle.mc_linking.specs.Kept.{plain_item_in_file};
 ghost use Rattle.mc_modules.specs.Linked.{as_numbered, next_con, next_pred, numbered, declared_from};
 ghost use Rattle.mc_modules.specs.code.Passes.{AreParts};
 
 use crate::column::Column;
-use crate::sorts::Sorts;
 use mc_base::{Memory, Row};
-use mc_defs_uses::{Definition, Kind};
 use mc_linking::{ItemInFile, Linking};
+use mc_names::{Definition, Kind, Sorts};
 use mc_source::name::Candidate;
 use std::alloc::Global;
 

@@ -1,21 +1,18 @@
 ghost use Rattle.std.specs.Prelude.{◌≡◌, ◌++◌, ◌<◌, map, length, IfOk, OnOk};
 ghost use Rattle.mc_decl_syntax.specs.Plain.{plain_item};
-ghost use Rattle.mc_defs_uses.specs.Definitions.{definitions};
-ghost use Rattle.mc_items.specs.Files.{plain_entry};
-ghost use Rattle.mc_linking.specs.Files.{plain_files};
+ghost use Rattle.mc_names.specs.Definitions.{definitions};
+ghost use Rattle.mc_decl_syntax.specs.Entries.{plain_entry, plain_files};
 ghost use Rattle.mc_linking.specs.Visible.{file_at};
 ghost use Rattle.mc_linking.specs.Kept.{plain_item_in_file};
-ghost use Rattle.mc_modules.specs.Linked.{symbols_by, of_kind, is_pred, is_inst, is_mode, types_of, symbols_of, preds_of, insts_of, modes_defined, symbols_in, sorted_in, name_of, plain_named};
+ghost use Rattle.mc_modules.specs.Linked.{symbols_by, of_kind, is_pred, is_inst, is_mode, types_of, symbols_of, preds_of, insts_of, modes_defined, symbols_in, sorted_in, name_of};
+ghost use Rattle.mc_names.specs.Linked.{plain_named};
 ghost use Rattle.mc_modules.specs.code.Passes.{types_with, types_pass};
 
 use crate::named::{put_sorted, put_symbols, put_whole};
-use crate::names::Named;
-use crate::sorts::{Sorts, nothing, rows};
 use mc_base::{Memory, Row, Text};
-use mc_decl_syntax::Decl;
-use mc_defs_uses::{Definition, Kind, NameArity, head_name};
-use mc_items::Entry;
-use mc_linking::{ItemInFile, Linking, Table, joined, module_name};
+use mc_decl_syntax::{Decl, Entry};
+use mc_linking::{ItemInFile, Linking, Table, module_name};
+use mc_names::{Definition, Kind, NameArity, Named, Sorts, head_name, joined, nothing, rows};
 use std::alloc::Global;
 
 /// The name of the module that a file is, or none.

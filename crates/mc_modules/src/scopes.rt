@@ -1,14 +1,14 @@
 ghost use Rattle.std.specs.Prelude.{◌≡◌, ◌<◌, map, length, IfOk};
-ghost use Rattle.mc_linking.specs.Files.{plain_files};
-ghost use Rattle.mc_modules.specs.Linked.{plain_named, scope, scopes_from};
+ghost use Rattle.mc_decl_syntax.specs.Entries.{plain_files};
+ghost use Rattle.mc_names.specs.Linked.{plain_named};
+ghost use Rattle.mc_modules.specs.Linked.{scope, scopes_from};
 ghost use Rattle.mc_modules.specs.code.Passes.{AreParts, scope_over};
 
 use crate::column::Column;
-use crate::names::Scope;
 use crate::part::name_of;
-use crate::sorts::Sorts;
 use mc_base::{Copied, Memory, Row, Text};
 use mc_linking::{Linking, Visibility};
+use mc_names::{Scope, Sorts};
 use std::alloc::Global;
 
 // What a module of this name sees.

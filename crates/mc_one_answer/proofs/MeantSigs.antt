@@ -7,7 +7,7 @@ use Rattle.mc_program.specs.declared.program.Program.{Program}
 use Rattle.mc_model.specs.declared.inst.ModeDecl.{ModeDecl}
 use Rattle.mc_model.specs.declared.inst.Sig.{Sig}
 use Rattle.mc_accepted.specs.InstRules.{PlainInstDef, InstTerm, inst_node, InstTerms, at_that}
-use Rattle.mc_modules.specs.Linked.{Linked}
+use Rattle.mc_names.specs.Linked.{Linked}
 use Rattle.mc_inst_table.specs.Rules.{inst_bodies}
 use Rattle.mc_inst_table.specs.Written.{ModeTerm, from_to, defined_mode}
 use Rattle.mc_declared_modes.specs.WrittenModes.{PlainMode, declared_modes}

@@ -10,8 +10,8 @@ use Rattle.mc_program.specs.declared.program.Program.{Program}
 use Rattle.mc_accepted.specs.Fits.{EachClauseHasScopes}
 use Rattle.mc_accepted.specs.NormalTypes as N
 use Rattle.mc_insts.specs.Defining.{plain_definitions}
-use Rattle.mc_linking.specs.Files.{File}
-use Rattle.mc_modules.specs.Linked.{Linked}
+use Rattle.mc_decl_syntax.specs.Entries.{File}
+use Rattle.mc_names.specs.Linked.{Linked}
 use Rattle.mc_type_table.specs.Rules.{type_faults}
 use Rattle.mc_goals.specs.Resolved.{typed_clause}
 use Rattle.mc_clause_laws.proofs.Fitting.{constructors_are_linked}

@@ -14,14 +14,14 @@ use Rattle.mc_source.specs.declared.name.Candidate.{Candidate}
 use Rattle.mc_unresolved.specs.Unresolved.{plain_unresolved_clause}
 use Rattle.mc_unresolved.specs.declared.clause.UnresolvedClause.{UnresolvedClause}
 use Rattle.mc_made_types.specs.MadeTypes.{AreVariableTypes}
-use Rattle.mc_modules.specs.Linked.{Linked}
+use Rattle.mc_names.specs.Linked.{Linked}
 use Rattle.mc_goals.specs.Resolved.{typed_clause}
-use Rattle.mc_clauses.specs.Declarations.{parameter_counts}
+use Rattle.mc_declarations.specs.Declarations.{parameter_counts}
 use Rattle.mc_check_clause.specs.Checked.{IsResolved}
 use Rattle.mc_clause_phase.specs.Items.{Item}
 use Rattle.mc_clause_phase.specs.Judging.{source_of, IsTyped, AreTyped}
 use Rattle.mc_clause_phase.specs.declared.judged.TypedClause.{TypedClause}
-use Rattle.mc_whole.specs.Goals.{IsNormalGoal, no_goal}
+use Rattle.mc_accepted.specs.NormalGoals.{IsNormalGoal, no_goal}
 use Rattle.mc_orders.specs.NormalGoals.{goal_at}
 use Rattle.mc_whole_program.specs.Wholes.{IsWhole}
 use Rattle.mc_whole_program.specs.declared.program.WholeProgram.{WholeProgram}

@@ -48,7 +48,7 @@ use Rattle.mc_orders.specs.Numbering.{mode_ids}
 use Rattle.mc_orders.specs.Outcomes.{IsOrdered}
 use Rattle.mc_orders.specs.declared.modes.ModeId.{ModeId}
 use Rattle.mc_orders.specs.declared.ordering.Orders.TheVariants as O
-use Rattle.mc_whole.specs.Goals.{HasNormalGoals}
+use Rattle.mc_accepted.specs.NormalGoals.{HasNormalGoals}
 use Rattle.mc_graph_laws.specs.Follows.{Follows}
 use Rattle.mc_graph_laws.specs.Nodes.{MeanOne}
 use Rattle.mc_rules.specs.Rules.{Determined, Ordered}

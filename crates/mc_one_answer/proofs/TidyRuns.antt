@@ -42,7 +42,7 @@ use Rattle.mc_det.specs.MarkedProcedures.{determinisms_of}
 use Rattle.mc_acceptance_laws.specs.AcceptedLaws.{IsInOrder}
 use Rattle.mc_switch.specs.Kept.{Suits, has_no_answer, never_answers}
 use Rattle.mc_switch_laws.specs.FormsMerge.{IsTidyOrder}
-use Rattle.mc_whole.specs.Goals.{HasNormalGoals, IsNormalGoal}
+use Rattle.mc_accepted.specs.NormalGoals.{HasNormalGoals, IsNormalGoal}
 use Rattle.mc_rules.specs.Rules.{Determined, Ordered}
 use Rattle.mc_rule_laws.proofs.Bodies.{told_at}
 use Rattle.mc_rule_laws.proofs.BodyOrders.{body_in_order, fits_without_body, next_is_own}

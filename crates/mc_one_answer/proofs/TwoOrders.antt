@@ -49,7 +49,7 @@ use Rattle.mc_graph_laws.specs.Nodes.{Finds, MeanOne}
 use Rattle.mc_graph_laws.specs.Related.{Related, NodesRelated}
 use Rattle.mc_graph_laws.proofs.GoalsFollow.{entry-follows, order-follows}
 use Rattle.mc_graph_laws.proofs.NodesMeanOne.{nodes-related}
-use Rattle.mc_whole.specs.Goals.{HasNormalGoals}
+use Rattle.mc_accepted.specs.NormalGoals.{HasNormalGoals}
 use Rattle.mc_rules.specs.Rules.{Determined, Ordered}
 use Rattle.mc_rules.specs.Untidy.{TidyAt}
 use Rattle.mc_rules.proofs.Asking.{only_all}

@@ -55,7 +55,7 @@ use Rattle.mc_graph_laws.specs.RunLaws.{BodyFollows}
 use Rattle.mc_graph_laws.proofs.Faults.{main-same, one-list-of-faults, one-least}
 use Rattle.mc_graph_laws.proofs.Marking.{pruned-goals-follow, marked-goals-follow}
 use Rattle.mc_graph_laws.proofs.Running.{one-run}
-use Rattle.mc_whole.specs.Goals.{HasNormalGoals}
+use Rattle.mc_accepted.specs.NormalGoals.{HasNormalGoals}
 use Rattle.mc_rules.specs.Rules.{Determined, FaultsAre, Ordered}
 use Rattle.mc_rule_laws.proofs.Forms.{form_in_last}
 use Rattle.mc_rule_laws.proofs.OfModes.{IsAs, as_many, declared_is, last_as_many, last_program, no_id, ordered_of}

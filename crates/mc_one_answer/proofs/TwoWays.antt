@@ -29,7 +29,7 @@ use Rattle.mc_orders.specs.Outcomes.{Tried, IsTried, broken_rules, AreBroken, Is
 use Rattle.mc_orders.specs.declared.modes.ModeId.{ModeId}
 use Rattle.mc_orders.specs.declared.ordering.Orders.{Orders}
 use Rattle.mc_orders.specs.declared.ordering.Orders.TheVariants as O
-use Rattle.mc_whole.specs.Goals.{HasNormalGoals}
+use Rattle.mc_accepted.specs.NormalGoals.{HasNormalGoals}
 use Rattle.mc_orders.proofs.Ids.{are_modes}
 use Rattle.mc_rules.specs.Premises.{HasInsts, Begins, AskedOf}
 use Rattle.mc_rules.specs.Rules.{Comes, Determined, FaultsAre, Ordered, break_no_rule, break_uniqueness, break_modes, break_determinism}

@@ -8,9 +8,8 @@ use Rattle.mc_term_data.specs.Plain.{PlainTerm, PlainTerms, at, no_term, more_te
 use Rattle.mc_term_data.specs.Shapes.{is_the_word, operands}
 use Rattle.mc_decl_syntax.specs.Plain.{Path, PlainDecl, ModuleStart, ModuleEnd, Interface, Implementation, Imports, UseOnly, AbstractType, UnionType, SameType, SameInst, BoundInst, ModeDef, Pred, Func, Mode, Pragma, Clause}
 use Rattle.mc_defs_uses.specs.Clauses.{is_mode_too}
-use Rattle.mc_linking.specs.Files.{File}
-use Rattle.mc_modules.specs.Linked.{Defined, Linked}
-use Rattle.mc_type_table.specs.Written.{home}
+use Rattle.mc_decl_syntax.specs.Entries.{File}
+use Rattle.mc_names.specs.Linked.{Defined, Linked, home}
 use Rattle.mc_accepted.specs.InstRules.{InstTerm, inst_node, InstTerms, no_insts, inst_then}
 use Rattle.mc_inst_table.specs.Written.{builtin_insts, builtin, append_insts, builtin_or_defined, written_inst, inst_over, written_insts, listed_insts, all_listed, ModeTerm, from_to, defined_mode, builtin_modes, over_one, mode_or, user_mode, mode_over, named_mode, written_mode}
 use Rattle.mc_inst_table.specs.Rules.{inst_body_by, body_or_none, inst_body_of, inst_bodies, mode_body_by}

@@ -7,8 +7,8 @@ use Rattle.mc_program.specs.declared.builtin.Builtin.{Builtin}
 use Rattle.mc_program.specs.declared.program.Program.{Program}
 use Rattle.mc_model.specs.declared.inst.Sig.{Sig}
 use Rattle.mc_accepted.specs.InstRules.{PlainInstDef}
-use Rattle.mc_linking.specs.Files.{File}
-use Rattle.mc_modules.specs.Linked.{Linked}
+use Rattle.mc_decl_syntax.specs.Entries.{File}
+use Rattle.mc_names.specs.Linked.{Linked}
 use Rattle.mc_declared_modes.specs.WrittenModes.{declared_modes}
 use Rattle.mc_signatures.specs.MeantModes.{MeansMode}
 use Rattle.mc_signatures.specs.Signatures.{AreSignatures, query_signature}

@@ -18,7 +18,7 @@ use Rattle.mc_procs.specs.Fitting.{AllFit}
 use Rattle.mc_procs.specs.Procedures.{PlainProcs, procedure_at}
 use Rattle.mc_orders.specs.declared.ordering.Orders.TheVariants as O
 use Rattle.mc_det_rules.specs.Main.{main_number}
-use Rattle.mc_whole.specs.Goals.{HasNormalGoals}
+use Rattle.mc_accepted.specs.NormalGoals.{HasNormalGoals}
 use Rattle.mc_rules.specs.Rules.{Comes, Determined, Ordered}
 use Rattle.mc_rules.specs.declared.rules.Ruled.{Ruled}
 use Rattle.mc_rules.specs.declared.rules.Ruled.TheVariants as R

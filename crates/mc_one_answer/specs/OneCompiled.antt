@@ -8,7 +8,7 @@ use Rattle.mc_type_table.specs.Rules.{type_faults}
 use Rattle.mc_declarations.specs.Proper.{AreWellWritten}
 use Rattle.mc_inst_table.specs.Rules.{AreInstFaults, InstItem}
 use Rattle.mc_insts.specs.Defining.{plain_definitions}
-use Rattle.mc_modules.specs.Linked.{Linked}
+use Rattle.mc_names.specs.Linked.{Linked}
 use Rattle.mc_procs.specs.Procedures.{PlainProcs}
 use Rattle.mc_source.specs.declared.rule.Broken.{Broken}
 use Rattle.mc_rules.specs.Premises.{GoalsAreTyped}

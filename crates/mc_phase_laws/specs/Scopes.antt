@@ -8,7 +8,7 @@ use Rattle.mc_program.specs.Programs.{expressions, ClauseForm}
 use Rattle.mc_accepted.specs.Scope.{variables_in_all, clause_scoped, ClauseHasScopes}
 use Rattle.mc_accepted.specs.Resolving.{Unresolved_clause, resolved}
 use Rattle.mc_order_laws.specs.NormalScopes.{OwnNames, ClauseNamedApart}
-use Rattle.mc_modules.specs.Linked.{Linked}
+use Rattle.mc_names.specs.Linked.{Linked}
 use Rattle.mc_clauses.specs.Unresolved.{unresolved_clause, unresolved_query}
 use Rattle.mc_clause_laws.specs.Mentioned.{ClauseNamesItsOwn}
 

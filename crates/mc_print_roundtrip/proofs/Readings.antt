@@ -4,8 +4,8 @@ use Rattle.std.specs.Prelude.{codes, ◌&&◌, nat_le}
 use Rattle.mc_term_parser.specs.declared.lexeme.Lexeme.{Lexeme}
 use Rattle.mc_term_parser.specs.declared.lexeme.Lexeme.TheVariants as L
 use Rattle.mc_term_parser.specs.declared.infixes.Role.TheVariants.{Plain, Negative}
-use Rattle.mc_term_parser.specs.declared.table.Fix.{Fix}
-use Rattle.mc_term_parser.specs.Table.{prefix_row}
+use Rattle.mc_operators.specs.declared.table.Fix.{Fix}
+use Rattle.mc_operators.specs.Table.{prefix_row}
 use Rattle.mc_term_parser.specs.Infixes.{role, prefix_role, prefix_of, starts}
 use Rattle.mc_term_parser.specs.Part.{closed}
 use Rattle.mc_term_parser.specs.Reads.{Reads, Parts, ByComma}

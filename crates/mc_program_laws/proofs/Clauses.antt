@@ -7,11 +7,11 @@ use Rattle.mc_source.specs.declared.name.Candidate.{Candidate}
 use Rattle.mc_program.specs.Programs.{ClauseForm, expressions}
 use Rattle.mc_accepted.specs.Resolving.{Unresolved_clause, resolved}
 use Rattle.mc_accepted.specs.Scope.{clause_scoped, variables_in_all}
-use Rattle.mc_linking.specs.Files.{File}
-use Rattle.mc_modules.specs.Linked.{Linked}
+use Rattle.mc_decl_syntax.specs.Entries.{File}
+use Rattle.mc_names.specs.Linked.{Linked}
 use Rattle.mc_state_variables.specs.Numbered.{numbered_clause, numbered_goal}
 use Rattle.mc_type_table.specs.Sight.{definitions_seen}
-use Rattle.mc_clauses.specs.Typing.{ModuleClause, clauses_from}
+use Rattle.mc_clause_phase.specs.Typing.{ModuleClause, clauses_from}
 use Rattle.mc_clauses.specs.Unresolved.{unresolved_clause, unresolved_query}
 use Rattle.mc_clause_laws.specs.Mentioned.{ClauseNamesItsOwn}
 use Rattle.mc_clause_laws.proofs.Clauses.{clauses_name_their_own, queries_name_their_own}

@@ -18,7 +18,7 @@ use Rattle.mc_orders.specs.Numbering.{mode_ids}
 use Rattle.mc_orders.specs.declared.modes.ModeId.{ModeId}
 use Rattle.mc_orders.specs.declared.ordering.Orders.TheVariants as O
 use Rattle.mc_det.specs.Determinisms.{declared_procedure}
-use Rattle.mc_whole.specs.Goals.{HasNormalGoals}
+use Rattle.mc_accepted.specs.NormalGoals.{HasNormalGoals}
 use Rattle.mc_rules.specs.Rules.{Determined, Ordered}
 use Rattle.mc_rule_laws.proofs.Closed.{system_is_determined}
 use Rattle.mc_rule_laws.proofs.Listed.{Stands}

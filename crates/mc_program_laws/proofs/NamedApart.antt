@@ -9,7 +9,7 @@ use Rattle.mc_accepted.specs.Fits.{EachClauseHasScopes}
 use Rattle.mc_accepted.specs.Normal.{named_by_quantifiers, named_by_quantifiers_of_all}
 use Rattle.mc_accepted.specs.NormalTypes.{TypedClause, is_unasked, asked_of, unasked_of, free_variables, query_clause}
 use Rattle.mc_accepted.specs.Scope.{variables_in_all, occurring, occurring_all, free_of, quantified, scoped, scoped_parts, scoped_disjuncts, clause_scoped, HasScopes, PartsHaveScopes, DisjunctsHaveScopes, ClauseHasScopes}
-use Rattle.mc_modules.specs.Linked.{Linked}
+use Rattle.mc_names.specs.Linked.{Linked}
 use Rattle.mc_typing_laws.specs.GoalTypes.{forms_of}
 use Rattle.mc_whole.specs.Whole.{of_number, name_in, whole_clause}
 use Rattle.mc_whole_program.specs.Wholes.{IsWhole, final_definitions, behind, query_clauses, clauses_of}

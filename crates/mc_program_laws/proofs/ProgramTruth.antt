@@ -15,7 +15,7 @@ use Rattle.mc_accepted.specs.Fits.{EachClauseHasScopes, FitsInsts}
 use Rattle.mc_accepted.specs.InstRules.{PlainInstDef}
 use Rattle.mc_accepted.specs.NormalTypes as N
 use Rattle.mc_insts.specs.Defining.{plain_definitions}
-use Rattle.mc_modules.specs.Linked.{Linked}
+use Rattle.mc_names.specs.Linked.{Linked}
 use Rattle.mc_procs.specs.Fitting.{AllFit}
 use Rattle.mc_procs.specs.Procedures.{PlainProcs, as_system, procedure_at}
 use Rattle.mc_orders.specs.Numbering.{mode_ids}

@@ -7,7 +7,7 @@ use Rattle.mc_term_data.specs.Plain.{PlainTerm}
 use Rattle.mc_program.specs.declared.builtin.Builtin.{Builtin}
 use Rattle.mc_model.specs.declared.inst.Sig.{Sig}
 use Rattle.mc_sound.specs.Soundness.{NoInputs}
-use Rattle.mc_modules.specs.Linked.{Linked}
+use Rattle.mc_names.specs.Linked.{Linked}
 use Rattle.mc_inst_table.specs.Written.{ModeTerm}
 use Rattle.mc_declared_modes.specs.WrittenModes.{PlainMode, modes_of}
 use Rattle.mc_signatures.specs.Signatures.{AreSignatures, next_behind, query_signature}

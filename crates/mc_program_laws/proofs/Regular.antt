@@ -3,7 +3,7 @@ use Rattle.std.proofs.Common.{◌≡◌, ℕ, List, [], length, Option, ap}
 use Rattle.mc_program.specs.Programs.{TypeTerm, Source}
 use Rattle.mc_program.specs.PlainPrograms.{plain_program}
 use Rattle.mc_accepted.specs.NormalTypes.{TypedClause}
-use Rattle.mc_modules.specs.Linked.{Linked}
+use Rattle.mc_names.specs.Linked.{Linked}
 use Rattle.mc_type_table.specs.Rules.{type_faults}
 use Rattle.mc_whole_program.specs.Wholes.{IsWhole}
 use Rattle.mc_whole_program.specs.declared.program.WholeProgram.{WholeProgram}

@@ -5,9 +5,9 @@ use Rattle.std.proofs.lemmas.List.{length-map}
 use Rattle.mc_program.specs.Programs.{ClauseForm, Predicate, Source}
 use Rattle.mc_program.specs.PlainPrograms.{plain_pred, plain_program, no_pred}
 use Rattle.mc_accepted.specs.NormalTypes.{TypedClause}
-use Rattle.mc_modules.specs.Linked.{Linked}
+use Rattle.mc_names.specs.Linked.{Linked}
 use Rattle.mc_type_table.specs.Rules.{definitions}
-use Rattle.mc_clauses.specs.Declarations.{predicate_of}
+use Rattle.mc_declarations.specs.Declarations.{predicate_of}
 use Rattle.mc_typing_laws.specs.GoalTypes.{forms_of}
 use Rattle.mc_whole.specs.Whole.{each_with_clauses}
 use Rattle.mc_whole_program.specs.Wholes.{IsWhole, query_clauses, query_predicate, behind, clauses_of, bare_predicates, all_clauses, all_predicates}

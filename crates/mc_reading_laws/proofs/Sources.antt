@@ -3,11 +3,10 @@ use Rattle.std.proofs.Common.{◌≡◌, ℕ, ◌+◌, List, [], ◌∷◌, ◌+
 use Rattle.mc_source.specs.declared.rule.Broken.{Broken}
 use Rattle.mc_program.specs.Programs.{Source}
 use Rattle.mc_term_data.specs.declared.term.Term.{Term}
-use Rattle.mc_linking.specs.Files.{File}
-use Rattle.mc_compile.specs.Reading.{plain_goal}
+use Rattle.mc_decl_syntax.specs.Entries.{File}
+use Rattle.mc_compile.specs.Reading.{plain_goal, counted, Reading, FileReads, FilesRead, items_of, items_from, QueryReads, PlainRead, reading_rules, read_as}
 use Rattle.mc_compile.specs.Phases.{unless_broken}
 use Rattle.mc_compile.specs.Library.{library_texts}
-use Rattle.mc_compile.specs.Reading.{counted, Reading, FileReads, FilesRead, items_of, items_from, QueryReads, PlainRead, reading_rules, read_as}
 use Rattle.mc_compile.specs.Linking.{PlainNamed, library_behind, linked_with, linking_rules_of}
 use Rattle.mc_reading_laws.specs.ReadValues.{FileIsOfValues, FilesAreOfValues, GoalIsOfValues}
 use Rattle.mc_reading_laws.specs.SourceValues.{FilesReadAreOfValues, ReadAreOfValues, NamedItemsHaveValues}

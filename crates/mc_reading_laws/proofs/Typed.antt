@@ -5,11 +5,11 @@ use Rattle.mc_program.specs.Programs.{Source}
 use Rattle.mc_term_data.specs.Plain.{PlainTerm}
 use Rattle.mc_decl_syntax.specs.Plain.{PlainDecl, Clause}
 use Rattle.mc_defs_uses.specs.Clauses.{clause_of}
-use Rattle.mc_linking.specs.Files.{File}
-use Rattle.mc_modules.specs.Linked.{Linked}
+use Rattle.mc_decl_syntax.specs.Entries.{File}
+use Rattle.mc_names.specs.Linked.{Linked}
 use Rattle.mc_state_variables.specs.Numbered.{numbered_clause, numbered_goal}
-use Rattle.mc_clauses.specs.Typing.{ModuleClause, clause_predicate, module_clauses, clauses_from}
-use Rattle.mc_clauses.specs.Typing as T
+use Rattle.mc_clause_phase.specs.Typing.{ModuleClause, clause_predicate, module_clauses, clauses_from}
+use Rattle.mc_clause_phase.specs.Typing as T
 use Rattle.mc_clause_phase.specs.Items.{Item, clause_item, query_item}
 use Rattle.mc_clause_laws.specs.ClauseLaws.{IsOfValues}
 use Rattle.mc_clause_laws.proofs.Clauses.{clauses_have_values}

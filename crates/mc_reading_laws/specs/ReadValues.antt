@@ -8,8 +8,8 @@ use Rattle.mc_decl_syntax.specs.Plain.{PlainDecl, Clause}
 use Rattle.mc_items.specs.Verdicts.{PlainVerdict}
 use Rattle.mc_items.specs.Files.{Items, kept_in}
 use Rattle.mc_items.specs.Queries.{IsGoal}
-use Rattle.mc_linking.specs.Files.{File}
-use Rattle.mc_modules.specs.Linked.{Linked}
+use Rattle.mc_decl_syntax.specs.Entries.{File}
+use Rattle.mc_names.specs.Linked.{Linked}
 use Rattle.mc_state_variables.specs.Numbered.{numbered_clause, numbered_goal}
 use Rattle.mc_clause_phase.specs.Items.{items}
 use Rattle.mc_clause_laws.specs.ClauseLaws.{IsOfValues}

@@ -1,5 +1,6 @@
 use mc_base::Row;
-use mc_items::{ItemsFault, read_items, read_query};
+use mc_decl_syntax::ItemsFault;
+use mc_items::{read_items, read_query};
 use mc_source::place::Place;
 use mc_source::rule::{Broken, Rule};
 use mc_term_data::Node;

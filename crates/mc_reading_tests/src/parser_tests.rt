@@ -1,7 +1,8 @@
 // The tests of mc_term_parser.
 use mc_base::{Memory, Row, Text};
+use mc_operators::{infix, prefix};
 use mc_term_data::{Node, Term};
-use mc_term_parser::{Lexeme, Reading, infix, prefix, read};
+use mc_term_parser::{Lexeme, Reading, read};
 use std::alloc::{AllocError, Global};
 use std::test::Fail;
 

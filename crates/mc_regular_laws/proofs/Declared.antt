@@ -17,14 +17,15 @@ use Rattle.mc_components.specs.Reached.{reaches, Way, step, over}
 use Rattle.mc_components.proofs.Reaching.{reached_by_ways}
 use Rattle.mc_components.proofs.Certified.{in_head, in_tail, in_cases}
 use Rattle.mc_decl_syntax.specs.Plain.{PlainDecl, UnionType}
-use Rattle.mc_modules.specs.Linked.{Defined, Linked}
-use Rattle.mc_type_table.specs.Written.{written_type, parameters_of, home}
+use Rattle.mc_names.specs.Linked.{Defined, Linked, home}
+use Rattle.mc_type_table.specs.Written.{written_type}
+use Rattle.mc_names.specs.Parameters.{parameters_of}
 use Rattle.mc_type_table.specs.Expanded.{expanded}
 use Rattle.mc_type_table.specs.Rules.{constructor_fields, union_fields, types_in, types_in_all, definitions, body_by, is_of_group, are_plain, is_irregular, is_any_irregular, is_one_irregular, variable_fault, round_fault, regular_fault, of_type, type_fault, type_faults, numbered}
 use Rattle.mc_type_table.specs.Rules as rules
 use Rattle.mc_type_table.specs.Table.{table, table_from, constructor_count}
 use Rattle.mc_type_table.proofs.Expanding.{in_left, in_right}
-use Rattle.mc_clauses.specs.Declarations.{constructors_in, constructors_by, constructors_from}
+use Rattle.mc_declarations.specs.Declarations.{constructors_in, constructors_by, constructors_from}
 use Rattle.mc_order_laws.specs.SomeTest.{SymbolsEnd}
 use Rattle.mc_order_laws.proofs.SomeTest.{some_test_tells}
 use Rattle.mc_order_laws.proofs.Telling.{Held, held_at, held_left, held_right}

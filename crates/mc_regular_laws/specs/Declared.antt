@@ -6,9 +6,9 @@ use Rattle.mc_model.specs.Insts.{Graph}
 use Rattle.mc_accepted.specs.Fits.{FitsInsts}
 use Rattle.mc_accepted.specs.Forms.{Form}
 use Rattle.mc_accepted.specs.InOrder.{Tells}
-use Rattle.mc_modules.specs.Linked.{Linked}
+use Rattle.mc_names.specs.Linked.{Linked}
 use Rattle.mc_type_table.specs.Rules.{definitions, type_faults}
-use Rattle.mc_clauses.specs.Declarations.{declarations}
+use Rattle.mc_declarations.specs.Declarations.{declarations}
 use Rattle.mc_order_laws.specs.SomeTest.{InstsEnd}
 use Rattle.mc_regular_laws.specs.Regular.{AreRegular}
 

@@ -27,7 +27,7 @@ use Rattle.mc_accepted.specs.Tidy.{Tidy}
 use Rattle.mc_accepted.specs.Unmarked.{changed_node}
 use Rattle.mc_accepted.specs.code.Truthful.{AllDeclared}
 use Rattle.mc_accepted.specs.code.Standing.{Standing}
-use Rattle.mc_whole.specs.Goals.{IsNormalGoal}
+use Rattle.mc_accepted.specs.NormalGoals.{IsNormalGoal}
 use Rattle.mc_procs.specs.Named.{NumbersBelow}
 use Rattle.mc_procs.specs.Procedures.{PlainProcs, source_of, insts_of}
 use Rattle.mc_mode_points.specs.Nodes.{type_in}

@@ -20,7 +20,7 @@ use Rattle.mc_orders.specs.declared.modes.ModeId.{ModeId}
 use Rattle.mc_orders.specs.declared.ordering.Orders.TheVariants as O
 use Rattle.mc_orders.proofs.Ids.{are_modes}
 use Rattle.mc_det.specs.Determinisms.{as_declared, declared_procedure}
-use Rattle.mc_whole.specs.Goals.{HasNormalGoals}
+use Rattle.mc_accepted.specs.NormalGoals.{HasNormalGoals}
 use Rattle.mc_rules.specs.Premises.{TellNumbers}
 use Rattle.mc_rules.specs.Rules.{Determined, Ordered}
 use Rattle.mc_rule_laws.proofs.Listed.{Stands, from_at, in_mapped, in_one, zip_at, zip_many}

@@ -33,7 +33,7 @@ use Rattle.mc_skeletons.specs.Least.{assigned}
 use Rattle.mc_det.specs.Determinisms.{declared_system}
 use Rattle.mc_det.specs.MarkedProcedures.{determinisms_of}
 use Rattle.mc_acceptance_laws.specs.AcceptedLaws.{IsTold}
-use Rattle.mc_whole.specs.Goals.{HasNormalGoals}
+use Rattle.mc_accepted.specs.NormalGoals.{HasNormalGoals}
 use Rattle.mc_rules.specs.Premises.{AskedOf}
 use Rattle.mc_rules.specs.Rules.{Determined, Ordered}
 use Rattle.mc_rule_laws.proofs.Closed.{closed, determined_system, keeps_determinism}

@@ -51,7 +51,7 @@ use Rattle.mc_sound.specs.IoLaws.{BuiltinsDoIo}
 use Rattle.mc_sound.specs.Soundness.{AcceptedAreGood, AcceptedQueriesAreGood}
 use Rattle.mc_library_fit.specs.HasLibrary.{HasLibrary}
 use Rattle.mc_library_fit.specs.MadeTypes.{AllMakeTypes, LibraryMakesTypes}
-use Rattle.mc_whole.specs.Goals.{HasNormalGoals, IsNormalGoal}
+use Rattle.mc_accepted.specs.NormalGoals.{HasNormalGoals, IsNormalGoal}
 use Rattle.mc_rules.specs.Premises.{AskedOf}
 use Rattle.mc_rules.specs.Rules.{Determined, FaultsAre, Ordered, break_no_rule}
 use Rattle.mc_rule_laws.specs.TruthOfRules.{TrueProcedures, TruthOfRules}

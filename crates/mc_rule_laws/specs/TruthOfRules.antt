@@ -14,7 +14,7 @@ use Rattle.mc_sound.specs.Soundness.{NoInputs}
 use Rattle.mc_order_laws.specs.NormalScopes.{EachNamedApart}
 use Rattle.mc_order_laws.specs.SomeTest.{TypesMet}
 use Rattle.mc_procs.specs.Procedures.{PlainProcs, as_system}
-use Rattle.mc_whole.specs.Goals.{HasNormalGoals}
+use Rattle.mc_accepted.specs.NormalGoals.{HasNormalGoals}
 use Rattle.mc_rules.specs.Rules.{Comes}
 use Rattle.mc_rules.specs.declared.rules.Ruled.TheVariants as R
 

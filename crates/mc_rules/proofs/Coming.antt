@@ -19,7 +19,7 @@ use Rattle.mc_orders.specs.Outcomes.{GrownFrom, Became}
 use Rattle.mc_orders.specs.declared.modes.ModeId.{ModeId}
 use Rattle.mc_orders.specs.declared.ordering.Orders.{Orders}
 use Rattle.mc_orders.specs.declared.ordering.Orders.TheVariants as O
-use Rattle.mc_whole.specs.Goals.{HasNormalGoals}
+use Rattle.mc_accepted.specs.NormalGoals.{HasNormalGoals}
 use Rattle.mc_accepted.specs.InstRules.{PlainInstDef}
 use Rattle.mc_model.specs.Insts.{Graph}
 use Rattle.mc_rules.specs.Untidy.{AreUntidy}

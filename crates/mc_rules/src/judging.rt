@@ -4,7 +4,7 @@ ghost use Rattle.mc_insts.specs.Graphs.{count_of};
 ghost use Rattle.mc_modes.specs.Signatures.{SigsFit};
 ghost use Rattle.mc_orders.specs.Numbering.{mode_ids};
 ghost use Rattle.mc_orders.specs.declared.modes.ModeId.{ModeId};
-ghost use Rattle.mc_whole.specs.Goals.{HasNormalGoals};
+ghost use Rattle.mc_accepted.specs.NormalGoals.{HasNormalGoals};
 ghost use Rattle.mc_rules.specs.Premises.{Begins, AskedOf};
 ghost use Rattle.mc_rules.specs.Rules.{Comes, Determined};
 ghost use Rattle.mc_rules.specs.code.Judged.{ByDeterminism};

@@ -9,7 +9,7 @@ ghost use Rattle.mc_insts.specs.Graphs.{graph_of, count_of};
 ghost use Rattle.mc_insts.specs.Kept.{AreOf};
 ghost use Rattle.mc_modes.specs.Signatures.{SigsFit};
 ghost use Rattle.mc_procs.specs.Procedures.{parameters_in};
-ghost use Rattle.mc_whole.specs.Goals.{HasNormalGoals};
+ghost use Rattle.mc_accepted.specs.NormalGoals.{HasNormalGoals};
 ghost use Rattle.mc_rules.specs.Premises.{HasInsts};
 ghost use Rattle.mc_rules.specs.Untidy.{AreUntidy};
 ghost use Rattle.mc_rules.specs.Rules.{Comes};

@@ -4,7 +4,7 @@ use Rattle.std.specs.Prelude.{Some}
 use Rattle.std.proofs.lemmas.List.{take_more, take_all}
 use Rattle.mc_accepted.specs.InstRules.{InstTerm, parameter, inst_node, defined, bound_over, InstTerms, no_insts, inst_then, over, each_over}
 use Rattle.mc_insts.specs.code.Lists.{Extends}
-use Rattle.mc_modules.specs.Linked.{Linked}
+use Rattle.mc_names.specs.Linked.{Linked}
 use Rattle.mc_inst_table.specs.declared.inst.Inst.{Inst}
 use Rattle.mc_inst_table.specs.declared.inst.Mode.{Mode}
 use Rattle.mc_inst_table.specs.declared.inst.Mode.TheVariants as V

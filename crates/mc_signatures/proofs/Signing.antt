@@ -5,7 +5,7 @@ use Rattle.mc_program.specs.declared.builtin.Builtin.{Builtin}
 use Rattle.mc_model.specs.declared.inst.ModeDecl.{ModeDecl}
 use Rattle.mc_model.specs.declared.inst.Sig.{Sig}
 use Rattle.mc_accepted.specs.InstRules.{PlainInstDef, InstTerm}
-use Rattle.mc_modules.specs.Linked.{Linked}
+use Rattle.mc_names.specs.Linked.{Linked}
 use Rattle.mc_insts.specs.Defining.{IsNode}
 use Rattle.mc_inst_table.specs.Written.{ModeTerm}
 use Rattle.mc_inst_table.specs.Rules.{inst_bodies}

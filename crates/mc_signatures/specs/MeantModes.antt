@@ -1,8 +1,7 @@
 -- What written modes mean: from which node to which, where definitions are followed. (The Mercury
 -- manual: Modes.)
 use Rattle.std.specs.Prelude.{◌≡◌, ℕ, slice_get, List, Option, Some, None}
-use Rattle.mc_modules.specs.Linked.{Defined, Linked}
-use Rattle.mc_type_table.specs.Written.{home}
+use Rattle.mc_names.specs.Linked.{Defined, Linked, home}
 use Rattle.mc_accepted.specs.InstRules.{PlainInstDef, InstTerm, InstTerms, over, each_over}
 use Rattle.mc_inst_table.specs.Written.{ModeTerm, from_to, defined_mode}
 use Rattle.mc_inst_table.specs.Rules.{inst_bodies, mode_body_by}

@@ -1,7 +1,7 @@
 ghost use Rattle.std.specs.Prelude.{◌≡◌, length, map, Some, IfOk};
 ghost use Rattle.std.specs.Option.{option_map};
 ghost use Rattle.mc_insts.specs.code.Lists.{Extends};
-ghost use Rattle.mc_modules.specs.Linked.{Linked, plain_named, plain_names};
+ghost use Rattle.mc_names.specs.Linked.{Linked, plain_named, plain_names};
 ghost use Rattle.mc_inst_table.specs.Plain.{plain_inst, plain_mode};
 ghost use Rattle.mc_signatures.specs.MeantModes.{mode_body_of, mode_bodies};
 ghost use Rattle.mc_signatures.specs.code.Keys.{terms, AllBelow, IsInst, with_insts};
@@ -12,8 +12,7 @@ use crate::keys::InstSet;
 use mc_base::{Memory, Row};
 use mc_decl_syntax::Decl;
 use mc_inst_table::{Inst, Mode, inst_bodies, mode_of_term};
-use mc_modules::{Named, Names};
-use mc_type_table::{home, parameters_of};
+use mc_names::{Named, Names, home, parameters_of};
 use std::alloc::Global;
 
 /// The definitions of insts and modes of a program, by which written modes mean something.

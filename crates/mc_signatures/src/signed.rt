@@ -1,5 +1,5 @@
 ghost use Rattle.std.specs.Prelude.{◌≡◌, map, IfOk};
-ghost use Rattle.mc_modules.specs.Linked.{Linked, plain_names};
+ghost use Rattle.mc_names.specs.Linked.{Linked, plain_names};
 ghost use Rattle.mc_insts.specs.Defining.{plain_definitions, DefinitionsFit};
 ghost use Rattle.mc_insts.specs.code.Lists.{Extends};
 ghost use Rattle.mc_inst_table.specs.Plain.{plain_mode};
@@ -19,7 +19,7 @@ use mc_declared_modes::WrittenMode;
 use mc_inst_table::Mode;
 use mc_insts::InstDef;
 use mc_model::inst::{ModeDecl, Sig};
-use mc_modules::Names;
+use mc_names::Names;
 use mc_program::builtin::Builtin;
 use mc_program::program::Pred;
 use std::alloc::Global;

@@ -1,7 +1,8 @@
 use mc_base::{Memory, Row};
+use mc_decl_syntax::{Entry, ItemsFault};
 use mc_declared_modes::declared_modes;
 use mc_insts::InstDef;
-use mc_items::{Entry, ItemsFault, read_items};
+use mc_items::read_items;
 use mc_model::inst::{Choice, InstRef, ModeDecl};
 use mc_modules::link;
 use mc_signatures::{ModeTable, signatures};

@@ -4,11 +4,11 @@ use Rattle.std.proofs.lemmas.Result.{IfOk-weaker}
 use Rattle.std.proofs.lemmas.List.{length-drop}
 use Rattle.mc_term_parser.specs.declared.lexeme.Lexeme.{Lexeme}
 use Rattle.mc_term_parser.specs.declared.lexeme.Lexeme.TheVariants as L
-use Rattle.mc_term_parser.specs.declared.table.Fix.{Fix}
+use Rattle.mc_operators.specs.declared.table.Fix.{Fix}
 use Rattle.mc_term_parser.specs.declared.infixes.Role.TheVariants.{Plain}
 use Rattle.mc_term_parser.specs.declared.frame.Series.TheVariants.{Arguments}
 use Rattle.mc_term_parser.specs.declared.frame.Mark.TheVariants as MV
-use Rattle.mc_term_parser.specs.Table.{prefix_row}
+use Rattle.mc_operators.specs.Table.{prefix_row}
 use Rattle.mc_term_parser.specs.Infixes.{role, prefix_role, joined_by}
 use Rattle.mc_term_parser.specs.Part.{closed}
 use Rattle.mc_term_parser.specs.code.Machine as M

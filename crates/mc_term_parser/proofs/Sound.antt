@@ -1,7 +1,7 @@
 -- What is read is a term that Reads.
 use Rattle.std.proofs.Common.{◌≡◌, ℕ, ◌-◌, ◌≤◌, ◌<◌, Bool, true, false, cond, ◌&&◌, leb, ltb, List, [], ◌∷◌, ◌++◌, refl, sym, ap, ◌∙◌, subst, arith, Option, Some, None, codes}
-use Rattle.mc_term_parser.specs.declared.table.Fix.{Fix}
-use Rattle.mc_term_parser.specs.declared.table.Fix.TheVariants.{Fx, Fy, Fxy}
+use Rattle.mc_operators.specs.declared.table.Fix.{Fix}
+use Rattle.mc_operators.specs.declared.table.Fix.TheVariants.{Fx, Fy, Fxy}
 use Rattle.mc_term_parser.specs.declared.lexeme.Lexeme.{Lexeme}
 use Rattle.mc_term_parser.specs.declared.lexeme.Lexeme.TheVariants as L
 use Rattle.mc_term_parser.specs.declared.infixes.Chain.{Chain}
@@ -11,7 +11,7 @@ use Rattle.mc_term_parser.specs.declared.infixes.Infix.TheVariants.{Nothing, Bin
 use Rattle.mc_term_parser.specs.declared.infixes.Role.{Role}
 use Rattle.mc_term_parser.specs.declared.infixes.Role.TheVariants.{Compound, Negative, Single, Double, Plain}
 use Rattle.mc_term_parser.specs.declared.frame.Series.TheVariants.{Arguments, Elements, Chained}
-use Rattle.mc_term_parser.specs.Table.{prefix_row, same_name}
+use Rattle.mc_operators.specs.Table.{prefix_row, same_name}
 use Rattle.mc_term_parser.specs.Infixes.{is_open_ct, prefix_of, prefix_role, operand, rank, joined_by, role, callee, is_paren, name_of, line}
 use Rattle.mc_term_parser.specs.Part.{Part, closed, over}
 use Rattle.mc_term_parser.specs.Tree.{Tree, Neg, line_of}

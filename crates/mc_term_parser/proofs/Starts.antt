@@ -7,7 +7,7 @@ use Rattle.mc_term_parser.specs.declared.lexeme.Lexeme.TheVariants as L
 use Rattle.mc_term_parser.specs.declared.infixes.Role.TheVariants.{Compound, Negative}
 use Rattle.mc_term_parser.specs.declared.frame.Series.TheVariants.{Arguments}
 use Rattle.mc_term_parser.specs.declared.frame.Mark.TheVariants as MV
-use Rattle.mc_term_parser.specs.Table.{same_name, prefix_row}
+use Rattle.mc_operators.specs.Table.{same_name, prefix_row}
 use Rattle.mc_term_parser.specs.Infixes.{role, prefix_role, starts}
 use Rattle.mc_term_parser.specs.Part.{closed}
 use Rattle.mc_term_parser.specs.code.Machine as M

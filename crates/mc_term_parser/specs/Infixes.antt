@@ -1,9 +1,9 @@
 -- What a token is where a term starts, and what it joins behind a term (the Mercury manual, Terms;
 -- the numbers are this project's profile).
 use Rattle.std.specs.Prelude.{ℕ, Bool, true, false, ◌-◌, ◌&&◌, ◌||◌, not, nat_le, Option, Some, None, List, [], ◌∷◌, is_some, codes, if◌then◌else◌}
-use Rattle.mc_term_parser.specs.Table.{same_name, infix_row, prefix_row}
-use Rattle.mc_term_parser.specs.declared.table.Fix.{Fix}
-use Rattle.mc_term_parser.specs.declared.table.Fix.TheVariants.{Xfx, Xfy, Yfx, Fx, Fy, Fxy}
+use Rattle.mc_operators.specs.Table.{same_name, infix_row, prefix_row}
+use Rattle.mc_operators.specs.declared.table.Fix.{Fix}
+use Rattle.mc_operators.specs.declared.table.Fix.TheVariants.{Xfx, Xfy, Yfx, Fx, Fy, Fxy}
 use Rattle.mc_term_parser.specs.declared.lexeme.Lexeme.{Lexeme}
 use Rattle.mc_term_parser.specs.declared.lexeme.Lexeme.TheVariants.{Word, Path, Var, Int, Str, Open, OpenCt, Close, ListOpen, ListClose, Bar, Comma, Dot}
 use Rattle.mc_term_parser.specs.declared.infixes.Chain.{Chain}

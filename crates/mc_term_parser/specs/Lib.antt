@@ -1,4 +1,3 @@
-pub mod Table
 pub mod Infixes
 pub mod Tree
 pub mod Part

@@ -9,10 +9,8 @@ mod lexeme;
 mod reader;
 mod reading;
 mod starting;
-mod table;
 
 pub use law::{at_most_one_term, terms_are_no_deeper};
 pub use lexeme::Lexeme;
 pub use reading::Reading;
 pub use starting::read;
-pub use table::{Fix, infix, prefix};

@@ -9,8 +9,8 @@ use crate::frame::{Context, Frame, Machine, Mark, Now, Operator, ParserStack, Pa
 use crate::infixes::{Chain, Infix};
 use crate::lexeme::Lexeme;
 use crate::reading::{Reading, Readings};
-use crate::table::{Fix, infix};
 use mc_base::{Copied, Memory, Row, Text};
+use mc_operators::{Fix, infix};
 use std::alloc::Global;
 
 // What stands in a place.

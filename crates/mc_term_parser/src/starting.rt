@@ -16,8 +16,8 @@ use crate::infixes::Role;
 use crate::lexeme::Lexeme;
 use crate::reader::{closed, mark, name_row, step_done};
 use crate::reading::{Reading, Readings};
-use crate::table::{Fix, infix, prefix};
 use mc_base::{Copied, Memory, Row, Text};
+use mc_operators::{Fix, infix, prefix};
 use std::alloc::Global;
 
 // Whether the token in a place starts a term.

@@ -1,6 +1,7 @@
 //! The terms of a text, item by item.
 #![tactic(auto, using(crate::proofs::Rules::ends))]
 
+pub use mc_operators::{Fix, infix, prefix};
 mod fault;
 mod item;
 mod position;
@@ -8,6 +9,5 @@ mod term;
 
 pub use fault::{ItemFault, ReadFault, ReadKind};
 pub use mc_term_data::{Node, Term};
-pub use mc_term_parser::{Fix, infix, prefix};
 pub use position::Position;
 pub use term::{ReadItem, read_next, read_term};

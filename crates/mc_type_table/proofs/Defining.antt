@@ -12,9 +12,9 @@ use Rattle.mc_components.specs.Reached.{reaches}
 use Rattle.mc_components.specs.Components.{steps, NumbersComponents}
 use Rattle.mc_components.proofs.Reaching.{reached_by_ways}
 use Rattle.mc_components.proofs.Returning.{begins}
-use Rattle.mc_modules.specs.declared.names.Named.{Named}
-use Rattle.mc_modules.specs.declared.names.Names.{Names}
-use Rattle.mc_modules.specs.Linked.{Linked, plain_named, plain_names}
+use Rattle.mc_names.specs.declared.names.Named.{Named}
+use Rattle.mc_names.specs.declared.names.Names.{Names}
+use Rattle.mc_names.specs.Linked.{Linked, plain_named, plain_names}
 use Rattle.mc_type_table.specs.declared.definitions.Equivalences.{Equivalences}
 use Rattle.mc_type_table.specs.Expanded.{equivalent, equivalent_of}
 use Rattle.mc_type_table.specs.Rules.{types_in_body, goes_round, definitions}

@@ -12,7 +12,7 @@ use Rattle.mc_program.specs.declared.ty.Ty.{Ty}
 use Rattle.mc_model.specs.Lists.{is_in}
 use Rattle.mc_components.specs.Components.{steps}
 use Rattle.mc_components.proofs.Certified.{in_head, in_tail, in_cases}
-use Rattle.mc_modules.specs.Linked.{Linked}
+use Rattle.mc_names.specs.Linked.{Linked}
 use Rattle.mc_type_table.specs.declared.definitions.Equivalences.{Equivalences}
 use Rattle.mc_type_table.specs.declared.expansion.Known.{Known}
 use Rattle.mc_type_table.specs.Expanded.{equivalent, equivalent_of, replaced, all_replaced, defined_as, after_rounds}

@@ -10,11 +10,12 @@ use Rattle.mc_components.specs.Reached.{reaches}
 use Rattle.mc_components.specs.Components.{steps, NumbersComponents, one_reaches}
 use Rattle.mc_components.proofs.Certified.{in_head, in_tail, in_cases}
 use Rattle.mc_decl_syntax.specs.Plain.{PlainDecl, UnionType}
-use Rattle.mc_modules.specs.declared.names.Named.{Named}
-use Rattle.mc_modules.specs.declared.names.Names.{Names}
-use Rattle.mc_modules.specs.Linked.{Defined, Linked, plain_named, plain_names}
+use Rattle.mc_names.specs.declared.names.Named.{Named}
+use Rattle.mc_names.specs.declared.names.Names.{Names}
+use Rattle.mc_names.specs.Linked.{Defined, Linked, plain_named, plain_names, home}
 use Rattle.mc_type_table.specs.declared.bodies.Bodies.{Bodies}
-use Rattle.mc_type_table.specs.Written.{home, parameters_of, written_type}
+use Rattle.mc_names.specs.Parameters.{parameters_of}
+use Rattle.mc_type_table.specs.Written.{written_type}
 use Rattle.mc_type_table.specs.Expanded.{replaced, after_rounds}
 use Rattle.mc_type_table.specs.Rules.{union_fields, types_in, all_types_in, types_in_all, definitions, body_by, body_of, body, is_of_group, are_plain, is_irregular, is_any_irregular, is_one_irregular}
 use Rattle.mc_type_table.specs.code.Grown.{grown_in, all_grown_in, grown_in_all}

@@ -6,8 +6,8 @@ use Rattle.std.proofs.lemmas.List.{at_drop_more}
 use Rattle.mc_source.specs.declared.rule.Broken.{Broken}
 use Rattle.mc_source.specs.declared.rule.Rule.TheVariants as R
 use Rattle.mc_source.specs.Rules.{broken_at, first_rules}
-use Rattle.mc_modules.specs.declared.names.Named.{Named}
-use Rattle.mc_modules.specs.Linked.{Defined, Linked, plain_named}
+use Rattle.mc_names.specs.declared.names.Named.{Named}
+use Rattle.mc_names.specs.Linked.{Defined, Linked, plain_named}
 use Rattle.mc_type_table.specs.Rules.{stray_in, goes_round, of_type, is_of_group, is_one_irregular, body, round_fault, regular_fault, type_fault, numbered}
 
 pub variable_first :

@@ -1,7 +1,6 @@
 pub mod Rows
 pub mod Numbers
 pub mod Replacing
-pub mod Modules
 pub mod Strays
 pub mod TypesInTypes
 pub mod Defining

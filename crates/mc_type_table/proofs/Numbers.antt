@@ -3,8 +3,8 @@ use Rattle.std.proofs.Common.{◌≡◌, ℕ, zero, suc, ◌+◌, ◌<◌, List,
 use Rattle.std.proofs.lemmas.List.{at_drop_more}
 use Rattle.mc_program.specs.declared.program.TypeDef.{TypeDef}
 use Rattle.mc_model.specs.Lists.{from}
-use Rattle.mc_modules.specs.declared.names.Named.{Named}
-use Rattle.mc_modules.specs.Linked.{plain_named}
+use Rattle.mc_names.specs.declared.names.Named.{Named}
+use Rattle.mc_names.specs.Linked.{plain_named}
 use Rattle.mc_decl_syntax.specs.Plain.{plain_item}
 use Rattle.mc_type_table.specs.Table.{constructor_count, table_from}
 

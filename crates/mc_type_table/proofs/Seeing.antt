@@ -6,11 +6,10 @@ use Rattle.std.proofs.Math.Path.{fun_ext}
 use Rattle.std.proofs.lemmas.Bool.{cases_lt, eqb-true, false_from_ne_true}
 use Rattle.std.proofs.lemmas.List.{length-map}
 use Rattle.mc_program.specs.Programs.{TypeTerm}
-use Rattle.mc_modules.specs.declared.names.Named.{Named}
-use Rattle.mc_modules.specs.declared.names.Names.{Names}
-use Rattle.mc_modules.specs.declared.names.Scope.{Scope}
-use Rattle.mc_modules.specs.Linked.{Linked, plain_named, plain_names}
-use Rattle.mc_type_table.specs.Written.{module_from}
+use Rattle.mc_names.specs.declared.names.Named.{Named}
+use Rattle.mc_names.specs.declared.names.Names.{Names}
+use Rattle.mc_names.specs.declared.names.Scope.{Scope}
+use Rattle.mc_names.specs.Linked.{Linked, plain_named, plain_names, module_from}
 use Rattle.mc_type_table.specs.Rules.{definitions}
 use Rattle.mc_type_table.specs.Sight.{sees, definitions_seen}
 use Rattle.mc_type_table.specs.code.Hidden.{not_hidden}

@@ -5,8 +5,9 @@ use Rattle.std.specs.Option.{option_map}
 use Rattle.mc_program.specs.Programs.{TypeTerm, union_type, TypeTerms, no_types, type_then}
 use Rattle.mc_model.specs.Types.{type_at, instance_of}
 use Rattle.mc_decl_syntax.specs.Plain.{PlainDecl, SameType}
-use Rattle.mc_modules.specs.Linked.{Defined, Linked}
-use Rattle.mc_type_table.specs.Written.{written_type, parameters_of, home}
+use Rattle.mc_names.specs.Linked.{Defined, Linked, home}
+use Rattle.mc_type_table.specs.Written.{written_type}
+use Rattle.mc_names.specs.Parameters.{parameters_of}
 
 -- what a type stands for that is defined by `==`, over its parameters
 abbrev pub equivalent_by : Linked → (own : ℕ) → PlainDecl → Option TypeTerm

@@ -12,10 +12,10 @@ use Rattle.mc_source.specs.Rules.{Fault, first_rules}
 use Rattle.mc_program.specs.Programs.{TypeTerm, variable_type, union_type, TypeTerms, no_types, type_then}
 use Rattle.mc_decl_syntax.specs.Plain.{PlainDecl, UnionType, SameType}
 use Rattle.mc_decl_syntax.specs.Terms.{names_in}
-use Rattle.mc_defs_uses.specs.Plain.{id}
-use Rattle.mc_linking.specs.Faults.{shown}
-use Rattle.mc_modules.specs.Linked.{Defined, Linked}
-use Rattle.mc_type_table.specs.Written.{written_type, parameters_of, home}
+use Rattle.mc_names.specs.Plain.{id, shown}
+use Rattle.mc_names.specs.Linked.{Defined, Linked, home}
+use Rattle.mc_type_table.specs.Written.{written_type}
+use Rattle.mc_names.specs.Parameters.{parameters_of}
 use Rattle.mc_type_table.specs.Expanded.{equivalent, in_sight, expanded}
 use Rattle.mc_components.specs.Reached.{reaches}
 

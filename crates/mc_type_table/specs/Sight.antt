@@ -2,8 +2,7 @@
 -- types).
 use Rattle.std.specs.Prelude.{ℕ, Bool, false, nat_eq, ◌||◌, Option, Some, None, slice_get}
 use Rattle.mc_program.specs.Programs.{TypeTerm}
-use Rattle.mc_modules.specs.Linked.{Defined, Linked}
-use Rattle.mc_type_table.specs.Written.{home}
+use Rattle.mc_names.specs.Linked.{Defined, Linked, home}
 use Rattle.mc_type_table.specs.Expanded.{in_sight}
 use Rattle.mc_type_table.specs.Rules.{definitions}
 

@@ -1,6 +1,6 @@
 -- What a written type means in a module, where equivalences still stand by their names (the Mercury
 -- manual: Types; The module system).
-use Rattle.std.specs.Prelude.{ℕ, suc, ◌+◌, Bool, false, ◌&&◌, nat_eq, List, [], ◌∷◌, length, Option, Some, None, codes, slice_get, if◌then◌else◌}
+use Rattle.std.specs.Prelude.{ℕ, Bool, false, ◌&&◌, nat_eq, List, [], ◌∷◌, length, Option, Some, None, codes, slice_get, if◌then◌else◌}
 use Rattle.std.specs.Str.{bytes_eq}
 use Rattle.mc_term_data.specs.Plain.{PlainTerm, PlainTerms, at, no_term, more_terms, Var, App}
 use Rattle.mc_term_data.specs.Names.{count, Row, row, found}
@@ -8,10 +8,10 @@ use Rattle.mc_term_data.specs.Shapes.{variable}
 use Rattle.mc_source.specs.declared.name.Name.{Name}
 use Rattle.mc_program.specs.Programs.{TypeTerm, int_type, char_type, string_type, state_type, variable_type, union_type, TypeTerms, no_types, type_then}
 use Rattle.mc_decl_syntax.specs.Plain.{Path}
-use Rattle.mc_defs_uses.specs.Plain.{id, qualifiers, last_part}
-use Rattle.mc_modules.specs.declared.names.Scope.{Scope}
-use Rattle.mc_modules.specs.Linked.{Defined, Linked}
-use Rattle.mc_modules.specs.Candidates.{type_candidates}
+use Rattle.mc_names.specs.Plain.{id, qualifiers, last_part}
+use Rattle.mc_names.specs.Linked.{Defined, Linked}
+use Rattle.mc_names.specs.Candidates.{type_candidates}
+use Rattle.mc_names.specs.Parameters.{place_of}
 
 -- the builtin types
 unfoldable pub builtin_rows : List (Row TypeTerm)
@@ -51,11 +51,6 @@ abbrev pub named_type : Linked → (own : ℕ) → Path → (arity : ℕ) → Ty
 named_type l own w n ts =
     builtin_or_first (builtin w n) l ts (type_candidates l own (qualifiers w) (id (last_part w) n))
 
--- the place of a name among names, or that of their end
-abbrev pub place_of : List ℕ → List (List ℕ) → ℕ
-place_of x [] = 0
-place_of x (y ∷ ys) = if bytes_eq x y then 0 else suc (place_of x ys)
-
 -- The type that a term writes in the module of a number: a variable by its place among these names,
 -- a name by what it means there. (A term of another form is no type: the items' form refuses it.)
 abbrev mutual
@@ -69,26 +64,3 @@ abbrev mutual
   written_types l own vs no_term = no_types
   written_types l own vs (more_terms t ts) =
       type_then (written_type l own vs t) (written_types l own vs ts)
-
--- the names of variables; what is no variable has the empty name
-abbrev pub name_of : Option (List ℕ) → List ℕ
-name_of None = []
-name_of (Some x) = x
-
-abbrev pub variable_names : PlainTerms → List (List ℕ)
-variable_names no_term = []
-variable_names (more_terms t ts) = name_of (variable t) ∷ variable_names ts
-
--- The parameters of a type, by its head, in order. Each `_` is one of its own, which no body can use.
-abbrev pub parameters_of : PlainTerm → List (List ℕ)
-parameters_of (at (App w ts) line) = variable_names ts
-parameters_of _ = []
-
--- the number of the first module of this name among these, the first of which has the number k
-abbrev pub module_from : (k : ℕ) → List ℕ → List Scope → ℕ
-module_from k w [] = k
-module_from k w (s ∷ ss) = if bytes_eq s.«module» w then k else module_from (k + 1) w ss
-
--- the number of the module in which a type is defined
-abbrev pub home : Linked → Defined → ℕ
-home l d = module_from 0 d.name.«module» l.scopes

@@ -1,4 +1,3 @@
 pub mod Grown
 pub mod Hidden
 pub mod Kept
-pub mod Examples

@@ -1,7 +1,7 @@
 ghost use Rattle.std.specs.Prelude.{◌≡◌, [], ◌∷◌, ◌++◌, length, map, Some, IfOk, OnOk};
 ghost use Rattle.mc_term_data.specs.Plain.{plain_term};
 ghost use Rattle.mc_program.specs.PlainPrograms.{plain_type};
-ghost use Rattle.mc_modules.specs.Linked.{Linked, plain_named, plain_names};
+ghost use Rattle.mc_names.specs.Linked.{Linked, plain_named, plain_names};
 ghost use Rattle.mc_type_table.specs.Written.{written_type};
 ghost use Rattle.mc_type_table.specs.Expanded.{replaced, after_rounds};
 ghost use Rattle.mc_type_table.specs.Rules.{types_in, types_in_all, definitions, body, is_of_group, is_one_irregular};
@@ -9,7 +9,6 @@ ghost use Rattle.mc_type_table.specs.Held.{held};
 ghost use Rattle.mc_type_table.specs.code.Grown.{grown_in, grown_in_all};
 ghost use Rattle.mc_type_table.specs.code.Kept.{contents, AreBodies};
 
-use crate::equivalences::{home, parameters_of};
 use crate::expansion::row;
 use crate::fields::union_fields;
 use crate::mentioned::{put_grown, put_types_in};
@@ -18,7 +17,7 @@ use crate::written::type_of_term;
 use mc_base::{Memory, Row, Text};
 use mc_components::{components, one_comes_back};
 use mc_decl_syntax::Decl;
-use mc_modules::{Named, Names};
+use mc_names::{Named, Names, home, parameters_of};
 use mc_program::ty::Ty;
 use mc_term_data::Term;
 use std::alloc::Global;

@@ -1,7 +1,7 @@
 ghost use Rattle.std.specs.Prelude.{◌≡◌, map, Some, IfOk};
 ghost use Rattle.std.specs.Option.{option_map};
 ghost use Rattle.mc_program.specs.PlainPrograms.{plain_type};
-ghost use Rattle.mc_modules.specs.Linked.{Linked, plain_named, plain_names};
+ghost use Rattle.mc_names.specs.Linked.{Linked, plain_named, plain_names};
 ghost use Rattle.mc_type_table.specs.Expanded.{equivalent_of};
 ghost use Rattle.mc_type_table.specs.Rules.{types_in_body, goes_round, definitions};
 ghost use Rattle.mc_type_table.specs.code.Hidden.{is_hidden, not_hidden};
@@ -12,7 +12,7 @@ use crate::mentioned::put_types_in;
 use crate::replaced::definition_of;
 use mc_base::{Memory, Row};
 use mc_components::{components, reaches_itself};
-use mc_modules::Names;
+use mc_names::Names;
 use mc_program::ty::Ty;
 use std::alloc::Global;
 

@@ -1,6 +1,6 @@
 ghost use Rattle.std.specs.Prelude.{◌≡◌, ◌+◌, ◌<◌, ℕ, true, length, slice_set, Some, IfOk, OnOk};
 ghost use Rattle.mc_components.specs.Components.{steps};
-ghost use Rattle.mc_modules.specs.Linked.{Linked};
+ghost use Rattle.mc_names.specs.Linked.{Linked};
 ghost use Rattle.mc_type_table.specs.Expanded.{after_rounds};
 ghost use Rattle.mc_type_table.specs.Held.{held};
 ghost use Rattle.mc_type_table.specs.code.Hidden.{not_hidden};

@@ -4,7 +4,6 @@
 mod bodies;
 mod definitions;
 mod equivalences;
-mod examples;
 mod expansion;
 mod faults;
 mod fields;
@@ -16,8 +15,7 @@ mod types;
 mod variables;
 mod written;
 
-pub use equivalences::{equivalent, home, parameters_of};
-pub use examples::types_of_programs;
+pub use equivalences::equivalent;
 pub use fields::constructor_fields;
 pub use replaced::{Room, with_definitions};
 pub use sight::{all_definitions, seen_definitions, sees_definition};

@@ -1,6 +1,5 @@
 ghost use Rattle.std.specs.Prelude.{◌≡◌, ℕ, false, not, nat_eq, length, map, Some, IfOk};
-ghost use Rattle.mc_modules.specs.Linked.{plain_named, plain_names};
-ghost use Rattle.mc_type_table.specs.Written.{module_from, home};
+ghost use Rattle.mc_names.specs.Linked.{plain_named, plain_names, module_from, home};
 ghost use Rattle.mc_type_table.specs.Expanded.{after_rounds};
 ghost use Rattle.mc_type_table.specs.Rules.{definitions};
 ghost use Rattle.mc_type_table.specs.Sight.{sees, sees_definition, definitions_seen};
@@ -8,11 +7,10 @@ ghost use Rattle.mc_type_table.specs.Held.{held};
 ghost use Rattle.mc_type_table.specs.code.Kept.{AreEquivalences};
 
 use crate::definitions::Equivalences;
-use crate::equivalences::home;
 use crate::expansion::expanded_definitions;
 use crate::replaced::Room;
 use mc_base::Memory;
-use mc_modules::{Named, Names, Scope};
+use mc_names::{Named, Names, Scope, home};
 use mc_program::ty::Ty;
 use std::alloc::Global;
 

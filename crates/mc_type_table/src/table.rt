@@ -1,13 +1,13 @@
 ghost use Rattle.std.specs.Prelude.{◌≡◌, [], IfOk, IfErr};
-ghost use Rattle.mc_modules.specs.Linked.{plain_names};
+ghost use Rattle.mc_names.specs.Linked.{plain_names};
 ghost use Rattle.mc_type_table.specs.Rules.{type_faults};
 ghost use Rattle.mc_type_table.specs.Table.{table, IsRefusedTable};
 
 use crate::faults::broken_types;
 use crate::types::types_of;
 use mc_base::Row;
-use mc_items::ItemsFault;
-use mc_modules::Names;
+use mc_decl_syntax::ItemsFault;
+use mc_names::Names;
 use mc_program::program::TypeDef;
 use std::alloc::Global;
 

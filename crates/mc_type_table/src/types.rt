@@ -2,12 +2,12 @@ ghost use Rattle.std.specs.Prelude.{◌≡◌, ◌+◌, ◌<◌, ◌^◌, length
 ghost use Rattle.mc_term_data.specs.Plain.{plain_term, tms};
 ghost use Rattle.mc_model.specs.Lists.{from};
 ghost use Rattle.mc_decl_syntax.specs.Plain.{plain_item};
-ghost use Rattle.mc_modules.specs.Linked.{plain_names};
+ghost use Rattle.mc_names.specs.Linked.{plain_names};
 ghost use Rattle.mc_type_table.specs.Table.{constructor_count, table};
 
 use mc_base::{Copied, Memory, Row};
 use mc_decl_syntax::Decl;
-use mc_modules::{Named, Names};
+use mc_names::{Named, Names};
 use mc_program::program::TypeDef;
 use mc_source::name::Name;
 use std::alloc::Global;
@@ -36,7 +36,7 @@ pub fn types_of(alloc: Global, names: &Names) -> Result<Row<TypeDef>, Memory>
 }
 
 // How many constructors a definition has.
-#[tactic(auto, using(crate::proofs::Rows::count_is_length))]
+#[tactic(auto, using(mc_names::proofs::Places::count_is_length))]
 fn constructor_count(decl: &Decl) -> u32
     ensures { result ≡ constructor_count (plain_item decl.now) }
 {

@@ -4,11 +4,12 @@ ghost use Rattle.mc_term_data.specs.Plain.{plain_term, tms};
 ghost use Rattle.mc_program.specs.Programs.{union_type, no_types};
 ghost use Rattle.mc_program.specs.PlainPrograms.{plain_type, type_terms};
 ghost use Rattle.mc_term_data.specs.Names.{count, found};
-ghost use Rattle.mc_modules.specs.Linked.{plain_names};
-ghost use Rattle.mc_type_table.specs.Written.{builtin, builtin_rows, is_state, is_state_type, first_meaning, named_type, place_of, written_type, written_types};
+ghost use Rattle.mc_names.specs.Linked.{plain_names};
+ghost use Rattle.mc_type_table.specs.Written.{builtin, builtin_rows, is_state, is_state_type, first_meaning, named_type, written_type, written_types};
+ghost use Rattle.mc_names.specs.Parameters.{place_of};
 
 use mc_base::{Memory, Row, Text};
-use mc_modules::Names;
+use mc_names::{Names, place_of};
 use mc_program::ty::Ty;
 use mc_source::name::Name;
 use mc_term_data::{Node, Term};
@@ -95,23 +96,6 @@ fn types_of_terms(
         types.push(type_of_term(alloc, names, own, variables, term)?)?;
     }
     Row::of(types)
-}
-
-// The place of a name among names, or that of their end.
-fn place_of(name: &[u8], names: &[Text]) -> Result<u32, Memory>
-    ensures { IfOk result (λ k. k ≡ place_of name.now names.now) }
-{
-    if names.len() > u32::MAX as usize {
-        return Err(Memory);
-    }
-    let mut place = 0;
-    for known in names {
-        if known.bytes() == name {
-            return Ok(place);
-        }
-        place += 1;
-    }
-    Ok(place)
 }
 
 /// A type's name over arguments, in the module of a number.

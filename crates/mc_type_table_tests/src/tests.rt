@@ -1,6 +1,8 @@
 use mc_base::{Memory, Row};
-use mc_items::{Entry, ItemsFault, read_items};
-use mc_modules::{Names, link};
+use mc_decl_syntax::{Entry, ItemsFault};
+use mc_items::read_items;
+use mc_modules::link;
+use mc_names::Names;
 use mc_program::ty::Ty;
 use mc_type_table::{Room, seen_definitions, sees_definition, type_table};
 use std::alloc::Global;

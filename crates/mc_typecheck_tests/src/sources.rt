@@ -3,7 +3,7 @@
 use mc_base::{Memory, Row, Text};
 use mc_clause_phase::{Judged, judge};
 use mc_compile::{CompileFault, Given, Named, Query, Read, Typed};
-use mc_modules::Names;
+use mc_names::Names;
 use mc_program::program::{Name, Resolved};
 use mc_program::ty::Ty;
 use mc_source::rule::Broken;

@@ -11,9 +11,9 @@ use Rattle.mc_made_types.proofs.KnownPicks.{picks_are_known}
 use Rattle.mc_unresolved.specs.Unresolved.{plain_unresolved_clause}
 use Rattle.mc_unresolved.specs.declared.clause.UnresolvedClause.{UnresolvedClause}
 use Rattle.mc_check_clause.specs.Checked.{IsResolved}
-use Rattle.mc_modules.specs.Linked.{Linked}
+use Rattle.mc_names.specs.Linked.{Linked}
 use Rattle.mc_clauses.specs.Unresolved.{Numbered_clause, unresolved_clause, unresolved_query}
-use Rattle.mc_clauses.specs.Declarations.{parameter_counts}
+use Rattle.mc_declarations.specs.Declarations.{parameter_counts}
 use Rattle.mc_clause_laws.proofs.Clauses.{clauses_have_names, queries_have_names}
 use Rattle.mc_declarations.specs.Proper.{declared_for}
 use Rattle.mc_goals.specs.Resolved.{typed_clause}

@@ -4,11 +4,11 @@ use Rattle.std.specs.Prelude.{Contains}
 use Rattle.std.specs.Option.{is_some, option_map, option_to_list}
 use Rattle.mc_term_data.specs.Plain.{PlainTerm}
 use Rattle.mc_accepted.specs.NormalTypes.{TypedClause}
-use Rattle.mc_modules.specs.Linked.{Linked}
+use Rattle.mc_names.specs.Linked.{Linked}
 use Rattle.mc_state_variables.specs.Numbered.{numbered_clause, numbered_goal, line_of}
 use Rattle.mc_type_table.specs.Rules.{type_faults}
 use Rattle.mc_type_table.specs.Sight.{definitions_seen}
-use Rattle.mc_clauses.specs.Typing.{ModuleClause, clauses_from}
+use Rattle.mc_clause_phase.specs.Typing.{ModuleClause, clauses_from}
 use Rattle.mc_clause_laws.proofs.Fitting.{predicates_are_there}
 use Rattle.mc_declarations.specs.Proper.{AreWellWritten}
 use Rattle.mc_clause_phase.specs.Items.{Item, clause_item, query_item}

@@ -17,13 +17,13 @@ use Rattle.mc_made_types.specs.Constructors.{IsDeclared}
 use Rattle.mc_made_types.specs.Known.{Known, WalkIsKnown}
 use Rattle.mc_check_clause.specs.WellFormed.{WalkIsDeclared}
 use Rattle.mc_decl_syntax.specs.Plain.{PlainDecl, UnionType}
-use Rattle.mc_modules.specs.Linked.{Defined, Linked}
-use Rattle.mc_type_table.specs.Written.{parameters_of, home}
+use Rattle.mc_names.specs.Linked.{Defined, Linked, home}
+use Rattle.mc_names.specs.Parameters.{parameters_of}
 use Rattle.mc_type_table.specs.Rules.{type_faults}
 use Rattle.mc_type_table.specs.Sight.{definitions_seen}
 use Rattle.mc_type_table.specs.Table.{constructor_count, table_from}
 use Rattle.mc_clauses.specs.Unresolved.{unresolved_clause, unresolved_query}
-use Rattle.mc_clauses.specs.Declarations.{parameter_counts, constructors_in, constructors_by, constructors_from}
+use Rattle.mc_declarations.specs.Declarations.{parameter_counts, constructors_in, constructors_by, constructors_from}
 use Rattle.mc_clause_laws.specs.ClauseLaws.{IsThere, AllThere}
 use Rattle.mc_clause_laws.proofs.Clauses.{candidates_are_there}
 use Rattle.mc_declarations.specs.Proper.{AreWellWritten, declared_for}

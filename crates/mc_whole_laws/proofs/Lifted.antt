@@ -7,7 +7,7 @@ use Rattle.mc_accepted.specs.Typing.{TypedGoal}
 use Rattle.mc_accepted.specs.Normal.{normal_goal, other_variables}
 use Rattle.mc_accepted.specs.NormalTypes.{TypedClause, clause_types, normal_types}
 use Rattle.mc_accepted.specs.MostGeneral.{type_at}
-use Rattle.mc_modules.specs.Linked.{Linked}
+use Rattle.mc_names.specs.Linked.{Linked}
 use Rattle.mc_type_table.specs.Rules.{type_faults}
 use Rattle.mc_declarations.specs.Proper.{AreWellWritten, declared_for}
 use Rattle.mc_typing_laws.specs.GoalTypes.{GoalIsTyped}

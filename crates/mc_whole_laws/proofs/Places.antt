@@ -6,9 +6,9 @@ use Rattle.std.proofs.lemmas.List.{length-map}
 use Rattle.mc_program.specs.Programs.{ClauseForm, Predicate}
 use Rattle.mc_program.specs.PlainPrograms.{no_pred}
 use Rattle.mc_accepted.specs.NormalTypes.{TypedClause}
-use Rattle.mc_modules.specs.Linked.{Defined, Linked}
+use Rattle.mc_names.specs.Linked.{Defined, Linked}
 use Rattle.mc_type_table.specs.Rules.{definitions}
-use Rattle.mc_clauses.specs.Declarations.{predicate_of}
+use Rattle.mc_declarations.specs.Declarations.{predicate_of}
 use Rattle.mc_typing_laws.specs.GoalTypes.{forms_of}
 use Rattle.mc_whole.specs.Whole.{each_with_clauses}
 use Rattle.mc_whole_program.specs.Wholes.{behind, query_predicate, query_clauses, clauses_of, clauses_from, bare_predicates, all_clauses, all_predicates}

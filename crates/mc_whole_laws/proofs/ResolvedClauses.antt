@@ -17,10 +17,10 @@ use Rattle.mc_made_types.specs.Traced.{Traces}
 use Rattle.mc_made_types.specs.Known.{AllKnown}
 use Rattle.mc_made_types.specs.MadeTypes.{AreVariableTypes}
 use Rattle.mc_made_types.proofs.Generals.{types_are_general}
-use Rattle.mc_modules.specs.Linked.{Linked}
+use Rattle.mc_names.specs.Linked.{Linked}
 use Rattle.mc_type_table.specs.Sight.{definitions_seen}
 use Rattle.mc_clauses.specs.Unresolved.{unresolved_clause, unresolved_query}
-use Rattle.mc_clauses.specs.Declarations.{parameter_counts, predicate_of}
+use Rattle.mc_declarations.specs.Declarations.{parameter_counts, predicate_of}
 use Rattle.mc_clause_laws.specs.ClauseLaws.{IsThere, AllThere}
 use Rattle.mc_clause_laws.proofs.Clauses.{candidates_are_there}
 use Rattle.mc_declarations.specs.Proper.{declared_for}

@@ -7,7 +7,7 @@ use Rattle.mc_program.specs.Programs.{TypeTerm}
 use Rattle.mc_model.specs.Lists.{is_in, from}
 use Rattle.mc_components.specs.Reached.{reaches, step, over}
 use Rattle.mc_components.proofs.Reaching.{reached_by_ways}
-use Rattle.mc_modules.specs.Linked.{Linked}
+use Rattle.mc_names.specs.Linked.{Linked}
 use Rattle.mc_type_table.specs.Expanded.{equivalent, replaced, after_rounds}
 use Rattle.mc_type_table.specs.Rules.{types_in, types_in_body, goes_round, definitions}
 use Rattle.mc_type_table.proofs.Expanding.{replaced_alike, undefined_after, undefined_past}

@@ -11,12 +11,12 @@ use Rattle.mc_model.specs.Flat as F
 use Rattle.mc_model.specs.Flat.{Flat_goal, Flat_goals, no_flat, flat_then}
 use Rattle.mc_accepted.specs.ProperTypes.{Parameters, EachProper}
 use Rattle.mc_accepted.specs.Typing.{constructor_types, ConstantOf, TypedGoal, TypedGoals}
-use Rattle.mc_modules.specs.Linked.{Linked}
+use Rattle.mc_names.specs.Linked.{Linked}
 use Rattle.mc_type_table.specs.Expanded.{equivalent, replaced, all_replaced, defined_as, after_rounds}
 use Rattle.mc_type_table.specs.Rules.{goes_round, definitions, type_faults}
 use Rattle.mc_type_table.specs.Sight.{definitions_seen}
 use Rattle.mc_type_table.proofs.Expanding.{undefined_after}
-use Rattle.mc_clauses.specs.Declarations.{parameter_counts}
+use Rattle.mc_declarations.specs.Declarations.{parameter_counts}
 use Rattle.mc_declarations.specs.Proper.{AreWellWritten, declared_for}
 use Rattle.mc_declarations.proofs.Replaced.{AreProper, proper_replaced, proper_rounds}
 use Rattle.mc_declarations.proofs.Fitting.{definitions_fit, defined_seen, seen_fit}

@@ -9,12 +9,13 @@ use Rattle.mc_program.specs.declared.program.TypeDef.{TypeDef}
 use Rattle.mc_model.specs.Lists.{is_in, from}
 use Rattle.mc_accepted.specs.ProperTypes.{EachProper}
 use Rattle.mc_decl_syntax.specs.Plain.{PlainDecl, UnionType, SameType}
-use Rattle.mc_modules.specs.Linked.{Defined, Linked}
-use Rattle.mc_type_table.specs.Written.{written_type, parameters_of, home}
+use Rattle.mc_names.specs.Linked.{Defined, Linked, home}
+use Rattle.mc_type_table.specs.Written.{written_type}
+use Rattle.mc_names.specs.Parameters.{parameters_of}
 use Rattle.mc_type_table.specs.Expanded.{equivalent_by, equivalent_of, replaced, after_rounds, expanded}
 use Rattle.mc_type_table.specs.Rules.{constructor_fields, type_faults}
 use Rattle.mc_type_table.specs.Table.{constructor_count, table_from}
-use Rattle.mc_clauses.specs.Declarations.{parameter_counts, listed_types, constructor_of, constructors_in, constructors_by, constructors_from, predicate_of}
+use Rattle.mc_declarations.specs.Declarations.{parameter_counts, listed_types, constructor_of, constructors_in, constructors_by, constructors_from, predicate_of}
 use Rattle.mc_declarations.specs.Proper.{AreWellWritten}
 use Rattle.mc_declarations.proofs.Replaced.{AreProper}
 use Rattle.mc_declarations.proofs.Fitting.{constructors_fit, predicates_fit}

@@ -12,9 +12,9 @@ use Rattle.mc_accepted.specs.ProperTypes.{Parameters, ProperType, EachProper}
 use Rattle.mc_accepted.specs.NormalTypes.{TypedClause, normal_types}
 use Rattle.mc_accepted.specs.MostGeneral.{type_at, QueryTypes}
 use Rattle.mc_accepted.specs.Fits.{HeadsHave, FitsTypes}
-use Rattle.mc_modules.specs.Linked.{Linked}
+use Rattle.mc_names.specs.Linked.{Linked}
 use Rattle.mc_type_table.specs.Rules.{type_faults}
-use Rattle.mc_clauses.specs.Declarations.{parameter_counts}
+use Rattle.mc_declarations.specs.Declarations.{parameter_counts}
 use Rattle.mc_declarations.specs.Proper.{AreWellWritten, declared_for}
 use Rattle.mc_declarations.proofs.Fitting.{all_declarations_fit}
 use Rattle.mc_typing_laws.specs.GoalTypes.{forms_of, with_scopes, GoalIsTyped, EachIsTyped}

@@ -6,7 +6,7 @@ use Rattle.mc_source.specs.declared.place.Place.{Place}
 use Rattle.mc_program.specs.Programs.{Source}
 use Rattle.mc_accepted.specs.NormalTypes.{TypedClause}
 use Rattle.mc_made_types.specs.Known.{ClauseHasValues}
-use Rattle.mc_modules.specs.Linked.{Linked}
+use Rattle.mc_names.specs.Linked.{Linked}
 use Rattle.mc_type_table.specs.Rules.{type_faults}
 use Rattle.mc_type_table.specs.Sight.{definitions_seen}
 use Rattle.mc_clauses.specs.Unresolved.{Numbered_clause, unresolved_clause, unresolved_query}

@@ -5,8 +5,8 @@ use Rattle.std.specs.Prelude.{◌≡◌, ℕ, List, [], ◌∷◌, ◌++◌, map
 use Rattle.std.specs.Option.{is_some, option_map, option_to_list}
 use Rattle.mc_term_data.specs.Plain.{PlainTerm}
 use Rattle.mc_accepted.specs.NormalTypes.{TypedClause}
-use Rattle.mc_linking.specs.Files.{File}
-use Rattle.mc_modules.specs.Linked.{Linked}
+use Rattle.mc_decl_syntax.specs.Entries.{File}
+use Rattle.mc_names.specs.Linked.{Linked}
 use Rattle.mc_type_table.specs.Rules.{type_faults}
 use Rattle.mc_type_table.specs.Sight.{definitions_seen}
 use Rattle.mc_declarations.specs.Proper.{AreWellWritten}

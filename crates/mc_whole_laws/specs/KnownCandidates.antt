@@ -6,10 +6,10 @@ use Rattle.mc_program.specs.Programs.{TypeTerm}
 use Rattle.mc_accepted.specs.Resolving.{Unresolved_clause, steps_of}
 use Rattle.mc_made_types.specs.Known.{WalkIsKnown}
 use Rattle.mc_check_clause.specs.WellFormed.{WalkIsDeclared}
-use Rattle.mc_modules.specs.Linked.{Linked}
+use Rattle.mc_names.specs.Linked.{Linked}
 use Rattle.mc_type_table.specs.Rules.{type_faults}
 use Rattle.mc_clauses.specs.Unresolved.{unresolved_clause, unresolved_query}
-use Rattle.mc_clauses.specs.Declarations.{constructors_from, parameter_counts}
+use Rattle.mc_declarations.specs.Declarations.{constructors_from, parameter_counts}
 use Rattle.mc_declarations.specs.Proper.{AreWellWritten, declared_for}
 
 -- each constructor has a number, as in a program that is linked (mc_clause_laws)

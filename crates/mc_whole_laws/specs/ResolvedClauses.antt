@@ -11,9 +11,9 @@ use Rattle.mc_accepted.specs.Resolving.{Unresolved_clause, resolved, Resolves}
 use Rattle.mc_accepted.specs.MostGeneral.{MostGeneral}
 use Rattle.mc_made_types.specs.Known.{AllKnown, ClauseHasValues, ClauseHasNames}
 use Rattle.mc_made_types.specs.MadeTypes.{AreVariableTypes}
-use Rattle.mc_modules.specs.Linked.{Linked}
+use Rattle.mc_names.specs.Linked.{Linked}
 use Rattle.mc_clauses.specs.Unresolved.{unresolved_clause, unresolved_query}
-use Rattle.mc_clauses.specs.Declarations.{parameter_counts}
+use Rattle.mc_declarations.specs.Declarations.{parameter_counts}
 use Rattle.mc_declarations.specs.Proper.{declared_for}
 use Rattle.mc_whole_laws.specs.WholeTypes.{seen_program, IsTypedIn}
 

@@ -6,10 +6,10 @@ use Rattle.mc_program.specs.Programs.{TypeTerm, Predicate, Source}
 use Rattle.mc_model.specs.Flat.{Flat_goal}
 use Rattle.mc_accepted.specs.ProperTypes.{EachProper}
 use Rattle.mc_accepted.specs.Typing.{TypedGoal}
-use Rattle.mc_modules.specs.Linked.{Linked}
+use Rattle.mc_names.specs.Linked.{Linked}
 use Rattle.mc_type_table.specs.Expanded.{expanded}
 use Rattle.mc_type_table.specs.Rules.{definitions, type_faults}
-use Rattle.mc_clauses.specs.Declarations.{declarations, parameter_counts}
+use Rattle.mc_declarations.specs.Declarations.{declarations, parameter_counts}
 use Rattle.mc_declarations.specs.Proper.{AreWellWritten, declared_for}
 
 -- a type without equivalences, whoever sees what types are defined as

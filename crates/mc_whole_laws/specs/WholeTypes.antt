@@ -11,12 +11,12 @@ use Rattle.mc_accepted.specs.ProperTypes.{EachProper}
 use Rattle.mc_accepted.specs.NormalTypes.{TypedClause}
 use Rattle.mc_accepted.specs.MostGeneral.{MostGeneral}
 use Rattle.mc_accepted.specs.Fits.{FitsTypes}
-use Rattle.mc_modules.specs.Linked.{Linked}
+use Rattle.mc_names.specs.Linked.{Linked}
 use Rattle.mc_type_table.specs.Rules.{type_faults}
-use Rattle.mc_clauses.specs.Declarations.{parameter_counts}
+use Rattle.mc_declarations.specs.Declarations.{parameter_counts}
 use Rattle.mc_declarations.specs.Proper.{AreWellWritten, declared_for}
 use Rattle.mc_typing_laws.specs.ProcedureTypes.{TypesFit}
-use Rattle.mc_whole.specs.Goals.{goal_at}
+use Rattle.mc_accepted.specs.NormalGoals.{goal_at}
 use Rattle.mc_whole_program.specs.Wholes.{query_predicate, IsWhole}
 use Rattle.mc_whole_program.specs.declared.program.WholeProgram.{WholeProgram}
 use Rattle.mc_whole_laws.specs.SeenTypes.{with_preds}

@@ -13,7 +13,8 @@ use Rattle.mc_model.specs.declared.flat.Normal.{Normal}
 use Rattle.mc_accepted.specs.Normal.{normal_goal}
 use Rattle.mc_goals.specs.Resolved.{clause_of, typed_clause}
 use Rattle.mc_whole.specs.Whole.{with_clauses, each_with_clauses}
-use Rattle.mc_whole.specs.Goals.{IsNormal, AreNormal, no_goal, goal_at, IsNormalGoal, HasNormalGoals}
+use Rattle.mc_whole.specs.Goals.{IsNormal, AreNormal}
+use Rattle.mc_accepted.specs.NormalGoals.{no_goal, goal_at, IsNormalGoal, HasNormalGoals}
 use Rattle.mc_whole_program.specs.Goals.{IsTypedGoal, HasTypedGoals}
 use Rattle.mc_whole_program.specs.code.Rows.{IsJoined}
 use Rattle.mc_whole_program.specs.declared.program.WholeProgram.{WholeProgram}

@@ -5,7 +5,7 @@ use mathlib.Core.Path.{fun_ext}
 use Rattle.mc_program.specs.Programs.{TypeTerm}
 use Rattle.mc_program.specs.declared.program.Resolved.{Resolved}
 use Rattle.mc_accepted.specs.NormalTypes.{TypedClause}
-use Rattle.mc_modules.specs.Linked.{Defined, Linked}
+use Rattle.mc_names.specs.Linked.{Defined, Linked}
 use Rattle.mc_goals.specs.Resolved.{typed_clause}
 use Rattle.mc_whole.specs.Whole.{of_number, whole_clause}
 use Rattle.mc_whole_program.specs.Wholes.{numbered_clause, final_definitions, clauses_of, clauses_from}

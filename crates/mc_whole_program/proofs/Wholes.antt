@@ -1,7 +1,6 @@
 -- The whole of what is joined.
-use Rattle.std.proofs.Common.{◌≡◌, ◌<◌, ◌+◌, ℕ, suc, List, [], ◌∷◌, ◌++◌, map, length, get_or, Bool, false, append-nil, refl, sym, ap, ap₂, ◌∙◌, subst, arith}
+use Rattle.std.proofs.Common.{◌≡◌, ◌<◌, ◌+◌, ℕ, suc, List, [], ◌∷◌, ◌++◌, map, length, get_or, Bool, false, append-nil, refl, sym, ap, ap₂, ◌∙◌, subst, arith, Option, Some, None, Result, Ok, Err}
 use Rattle.std.specs.Prelude.{IfOk}
-use Rattle.std.proofs.Common.{Option, Some, None, Result, Ok, Err}
 use Rattle.std.proofs.lemmas.List.{length-map, map-append}
 use Rattle.mc_program.specs.Programs.{TypeTerm, Expression, variable, ClauseForm, Constructor, Predicate, Source}
 use Rattle.mc_program.specs.PlainPrograms.{plain_symbol, plain_pred, plain_program, no_symbol, no_pred}
@@ -10,10 +9,10 @@ use Rattle.mc_program.specs.declared.program.Program.{Program}
 use Rattle.mc_program.specs.declared.program.Resolved.{Resolved}
 use Rattle.mc_program.specs.declared.program.TypeDef.{TypeDef}
 use Rattle.mc_accepted.specs.NormalTypes.{TypedClause}
-use Rattle.mc_modules.specs.Linked.{Defined, Linked}
+use Rattle.mc_names.specs.Linked.{Defined, Linked}
 use Rattle.mc_type_table.specs.Rules.{definitions}
 use Rattle.mc_type_table.specs.Table.{table}
-use Rattle.mc_clauses.specs.Declarations.{constructors_from, predicate_of}
+use Rattle.mc_declarations.specs.Declarations.{constructors_from, predicate_of}
 use Rattle.mc_declarations.specs.Made.{DeclaredAs}
 use Rattle.mc_goals.specs.Resolved.{clause_of, typed_clause}
 use Rattle.mc_whole.specs.Whole.{of_number, name_in, whole_types, whole_clause, whole_query, each_with_clauses}

@@ -4,7 +4,7 @@ use Rattle.mc_program.specs.Programs.{Predicate}
 use Rattle.mc_program.specs.PlainPrograms.{plain_type, no_pred}
 use Rattle.mc_model.specs.declared.flat.Normal.{Normal}
 use Rattle.mc_accepted.specs.NormalTypes.{TypedClause, normal_types, normal_names}
-use Rattle.mc_whole.specs.Goals.{goal_at}
+use Rattle.mc_accepted.specs.NormalGoals.{goal_at}
 
 -- the variables of a predicate's goal have the types and names of those of its clauses
 pub record IsTypedGoal (p : Predicate) (clauses : List TypedClause) (goal : Normal) : Type 0 where

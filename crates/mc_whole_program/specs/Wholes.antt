@@ -7,14 +7,14 @@ use Rattle.mc_program.specs.Programs.{TypeTerm, variable_type, Predicate, Source
 use Rattle.mc_program.specs.PlainPrograms.{plain_symbol, plain_pred, plain_program, no_pred}
 use Rattle.mc_program.specs.declared.program.Resolved.{Resolved}
 use Rattle.mc_accepted.specs.NormalTypes.{TypedClause, asked_of, free_variables}
-use Rattle.mc_modules.specs.Linked.{Defined, Linked}
+use Rattle.mc_names.specs.Linked.{Defined, Linked}
 use Rattle.mc_type_table.specs.Expanded.{after_rounds}
 use Rattle.mc_type_table.specs.Rules.{definitions}
 use Rattle.mc_type_table.specs.Table.{table}
-use Rattle.mc_clauses.specs.Declarations.{declarations, constructors_from, predicate_of}
+use Rattle.mc_declarations.specs.Declarations.{declarations, constructors_from, predicate_of}
 use Rattle.mc_goals.specs.Resolved.{typed_clause}
 use Rattle.mc_whole.specs.Whole.{of_number, name_in, whole_types, whole_clause, whole_query, each_with_clauses}
-use Rattle.mc_whole.specs.Goals.{HasNormalGoals}
+use Rattle.mc_accepted.specs.NormalGoals.{HasNormalGoals}
 use Rattle.mc_whole_program.specs.Goals.{HasTypedGoals}
 use Rattle.mc_whole_program.specs.declared.program.WholeProgram.{WholeProgram}
 

@@ -1,6 +1,6 @@
 ghost use Rattle.std.specs.Prelude.{◌≡◌, ◌++◌, ◌∷◌, [], false, length, map, IfOk};
 ghost use Rattle.std.specs.Option.{option_map};
-ghost use Rattle.mc_modules.specs.Linked.{plain_names};
+ghost use Rattle.mc_names.specs.Linked.{plain_names};
 ghost use Rattle.mc_goals.specs.Resolved.{typed_clause};
 ghost use Rattle.mc_whole_program.specs.Wholes.{numbered_clause, IsWhole};
 ghost use Rattle.mc_whole_program.specs.code.Rows.{IsJoined};
@@ -10,7 +10,7 @@ use crate::query::{Query, query_over};
 use mc_base::{Memory, Row, Text};
 use mc_declarations::declarations;
 use mc_model::flat::Normal;
-use mc_modules::Names;
+use mc_names::Names;
 use mc_program::program::{Program, Resolved};
 use mc_type_table::{Room, all_definitions};
 use mc_whole::{normal_goals, with_clauses};

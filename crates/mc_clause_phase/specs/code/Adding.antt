@@ -5,15 +5,15 @@ use Rattle.mc_program.specs.Programs.{TypeTerm, Source}
 use Rattle.mc_accepted.specs.ProperTypes.{Parameters}
 use Rattle.mc_unresolved.specs.Unresolved.{plain_unresolved_clause}
 use Rattle.mc_unresolved.specs.declared.clause.UnresolvedClause.{UnresolvedClause}
-use Rattle.mc_modules.specs.Linked.{Linked, plain_names}
+use Rattle.mc_names.specs.Linked.{Linked, plain_names}
 use Rattle.mc_source.specs.declared.place.Place.{Place}
 use Rattle.mc_source.specs.declared.name.Candidate.{Candidate}
 use Rattle.mc_source.specs.declared.name.Candidate.TheVariants as C
 use Rattle.mc_decl_syntax.specs.Plain.{PlainDecl}
 use Rattle.mc_defs_uses.specs.Clauses.{clause_of}
-use Rattle.mc_defs_uses.specs.declared.definition.Kind.{Kind}
-use Rattle.mc_defs_uses.specs.declared.definition.Kind.TheVariants as K
-use Rattle.mc_clauses.specs.Typing.{TypingSays, ModuleClause, clause_predicate, clause_item}
+use Rattle.mc_names.specs.declared.definition.Kind.{Kind}
+use Rattle.mc_names.specs.declared.definition.Kind.TheVariants as K
+use Rattle.mc_clause_phase.specs.Typing.{TypingSays, ModuleClause, clause_predicate, clause_item}
 use Rattle.mc_declarations.specs.Made.{DeclaredAs}
 use Rattle.mc_check_clause.specs.Tables.{IsTable}
 use Rattle.mc_type_table.specs.Sight.{definitions_seen}

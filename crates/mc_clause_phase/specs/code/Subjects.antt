@@ -1,8 +1,8 @@
 -- What is known of the name that the clause before is of.
 use Rattle.std.specs.Prelude.{◌≡◌, ℕ, Option, Some, None, ⊤}
-use Rattle.mc_defs_uses.specs.Plain.{PlainDefinition, id, definition}
-use Rattle.mc_modules.specs.Linked.{Linked}
-use Rattle.mc_clauses.specs.Typing.{clause_predicate}
+use Rattle.mc_names.specs.Plain.{PlainDefinition, id, definition}
+use Rattle.mc_names.specs.Linked.{Linked}
+use Rattle.mc_clause_phase.specs.Typing.{clause_predicate}
 use Rattle.mc_clause_phase.specs.declared.subject.Subject.{Subject}
 
 abbrev pub plain_subject : Subject → PlainDefinition

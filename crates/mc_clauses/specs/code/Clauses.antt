@@ -2,7 +2,7 @@
 use Rattle.mc_term_data.specs.Plain.{plain_term}
 use Rattle.mc_term_data.specs.declared.term.Term.{Term}
 use Rattle.mc_accepted.specs.Resolving.{Unresolved_terms}
-use Rattle.mc_modules.specs.Linked.{plain_names}
+use Rattle.mc_names.specs.Linked.{plain_names}
 use Rattle.mc_clauses.specs.Unresolved.{Walk, in_turn, terms_of, head_terms}
 use Rattle.mc_clauses.specs.declared.terms.Module.{Module}
 

@@ -9,7 +9,7 @@ use Rattle.mc_accepted.specs.Resolving.{Unresolved_goal, equation, atom, choice,
 use Rattle.mc_unresolved.specs.declared.goal.UnresolvedGoal.{UnresolvedGoal}
 use Rattle.mc_unresolved.specs.Unresolved.{plain_unresolved_goal, unresolved_goals}
 use Rattle.mc_decl_syntax.specs.Plain.{Path}
-use Rattle.mc_modules.specs.Linked.{plain_names}
+use Rattle.mc_names.specs.Linked.{plain_names}
 use Rattle.mc_clauses.specs.Variables.{Numbers, Met}
 use Rattle.mc_clauses.specs.Unresolved.{Walk, on_made, both, under, Goal, conjuncts, disjuncts, one_or_several, alone, in_turn, meanings, terms_of}
 use Rattle.mc_clauses.specs.declared.terms.Module.{Module}

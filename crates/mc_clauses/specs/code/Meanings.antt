@@ -2,7 +2,7 @@
 -- names by number.
 use Rattle.std.specs.Prelude.{◌≡◌, ℕ, Bool, true, List, [], ◌∷◌, ◌++◌, map, Option, Some, None, is_some, if◌then◌else◌}
 use Rattle.std.specs.Str.{bytes_eq}
-use Rattle.mc_linking.specs.Visibilities.{number_of}
+use Rattle.mc_names.specs.Numbers.{number_of}
 use Rattle.mc_clauses.specs.Variables.{Numbers, Met, Quantified}
 use Rattle.mc_clauses.specs.declared.variables.Variables.{Variables}
 use Rattle.mc_clauses.specs.declared.variables.Hidden.{Hidden}

@@ -8,7 +8,7 @@ use Rattle.mc_clause_syntax.specs.declared.goal_form.GoalForm.{GoalForm}
 use Rattle.mc_clause_syntax.specs.declared.goal_form.GoalForm.TheVariants as G
 use Rattle.mc_accepted.specs.Resolving.{atom, all_of, one_of, negation, no_goals}
 use Rattle.mc_decl_syntax.specs.Plain.{Path}
-use Rattle.mc_modules.specs.Linked.{Linked}
+use Rattle.mc_names.specs.Linked.{Linked}
 use Rattle.mc_clauses.specs.Unresolved.{Goal, made, on_made, plainly, true_goal, for_some, for_all, implied, conditional, conjuncts, either, equals, differs, of_one_part, of_two_parts, of_list_and_part, of_two_terms, in_turn, meanings, term_of, terms_of, goal_by, goal_of, goals_of}
 use Rattle.mc_clauses.specs.declared.view.GoalView.{GoalView}
 use Rattle.mc_clauses.specs.declared.view.GoalView.TheVariants as V

@@ -5,12 +5,11 @@ use Rattle.mc_term_data.specs.declared.term.Term.{Term}
 use Rattle.mc_accepted.specs.Resolving.{Unresolved as PlainUnresolved, any_name, Unresolved_terms, no_terms, term_then}
 use Rattle.mc_unresolved.specs.declared.term.Unresolved.{Unresolved}
 use Rattle.mc_unresolved.specs.Unresolved.{plain_unresolved}
-use Rattle.mc_modules.specs.Linked.{plain_names}
+use Rattle.mc_names.specs.Linked.{plain_names, Linked}
 use Rattle.mc_clauses.specs.Variables.{Numbers, Met}
 use Rattle.mc_source.specs.declared.name.Candidate.{Candidate}
 use Rattle.mc_decl_syntax.specs.Plain.{Path}
 use Rattle.mc_defs_uses.specs.Occurrences.{cell_path}
-use Rattle.mc_modules.specs.Linked.{Linked}
 use Rattle.mc_clauses.specs.Unresolved.{Walk, two_terms, meanings, term_of, terms_of, in_turn}
 use Rattle.mc_clauses.specs.declared.terms.Module.{Module}
 use Rattle.mc_clauses.specs.declared.variables.Variables.{Variables}

@@ -2,8 +2,8 @@
 use Rattle.std.specs.Prelude.{◌≡◌, ◌≢◌, ℕ, ◌+◌, List, [], ◌∷◌, ◌++◌, Option}
 use Rattle.mc_term_data.specs.declared.term.Term.{Term}
 use Rattle.mc_source.specs.declared.rule.Broken.{Broken}
-use Rattle.mc_items.specs.declared.entry.Entry.{Entry}
-use Rattle.mc_linking.specs.Files.{plain_files}
+use Rattle.mc_decl_syntax.specs.declared.entry.Entry.{Entry}
+use Rattle.mc_decl_syntax.specs.Entries.{plain_files}
 use Rattle.mc_compile.specs.declared.given.CompileFault.{CompileFault}
 use Rattle.mc_compile.specs.declared.given.CompileFault.TheVariants as C
 use Rattle.mc_compile.specs.declared.reader.Reader.{Reader}

@@ -4,9 +4,9 @@ use Rattle.mc_term_data.specs.Plain.{PlainTerm, tms}
 use Rattle.mc_program.specs.Programs.{TypeTerm, TypeTerms, type_then}
 use Rattle.mc_program.specs.PlainPrograms.{plain_type}
 use Rattle.mc_program.specs.declared.ty.Ty.{Ty}
-use Rattle.mc_modules.specs.Linked.{plain_names}
+use Rattle.mc_names.specs.Linked.{plain_names}
 use Rattle.mc_clauses.specs.Variables.{Met}
-use Rattle.mc_clauses.specs.Declarations.{declared_type, declared_types}
+use Rattle.mc_declarations.specs.Declarations.{declared_type, declared_types}
 use Rattle.mc_clauses.specs.code.Meanings.{Knows}
 use Rattle.mc_clauses.specs.declared.terms.Module.{Module}
 use Rattle.mc_clauses.specs.declared.variables.Variables.{Variables}

@@ -4,13 +4,14 @@ use Rattle.mc_term_data.specs.Plain.{PlainTerm, PlainTerms, no_term, more_terms}
 use Rattle.mc_program.specs.Programs.{TypeTerm, Constructor, Predicate}
 use Rattle.mc_program.specs.PlainPrograms.{plain_name}
 use Rattle.mc_decl_syntax.specs.Plain.{PlainDecl, UnionType}
-use Rattle.mc_defs_uses.specs.Definitions.{symbol_name}
-use Rattle.mc_modules.specs.Linked.{Defined, Linked}
-use Rattle.mc_type_table.specs.Written.{written_type, parameters_of, home}
+use Rattle.mc_names.specs.Definitions.{symbol_name}
+use Rattle.mc_names.specs.Linked.{Defined, Linked, home}
+use Rattle.mc_type_table.specs.Written.{written_type}
+use Rattle.mc_names.specs.Parameters.{parameters_of}
 use Rattle.mc_type_table.specs.Expanded.{replaced}
 use Rattle.mc_type_table.specs.Rules.{constructor_fields}
 use Rattle.mc_clauses.specs.Variables.{nothing_met}
-use Rattle.mc_clauses.specs.Declarations.{declared_types, listed_types, type_terms_of, is_function, builtins, builtin_among}
+use Rattle.mc_declarations.specs.Declarations.{declared_types, listed_types, type_terms_of, is_function, builtins, builtin_among}
 
 -- a program, and what its types are defined as
 module _ (l : Linked) (H : ℕ → Option TypeTerm) where

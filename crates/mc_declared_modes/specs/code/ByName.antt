@@ -4,10 +4,9 @@ use Rattle.std.specs.Borrow.{Bor}
 use Rattle.std.specs.Str.{bytes_eq}
 use Rattle.mc_source.specs.declared.place.Place.{Place}
 use Rattle.mc_decl_syntax.specs.Plain.{PlainDecl}
-use Rattle.mc_items.specs.declared.entry.Entry.{Entry}
-use Rattle.mc_items.specs.Files.{plain_entry}
-use Rattle.mc_linking.specs.Files.{File}
-use Rattle.mc_modules.specs.code.Index.{Index, listed}
+use Rattle.mc_decl_syntax.specs.declared.entry.Entry.{Entry}
+use Rattle.mc_decl_syntax.specs.Entries.{plain_entry, File}
+use Rattle.mc_names.specs.code.Index.{Index, listed}
 use Rattle.mc_declared_modes.specs.WrittenModes.{Callable, callable}
 use Rattle.mc_declared_modes.specs.declared.by_name.ItemsByName.{ItemsByName}
 

@@ -1,5 +1,5 @@
 -- Predicates and functions as plain data, without references.
-use Rattle.mc_defs_uses.specs.Plain.{plain_name_arity}
+use Rattle.mc_names.specs.Plain.{plain_name_arity}
 use Rattle.mc_declared_modes.specs.WrittenModes.{Callable}
 use Rattle.mc_declared_modes.specs.declared.callable.Callable.{Callable as Named}
 

@@ -4,9 +4,9 @@ use Rattle.std.specs.List.{list_any}
 use Rattle.std.specs.Set.{is_member}
 use Rattle.mc_term_data.specs.Plain.{PlainTerms, no_term, more_terms}
 use Rattle.mc_decl_syntax.specs.Plain.{Path}
-use Rattle.mc_defs_uses.specs.declared.definition.Kind.TheVariants as K
-use Rattle.mc_defs_uses.specs.Plain.{PlainNameArity, PlainDefinition, PlainOccurrence, is_kind, is_name_arity}
-use Rattle.mc_defs_uses.specs.Occurrences.{used, terms_in}
+use Rattle.mc_names.specs.declared.definition.Kind.TheVariants as K
+use Rattle.mc_names.specs.Plain.{PlainNameArity, PlainDefinition, PlainOccurrence, is_kind, is_name_arity, used}
+use Rattle.mc_defs_uses.specs.Occurrences.{terms_in}
 
 -- terms that a name stands before, each
 abbrev pub behind : Path → PlainTerms → List PlainOccurrence

@@ -2,9 +2,8 @@
 use Rattle.std.specs.Prelude.{◌≡◌, ◌⊎◌, ◌++◌, List, Option, Some, None}
 use Rattle.mc_source.specs.declared.rule.Broken.{Broken}
 use Rattle.mc_source.specs.Rules.{Fault}
-use Rattle.mc_defs_uses.specs.Plain.{PlainNameArity}
-use Rattle.mc_linking.specs.Faults.{shown}
-use Rattle.mc_modules.specs.Linked.{Linked}
+use Rattle.mc_names.specs.Plain.{PlainNameArity, shown}
+use Rattle.mc_names.specs.Linked.{Linked}
 use Rattle.mc_accepted.specs.InstRules.{not_well_founded}
 use Rattle.mc_inst_table.specs.declared.faults.Definitions.{Definitions}
 use Rattle.mc_inst_table.specs.Rules.{InstItem, AreInstFaults}

@@ -1,7 +1,7 @@
 -- The inst definitions of a program as they are kept.
 use Rattle.std.specs.Prelude.{◌≡◌, ℕ, length}
 use Rattle.mc_components.specs.Components.{steps, NumbersComponents}
-use Rattle.mc_modules.specs.Linked.{Linked}
+use Rattle.mc_names.specs.Linked.{Linked}
 use Rattle.mc_inst_table.specs.declared.rings.InstDefinitions.{InstDefinitions}
 use Rattle.mc_inst_table.specs.Rules.{inst_bodies}
 use Rattle.mc_inst_table.specs.code.Ends.{IsFull, head_at, AreHeads, AreSettled, AreNeeds, bodies_of}

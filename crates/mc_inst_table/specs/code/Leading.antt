@@ -1,7 +1,7 @@
 -- The mode definitions as they are kept, with the graph of what each leads to.
 use Rattle.std.specs.Prelude.{◌≡◌, ℕ, List, [], ◌∷◌, length, Option, Some, None}
 use Rattle.mc_components.specs.Components.{steps, NumbersComponents}
-use Rattle.mc_modules.specs.Linked.{Linked}
+use Rattle.mc_names.specs.Linked.{Linked}
 use Rattle.mc_inst_table.specs.declared.mode_rings.ModeRings.{ModeRings}
 use Rattle.mc_inst_table.specs.Rules.{mode_named}
 

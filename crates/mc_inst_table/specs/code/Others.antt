@@ -3,7 +3,7 @@
 use Rattle.std.specs.Prelude.{◌≡◌, ◌≢◌, ◌<◌, ◌↔◌, ℕ, Bool, true, false, List, [], ◌∷◌, map, length, Option, Some, None, slice_get, slice_index, slice_index_or}
 use Rattle.mc_model.specs.Lists.{is_in}
 use Rattle.mc_accepted.specs.InstRules.{ReachesOthers}
-use Rattle.mc_modules.specs.Linked.{Defined, Linked}
+use Rattle.mc_names.specs.Linked.{Defined, Linked}
 use Rattle.mc_inst_table.specs.declared.links.Link.{Link}
 use Rattle.mc_inst_table.specs.declared.others.Given.{Given}
 use Rattle.mc_inst_table.specs.Rules.{inst_bodies}

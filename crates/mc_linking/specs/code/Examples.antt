@@ -7,9 +7,9 @@ use Rattle.mc_source.specs.declared.rule.Broken.{Broken}
 use Rattle.mc_source.specs.declared.rule.Rule.{Rule}
 use Rattle.mc_source.specs.declared.rule.Rule.TheVariants as R
 use Rattle.mc_decl_syntax.specs.Plain.{PlainDecl, ModuleStart, ModuleEnd, Interface, Implementation, Imports, UseOnly, AbstractType, UnionType, SameType, Pred, Clause}
-use Rattle.mc_linking.specs.Files.{File}
-use Rattle.mc_defs_uses.specs.Plain.{id}
-use Rattle.mc_linking.specs.Faults.{shown, link_faults}
+use Rattle.mc_decl_syntax.specs.Entries.{File}
+use Rattle.mc_names.specs.Plain.{id, shown}
+use Rattle.mc_linking.specs.Faults.{link_faults}
 
 -- items on the lines of a file from one on
 abbrev pub on_lines : (file line : ℕ) → List PlainDecl → File

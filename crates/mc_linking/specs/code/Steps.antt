@@ -1,13 +1,14 @@
 -- The rules of an item, in groups.
 use Rattle.std.specs.Prelude.{ℕ, List, [], ◌∷◌, Option}
 use Rattle.std.specs.Option.{option_or}
-use Rattle.mc_defs_uses.specs.Plain.{PlainDefinition}
+use Rattle.mc_names.specs.Plain.{PlainDefinition}
 use Rattle.mc_defs_uses.specs.Occurrences.{uses}
 use Rattle.mc_defs_uses.specs.Clauses.{clause_of, mode_of, without_mode}
 use Rattle.mc_defs_uses.specs.Sets.{put_all}
-use Rattle.mc_defs_uses.specs.Definitions.{definitions}
+use Rattle.mc_names.specs.Definitions.{definitions}
 use Rattle.mc_source.specs.declared.rule.Broken.{Broken}
-use Rattle.mc_linking.specs.Files.{File, PlainItemInFile}
+use Rattle.mc_decl_syntax.specs.Entries.{File}
+use Rattle.mc_linking.specs.Files.{PlainItemInFile}
 use Rattle.mc_source.specs.Rules.{Fault, first_rules}
 use Rattle.mc_linking.specs.Faults.{double_fault, undefined_fault, undeclared, ambiguous, mode_fault, fault}
 

@@ -1,15 +1,16 @@
 -- What one pass over the items of a file keeps of them, and what is known of all files.
 use Rattle.std.specs.Prelude.{◌≡◌, ◌<◌, ◌^◌, ℕ, length, List, [], ◌∷◌, map, if◌then◌else◌}
-use Rattle.mc_items.specs.declared.entry.Entry.{Entry}
+use Rattle.mc_decl_syntax.specs.declared.entry.Entry.{Entry}
 use Rattle.mc_defs_uses.specs.Sets.{put_all}
-use Rattle.mc_defs_uses.specs.Definitions.{definitions}
+use Rattle.mc_names.specs.Definitions.{definitions}
 use Rattle.mc_defs_uses.specs.Clauses.{clause_of, mode_of}
 use Rattle.mc_linking.specs.declared.item_in_file.ItemInFile.{ItemInFile}
 use Rattle.mc_linking.specs.declared.table.Table.{Table}
 use Rattle.mc_linking.specs.declared.visibility.Visibility.{Visibility}
-use Rattle.mc_linking.specs.Files.{File, PlainItemInFile, items_in_file, is_shown, as_list, plain_files}
+use Rattle.mc_decl_syntax.specs.Entries.{File, plain_files}
+use Rattle.mc_linking.specs.Files.{PlainItemInFile, items_in_file, is_shown, as_list}
 use Rattle.mc_linking.specs.Visible.{module_of}
-use Rattle.mc_linking.specs.Visibilities.{number_of}
+use Rattle.mc_names.specs.Numbers.{number_of}
 use Rattle.mc_linking.specs.Kept.{plain_item_in_file, table}
 use Rattle.mc_linking.specs.code.Visibilities.{visibilities_from}
 

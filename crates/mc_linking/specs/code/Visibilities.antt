@@ -3,7 +3,8 @@
 use Rattle.std.specs.Prelude.{ℕ, ◌+◌, List, [], ◌∷◌, Option, Some, if◌then◌else◌}
 use Rattle.mc_decl_syntax.specs.Plain.{Path, PlainDecl, Imports, UseOnly}
 use Rattle.mc_linking.specs.declared.visibility.Visibility.{Visibility}
-use Rattle.mc_linking.specs.Files.{File, joined}
+use Rattle.mc_decl_syntax.specs.Entries.{File}
+use Rattle.mc_names.specs.Plain.{joined}
 use Rattle.mc_linking.specs.Visible.{has_name, with_module}
 use Rattle.mc_linking.specs.Visibilities.{visibility}
 

@@ -1,16 +1,18 @@
 -- What one pass over the items of a file finds, and what each file has.
-use Rattle.std.specs.Prelude.{◌≡◌, ℕ, ◌+◌, Bool, List, [], ◌∷◌, ◌++◌, length, map, if◌then◌else◌}
+use Rattle.std.specs.Prelude.{◌≡◌, ℕ, ◌+◌, List, [], ◌∷◌, ◌++◌, length, map, if◌then◌else◌}
 use Rattle.std.specs.Set.{is_member}
 use Rattle.mc_decl_syntax.specs.Plain.{PlainDecl, AbstractType, UnionType, SameType}
-use Rattle.mc_defs_uses.specs.declared.definition.Kind.TheVariants as K
-use Rattle.mc_defs_uses.specs.Plain.{definition, is_definition}
-use Rattle.mc_defs_uses.specs.Definitions.{head_name}
+use Rattle.mc_names.specs.declared.definition.Kind.TheVariants as K
+use Rattle.mc_names.specs.Plain.{definition, is_definition}
+use Rattle.mc_names.specs.Definitions.{head_name}
 use Rattle.mc_linking.specs.declared.table.Table.{Table}
 use Rattle.mc_linking.specs.declared.visibility.Visibility.{Visibility}
-use Rattle.mc_linking.specs.Files.{File, PlainItemInFile, has}
-use Rattle.mc_modules.specs.declared.names.Named.{Named}
-use Rattle.mc_modules.specs.declared.names.Scope.{Scope}
-use Rattle.mc_modules.specs.Linked.{Defined, defined, visible, each, types_of, symbols_of, preds_of, insts_of, modes_defined, plain_named}
+use Rattle.mc_decl_syntax.specs.Entries.{File}
+use Rattle.mc_linking.specs.Files.{PlainItemInFile, has}
+use Rattle.mc_names.specs.declared.names.Named.{Named}
+use Rattle.mc_names.specs.declared.names.Scope.{Scope}
+use Rattle.mc_names.specs.Linked.{Defined, plain_named}
+use Rattle.mc_modules.specs.Linked.{defined, visible, each, types_of, symbols_of, preds_of, insts_of, modes_defined}
 
 -- the types of an item of a file that has this table
 abbrev pub types_with : («module» : List ℕ) → Table → PlainItemInFile → PlainDecl → List Defined
@@ -31,10 +33,6 @@ types_pass m t (s ∷ ss) = types_with m t s s.item ++ types_pass m t ss
 abbrev pub starts_from : {A : Type 0} → ℕ → List (List A) → List ℕ
 starts_from n [] = []
 starts_from n (xs ∷ xss) = n ∷ starts_from (n + length xs) xss
-
--- one definition, or none
-abbrev pub kept : {A : Type 0} → Bool → A → List A
-kept holds x = if holds then x ∷ [] else []
 
 -- what a module of a name sees, where each file has these types, constructors, predicates with
 -- functions, insts and modes

@@ -1,7 +1,7 @@
 -- What is kept of the definitions of insts and modes.
 use Rattle.std.specs.Prelude.{◌≡◌, ℕ, List, map, Some}
 use Rattle.std.specs.Option.{option_map}
-use Rattle.mc_modules.specs.Linked.{Defined, Linked}
+use Rattle.mc_names.specs.Linked.{Defined, Linked}
 use Rattle.mc_accepted.specs.InstRules.{InstTerm}
 use Rattle.mc_inst_table.specs.Written.{ModeTerm}
 use Rattle.mc_inst_table.specs.Rules.{inst_body_of}

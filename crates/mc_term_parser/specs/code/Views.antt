@@ -6,7 +6,7 @@ use Rattle.mc_term_parser.specs.Infixes as J
 use Rattle.mc_term_parser.specs.Part as P
 use Rattle.mc_term_parser.specs.code.Machine as M
 use Rattle.mc_term_parser.specs.code.Seen.{Seen, SeenRow}
-use Rattle.mc_term_parser.specs.Table.{same_name}
+use Rattle.mc_operators.specs.Table.{same_name}
 use Rattle.mc_term_parser.specs.declared.lexeme.Lexeme.{Lexeme}
 use Rattle.mc_term_parser.specs.declared.lexeme.Lexeme.TheVariants as L
 use Rattle.mc_term_parser.specs.declared.infixes.Chain.{Chain}

@@ -1,7 +1,7 @@
 -- Definitions of types of which some are hidden.
 use Rattle.std.specs.Prelude.{ℕ, Bool, false, not, List, Option, get_or}
 use Rattle.mc_program.specs.Programs.{TypeTerm}
-use Rattle.mc_modules.specs.Linked.{Linked}
+use Rattle.mc_names.specs.Linked.{Linked}
 use Rattle.mc_type_table.specs.Expanded.{in_sight}
 use Rattle.mc_type_table.specs.Rules.{definitions}
 

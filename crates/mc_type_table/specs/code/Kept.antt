@@ -3,11 +3,12 @@ use Rattle.std.specs.Prelude.{◌≡◌, ◌≤◌, ℕ, Bool, true, ◌&&◌, L
 use Rattle.mc_program.specs.Programs.{TypeTerm}
 use Rattle.mc_components.specs.Components.{steps, NumbersComponents}
 use Rattle.mc_decl_syntax.specs.Plain.{PlainDecl, UnionType}
-use Rattle.mc_modules.specs.Linked.{Defined, Linked}
+use Rattle.mc_names.specs.Linked.{Defined, Linked, home}
 use Rattle.mc_type_table.specs.declared.bodies.Bodies.{Bodies}
 use Rattle.mc_type_table.specs.declared.definitions.Equivalences.{Equivalences}
 use Rattle.mc_type_table.specs.declared.expansion.Known.{Known}
-use Rattle.mc_type_table.specs.Written.{written_type, parameters_of, home}
+use Rattle.mc_type_table.specs.Written.{written_type}
+use Rattle.mc_names.specs.Parameters.{parameters_of}
 use Rattle.mc_type_table.specs.Expanded.{equivalent, replaced, after_rounds}
 use Rattle.mc_type_table.specs.Rules.{union_fields, types_in_body, types_in_all}
 use Rattle.mc_type_table.specs.code.Grown.{grown_in_all}

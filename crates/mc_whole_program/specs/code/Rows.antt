@@ -7,7 +7,7 @@ use Rattle.mc_program.specs.declared.program.Resolved.{Resolved}
 use Rattle.mc_accepted.specs.NormalTypes.{TypedClause}
 use Rattle.mc_goals.specs.Resolved.{typed_clause, clause_of}
 use Rattle.mc_whole.specs.Whole.{whole_clause, each_with_clauses}
-use Rattle.mc_whole.specs.Goals.{HasNormalGoals}
+use Rattle.mc_accepted.specs.NormalGoals.{HasNormalGoals}
 use Rattle.mc_whole_program.specs.Goals.{HasTypedGoals}
 use Rattle.mc_whole_program.specs.declared.program.WholeProgram.{WholeProgram}
 

@@ -1,7 +1,7 @@
 use Rattle.std.proofs.Common.{◌≡◌, ℕ, [], map, drop}
-use Rattle.mc_items.specs.Files.{plain_entry}
-use Rattle.mc_modules.specs.Linked.{Linked}
-use Rattle.mc_clauses.specs.Typing.{module_clauses}
+use Rattle.mc_decl_syntax.specs.Entries.{plain_entry}
+use Rattle.mc_names.specs.Linked.{Linked}
+use Rattle.mc_clause_phase.specs.Typing.{module_clauses}
 use Rattle.mc_clause_phase.specs.Items.{without_clauses}
 use Rattle.mc_clause_phase.proofs.alike.has_clauses.Given as goal
 

@@ -1,5 +1,5 @@
 use Rattle.std.proofs.Common.{arith}
-use Rattle.mc_modules.specs.Linked.{plain_names}
+use Rattle.mc_names.specs.Linked.{plain_names}
 use Rattle.mc_clause_phase.proofs.Sights.{alike_more, alike_all}
 use Rattle.mc_clause_phase.proofs.alike.see_alike.Goals as goal
 

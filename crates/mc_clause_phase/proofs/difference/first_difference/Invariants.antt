@@ -1,5 +1,5 @@
 use Rattle.std.proofs.Common.{◌≡◌, drop}
-use Rattle.mc_clauses.specs.Typing.{first_difference}
+use Rattle.mc_clause_phase.specs.Typing.{first_difference}
 use Rattle.mc_clause_phase.proofs.difference.first_difference.Given as goal
 
 abbrev pub invariant-loop-place : goal.invariant-loop-place

@@ -1,4 +1,4 @@
-use Rattle.mc_modules.specs.Linked.{plain_names}
+use Rattle.mc_names.specs.Linked.{plain_names}
 use Rattle.mc_clause_phase.proofs.Moved.{checks_moved, checks_at_hand}
 use Rattle.mc_clause_phase.proofs.phase.checker_for.Goals as goal
 

@@ -1,7 +1,7 @@
 use Rattle.std.proofs.Common.{◌∙◌, List, refl, ap}
 use Rattle.std.specs.Prelude.{Option}
 use Rattle.mc_program.specs.declared.ty.Ty.{Ty}
-use Rattle.mc_modules.specs.Linked.{plain_names}
+use Rattle.mc_names.specs.Linked.{plain_names}
 use Rattle.mc_type_table.specs.Held.{held}
 use Rattle.mc_type_table.specs.Sight.{definitions_seen}
 use Rattle.mc_clause_phase.proofs.phase.checker_of.Goals as goal

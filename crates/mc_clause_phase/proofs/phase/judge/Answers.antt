@@ -3,8 +3,8 @@ use Rattle.std.specs.Prelude.{Option}
 use Rattle.std.specs.Option.{option_map}
 use Rattle.std.proofs.lemmas.List.{append-nil}
 use Rattle.mc_term_data.specs.Plain.{PlainTerm, plain_term}
-use Rattle.mc_linking.specs.Files.{plain_files}
-use Rattle.mc_modules.specs.Linked.{plain_names}
+use Rattle.mc_decl_syntax.specs.Entries.{plain_files}
+use Rattle.mc_names.specs.Linked.{plain_names}
 use Rattle.mc_type_table.specs.Sight.{definitions_seen}
 use Rattle.mc_clause_phase.specs.Items.{Item, items, query_item}
 use Rattle.mc_clause_phase.specs.Judging.{IsJudged}

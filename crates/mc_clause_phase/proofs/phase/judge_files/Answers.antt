@@ -1,12 +1,11 @@
 use Rattle.std.proofs.Common.{◌≡◌, [], ◌∷◌, ◌++◌, ◌+◌, List, map, length, refl, sym, ap, subst, ◌∙◌, arith}
 use Rattle.std.proofs.lemmas.List.{nil_from_length}
 use Rattle.std.specs.Vec.Iter.{into_iter_items}
-use Rattle.mc_items.specs.declared.entry.Entry.{Entry}
-use Rattle.mc_items.specs.Files.{plain_entry}
-use Rattle.mc_linking.specs.Files.{plain_files}
-use Rattle.mc_modules.specs.Linked.{plain_names}
+use Rattle.mc_decl_syntax.specs.declared.entry.Entry.{Entry}
+use Rattle.mc_decl_syntax.specs.Entries.{plain_entry, plain_files}
+use Rattle.mc_names.specs.Linked.{plain_names}
 use Rattle.mc_type_table.specs.Sight.{definitions_seen}
-use Rattle.mc_clauses.specs.Typing.{module_clauses}
+use Rattle.mc_clause_phase.specs.Typing.{module_clauses}
 use Rattle.mc_clause_phase.specs.Items.{Item, clause_item, without_clauses}
 use Rattle.mc_clause_phase.specs.code.Adding.{Adds}
 use Rattle.mc_clause_phase.proofs.Adding.{adds_none, adds_both}

@@ -1,7 +1,7 @@
 use Rattle.std.proofs.Common.{◌≡◌, ◌++◌, List, map, length}
 use Rattle.std.specs.Vec.Iter.{into_iter_items, into_iter_len}
-use Rattle.mc_linking.specs.Files.{plain_files}
-use Rattle.mc_modules.specs.Linked.{plain_names}
+use Rattle.mc_decl_syntax.specs.Entries.{plain_files}
+use Rattle.mc_names.specs.Linked.{plain_names}
 use Rattle.mc_type_table.specs.Sight.{definitions_seen}
 use Rattle.mc_clause_phase.specs.Items.{Item, without_clauses}
 use Rattle.mc_clause_phase.specs.code.Adding.{Adds, IsAtHand}

@@ -1,9 +1,9 @@
 use Rattle.std.proofs.Common.{◌≡◌, ℕ, List, [], map, sym, ap, subst, ◌∙◌}
-use Rattle.mc_items.specs.declared.entry.Entry.{Entry}
-use Rattle.mc_items.specs.Files.{plain_entry}
-use Rattle.mc_modules.specs.Linked.{plain_names}
+use Rattle.mc_decl_syntax.specs.declared.entry.Entry.{Entry}
+use Rattle.mc_decl_syntax.specs.Entries.{plain_entry}
+use Rattle.mc_names.specs.Linked.{plain_names}
 use Rattle.mc_type_table.specs.Sight.{definitions_seen}
-use Rattle.mc_clauses.specs.Typing.{ModuleClause, module_clauses}
+use Rattle.mc_clause_phase.specs.Typing.{ModuleClause, module_clauses}
 use Rattle.mc_clause_phase.specs.Items.{clause_item, without_clauses}
 use Rattle.mc_clause_phase.specs.code.Adding.{Adds}
 use Rattle.mc_clause_phase.proofs.Adding.{adds_none}

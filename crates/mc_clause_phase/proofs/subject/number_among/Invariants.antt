@@ -1,5 +1,5 @@
 use Rattle.std.proofs.Common.{◌≡◌, drop}
-use Rattle.mc_clauses.specs.Typing.{number_among}
+use Rattle.mc_clause_phase.specs.Typing.{number_among}
 use Rattle.mc_clause_phase.proofs.subject.number_among.Given as goal
 
 abbrev pub invariant-loop-candidate : goal.invariant-loop-candidate

@@ -2,7 +2,7 @@ use Rattle.std.proofs.Common.{◌≡◌, ◌∙◌, ◌++◌, ◌∷◌, [], Som
 use Rattle.std.specs.Prelude.{codes, option_map}
 use Rattle.mc_term_data.specs.Plain.{plain_term}
 use Rattle.mc_term_data.specs.Shapes.{operands}
-use Rattle.mc_modules.specs.Linked.{plain_names}
+use Rattle.mc_names.specs.Linked.{plain_names}
 use Rattle.mc_clauses.specs.Unresolved.{in_turn, terms_of, head_by, arguments_of}
 use Rattle.mc_clauses.proofs.Heads.{walked-result}
 use Rattle.mc_clauses.proofs.clauses.head.Goals as goal

@@ -2,7 +2,7 @@ use Rattle.std.proofs.Common.{◌≡◌, ◌∙◌, [], map, Some, None, ap, sym
 use Rattle.std.specs.Prelude.{codes, option_map}
 use Rattle.mc_term_data.specs.Plain.{plain_term}
 use Rattle.mc_term_data.specs.Shapes.{operands}
-use Rattle.mc_modules.specs.Linked.{plain_names}
+use Rattle.mc_names.specs.Linked.{plain_names}
 use Rattle.mc_clauses.specs.Variables.{nothing_met}
 use Rattle.mc_clauses.specs.Unresolved.{clause_walk, goal_of, source_name}
 use Rattle.mc_clauses.specs.code.Clauses.{head_walk}

@@ -1,6 +1,6 @@
 use Rattle.std.proofs.Common.{◌∙◌, []}
 use Rattle.mc_term_data.specs.Plain.{plain_term}
-use Rattle.mc_modules.specs.Linked.{plain_names}
+use Rattle.mc_names.specs.Linked.{plain_names}
 use Rattle.mc_clauses.specs.Variables.{nothing_met}
 use Rattle.mc_clauses.specs.Unresolved.{goal_of}
 use Rattle.mc_clauses.proofs.Heads.{names-met}

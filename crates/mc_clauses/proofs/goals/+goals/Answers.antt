@@ -4,7 +4,7 @@ use Rattle.std.proofs.lemmas.List.{drop_more, drop_all}
 use Rattle.mc_term_data.specs.Plain.{plain_term}
 use Rattle.mc_term_data.specs.declared.term.Term.{Term, size-Term}
 use Rattle.mc_accepted.specs.Resolving.{Unresolved_goal, all_of, one_of, negation, exists, no_goals}
-use Rattle.mc_modules.specs.Linked.{plain_names}
+use Rattle.mc_names.specs.Linked.{plain_names}
 use Rattle.mc_unresolved.specs.declared.goal.UnresolvedGoal.{UnresolvedGoal, AllOf, OneOf}
 use Rattle.mc_unresolved.proofs.Views.{plain-AllOf}
 use Rattle.mc_unresolved.specs.Unresolved.{plain_unresolved_goal}

@@ -2,7 +2,7 @@ use Rattle.std.proofs.Common.{◌∙◌, map, ap, sym}
 use Rattle.mc_term_data.specs.Plain.{plain_term, tms}
 use Rattle.mc_term_data.specs.Names.{count}
 use Rattle.mc_accepted.specs.Resolving.{atom}
-use Rattle.mc_modules.specs.Linked.{plain_names}
+use Rattle.mc_names.specs.Linked.{plain_names}
 use Rattle.mc_unresolved.specs.declared.goal.UnresolvedGoal.{Atom}
 use Rattle.mc_unresolved.proofs.Views.{plain-Atom}
 use Rattle.mc_unresolved.specs.Unresolved.{plain_unresolved, plain_unresolved_goal, unresolved_terms}

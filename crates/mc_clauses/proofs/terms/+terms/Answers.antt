@@ -8,7 +8,7 @@ use Rattle.mc_unresolved.specs.declared.term.Unresolved.{Unresolved, Variable, N
 use Rattle.mc_unresolved.proofs.Views.{plain-Variable, plain-Name}
 use Rattle.mc_term_data.specs.declared.term.Term.{Term}
 use Rattle.mc_defs_uses.specs.Occurrences.{comma, semicolon, nil_path}
-use Rattle.mc_modules.specs.Linked.{plain_names}
+use Rattle.mc_names.specs.Linked.{plain_names}
 use Rattle.mc_clauses.specs.Unresolved.{term_of, terms_of, nil, meanings}
 use Rattle.mc_clauses.specs.code.Walking.{Taken, Comes, Walked, term_walk, terms_walk}
 use Rattle.mc_clauses.proofs.Taking.{taken-none, taken-more, taken-all, count-terms, walked-elements, walked-joined}

@@ -1,5 +1,5 @@
 use Rattle.std.proofs.Common.{◌≡◌, [], sym, ap, ◌∙◌}
-use Rattle.mc_linking.specs.Files.{plain_files}
+use Rattle.mc_decl_syntax.specs.Entries.{plain_files}
 use Rattle.mc_compile.specs.Reading.{plain_goal}
 use Rattle.mc_compile.specs.Linking.{rules_in}
 use Rattle.mc_compile.proofs.Lists.{none_counted}

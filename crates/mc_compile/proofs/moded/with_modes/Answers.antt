@@ -1,6 +1,6 @@
 use Rattle.std.proofs.Common.{ap, ◌∙◌}
-use Rattle.mc_linking.specs.Files.{plain_files}
-use Rattle.mc_modules.specs.Linked.{plain_names}
+use Rattle.mc_decl_syntax.specs.Entries.{plain_files}
+use Rattle.mc_names.specs.Linked.{plain_names}
 use Rattle.mc_clause_phase.specs.Judging.{typed_clauses}
 use Rattle.mc_declared_modes.specs.WrittenModes.{declared_modes}
 use Rattle.mc_compile.specs.declared.moded.Moded.{Moded}

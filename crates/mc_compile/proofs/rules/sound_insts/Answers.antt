@@ -1,7 +1,7 @@
 use Rattle.std.proofs.Common.{List, subst}
-use Rattle.mc_items.specs.declared.entry.Entry.{Entry}
-use Rattle.mc_linking.specs.Files.{plain_files}
-use Rattle.mc_modules.specs.Linked.{plain_names}
+use Rattle.mc_decl_syntax.specs.declared.entry.Entry.{Entry}
+use Rattle.mc_decl_syntax.specs.Entries.{plain_files}
+use Rattle.mc_names.specs.Linked.{plain_names}
 use Rattle.mc_inst_table.specs.Rules.{items_from, AreInstFaults}
 use Rattle.mc_compile.proofs.Insts.{insts_sound, insts_faulty}
 use Rattle.mc_compile.proofs.Lists.{none_counted, some_counted}

@@ -1,5 +1,5 @@
 use Rattle.std.proofs.Common.{refl, sym, ◌∙◌}
-use Rattle.mc_clauses.specs.Declarations.{builtins}
+use Rattle.mc_declarations.specs.Declarations.{builtins}
 use Rattle.mc_declarations.proofs.Libraries.{builtin_here, builtin_later}
 use Rattle.mc_declarations.proofs.builtins.builtin_of.Goals as goal
 

@@ -1,6 +1,6 @@
 use Rattle.std.proofs.Common.{◌≡◌, drop}
 use Rattle.mc_program.specs.PlainPrograms.{plain_name}
-use Rattle.mc_clauses.specs.Declarations.{builtins, builtin_among}
+use Rattle.mc_declarations.specs.Declarations.{builtins, builtin_among}
 use Rattle.mc_declarations.proofs.builtins.builtin_of.Given as goal
 
 abbrev pub invariant-loop-builtin : goal.invariant-loop-builtin

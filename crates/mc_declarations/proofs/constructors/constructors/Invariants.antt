@@ -1,6 +1,6 @@
 use Rattle.std.proofs.Common.{◌≡◌, ◌++◌, map, drop}
 use Rattle.mc_program.specs.PlainPrograms.{plain_symbol}
-use Rattle.mc_modules.specs.Linked.{plain_named, plain_names}
+use Rattle.mc_names.specs.Linked.{plain_named, plain_names}
 use Rattle.mc_type_table.specs.Held.{held}
 use Rattle.mc_declarations.specs.code.With.{all_with}
 use Rattle.mc_declarations.proofs.constructors.constructors.Given as goal

@@ -2,7 +2,7 @@ use Rattle.std.proofs.Common.{◌∙◌, List, map, Bor, ap, sym}
 use Rattle.std.proofs.lemmas.Simd.{map-map}
 use Rattle.mc_term_data.specs.Plain.{plain_term}
 use Rattle.mc_term_data.specs.declared.term.Term.{Term}
-use Rattle.mc_modules.specs.Linked.{plain_names}
+use Rattle.mc_names.specs.Linked.{plain_names}
 use Rattle.mc_type_table.specs.Held.{held}
 use Rattle.mc_declarations.specs.code.With.{field_with}
 use Rattle.mc_declarations.proofs.constructors.field_types.Goals as goal

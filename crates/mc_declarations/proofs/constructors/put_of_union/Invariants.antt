@@ -1,7 +1,7 @@
 use Rattle.std.proofs.Common.{◌≡◌, ◌++◌, map, drop}
 use Rattle.mc_term_data.specs.Plain.{plain_term, tms}
 use Rattle.mc_program.specs.PlainPrograms.{plain_symbol}
-use Rattle.mc_modules.specs.Linked.{plain_names}
+use Rattle.mc_names.specs.Linked.{plain_names}
 use Rattle.mc_type_table.specs.Held.{held}
 use Rattle.mc_declarations.specs.code.With.{constructors_of}
 use Rattle.mc_declarations.proofs.constructors.put_of_union.Given as goal

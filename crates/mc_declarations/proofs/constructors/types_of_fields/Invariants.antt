@@ -1,7 +1,7 @@
 use Rattle.std.proofs.Common.{◌≡◌, map, take}
 use Rattle.mc_term_data.specs.Plain.{plain_term}
 use Rattle.mc_program.specs.PlainPrograms.{plain_type}
-use Rattle.mc_modules.specs.Linked.{plain_names}
+use Rattle.mc_names.specs.Linked.{plain_names}
 use Rattle.mc_type_table.specs.Held.{held}
 use Rattle.mc_declarations.specs.code.With.{field_with}
 use Rattle.mc_declarations.proofs.constructors.types_of_fields.Given as goal

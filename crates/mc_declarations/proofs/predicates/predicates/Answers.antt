@@ -1,7 +1,7 @@
 use Rattle.std.proofs.Common.{◌∙◌, List, map, ap}
 use Rattle.std.proofs.lemmas.List.{take_all}
 use Rattle.mc_program.specs.declared.program.Pred.{Pred}
-use Rattle.mc_modules.specs.declared.names.Named.{Named}
+use Rattle.mc_names.specs.declared.names.Named.{Named}
 use Rattle.mc_declarations.proofs.predicates.predicates.Goals as goal
 
 pub returns-clause-names : goal.returns-clause-names

@@ -2,10 +2,10 @@ use Rattle.std.proofs.Common.{◌≡◌, map, take}
 use Rattle.mc_decl_syntax.specs.Plain.{plain_item}
 use Rattle.mc_program.specs.PlainPrograms.{plain_pred}
 use Rattle.mc_program.specs.declared.program.Pred.{Pred}
-use Rattle.mc_modules.specs.declared.names.Named.{Named}
-use Rattle.mc_modules.specs.Linked.{plain_named, plain_names}
+use Rattle.mc_names.specs.declared.names.Named.{Named}
+use Rattle.mc_names.specs.Linked.{plain_named, plain_names}
 use Rattle.mc_type_table.specs.Held.{held}
-use Rattle.mc_clauses.specs.Declarations.{is_function}
+use Rattle.mc_declarations.specs.Declarations.{is_function}
 use Rattle.mc_declarations.specs.code.With.{predicate_with}
 use Rattle.mc_declarations.proofs.predicates.predicates.Given as goal
 

@@ -1,7 +1,7 @@
 use Rattle.std.proofs.Common.{◌∙◌, List, Bor, map, ap}
 use Rattle.mc_term_data.specs.Plain.{plain_term, tms}
 use Rattle.mc_term_data.specs.declared.term.Term.{Term}
-use Rattle.mc_modules.specs.Linked.{plain_named}
+use Rattle.mc_names.specs.Linked.{plain_named}
 use Rattle.mc_type_table.specs.Held.{held}
 use Rattle.mc_clauses.specs.Variables.{nothing_met}
 use Rattle.mc_clauses.specs.declared.terms.Module.{Module}

@@ -1,5 +1,5 @@
 use Rattle.std.proofs.Common.{refl}
-use Rattle.mc_modules.specs.Linked.{plain_names}
+use Rattle.mc_names.specs.Linked.{plain_names}
 use Rattle.mc_type_table.specs.Held.{held}
 use Rattle.mc_declarations.proofs.Whole.{declared_as}
 use Rattle.mc_declarations.proofs.program.declarations.Goals as goal

@@ -2,7 +2,7 @@ use Rattle.std.proofs.Common.{◌∙◌, List, map, ap}
 use Rattle.std.proofs.lemmas.List.{take_all}
 use Rattle.mc_term_data.specs.Plain.{plain_term, tms}
 use Rattle.mc_term_data.specs.declared.term.Term.{Term}
-use Rattle.mc_clauses.specs.Declarations.{without_mode, without_modes}
+use Rattle.mc_declarations.specs.Declarations.{without_mode, without_modes}
 use Rattle.mc_declarations.proofs.Writing.{without_each}
 use Rattle.mc_declarations.proofs.terms.argument_types.Goals as goal
 

@@ -5,7 +5,7 @@ use Rattle.mc_term_data.specs.Plain.{PlainTerm, plain_term, tms}
 use Rattle.mc_term_data.specs.Shapes.{operands}
 use Rattle.mc_term_data.specs.declared.term.Term.{Term}
 use Rattle.mc_clauses.specs.Unresolved.{and_result}
-use Rattle.mc_clauses.specs.Declarations.{with_result}
+use Rattle.mc_declarations.specs.Declarations.{with_result}
 use Rattle.mc_declarations.proofs.Writing.{result_last}
 use Rattle.mc_declarations.proofs.terms.with_result.Goals as goal
 

@@ -1,8 +1,7 @@
 use Rattle.std.proofs.Common.{◌++◌, ◌∷◌, [], ap, sym, ◌∙◌, map, take, length, arith, List, length-append}
 use Rattle.std.proofs.lemmas.List.{length-map, length-take-le, take_more}
-use Rattle.mc_items.specs.declared.entry.Entry.{Entry}
-use Rattle.mc_items.specs.Files.{plain_entry}
-use Rattle.mc_linking.specs.Files.{plain_files}
+use Rattle.mc_decl_syntax.specs.declared.entry.Entry.{Entry}
+use Rattle.mc_decl_syntax.specs.Entries.{plain_entry, plain_files}
 use Rattle.mc_declared_modes.proofs.Behind.{map_more}
 use Rattle.mc_declared_modes.proofs.Named.{indices_more}
 use Rattle.mc_declared_modes.proofs.by_name.indices.Goals as goal

@@ -1,5 +1,5 @@
 use Rattle.std.proofs.Common.{◌≡◌, take, length}
-use Rattle.mc_linking.specs.Files.{plain_files}
+use Rattle.mc_decl_syntax.specs.Entries.{plain_files}
 use Rattle.mc_declared_modes.specs.code.ByName.{AreIndices}
 use Rattle.mc_declared_modes.proofs.by_name.indices.Given as goal
 

@@ -1,6 +1,6 @@
 use Rattle.std.proofs.Common.{◌≡◌, ◌++◌, ℕ, List, map, drop}
-use Rattle.mc_items.specs.Files.{plain_entry}
-use Rattle.mc_modules.specs.code.Index.{listed}
+use Rattle.mc_decl_syntax.specs.Entries.{plain_entry}
+use Rattle.mc_names.specs.code.Index.{listed}
 use Rattle.mc_declared_modes.specs.code.ByName.{items_kept, of_name}
 use Rattle.mc_declared_modes.proofs.by_name.items_by_name.Given as goal
 

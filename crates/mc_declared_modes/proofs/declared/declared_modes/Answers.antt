@@ -1,7 +1,7 @@
 use Rattle.std.proofs.Common.{◌+◌, List, map, take, subst, sym, ap, ◌∙◌}
-use Rattle.mc_linking.specs.Files.{plain_files}
-use Rattle.mc_modules.specs.declared.names.Named.{Named}
-use Rattle.mc_modules.specs.Linked.{plain_named, plain_names}
+use Rattle.mc_decl_syntax.specs.Entries.{plain_files}
+use Rattle.mc_names.specs.declared.names.Named.{Named}
+use Rattle.mc_names.specs.Linked.{plain_named, plain_names}
 use Rattle.mc_declared_modes.specs.WrittenModes.{PlainMode, plain_written, modes_of}
 use Rattle.mc_declared_modes.specs.code.ByName.{AreIndices}
 use Rattle.mc_declared_modes.proofs.Behind.{rows_more, rows_all}

@@ -1,6 +1,6 @@
 use Rattle.std.proofs.Common.{◌≡◌, map, take}
-use Rattle.mc_linking.specs.Files.{plain_files}
-use Rattle.mc_modules.specs.Linked.{plain_named, plain_names}
+use Rattle.mc_decl_syntax.specs.Entries.{plain_files}
+use Rattle.mc_names.specs.Linked.{plain_named, plain_names}
 use Rattle.mc_declared_modes.specs.WrittenModes.{plain_written, modes_of}
 use Rattle.mc_declared_modes.proofs.declared.declared_modes.Given as goal
 

@@ -1,5 +1,5 @@
 use Rattle.std.proofs.Common.{◌≡◌, ◌++◌, map, drop}
-use Rattle.mc_modules.specs.Linked.{plain_names}
+use Rattle.mc_names.specs.Linked.{plain_names}
 use Rattle.mc_declared_modes.specs.WrittenModes.{plain_written, modes_among}
 use Rattle.mc_declared_modes.specs.code.ByName.{entry_behind}
 use Rattle.mc_declared_modes.specs.code.Callables.{plain_callable}

@@ -1,7 +1,7 @@
 use Rattle.std.proofs.Common.{◌≡◌, [], IfOk, ap, subst, sym, ◌∙◌, map}
 use Rattle.std.specs.Option.{option_copied}
-use Rattle.mc_modules.specs.Linked.{plain_names}
-use Rattle.mc_modules.specs.code.Index.{listed}
+use Rattle.mc_names.specs.Linked.{plain_names}
+use Rattle.mc_names.specs.code.Index.{listed}
 use Rattle.mc_declared_modes.specs.WrittenModes.{plain_written, modes_among}
 use Rattle.mc_declared_modes.specs.code.ByName.{entry_behind, items_kept}
 use Rattle.mc_declared_modes.specs.code.Callables.{plain_callable}

@@ -1,6 +1,6 @@
 use Rattle.std.proofs.Common.{[], ap, ◌∙◌, map}
 use Rattle.std.specs.Prelude.{slice_index_or}
-use Rattle.mc_modules.specs.Linked.{plain_named, plain_names}
+use Rattle.mc_names.specs.Linked.{plain_named, plain_names}
 use Rattle.mc_declared_modes.specs.WrittenModes.{plain_written, callable_of, modes_among, or_default}
 use Rattle.mc_declared_modes.specs.code.Callables.{plain_callable}
 use Rattle.mc_declared_modes.proofs.Named.{among_named}

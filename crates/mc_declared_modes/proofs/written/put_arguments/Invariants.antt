@@ -1,6 +1,6 @@
 use Rattle.std.proofs.Common.{◌≡◌, ◌++◌, map, drop}
 use Rattle.mc_term_data.specs.Plain.{plain_term, tms}
-use Rattle.mc_modules.specs.Linked.{plain_names}
+use Rattle.mc_names.specs.Linked.{plain_names}
 use Rattle.mc_inst_table.specs.Plain.{plain_mode}
 use Rattle.mc_declared_modes.specs.WrittenModes.{modes_of_arguments}
 use Rattle.mc_declared_modes.proofs.written.put_arguments.Given as goal

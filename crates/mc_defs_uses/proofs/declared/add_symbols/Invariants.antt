@@ -1,7 +1,7 @@
 use Rattle.std.proofs.Common.{◌≡◌, ◌++◌, drop, map}
 use Rattle.mc_term_data.specs.Plain.{plain_term, tms}
-use Rattle.mc_defs_uses.specs.Plain.{plain_definition}
-use Rattle.mc_defs_uses.specs.Definitions.{symbols}
+use Rattle.mc_names.specs.Plain.{plain_definition}
+use Rattle.mc_names.specs.Definitions.{symbols}
 use Rattle.mc_defs_uses.proofs.declared.add_symbols.Given as goal
 
 abbrev pub invariant-loop-term : goal.invariant-loop-term

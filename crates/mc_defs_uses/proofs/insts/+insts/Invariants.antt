@@ -2,7 +2,7 @@ use Rattle.std.proofs.Common.{◌≡◌, ◌++◌, ◌+◌, ◌*◌, max, drop, 
 use denote.Param.Weighed.{most}
 use Rattle.mc_term_data.specs.Plain.{plain_term, tms}
 use Rattle.mc_term_data.specs.declared.term.Term.{size-Term}
-use Rattle.mc_defs_uses.specs.Plain.{plain_occurrence}
+use Rattle.mc_names.specs.Plain.{plain_occurrence}
 use Rattle.mc_defs_uses.specs.Occurrences.{all_insts, all_symbols}
 use Rattle.mc_defs_uses.proofs.insts.+insts.Given as goal
 

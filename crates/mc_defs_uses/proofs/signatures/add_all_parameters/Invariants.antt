@@ -1,6 +1,6 @@
 use Rattle.std.proofs.Common.{◌≡◌, ◌++◌, drop, map}
 use Rattle.mc_term_data.specs.Plain.{plain_term, tms}
-use Rattle.mc_defs_uses.specs.Plain.{plain_occurrence}
+use Rattle.mc_names.specs.Plain.{plain_occurrence}
 use Rattle.mc_defs_uses.specs.Occurrences.{all_parameters}
 use Rattle.mc_defs_uses.proofs.signatures.add_all_parameters.Given as goal
 

@@ -2,7 +2,7 @@ use Rattle.std.proofs.Common.{◌≡◌, ◌∷◌, ◌++◌, [], ◌+◌, ◌*�
 use denote.Param.Weighed.{most}
 use Rattle.mc_term_data.specs.Plain.{plain_term, tms}
 use Rattle.mc_term_data.specs.declared.term.Term.{size-Term}
-use Rattle.mc_defs_uses.specs.Plain.{plain_occurrence}
+use Rattle.mc_names.specs.Plain.{plain_occurrence}
 use Rattle.mc_defs_uses.specs.Occurrences.{all_terms}
 use Rattle.mc_defs_uses.specs.code.Steps.{behind}
 use Rattle.mc_defs_uses.proofs.terms.+terms.Given as goal

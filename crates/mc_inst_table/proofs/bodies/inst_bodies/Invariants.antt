@@ -1,5 +1,5 @@
 use Rattle.std.proofs.Common.{◌≡◌, map, take, Some}
-use Rattle.mc_modules.specs.Linked.{plain_named, plain_names}
+use Rattle.mc_names.specs.Linked.{plain_named, plain_names}
 use Rattle.mc_inst_table.specs.Plain.{plain_inst}
 use Rattle.mc_inst_table.specs.Rules.{inst_body_of}
 use Rattle.mc_inst_table.proofs.bodies.inst_bodies.Given as goal

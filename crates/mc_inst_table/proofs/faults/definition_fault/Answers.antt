@@ -1,7 +1,7 @@
 use Rattle.std.proofs.Common.{IfOk, sym, subst}
 use Rattle.mc_decl_syntax.specs.declared.item.Decl.{Decl}
 use Rattle.mc_decl_syntax.specs.Plain.{plain_item}
-use Rattle.mc_modules.specs.Linked.{plain_names}
+use Rattle.mc_names.specs.Linked.{plain_names}
 use Rattle.mc_inst_table.specs.Rules.{item_name, IsUnfounded}
 use Rattle.mc_inst_table.specs.code.Faults.{FoundedSays}
 use Rattle.mc_inst_table.proofs.faults.definition_fault.Goals as goal

@@ -1,7 +1,7 @@
 use Rattle.std.proofs.Common.{◌≡◌, List, ℕ, true, false, Some, sym, ap, ◌∙◌}
 use Rattle.mc_source.specs.declared.rule.Rule.TheVariants as R
 use Rattle.mc_decl_syntax.specs.Plain.{plain_item}
-use Rattle.mc_modules.specs.Linked.{plain_names}
+use Rattle.mc_names.specs.Linked.{plain_names}
 use Rattle.mc_inst_table.proofs.Faulting.{says_free, says_founded, free_by}
 use Rattle.mc_inst_table.proofs.faults.fault.Goals as goal
 

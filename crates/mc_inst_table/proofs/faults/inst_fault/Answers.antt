@@ -1,6 +1,6 @@
 use Rattle.std.proofs.Common.{subst}
-use Rattle.mc_defs_uses.specs.Plain.{PlainNameArity, plain_name_arity}
-use Rattle.mc_modules.specs.Linked.{plain_names}
+use Rattle.mc_names.specs.Plain.{PlainNameArity, plain_name_arity}
+use Rattle.mc_names.specs.Linked.{plain_names}
 use Rattle.mc_accepted.specs.InstRules.{NotWellFounded}
 use Rattle.mc_inst_table.specs.Rules.{inst_bodies, own_number}
 use Rattle.mc_inst_table.specs.code.Faults.{FoundedSays}

@@ -1,7 +1,7 @@
 use Rattle.std.proofs.Common.{◌≡◌, [], ◌+◌, ℕ, List, map, refl, sym, ap, subst, arith}
 use Rattle.mc_source.specs.declared.rule.Broken.{Broken}
-use Rattle.mc_items.specs.Files.{plain_entry}
-use Rattle.mc_modules.specs.Linked.{plain_names}
+use Rattle.mc_decl_syntax.specs.Entries.{plain_entry}
+use Rattle.mc_names.specs.Linked.{plain_names}
 use Rattle.mc_inst_table.specs.Rules.{module_items}
 use Rattle.mc_inst_table.specs.code.Faults.{AddsFaults}
 use Rattle.mc_inst_table.proofs.Faulting.{adds_none, file_more, adds_all}

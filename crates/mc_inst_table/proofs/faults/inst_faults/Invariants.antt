@@ -1,6 +1,6 @@
 use Rattle.std.proofs.Common.{◌≡◌, [], take}
-use Rattle.mc_linking.specs.Files.{plain_files}
-use Rattle.mc_modules.specs.Linked.{plain_names}
+use Rattle.mc_decl_syntax.specs.Entries.{plain_files}
+use Rattle.mc_names.specs.Linked.{plain_names}
 use Rattle.mc_inst_table.specs.Rules.{items_from}
 use Rattle.mc_inst_table.specs.code.Faults.{AddsFaults}
 use Rattle.mc_inst_table.proofs.faults.inst_faults.Given as goal

@@ -1,7 +1,7 @@
 use Rattle.std.proofs.Common.{◌≡◌, ◌↔◌, ℕ, true, false, inl, refl, sym, subst}
-use Rattle.mc_defs_uses.specs.Plain.{plain_name_arity}
+use Rattle.mc_names.specs.Plain.{plain_name_arity}
 use Rattle.mc_accepted.specs.InstRules.{ComesBack, ReachesOthers}
-use Rattle.mc_modules.specs.Linked.{plain_names}
+use Rattle.mc_names.specs.Linked.{plain_names}
 use Rattle.mc_inst_table.specs.Rules.{inst_bodies, own_number}
 use Rattle.mc_inst_table.specs.code.Others.{inst_arity}
 use Rattle.mc_inst_table.proofs.Faulting.{founded_either}

@@ -1,5 +1,5 @@
-use Rattle.mc_items.specs.Files.{plain_entry}
-use Rattle.mc_modules.specs.Linked.{plain_names}
+use Rattle.mc_decl_syntax.specs.Entries.{plain_entry}
+use Rattle.mc_names.specs.Linked.{plain_names}
 use Rattle.mc_inst_table.proofs.Faulting.{adds_one}
 use Rattle.mc_inst_table.proofs.faults.put_fault.Goals as goal
 

@@ -1,4 +1,4 @@
-use Rattle.mc_modules.specs.Linked.{plain_names}
+use Rattle.mc_names.specs.Linked.{plain_names}
 use Rattle.mc_inst_table.proofs.Faulting.{adds_none, entry_more}
 use Rattle.mc_inst_table.proofs.faults.put_faults.Goals as goal
 

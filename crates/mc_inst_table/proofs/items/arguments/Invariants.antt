@@ -1,6 +1,6 @@
 use Rattle.std.proofs.Common.{◌≡◌, take, map}
 use Rattle.mc_term_data.specs.Plain.{plain_term, tms}
-use Rattle.mc_modules.specs.Linked.{plain_names}
+use Rattle.mc_names.specs.Linked.{plain_names}
 use Rattle.mc_inst_table.specs.Plain.{plain_insts}
 use Rattle.mc_inst_table.specs.Rules.{insts_of_arguments}
 use Rattle.mc_inst_table.proofs.items.arguments.Given as goal

@@ -1,9 +1,9 @@
 use Rattle.std.proofs.Common.{◌≡◌, drop, map, length}
 use Rattle.std.specs.Prelude.{slice_get}
-use Rattle.mc_defs_uses.specs.Plain.{plain_name_arity}
-use Rattle.mc_modules.specs.Linked.{plain_named, plain_names}
-use Rattle.mc_modules.specs.Numbers.{numbers_where}
-use Rattle.mc_modules.specs.Candidates.{type_fits}
+use Rattle.mc_names.specs.Plain.{plain_name_arity}
+use Rattle.mc_names.specs.Linked.{plain_named, plain_names}
+use Rattle.mc_names.specs.Numbers.{numbers_where}
+use Rattle.mc_names.specs.Candidates.{type_fits}
 use Rattle.mc_inst_table.proofs.meaning.first_in.Given as goal
 
 abbrev pub invariant-loop-named : goal.invariant-loop-named

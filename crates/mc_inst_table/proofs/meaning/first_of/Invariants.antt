@@ -1,6 +1,6 @@
 use Rattle.std.proofs.Common.{◌≡◌, drop, map, length}
-use Rattle.mc_defs_uses.specs.Plain.{plain_name_arity}
-use Rattle.mc_modules.specs.Linked.{plain_named, plain_names}
+use Rattle.mc_names.specs.Plain.{plain_name_arity}
+use Rattle.mc_names.specs.Linked.{plain_named, plain_names}
 use Rattle.mc_inst_table.specs.Written.{numbers_among, first_or}
 use Rattle.mc_inst_table.proofs.meaning.first_of.Given as goal
 

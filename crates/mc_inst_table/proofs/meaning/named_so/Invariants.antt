@@ -1,6 +1,6 @@
 use Rattle.std.proofs.Common.{◌≡◌, ◌++◌, drop}
-use Rattle.mc_modules.specs.Linked.{plain_names}
-use Rattle.mc_modules.specs.Candidates.{named_so}
+use Rattle.mc_names.specs.Linked.{plain_names}
+use Rattle.mc_names.specs.Candidates.{named_so}
 use Rattle.mc_inst_table.proofs.meaning.named_so.Given as goal
 
 abbrev pub invariant-loop-module : goal.invariant-loop-module

@@ -1,5 +1,5 @@
 use Rattle.std.proofs.Common.{◌≡◌, map, take, Some}
-use Rattle.mc_modules.specs.Linked.{plain_named, plain_names}
+use Rattle.mc_names.specs.Linked.{plain_named, plain_names}
 use Rattle.mc_inst_table.specs.Rules.{mode_named_of}
 use Rattle.mc_inst_table.specs.code.Leading.{one_or_none}
 use Rattle.mc_inst_table.proofs.mode_rings.graph.Given as goal

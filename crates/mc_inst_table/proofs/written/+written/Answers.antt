@@ -1,7 +1,7 @@
 use Rattle.std.proofs.Common.{◌≡◌, ◌≢◌, map, length, codes, ap, ◌∙◌, arith}
 use Rattle.mc_term_data.specs.Plain.{plain_term, tms, more_terms, no_term}
 use Rattle.mc_term_data.specs.Shapes.{is_the_word}
-use Rattle.mc_modules.specs.Linked.{plain_names}
+use Rattle.mc_names.specs.Linked.{plain_names}
 use Rattle.mc_inst_table.specs.Plain.{plain_inst, plain_insts}
 use Rattle.mc_inst_table.specs.Written.{named_inst, inst_over, written_insts}
 use Rattle.mc_inst_table.proofs.Writing.{over_single, over_several}

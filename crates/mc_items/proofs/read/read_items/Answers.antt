@@ -1,7 +1,8 @@
 use Rattle.std.proofs.Common.{map, subst, arith, ◌∙◌}
 use Rattle.std.specs.Prelude.{IfSome}
 use Rattle.std.proofs.lemmas.Grind.{common_steps}
-use Rattle.mc_items.specs.Files.{plain_entry, IsItem}
+use Rattle.mc_decl_syntax.specs.Entries.{plain_entry}
+use Rattle.mc_items.specs.Files.{IsItem}
 use Rattle.mc_items.specs.code.VerdictViews.{plain_verdict}
 use Rattle.mc_items.proofs.Done.{answered, refusal, one_more_at}
 use Rattle.mc_items.proofs.read.read_items.Goals as goal

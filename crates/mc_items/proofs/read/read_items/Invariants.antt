@@ -1,6 +1,6 @@
 use Rattle.std.proofs.Common.{◌≡◌, ◌-◌, ◌≤◌, length, map}
 use Rattle.mc_terms.specs.Lines.{line_at}
-use Rattle.mc_items.specs.Files.{plain_entry}
+use Rattle.mc_decl_syntax.specs.Entries.{plain_entry}
 use Rattle.mc_items.proofs.Done.{Done}
 use Rattle.mc_items.proofs.read.read_items.Given as goal
 

@@ -1,5 +1,5 @@
 use Rattle.std.proofs.Common.{◌≡◌, ◌++◌, map, drop}
-use Rattle.mc_linking.specs.Files.{plain_files}
+use Rattle.mc_decl_syntax.specs.Entries.{plain_files}
 use Rattle.mc_linking.specs.Kept.{plain_item_in_file}
 use Rattle.mc_linking.specs.code.Tables.{all_items}
 use Rattle.mc_linking.proofs.items.all_items.Given as goal

@@ -1,5 +1,5 @@
 use Rattle.std.proofs.Common.{◌≡◌, ◌++◌, map, drop, nat_eq}
-use Rattle.mc_items.specs.Files.{plain_entry}
+use Rattle.mc_decl_syntax.specs.Entries.{plain_entry}
 use Rattle.mc_linking.specs.Files.{items_in_file, items_in_file_from}
 use Rattle.mc_linking.specs.Kept.{plain_item_in_file}
 use Rattle.mc_linking.proofs.items.items_in_file.Given as goal

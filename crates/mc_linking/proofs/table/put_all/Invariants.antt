@@ -1,5 +1,5 @@
 use Rattle.std.proofs.Common.{◌≡◌, map, drop}
-use Rattle.mc_defs_uses.specs.Plain.{plain_definition}
+use Rattle.mc_names.specs.Plain.{plain_definition}
 use Rattle.mc_defs_uses.specs.Sets.{put_all}
 use Rattle.mc_linking.proofs.table.put_all.Given as goal
 

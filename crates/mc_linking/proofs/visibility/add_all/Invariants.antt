@@ -1,5 +1,5 @@
 use Rattle.std.proofs.Common.{◌≡◌, drop}
-use Rattle.mc_linking.specs.Visibilities.{number_of}
+use Rattle.mc_names.specs.Numbers.{number_of}
 use Rattle.mc_linking.specs.code.Visibilities.{with_named}
 use Rattle.mc_linking.proofs.visibility.add_all.Given as goal
 

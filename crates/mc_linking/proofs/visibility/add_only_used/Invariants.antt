@@ -1,6 +1,6 @@
 use Rattle.std.proofs.Common.{◌≡◌, drop, map}
-use Rattle.mc_items.specs.Files.{plain_entry}
-use Rattle.mc_linking.specs.Visibilities.{number_of}
+use Rattle.mc_decl_syntax.specs.Entries.{plain_entry}
+use Rattle.mc_names.specs.Numbers.{number_of}
 use Rattle.mc_linking.specs.code.Visibilities.{with_named_in, only_uses}
 use Rattle.mc_linking.proofs.visibility.add_only_used.Given as goal
 

@@ -1,5 +1,5 @@
 use Rattle.std.proofs.Common.{[], arith}
-use Rattle.mc_linking.specs.Files.{plain_files}
+use Rattle.mc_decl_syntax.specs.Entries.{plain_files}
 use Rattle.mc_linking.proofs.ModulesSeen.{visibilities-more}
 use Rattle.mc_linking.proofs.visibility.visibilities.Goals as goal
 

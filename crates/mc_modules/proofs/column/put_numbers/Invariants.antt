@@ -1,5 +1,6 @@
 use Rattle.std.proofs.Common.{◌≡◌, ◌++◌, drop, map}
-use Rattle.mc_modules.specs.Linked.{numbers, plain_named}
+use Rattle.mc_modules.specs.Linked.{numbers}
+use Rattle.mc_names.specs.Linked.{plain_named}
 use Rattle.mc_modules.proofs.column.put_numbers.Given as goal
 
 abbrev pub invariant-loop-named : goal.invariant-loop-named

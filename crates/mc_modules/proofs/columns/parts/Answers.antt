@@ -1,5 +1,5 @@
 use Rattle.std.proofs.Common.{◌+◌, drop, arith}
-use Rattle.mc_linking.specs.Files.{plain_files}
+use Rattle.mc_decl_syntax.specs.Entries.{plain_files}
 use Rattle.mc_modules.specs.Linked.{each, types_of, symbols_of, preds_of, insts_of, modes_defined}
 use Rattle.mc_modules.proofs.Puts.{moved}
 use Rattle.mc_modules.proofs.Places.{each_more}

@@ -1,6 +1,7 @@
 use Rattle.std.proofs.Common.{◌≡◌, ◌++◌, drop, map}
-use Rattle.mc_linking.specs.Files.{plain_files}
-use Rattle.mc_modules.specs.Linked.{each, types_of, symbols_of, preds_of, insts_of, modes_defined, plain_named}
+use Rattle.mc_decl_syntax.specs.Entries.{plain_files}
+use Rattle.mc_modules.specs.Linked.{each, types_of, symbols_of, preds_of, insts_of, modes_defined}
+use Rattle.mc_names.specs.Linked.{plain_named}
 use Rattle.mc_modules.proofs.columns.parts.Given as goal
 
 abbrev pub invariant-loop-own : goal.invariant-loop-own

@@ -1,7 +1,8 @@
 use Rattle.std.proofs.Common.{◌≡◌, ◌++◌, drop, map}
 use Rattle.mc_term_data.specs.Plain.{plain_term, tms}
 use Rattle.mc_linking.specs.Kept.{plain_item_in_file}
-use Rattle.mc_modules.specs.Linked.{constructors, plain_named}
+use Rattle.mc_modules.specs.Linked.{constructors}
+use Rattle.mc_names.specs.Linked.{plain_named}
 use Rattle.mc_modules.proofs.named.put_constructors.Given as goal
 
 abbrev pub invariant-loop-term : goal.invariant-loop-term

@@ -1,5 +1,5 @@
 use Rattle.std.proofs.Common.{◌≡◌, ◌++◌, drop}
-use Rattle.mc_linking.specs.Files.{plain_files}
+use Rattle.mc_decl_syntax.specs.Entries.{plain_files}
 use Rattle.mc_modules.specs.Linked.{scopes_from}
 use Rattle.mc_modules.proofs.scopes.scopes.Given as goal
 

@@ -4,7 +4,7 @@ use Rattle.mc_procs.specs.Procedures.{PlainProcs}
 use Rattle.mc_modes.specs.Signatures.{SigsFit}
 use Rattle.mc_orders.specs.Numbering.{mode_ids}
 use Rattle.mc_orders.specs.declared.modes.ModeId.{ModeId}
-use Rattle.mc_whole.specs.Goals.{HasNormalGoals}
+use Rattle.mc_accepted.specs.NormalGoals.{HasNormalGoals}
 use Rattle.mc_rules.proofs.Coming.{begins, begins_itself, comes}
 use Rattle.mc_rules.proofs.rules.of_tidy.Goals as goal
 

@@ -10,7 +10,7 @@ use Rattle.mc_orders.specs.Numbering.{IsMode, mode_ids}
 use Rattle.mc_orders.specs.Outcomes.{AreBroken}
 use Rattle.mc_orders.specs.declared.modes.ModeId.{ModeId}
 use Rattle.mc_orders.proofs.Ids.{are_modes}
-use Rattle.mc_whole.specs.Goals.{HasNormalGoals}
+use Rattle.mc_accepted.specs.NormalGoals.{HasNormalGoals}
 use Rattle.mc_rules.specs.Untidy.{AreUntidy, AreAsked}
 use Rattle.mc_rules.specs.Rules.{break_uniqueness}
 use Rattle.mc_rules.proofs.Asking.{asked_among}

@@ -1,6 +1,6 @@
 use Rattle.std.proofs.Common.{◌≡◌, map, take, Some}
 use Rattle.std.specs.Option.{option_map}
-use Rattle.mc_modules.specs.Linked.{plain_named, plain_names}
+use Rattle.mc_names.specs.Linked.{plain_named, plain_names}
 use Rattle.mc_inst_table.specs.Plain.{plain_mode}
 use Rattle.mc_signatures.specs.MeantModes.{mode_body_of}
 use Rattle.mc_signatures.proofs.meant.mode_bodies.Given as goal

@@ -1,4 +1,4 @@
-use Rattle.mc_modules.specs.Linked.{plain_names}
+use Rattle.mc_names.specs.Linked.{plain_names}
 use Rattle.mc_inst_table.specs.Rules.{inst_bodies}
 use Rattle.mc_insts.specs.Defining.{plain_definitions}
 use Rattle.mc_declared_modes.specs.WrittenModes.{plain_written}

@@ -1,6 +1,6 @@
 use Rattle.std.proofs.Common.{◌≡◌, ◌++◌, map, drop}
 use Rattle.mc_term_data.specs.Plain.{plain_term}
-use Rattle.mc_modules.specs.Linked.{plain_names}
+use Rattle.mc_names.specs.Linked.{plain_names}
 use Rattle.mc_type_table.specs.Written.{written_type}
 use Rattle.mc_type_table.specs.Expanded.{replaced}
 use Rattle.mc_type_table.specs.Rules.{types_in_all}

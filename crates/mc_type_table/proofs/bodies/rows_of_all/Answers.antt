@@ -1,6 +1,6 @@
 use Rattle.std.proofs.Common.{Some}
-use Rattle.mc_modules.specs.declared.names.Named.{Named}
-use Rattle.mc_modules.specs.Linked.{plain_named, plain_names}
+use Rattle.mc_names.specs.declared.names.Named.{Named}
+use Rattle.mc_names.specs.Linked.{plain_named, plain_names}
 use Rattle.mc_type_table.specs.Rules.{types_in_all}
 use Rattle.mc_type_table.specs.Held.{held}
 use Rattle.mc_type_table.specs.code.Grown.{grown_in_all}

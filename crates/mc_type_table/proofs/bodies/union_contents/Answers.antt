@@ -2,8 +2,8 @@ use Rattle.std.proofs.Common.{◌≡◌, map, ap, ◌∙◌}
 use Rattle.std.proofs.lemmas.Result.{IfOk-weaker}
 use Rattle.mc_term_data.specs.Plain.{plain_term, tms}
 use Rattle.mc_decl_syntax.specs.Plain.{plain_item}
-use Rattle.mc_modules.specs.Linked.{plain_named, plain_names}
-use Rattle.mc_type_table.specs.Written.{home, written_type}
+use Rattle.mc_names.specs.Linked.{plain_named, plain_names, home}
+use Rattle.mc_type_table.specs.Written.{written_type}
 use Rattle.mc_type_table.specs.Expanded.{replaced}
 use Rattle.mc_type_table.specs.Rules.{types_in_all, union_fields}
 use Rattle.mc_type_table.specs.Held.{held}

@@ -1,7 +1,7 @@
 use Rattle.std.proofs.Common.{◌≡◌, map, take, Some}
 use Rattle.std.specs.Option.{option_map}
 use Rattle.mc_program.specs.PlainPrograms.{plain_type}
-use Rattle.mc_modules.specs.Linked.{plain_named, plain_names}
+use Rattle.mc_names.specs.Linked.{plain_named, plain_names}
 use Rattle.mc_type_table.specs.Expanded.{equivalent_of}
 use Rattle.mc_type_table.proofs.definitions.bodies.Given as goal
 

@@ -1,6 +1,6 @@
 use Rattle.std.proofs.Common.{List, length, get_or, ap, ◌∙◌, arith}
-use Rattle.mc_modules.specs.declared.names.Named.{Named}
-use Rattle.mc_modules.specs.Linked.{plain_names}
+use Rattle.mc_names.specs.declared.names.Named.{Named}
+use Rattle.mc_names.specs.Linked.{plain_names}
 use Rattle.mc_type_table.proofs.Judging.{faults_more}
 use Rattle.mc_type_table.proofs.faults.faults_by.Goals as goal
 

@@ -1,5 +1,5 @@
 use Rattle.std.proofs.Common.{◌≡◌, ◌++◌, drop}
-use Rattle.mc_modules.specs.Linked.{plain_names}
+use Rattle.mc_names.specs.Linked.{plain_names}
 use Rattle.mc_type_table.specs.Rules.{type_faults}
 use Rattle.mc_type_table.proofs.Judging.{faults_from}
 use Rattle.mc_type_table.proofs.faults.faults_by.Given as goal

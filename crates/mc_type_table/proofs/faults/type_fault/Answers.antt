@@ -1,6 +1,6 @@
 use Rattle.std.proofs.Common.{sym, ap, ◌∙◌}
 use Rattle.std.specs.Option.{option_map}
-use Rattle.mc_modules.specs.Linked.{plain_named}
+use Rattle.mc_names.specs.Linked.{plain_named}
 use Rattle.mc_type_table.proofs.Judging.{irregular_first}
 use Rattle.mc_type_table.proofs.faults.type_fault.Goals as goal
 

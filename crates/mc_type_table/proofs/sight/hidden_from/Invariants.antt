@@ -1,5 +1,5 @@
 use Rattle.std.proofs.Common.{◌≡◌, map, take, not, Some}
-use Rattle.mc_modules.specs.Linked.{plain_named, plain_names}
+use Rattle.mc_names.specs.Linked.{plain_named, plain_names}
 use Rattle.mc_type_table.specs.Sight.{sees}
 use Rattle.mc_type_table.proofs.sight.hidden_from.Given as goal
 

@@ -2,7 +2,7 @@ use Rattle.std.proofs.Common.{ℕ, length, ap, ◌∙◌}
 use Rattle.std.specs.Prelude.{Option}
 use Rattle.std.proofs.lemmas.Result.{IfOk-weaker}
 use Rattle.mc_program.specs.Programs.{TypeTerm}
-use Rattle.mc_modules.specs.Linked.{plain_names}
+use Rattle.mc_names.specs.Linked.{plain_names}
 use Rattle.mc_type_table.specs.Expanded.{after_rounds}
 use Rattle.mc_type_table.proofs.Seeing.{open_is_seen}
 use Rattle.mc_type_table.proofs.sight.seen_of.Goals as goal

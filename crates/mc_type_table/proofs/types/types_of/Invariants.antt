@@ -1,5 +1,5 @@
 use Rattle.std.proofs.Common.{◌≡◌, ◌++◌, drop, map}
-use Rattle.mc_modules.specs.Linked.{plain_named}
+use Rattle.mc_names.specs.Linked.{plain_named}
 use Rattle.mc_type_table.specs.Table.{table_from}
 use Rattle.mc_type_table.proofs.types.types_of.Given as goal
 

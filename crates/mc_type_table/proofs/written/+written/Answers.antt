@@ -3,7 +3,7 @@ use Rattle.std.proofs.lemmas.Result.{IfOk-weaker}
 use Rattle.mc_term_data.specs.Plain.{plain_term, tms}
 use Rattle.mc_term_data.specs.Names.{count}
 use Rattle.mc_program.specs.PlainPrograms.{plain_type, type_terms}
-use Rattle.mc_modules.specs.Linked.{plain_names}
+use Rattle.mc_names.specs.Linked.{plain_names}
 use Rattle.mc_type_table.specs.Written.{named_type, written_types}
 use Rattle.mc_type_table.proofs.Rows.{written_over}
 use Rattle.mc_type_table.proofs.written.+written.Goals as goal

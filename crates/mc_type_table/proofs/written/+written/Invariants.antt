@@ -3,7 +3,7 @@ use denote.Param.Weighed.{most}
 use Rattle.mc_term_data.specs.Plain.{plain_term}
 use Rattle.mc_term_data.specs.declared.term.Term.{size-Term}
 use Rattle.mc_program.specs.PlainPrograms.{plain_type}
-use Rattle.mc_modules.specs.Linked.{plain_names}
+use Rattle.mc_names.specs.Linked.{plain_names}
 use Rattle.mc_type_table.specs.Written.{written_type}
 use Rattle.mc_type_table.proofs.written.+written.Given as goal
 

@@ -1,5 +1,5 @@
 use Rattle.std.proofs.Common.{◌≡◌, map, take}
-use Rattle.mc_modules.specs.Linked.{Defined, plain_named}
+use Rattle.mc_names.specs.Linked.{Defined, plain_named}
 use Rattle.mc_whole_program.proofs.program.exported.Given as goal
 
 abbrev pub invariant-loop-named : goal.invariant-loop-named

@@ -3,7 +3,7 @@ use Rattle.std.specs.Prelude.{Option}
 use Rattle.std.specs.Option.{option_map}
 use Rattle.mc_program.specs.Programs.{TypeTerm}
 use Rattle.mc_program.specs.declared.ty.Ty.{Ty}
-use Rattle.mc_modules.specs.Linked.{plain_names}
+use Rattle.mc_names.specs.Linked.{plain_names}
 use Rattle.mc_type_table.specs.Held.{held}
 use Rattle.mc_type_table.specs.Rules.{definitions}
 use Rattle.mc_declarations.specs.Made.{DeclaredAs}

@@ -2,8 +2,8 @@ use Rattle.std.proofs.Common.{◌∙◌, length, ap₂}
 use Rattle.mc_program.specs.PlainPrograms.{plain_program}
 use Rattle.mc_accepted.specs.Resolving.{steps_of}
 use Rattle.mc_unresolved.specs.Unresolved.{plain_unresolved_clause}
-use Rattle.mc_modules.specs.Linked.{plain_names}
-use Rattle.mc_clauses.specs.Typing.{too_many, has_none, has_two, has_one, difference}
+use Rattle.mc_names.specs.Linked.{plain_names}
+use Rattle.mc_clause_phase.specs.Typing.{too_many, has_none, has_two, has_one, difference}
 use Rattle.mc_check_clause.specs.Tables.{parameters_in}
 use Rattle.mc_check_clause.proofs.WhatFits.{shown_of}
 use Rattle.mc_clause_phase.proofs.checker.Checker.verdict.Goals as goal

@@ -1,7 +1,7 @@
 use Rattle.std.proofs.Common.{◌≡◌, ◌∙◌, ap}
 use Rattle.mc_term_data.specs.Plain.{plain_term}
 use Rattle.mc_state_variables.specs.Numbered.{numbered_clause}
-use Rattle.mc_modules.specs.Linked.{Linked, plain_names}
+use Rattle.mc_names.specs.Linked.{Linked, plain_names}
 use Rattle.mc_clauses.specs.Unresolved.{Numbered_clause, unresolved_clause}
 use Rattle.mc_clause_phase.specs.Items.{clause_item}
 use Rattle.mc_clause_phase.proofs.Adding.{adds_one}

@@ -2,8 +2,8 @@ use Rattle.std.proofs.Common.{◌≡◌, ◌∙◌, ap, sym, map, subst, List, S
 use Rattle.mc_term_data.specs.Plain.{plain_term}
 use Rattle.mc_decl_syntax.specs.Plain.{plain_item}
 use Rattle.mc_defs_uses.specs.Clauses.{clause_of}
-use Rattle.mc_modules.specs.Linked.{Linked}
-use Rattle.mc_clauses.specs.Typing.{ModuleClause, clause_predicate}
+use Rattle.mc_names.specs.Linked.{Linked}
+use Rattle.mc_clause_phase.specs.Typing.{ModuleClause, clause_predicate}
 use Rattle.mc_clause_phase.specs.Items.{clause_item}
 use Rattle.mc_clause_phase.specs.code.Adding.{Adds}
 use Rattle.mc_clause_phase.proofs.Adding.{adds_none}

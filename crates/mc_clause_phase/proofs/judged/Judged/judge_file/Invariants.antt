@@ -2,9 +2,9 @@ use Rattle.std.proofs.Common.{◌≡◌, ℕ, ◌++◌, List, map, length}
 use Rattle.std.specs.Prelude.{Option}
 use Rattle.std.specs.Vec.Iter.{into_iter_items, into_iter_len}
 use Rattle.mc_program.specs.Programs.{TypeTerm}
-use Rattle.mc_items.specs.Files.{plain_entry}
-use Rattle.mc_modules.specs.Linked.{Linked, plain_names}
-use Rattle.mc_clauses.specs.Typing.{module_clauses}
+use Rattle.mc_decl_syntax.specs.Entries.{plain_entry}
+use Rattle.mc_names.specs.Linked.{Linked, plain_names}
+use Rattle.mc_clause_phase.specs.Typing.{module_clauses}
 use Rattle.mc_clause_phase.specs.Items.{Item, clause_item, without_clauses}
 use Rattle.mc_clause_phase.specs.code.Adding.{Checks, Adds}
 use Rattle.mc_clause_phase.specs.code.Subjects.{IsKnown}

@@ -1,5 +1,5 @@
 use Rattle.std.proofs.Common.{◌∙◌, ap, map, sym}
-use Rattle.mc_items.specs.Files.{plain_entry}
+use Rattle.mc_decl_syntax.specs.Entries.{plain_entry}
 use Rattle.mc_clause_phase.proofs.Passing.{clause_left_out, entry_left}
 use Rattle.mc_clause_phase.proofs.taken.Taken.put.Goals as goal
 

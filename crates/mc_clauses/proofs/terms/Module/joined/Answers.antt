@@ -1,6 +1,6 @@
 use Rattle.std.proofs.Common.{◌≡◌, ◌∙◌, ap, sym, map, ◌∷◌, ◌++◌, []}
 use Rattle.std.proofs.lemmas.List.{map-append}
-use Rattle.mc_modules.specs.Linked.{plain_names}
+use Rattle.mc_names.specs.Linked.{plain_names}
 use Rattle.mc_unresolved.specs.Unresolved.{plain_unresolved}
 use Rattle.mc_clauses.specs.Unresolved.{meanings}
 use Rattle.mc_clauses.specs.code.Walking.{nested_over, joined_over}

@@ -1,7 +1,7 @@
 use Rattle.std.proofs.Common.{◌≡◌, ◌++◌, ◌∷◌, [], ap, cond, refl, ◌∙◌, map}
 use Rattle.std.specs.Str.{bytes_eq}
-use Rattle.mc_items.specs.Files.{plain_entry}
-use Rattle.mc_modules.specs.code.Index.{listed}
+use Rattle.mc_decl_syntax.specs.Entries.{plain_entry}
+use Rattle.mc_names.specs.code.Index.{listed}
 use Rattle.mc_declared_modes.specs.code.ByName.{entry_behind, items_kept}
 use Rattle.mc_declared_modes.proofs.Behind.{map_more}
 use Rattle.mc_declared_modes.proofs.Listed.{entries_of, listed_insert, listed_behind}

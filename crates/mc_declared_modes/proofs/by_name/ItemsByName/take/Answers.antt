@@ -1,6 +1,6 @@
 use Rattle.std.proofs.Common.{ap, cond, sym, refl, ◌∙◌, map}
 use Rattle.std.specs.Str.{bytes_eq}
-use Rattle.mc_modules.specs.code.Index.{listed}
+use Rattle.mc_names.specs.code.Index.{listed}
 use Rattle.mc_declared_modes.specs.code.ByName.{entry_behind}
 use Rattle.mc_declared_modes.proofs.Listed.{entries_of, group_or_none, listed_lookup, listed_insert}
 use Rattle.mc_declared_modes.proofs.Named.{its_name, its_items}

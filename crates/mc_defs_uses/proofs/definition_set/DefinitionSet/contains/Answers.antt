@@ -1,7 +1,8 @@
 use Rattle.std.proofs.Common.{sym, ◌∙◌}
-use Rattle.mc_defs_uses.specs.Plain.{is_definition, plain_definition}
+use Rattle.mc_names.specs.Plain.{is_definition, plain_definition}
 use Rattle.mc_defs_uses.proofs.AbstractTypes.{none_of_them}
-use Rattle.mc_defs_uses.proofs.Views.{same_definition, is_member-views}
+use Rattle.mc_names.proofs.Same.{same_definition}
+use Rattle.mc_defs_uses.proofs.Views.{is_member-views}
 use Rattle.mc_defs_uses.proofs.definition_set.DefinitionSet.contains.Goals as goal
 
 pub returns-then-not-self : goal.returns-then-not-self

@@ -1,7 +1,8 @@
 use Rattle.std.proofs.Common.{sym, ◌∙◌, ap, not, map}
 use Rattle.mc_base.proofs.NameSetLaws.{on_err_always}
-use Rattle.mc_defs_uses.specs.Plain.{is_definition, plain_definition}
-use Rattle.mc_defs_uses.proofs.Views.{same_definition, is_member-views, views-put}
+use Rattle.mc_names.specs.Plain.{is_definition, plain_definition}
+use Rattle.mc_names.proofs.Same.{same_definition}
+use Rattle.mc_defs_uses.proofs.Views.{is_member-views, views-put}
 use Rattle.mc_defs_uses.proofs.definition_set.DefinitionSet.insert.Goals as goal
 
 pub returns-then-is_abstract-clause-added : goal.returns-then-is_abstract-clause-added

@@ -1,6 +1,7 @@
 use Rattle.std.proofs.Common.{sym, ◌∙◌, ap, not, map}
-use Rattle.mc_defs_uses.specs.Plain.{is_name_arity, plain_name_arity}
-use Rattle.mc_defs_uses.proofs.Views.{same_id, is_member-views, views-put}
+use Rattle.mc_names.specs.Plain.{is_name_arity, plain_name_arity}
+use Rattle.mc_names.proofs.Same.{same_id}
+use Rattle.mc_defs_uses.proofs.Views.{is_member-views, views-put}
 use Rattle.mc_defs_uses.proofs.name_arity_set.NameAritySet.insert.Goals as goal
 
 pub returns-clause-added : goal.returns-clause-added

@@ -1,6 +1,6 @@
 use Rattle.std.proofs.Common.{◌≤◌, ℕ, slice_index_or, ◌≡◌, ◌↔◌, true, false, List, sym, ap, subst}
 use Rattle.mc_model.specs.Lists.{is_in}
-use Rattle.mc_modules.specs.Linked.{plain_names}
+use Rattle.mc_names.specs.Linked.{plain_names}
 use Rattle.mc_inst_table.specs.code.Places.{width_at}
 use Rattle.mc_inst_table.proofs.Sizing.{are_given, bodies_are, widths_by}
 use Rattle.mc_inst_table.proofs.others.Given.of.Goals as goal

@@ -1,5 +1,5 @@
 use Rattle.std.proofs.Common.{sym, ◌∙◌}
-use Rattle.mc_linking.specs.Files.{plain_files}
+use Rattle.mc_decl_syntax.specs.Entries.{plain_files}
 use Rattle.mc_linking.proofs.Found.{ambiguous-there}
 use Rattle.mc_linking.proofs.linking.Linking.ambiguous.Goals as goal
 

@@ -1,6 +1,6 @@
 use Rattle.std.proofs.Common.{◌≡◌, map, drop}
-use Rattle.mc_defs_uses.specs.Plain.{plain_occurrence}
-use Rattle.mc_linking.specs.Files.{plain_files}
+use Rattle.mc_names.specs.Plain.{plain_occurrence}
+use Rattle.mc_decl_syntax.specs.Entries.{plain_files}
 use Rattle.mc_linking.specs.Faults.{ambiguous}
 use Rattle.mc_linking.proofs.linking.Linking.ambiguous.Given as goal
 

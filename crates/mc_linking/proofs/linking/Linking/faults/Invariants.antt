@@ -1,5 +1,5 @@
 use Rattle.std.proofs.Common.{◌≡◌, ◌++◌, drop}
-use Rattle.mc_linking.specs.Files.{plain_files}
+use Rattle.mc_decl_syntax.specs.Entries.{plain_files}
 use Rattle.mc_linking.specs.Faults.{faults_from, link_faults}
 use Rattle.mc_linking.proofs.linking.Linking.faults.Given as goal
 

@@ -1,5 +1,5 @@
 use Rattle.std.proofs.Common.{◌++◌, ◌∙◌, ap, sym}
-use Rattle.mc_linking.specs.Files.{plain_files}
+use Rattle.mc_decl_syntax.specs.Entries.{plain_files}
 use Rattle.mc_linking.specs.Faults.{faults_of}
 use Rattle.mc_linking.proofs.Blamed.{empty-file, some-file}
 use Rattle.mc_linking.proofs.linking.Linking.file_faults.Goals as goal

@@ -1,5 +1,5 @@
 use Rattle.std.proofs.Common.{◌∙◌, ap, arith, length}
-use Rattle.mc_defs_uses.specs.Plain.{plain_name_arity}
+use Rattle.mc_names.specs.Plain.{plain_name_arity}
 use Rattle.mc_linking.proofs.Kept.{has-at, has-nowhere}
 use Rattle.mc_linking.proofs.linking.Linking.has_definition.Goals as goal
 

@@ -1,6 +1,6 @@
 use Rattle.std.proofs.Common.{◌≡◌, ◌≤◌, ◌+◌, drop}
-use Rattle.mc_defs_uses.specs.Plain.{plain_name_arity}
-use Rattle.mc_linking.specs.Files.{plain_files}
+use Rattle.mc_names.specs.Plain.{plain_name_arity}
+use Rattle.mc_decl_syntax.specs.Entries.{plain_files}
 use Rattle.mc_linking.specs.Visible.{how_many}
 use Rattle.mc_linking.proofs.linking.Linking.how_many.Given as goal
 

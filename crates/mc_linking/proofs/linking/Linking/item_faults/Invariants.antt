@@ -1,5 +1,6 @@
 use Rattle.std.proofs.Common.{◌≡◌, ◌++◌, [], map, drop}
-use Rattle.mc_linking.specs.Files.{items_in_file, plain_files}
+use Rattle.mc_linking.specs.Files.{items_in_file}
+use Rattle.mc_decl_syntax.specs.Entries.{plain_files}
 use Rattle.mc_linking.specs.Visible.{file_at}
 use Rattle.mc_linking.specs.Kept.{plain_item_in_file}
 use Rattle.mc_linking.specs.code.Steps.{with_set, faults_behind}

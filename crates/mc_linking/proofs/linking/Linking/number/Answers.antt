@@ -1,5 +1,5 @@
 use Rattle.std.proofs.Common.{◌∙◌, ap}
-use Rattle.mc_linking.specs.Files.{joined}
+use Rattle.mc_names.specs.Plain.{joined}
 use Rattle.mc_linking.proofs.linking.Linking.number.Goals as goal
 
 pub returns : goal.returns

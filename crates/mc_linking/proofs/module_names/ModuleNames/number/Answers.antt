@@ -1,5 +1,5 @@
 use Rattle.std.proofs.Common.{sym, ◌∙◌, ap}
-use Rattle.mc_linking.specs.Visibilities.{number_of}
+use Rattle.mc_names.specs.Numbers.{number_of}
 use Rattle.mc_linking.proofs.Numbers.{entries_of, number_of-entries, vec_name}
 use Rattle.mc_linking.proofs.module_names.ModuleNames.number.Goals as goal
 

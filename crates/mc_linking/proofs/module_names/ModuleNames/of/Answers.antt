@@ -1,5 +1,5 @@
 use Rattle.std.proofs.Common.{ap}
-use Rattle.mc_linking.specs.Visibilities.{number_of}
+use Rattle.mc_names.specs.Numbers.{number_of}
 use Rattle.mc_linking.proofs.Numbers.{entries_of, vec_name}
 use Rattle.mc_linking.proofs.ModulesSeen.{all_named}
 use Rattle.mc_linking.proofs.module_names.ModuleNames.of.Goals as goal

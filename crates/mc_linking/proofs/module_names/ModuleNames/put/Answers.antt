@@ -1,6 +1,6 @@
 use Rattle.std.proofs.Common.{◌∙◌, ap, refl, cond, Some}
 use Rattle.std.specs.Str.{bytes_eq}
-use Rattle.mc_linking.specs.Visibilities.{number_of}
+use Rattle.mc_names.specs.Numbers.{number_of}
 use Rattle.mc_linking.proofs.Numbers.{entries_of, number_of-insert, vec_name}
 use Rattle.mc_linking.proofs.ModulesSeen.{same_functions}
 use Rattle.mc_linking.proofs.module_names.ModuleNames.put.Goals as goal

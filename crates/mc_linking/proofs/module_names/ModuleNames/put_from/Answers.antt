@@ -1,7 +1,7 @@
 use Rattle.std.proofs.Common.{◌-◌, ◌<◌, ◌∙◌, ap, map, arith}
-use Rattle.mc_items.specs.Files.{plain_entry}
+use Rattle.mc_decl_syntax.specs.Entries.{plain_entry}
 use Rattle.mc_linking.specs.Files.{module_name}
-use Rattle.mc_linking.specs.Visibilities.{number_of}
+use Rattle.mc_names.specs.Numbers.{number_of}
 use Rattle.mc_linking.specs.code.Visibilities.{put_name}
 use Rattle.mc_linking.proofs.ModulesSeen.{named-none, named-more}
 use Rattle.mc_linking.proofs.module_names.ModuleNames.put_from.Goals as goal

@@ -1,6 +1,7 @@
 use Rattle.std.proofs.Common.{◌≡◌, ◌≤◌, length, drop}
-use Rattle.mc_linking.specs.Files.{module_names, plain_files}
-use Rattle.mc_linking.specs.Visibilities.{number_of}
+use Rattle.mc_linking.specs.Files.{module_names}
+use Rattle.mc_decl_syntax.specs.Entries.{plain_files}
+use Rattle.mc_names.specs.Numbers.{number_of}
 use Rattle.mc_linking.specs.code.Visibilities.{named_behind}
 use Rattle.mc_linking.proofs.module_names.ModuleNames.put_from.Given as goal
 

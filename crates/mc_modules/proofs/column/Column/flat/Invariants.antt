@@ -1,5 +1,6 @@
 use Rattle.std.proofs.Common.{◌≡◌, ◌++◌, map}
-use Rattle.mc_modules.specs.Linked.{flat, plain_named}
+use Rattle.mc_modules.specs.Linked.{flat}
+use Rattle.mc_names.specs.Linked.{plain_named}
 use Rattle.mc_modules.proofs.column.Column.flat.Given as goal
 
 abbrev pub invariant-loop-names : goal.invariant-loop-names

@@ -1,5 +1,6 @@
 use Rattle.std.proofs.Common.{◌≡◌, ◌++◌, drop, map}
-use Rattle.mc_modules.specs.Linked.{visible, plain_named}
+use Rattle.mc_modules.specs.Linked.{visible}
+use Rattle.mc_names.specs.Linked.{plain_named}
 use Rattle.mc_modules.proofs.column.Column.visible.Given as goal
 
 abbrev pub invariant-loop-module : goal.invariant-loop-module

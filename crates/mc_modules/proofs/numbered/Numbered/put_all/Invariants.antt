@@ -1,5 +1,5 @@
 use Rattle.std.proofs.Common.{◌≡◌, ◌++◌, List, drop, map}
-use Rattle.mc_defs_uses.specs.Plain.{PlainDefinition, plain_definition}
+use Rattle.mc_names.specs.Plain.{PlainDefinition, plain_definition}
 use Rattle.mc_modules.specs.Linked.{numbered}
 use Rattle.mc_modules.proofs.numbered.Numbered.put_all.Given as goal
 

@@ -1,6 +1,6 @@
 use Rattle.std.proofs.Common.{length}
 use Rattle.mc_insts.specs.code.Lists.{Extends}
-use Rattle.mc_modules.specs.Linked.{Linked}
+use Rattle.mc_names.specs.Linked.{Linked}
 use Rattle.mc_inst_table.specs.Plain.{plain_mode}
 use Rattle.mc_signatures.specs.code.Keys.{terms, AllBelow}
 use Rattle.mc_signatures.specs.code.Definitions.{AreDefinitions, Follows}

@@ -1,4 +1,4 @@
-use Rattle.mc_modules.specs.Linked.{Linked}
+use Rattle.mc_names.specs.Linked.{Linked}
 use Rattle.mc_type_table.specs.code.Kept.{AreEquivalences}
 use Rattle.mc_type_table.proofs.Expanding.{Begins}
 use Rattle.mc_type_table.proofs.expansion.Known.of.Given as goal

@@ -1,8 +1,0 @@
-use Rattle.std.proofs.Common.{◌≡◌, ◌++◌, drop}
-use Rattle.mc_defs_uses.specs.Plain.{plain_name_arity}
-use Rattle.mc_modules.specs.Linked.{plain_names}
-use Rattle.mc_modules.specs.Candidates.{fitting_in}
-use Rattle.mc_modules.proofs.names.Names.put_of_modules.Given as goal
-
-abbrev pub invariant-loop-module : goal.invariant-loop-module
-invariant-loop-module l = l.all.items ++ fitting_in (plain_names l.self) l.own (plain_name_arity l.id) (drop l.module-index l.modules) ≡ l.fn.all.items ++ fitting_in (plain_names l.self) l.own (plain_name_arity l.id) l.modules

@@ -1,0 +1,4 @@
+pub mod Chosen
+pub mod Index
+pub mod Kept
+pub mod Searched

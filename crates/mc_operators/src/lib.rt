@@ -1,0 +1,6 @@
+//! The operators of terms, with their numbers.
+#![tactic(auto)]
+
+mod table;
+
+pub use table::{Fix, infix, prefix};
