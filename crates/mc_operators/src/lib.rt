@@ -3,4 +3,4 @@
 
 mod table;
 
-pub use table::{Fix, infix, prefix};
+pub use table::{Fix, infix, is, prefix};

@@ -1,5 +1,5 @@
 ghost use Rattle.std.specs.Prelude.{◌≡◌};
-ghost use Rattle.mc_operators.specs.Table.{row_of, infix_row, prefix_row, arithmetic_rows, comparing_rows, joining_rows, declaring_rows, sign_rows, goal_rows, item_rows, left_out_rows};
+ghost use Rattle.mc_operators.specs.Table.{same_name, row_of, infix_row, prefix_row, arithmetic_rows, comparing_rows, joining_rows, declaring_rows, sign_rows, goal_rows, item_rows, left_out_rows};
 
 /// How an operator stands to its operands: an `x` operand has a smaller number than the operator, a
 /// `y` operand at most the same.
@@ -11,6 +11,14 @@ pub enum Fix {
     Fx,
     Fy,
     Fxy,
+}
+
+/// Whether a name is this word. It takes no memory.
+#[tactic(auto, using(crate::proofs::Rows::same_bytes))]
+pub fn is(word: &[u8], name: &[u8]) -> bool
+    ensures { result ≡ same_name word.now name.now }
+{
+    word == name
 }
 
 /// The number and the kind of an infix operator, None where the name is none. It takes no memory.
@@ -35,15 +43,25 @@ pub fn infix(name: &[u8]) -> Option<(u32, Fix)>
 fn arithmetic(name: &[u8]) -> Option<(u32, Fix)>
     ensures { result ≡ row_of arithmetic_rows name.now }
 {
-    match name {
-        b"^" => Some((99, Fix::Xfy)),
-        b"*" | b"/" | b"//" | b"div" | b">>" => Some((400, Fix::Yfx)),
-        b"mod" | b"rem" => Some((400, Fix::Xfx)),
-        b"+" | b"-" => Some((500, Fix::Yfx)),
-        b"++" => Some((500, Fix::Xfy)),
-        b"for" => Some((500, Fix::Xfx)),
-        _ => None,
+    if is(b"^", name) {
+        return Some((99, Fix::Xfy));
     }
+    if is(b"*", name) || is(b"/", name) || is(b"//", name) || is(b"div", name) || is(b">>", name) {
+        return Some((400, Fix::Yfx));
+    }
+    if is(b"mod", name) || is(b"rem", name) {
+        return Some((400, Fix::Xfx));
+    }
+    if is(b"+", name) || is(b"-", name) {
+        return Some((500, Fix::Yfx));
+    }
+    if is(b"++", name) {
+        return Some((500, Fix::Xfy));
+    }
+    if is(b"for", name) {
+        return Some((500, Fix::Xfx));
+    }
+    None
 }
 
 // The operators that compare.
@@ -51,12 +69,23 @@ fn arithmetic(name: &[u8]) -> Option<(u32, Fix)>
 fn comparing(name: &[u8]) -> Option<(u32, Fix)>
     ensures { result ≡ row_of comparing_rows name.now }
 {
-    match name {
-        b":=" => Some((650, Fix::Xfx)),
-        b"=" | b"\\=" | b"<" | b">" | b"=<" | b">=" | b"==" => Some((700, Fix::Xfx)),
-        b"is" => Some((701, Fix::Xfx)),
-        _ => None,
+    if is(b":=", name) {
+        return Some((650, Fix::Xfx));
     }
+    if is(b"=", name)
+        || is(b"\\=", name)
+        || is(b"<", name)
+        || is(b">", name)
+        || is(b"=<", name)
+        || is(b">=", name)
+        || is(b"==", name)
+    {
+        return Some((700, Fix::Xfx));
+    }
+    if is(b"is", name) {
+        return Some((701, Fix::Xfx));
+    }
+    None
 }
 
 // The operators that join goals.
@@ -64,16 +93,28 @@ fn comparing(name: &[u8]) -> Option<(u32, Fix)>
 fn joining(name: &[u8]) -> Option<(u32, Fix)>
     ensures { result ≡ row_of joining_rows name.now }
 {
-    match name {
-        b"=>" | b"<=" | b"<=>" => Some((920, Fix::Xfy)),
-        b"," => Some((1000, Fix::Xfy)),
-        b"&" => Some((1025, Fix::Xfy)),
-        b"->" => Some((1050, Fix::Xfy)),
-        b";" => Some((1100, Fix::Xfy)),
-        b"then" => Some((1150, Fix::Xfx)),
-        b"else" => Some((1170, Fix::Xfy)),
-        _ => None,
+    if is(b"=>", name) || is(b"<=", name) || is(b"<=>", name) {
+        return Some((920, Fix::Xfy));
     }
+    if is(b",", name) {
+        return Some((1000, Fix::Xfy));
+    }
+    if is(b"&", name) {
+        return Some((1025, Fix::Xfy));
+    }
+    if is(b"->", name) {
+        return Some((1050, Fix::Xfy));
+    }
+    if is(b";", name) {
+        return Some((1100, Fix::Xfy));
+    }
+    if is(b"then", name) {
+        return Some((1150, Fix::Xfx));
+    }
+    if is(b"else", name) {
+        return Some((1170, Fix::Xfy));
+    }
+    None
 }
 
 // The operators of items.
@@ -81,12 +122,16 @@ fn joining(name: &[u8]) -> Option<(u32, Fix)>
 fn declaring(name: &[u8]) -> Option<(u32, Fix)>
     ensures { result ≡ row_of declaring_rows name.now }
 {
-    match name {
-        b"::" | b"where" => Some((1175, Fix::Xfx)),
-        b"--->" => Some((1179, Fix::Xfy)),
-        b":-" | b"-->" => Some((1200, Fix::Xfx)),
-        _ => None,
+    if is(b"::", name) || is(b"where", name) {
+        return Some((1175, Fix::Xfx));
     }
+    if is(b"--->", name) {
+        return Some((1179, Fix::Xfy));
+    }
+    if is(b":-", name) || is(b"-->", name) {
+        return Some((1200, Fix::Xfx));
+    }
+    None
 }
 
 /// The number and the kind of a prefix operator, None where the name is none. It takes no memory.
@@ -111,12 +156,16 @@ pub fn prefix(name: &[u8]) -> Option<(u32, Fix)>
 fn sign(name: &[u8]) -> Option<(u32, Fix)>
     ensures { result ≡ row_of sign_rows name.now }
 {
-    match name {
-        b"!" | b"!." | b"!:" => Some((40, Fix::Fx)),
-        b"-" => Some((200, Fix::Fx)),
-        b"+" => Some((500, Fix::Fx)),
-        _ => None,
+    if is(b"!", name) || is(b"!.", name) || is(b"!:", name) {
+        return Some((40, Fix::Fx));
     }
+    if is(b"-", name) {
+        return Some((200, Fix::Fx));
+    }
+    if is(b"+", name) {
+        return Some((500, Fix::Fx));
+    }
+    None
 }
 
 // The operators before a goal.
@@ -124,14 +173,22 @@ fn sign(name: &[u8]) -> Option<(u32, Fix)>
 fn goal(name: &[u8]) -> Option<(u32, Fix)>
     ensures { result ≡ row_of goal_rows name.now }
 {
-    match name {
-        b"pred" | b"func" => Some((800, Fix::Fx)),
-        b"impure" | b"semipure" => Some((800, Fix::Fy)),
-        b"not" | b"\\+" => Some((900, Fix::Fy)),
-        b"some" | b"all" => Some((950, Fix::Fxy)),
-        b"if" => Some((1160, Fix::Fx)),
-        _ => None,
+    if is(b"pred", name) || is(b"func", name) {
+        return Some((800, Fix::Fx));
     }
+    if is(b"impure", name) || is(b"semipure", name) {
+        return Some((800, Fix::Fy));
+    }
+    if is(b"not", name) || is(b"\\+", name) {
+        return Some((900, Fix::Fy));
+    }
+    if is(b"some", name) || is(b"all", name) {
+        return Some((950, Fix::Fxy));
+    }
+    if is(b"if", name) {
+        return Some((1160, Fix::Fx));
+    }
+    None
 }
 
 // The operators before an item.
@@ -139,18 +196,23 @@ fn goal(name: &[u8]) -> Option<(u32, Fix)>
 fn item(name: &[u8]) -> Option<(u32, Fix)>
     ensures { result ≡ row_of item_rows name.now }
 {
-    match name {
-        b"type" => Some((1180, Fix::Fx)),
-        b"solver" => Some((1181, Fix::Fy)),
-        b"module"
-        | b"import_module"
-        | b"use_module"
-        | b"end_module"
-        | b"inst"
-        | b"mode"
-        | b"pragma" => Some((1199, Fix::Fx)),
-        _ => None,
+    if is(b"type", name) {
+        return Some((1180, Fix::Fx));
     }
+    if is(b"solver", name) {
+        return Some((1181, Fix::Fy));
+    }
+    if is(b"module", name)
+        || is(b"import_module", name)
+        || is(b"use_module", name)
+        || is(b"end_module", name)
+        || is(b"inst", name)
+        || is(b"mode", name)
+        || is(b"pragma", name)
+    {
+        return Some((1199, Fix::Fx));
+    }
+    None
 }
 
 // The operators before an item that this profile leaves out, and the one before any item.
@@ -158,12 +220,16 @@ fn item(name: &[u8]) -> Option<(u32, Fix)>
 fn left_out(name: &[u8]) -> Option<(u32, Fix)>
     ensures { result ≡ row_of left_out_rows name.now }
 {
-    match name {
-        b"include_module" | b"typeclass" | b"instance" | b"promise" | b"initialise" => Some((
-            1199,
-            Fix::Fx,
-        )),
-        b":-" => Some((1200, Fix::Fx)),
-        _ => None,
+    if is(b"include_module", name)
+        || is(b"typeclass", name)
+        || is(b"instance", name)
+        || is(b"promise", name)
+        || is(b"initialise", name)
+    {
+        return Some((1199, Fix::Fx));
     }
+    if is(b":-", name) {
+        return Some((1200, Fix::Fx));
+    }
+    None
 }

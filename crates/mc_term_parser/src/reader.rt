@@ -2,7 +2,7 @@ ghost use Rattle.std.specs.Prelude.{◌≡◌, ◌-◌, ◌+◌, ◌≤◌, ◌<
 ghost use Rattle.mc_term_parser.specs.code.Views.{state, frames, frame as frame_seen, part as part_seen, reading as seen, readings as seen_row, mark_of, infix_next, name_next, separates};
 ghost use Rattle.mc_term_parser.specs.Infixes.{joined_by, infix_of as infix_from, binary_of, operand, rank};
 ghost use Rattle.mc_term_parser.specs.code.Machine as M;
-ghost use Rattle.mc_term_parser.specs.code.Seen.{seen_making, seen_app};
+ghost use Rattle.mc_term_parser.specs.code.Seen.{seen_making, seen_app, seen_then, no_seen, line_seen};
 ghost use Rattle.mc_term_parser.specs.Part as P;
 
 use crate::frame::{Context, Frame, Machine, Mark, Now, Operator, ParserStack, Part, Series};
@@ -10,7 +10,7 @@ use crate::infixes::{Chain, Infix};
 use crate::lexeme::Lexeme;
 use crate::reading::{Reading, Readings};
 use mc_base::{Copied, Memory, Row, Text};
-use mc_operators::{Fix, infix};
+use mc_operators::{Fix, infix, is};
 use std::alloc::Global;
 
 // What stands in a place.
@@ -269,11 +269,13 @@ fn infix_of(commas: bool, token: &Lexeme) -> Infix
 fn infix_by(name: &[u8], number: u32, fix: Fix) -> Infix
     ensures { result ≡ infix_from name.now (Some (number, fix)) }
 {
-    match name {
-        b"," => Infix::Chains(Chain::And),
-        b";" => Infix::Chains(Chain::Or),
-        _ => binary_by(number, fix),
+    if is(b",", name) {
+        return Infix::Chains(Chain::And);
     }
+    if is(b";", name) {
+        return Infix::Chains(Chain::Or);
+    }
+    binary_by(number, fix)
 }
 
 fn binary_by(number: u32, fix: Fix) -> Infix
@@ -374,13 +376,14 @@ fn on_chain(
     Ok(parser.done(outer, part))
 }
 
-// A part of a row is read.
+// A part of a row is read, behind those before it.
 fn after_part(
     tokens: &[Lexeme],
     parser: ParserStack,
     series: Series,
     line: u32,
-    parts: Readings,
+    before: Readings,
+    part: Reading,
     outer: Context,
     commas: bool,
 ) -> Result<Machine, Memory>
@@ -388,14 +391,63 @@ fn after_part(
     ensures { IfOk result
         (λ m.
         state tokens.now m
-        ≡ M.parts seen_making series line (seen_row parts) outer.commas outer.limit
-        (frames parser.stack.items) commas (drop parser.at tokens.now)) }
+        ≡ M.parts seen_making series line (seen_then (seen_row before) (seen part))
+        outer.commas outer.limit (frames parser.stack.items) commas
+        (drop parser.at tokens.now)) }
 {
+    let parts = before.then(part)?;
     match series {
         Series::Arguments(name) => after_argument(tokens, parser, name, line, parts, outer, commas),
         Series::Elements => after_element(tokens, parser, line, parts, outer, commas),
         Series::Chained(kind) => on_chain(tokens, parser, kind, line, parts, outer, commas),
     }
+}
+
+// The last of two operands is read, up to a number.
+fn after_right(
+    alloc: Global,
+    tokens: &[Lexeme],
+    parser: ParserStack,
+    operator: Operator,
+    left: Reading,
+    right: Reading,
+    reach: u32,
+    outer: Context,
+) -> Result<Machine, Memory>
+    ensures { IfOk result
+        (λ m.
+        state tokens.now m
+        ≡ M.Done outer.commas outer.limit (frames parser.stack.items)
+        (P.over operator.number reach
+        (seen_app operator.line operator.name (M.two seen_making (seen left) (seen right))))
+        (drop parser.at tokens.now)) }
+{
+    let _tokens = tokens;
+    let part = operator.over_two(alloc, left, right, reach)?;
+    Ok(parser.done(outer, part))
+}
+
+// The one operand is read, up to a number.
+fn after_operand(
+    alloc: Global,
+    tokens: &[Lexeme],
+    parser: ParserStack,
+    operator: Operator,
+    operand: Reading,
+    reach: u32,
+    outer: Context,
+) -> Result<Machine, Memory>
+    ensures { IfOk result
+        (λ m.
+        state tokens.now m
+        ≡ M.Done outer.commas outer.limit (frames parser.stack.items)
+        (P.over operator.number reach
+        (seen_app operator.line operator.name (M.one seen_making (seen operand))))
+        (drop parser.at tokens.now)) }
+{
+    let _tokens = tokens;
+    let part = operator.over_one(alloc, operand, reach)?;
+    Ok(parser.done(outer, part))
 }
 
 // The first of two operands is read: the second begins, where nothing joins the first to what
@@ -487,30 +539,98 @@ fn reduce_in(
     let reading = part.reading;
     match frame {
         Frame::Right(operator, limit, left, outer) => {
-            let part = operator.over_two(alloc, left, reading, limit)?;
-            Ok(parser.done(outer, part))
+            after_right(alloc, tokens, parser, operator, left, reading, limit, outer)
         }
         Frame::Operand(operator, limit, outer) => {
-            let part = operator.over_one(alloc, reading, limit)?;
-            Ok(parser.done(outer, part))
+            after_operand(alloc, tokens, parser, operator, reading, limit, outer)
         }
         Frame::First(operator, outer) => {
             at_first(tokens, parser, operator, reading, outer, commas)
         }
         Frame::Second(operator, left, outer) => {
             let limit = operator.number;
-            let part = operator.over_two(alloc, left, reading, limit)?;
-            Ok(parser.done(outer, part))
+            after_right(alloc, tokens, parser, operator, left, reading, limit, outer)
         }
         Frame::Paren(line, outer) => Ok(after_paren(tokens, parser, line, reading, outer)),
         Frame::Parts(series, line, parts, outer) => {
-            let parts = parts.then(reading)?;
-            after_part(tokens, parser, series, line, parts, outer, commas)
+            after_part(tokens, parser, series, line, parts, reading, outer, commas)
         }
         Frame::Tail(line, items, outer) => {
             after_tail(alloc, tokens, parser, line, items, reading, outer)
         }
     }
+}
+
+// What waits for the right operand, up to a limit, of the operator in a place.
+fn right_frame(
+    alloc: Global,
+    tokens: &[Lexeme],
+    at: usize,
+    left: Reading,
+    number: u32,
+    limit: u32,
+    outer: Context,
+) -> Result<Frame, Memory>
+    ensures { IfOk result
+        (λ f.
+        frame_seen f
+        ≡ M.AtRight (line_seen (seen left).value) (name_next (drop at tokens.now)) number limit
+        (seen left) outer.commas outer.limit) }
+{
+    let name = name_at(alloc, tokens, at)?;
+    let line = left.line();
+    Ok(Frame::Right(Operator { line, name, number }, limit, left, outer))
+}
+
+// The infix operator that stands next takes a part as its left operand.
+fn join_right(
+    alloc: Global,
+    tokens: &[Lexeme],
+    parser: ParserStack,
+    left: Reading,
+    number: u32,
+    limit: u32,
+    outer: Context,
+) -> Result<Machine, Memory>
+    requires { parser.at ≤ length tokens.now }
+    ensures { IfOk result
+        (λ m.
+        state tokens.now m
+        ≡ M.Start outer.commas limit
+        (M.AtRight (line_seen (seen left).value) (name_next (drop parser.at tokens.now)) number
+        limit (seen left) outer.commas outer.limit ∷ frames parser.stack.items)
+        (drop (parser.at + 1) tokens.now)) }
+{
+    let commas = outer.commas;
+    let frame = right_frame(alloc, tokens, parser.at, left, number, limit, outer)?;
+    Ok(parser.past().with(frame)?.start(Context { commas, limit }))
+}
+
+// The separator that stands next takes a part as the first of a chain.
+fn join_chain(
+    alloc: Global,
+    tokens: &[Lexeme],
+    parser: ParserStack,
+    first: Reading,
+    kind: Chain,
+    outer: Context,
+) -> Result<Machine, Memory>
+    requires { parser.at ≤ length tokens.now }
+    ensures { IfOk result
+        (λ m.
+        state tokens.now m
+        ≡ M.Start outer.commas (rank kind - 1)
+        (M.InParts (Series.Chained kind) (line_seen (seen first).value)
+        (seen_then no_seen (seen first)) outer.commas outer.limit ∷ frames parser.stack.items)
+        (drop (parser.at + 1) tokens.now)) }
+{
+    let _tokens = tokens;
+    let commas = outer.commas;
+    let limit = rank(kind) - 1;
+    let line = first.line();
+    let parts = Readings::none(alloc).then(first)?;
+    let frame = Frame::Parts(Series::Chained(kind), line, parts, outer);
+    Ok(parser.past().with(frame)?.start(Context { commas, limit }))
 }
 
 // A part is read: what follows is joined to it, or it ends here.
@@ -535,19 +655,11 @@ pub fn step_done(
             if number <= context.limit
                 && part.number <= operand(left, number)
                 && part.reach < number => {
-            let name = name_at(alloc, tokens, parser.at)?;
-            let line = part.reading.line();
-            let operator = Operator { line, name, number };
             let limit = operand(right, number);
-            let frame = Frame::Right(operator, limit, part.reading, context);
-            Ok(parser.past().with(frame)?.start(Context { commas, limit }))
+            join_right(alloc, tokens, parser, part.reading, number, limit, context)
         }
         Infix::Chains(kind) if rank(kind) <= context.limit && part.number < rank(kind) => {
-            let line = part.reading.line();
-            let parts = Readings::none(alloc).then(part.reading)?;
-            let frame = Frame::Parts(Series::Chained(kind), line, parts, context);
-            let limit = rank(kind) - 1;
-            Ok(parser.past().with(frame)?.start(Context { commas, limit }))
+            join_chain(alloc, tokens, parser, part.reading, kind, context)
         }
         _ => reduce(alloc, tokens, parser, part, commas),
     }

@@ -4,7 +4,8 @@ ghost use Rattle.mc_term_parser.specs.Answers.{Shows};
 ghost use Rattle.mc_term_parser.specs.Infixes.{prefix_role, prefix_of, starts, role};
 ghost use Rattle.mc_term_parser.specs.code.Machine as M;
 ghost use Rattle.mc_term_parser.specs.code.Arguments.{Reaches};
-ghost use Rattle.mc_term_parser.specs.code.Seen.{Seen, seen_making};
+ghost use Rattle.mc_term_data.specs.Plain.{Var, Str};
+ghost use Rattle.mc_term_parser.specs.code.Seen.{Seen, leaf, seen_making};
 ghost use Rattle.mc_term_parser.specs.Part as P;
 ghost use Rattle.mc_term_parser.specs.Reads.{ReadsTerm};
 ghost use Rattle.mc_term_parser.specs.Tree.{Tree};
@@ -17,7 +18,7 @@ use crate::lexeme::Lexeme;
 use crate::reader::{closed, mark, name_row, step_done};
 use crate::reading::{Reading, Readings};
 use mc_base::{Copied, Memory, Row, Text};
-use mc_operators::{Fix, infix, prefix};
+use mc_operators::{Fix, infix, is, prefix};
 use std::alloc::Global;
 
 // Whether the token in a place starts a term.
@@ -74,9 +75,10 @@ fn number_at(tokens: &[Lexeme], at: usize) -> Option<u64>
 fn minus_at(tokens: &[Lexeme], name: &[u8], at: usize) -> Option<u64>
     ensures { result ≡ minus_next name.now (drop at tokens.now) }
 {
-    match name {
-        b"-" => number_at(tokens, at),
-        _ => None,
+    if is(b"-", name) {
+        number_at(tokens, at)
+    } else {
+        None
     }
 }
 
@@ -263,6 +265,65 @@ fn start_paren(
     Ok(parser.with(frame)?.start(Context::WHOLE))
 }
 
+// A qualified name, of which there is one to copy.
+fn start_qualified(
+    alloc: Global,
+    tokens: &[Lexeme],
+    parser: ParserStack,
+    name: &Row<Text>,
+    line: u32,
+    context: Context,
+) -> Result<Machine, Memory>
+    requires { parser.at ≤ length tokens.now }
+    ensures { IfOk result
+        (Reaches tokens.now
+        (M.on_path seen_making context.commas context.limit (frames parser.stack.items) line
+        name.now (drop parser.at tokens.now))) }
+{
+    let name = name.copied(alloc)?;
+    start_path(alloc, tokens, parser, name, line, context)
+}
+
+// A variable; the parser is behind it.
+fn start_var(
+    alloc: Global,
+    tokens: &[Lexeme],
+    parser: ParserStack,
+    name: &Text,
+    line: u32,
+    context: Context,
+) -> Result<Machine, Memory>
+    ensures { IfOk result
+        (λ m.
+        state tokens.now m
+        ≡ M.Done context.commas context.limit (frames parser.stack.items)
+        (P.closed (leaf line (Var name.now))) (drop parser.at tokens.now)) }
+{
+    let _tokens = tokens;
+    let variable = Reading::var(line, name.copied(alloc)?);
+    Ok(parser.done(context, closed(variable)))
+}
+
+// A string; the parser is behind it.
+fn start_str(
+    alloc: Global,
+    tokens: &[Lexeme],
+    parser: ParserStack,
+    bytes: &Text,
+    line: u32,
+    context: Context,
+) -> Result<Machine, Memory>
+    ensures { IfOk result
+        (λ m.
+        state tokens.now m
+        ≡ M.Done context.commas context.limit (frames parser.stack.items)
+        (P.closed (leaf line (Str bytes.now))) (drop parser.at tokens.now)) }
+{
+    let _tokens = tokens;
+    let string = Reading::str(line, bytes.copied(alloc)?);
+    Ok(parser.done(context, closed(string)))
+}
+
 // A term that starts with a token; the parser is behind it.
 fn start_with(
     alloc: Global,
@@ -279,22 +340,13 @@ fn start_with(
 {
     match token {
         Lexeme::Word(name, _, line) => start_word(alloc, tokens, parser, name, *line, context),
-        Lexeme::Path(name, line) => {
-            let name = name.copied(alloc)?;
-            start_path(alloc, tokens, parser, name, *line, context)
-        }
-        Lexeme::Var(name, line) => {
-            let variable = Reading::var(*line, name.copied(alloc)?);
-            Ok(parser.done(context, closed(variable)))
-        }
+        Lexeme::Path(name, line) => { start_qualified(alloc, tokens, parser, name, *line, context) }
+        Lexeme::Var(name, line) => start_var(alloc, tokens, parser, name, *line, context),
         Lexeme::Int(value, line) => {
             let number = Reading::int(*line, *value);
             Ok(parser.done(context, closed(number)))
         }
-        Lexeme::Str(bytes, line) => {
-            let string = Reading::str(*line, bytes.copied(alloc)?);
-            Ok(parser.done(context, closed(string)))
-        }
+        Lexeme::Str(bytes, line) => start_str(alloc, tokens, parser, bytes, *line, context),
         Lexeme::Open(line) => start_paren(tokens, parser, *line, context),
         Lexeme::OpenCt(line) => start_paren(tokens, parser, *line, context),
         Lexeme::ListOpen(line) => start_list(alloc, tokens, parser, *line, context),

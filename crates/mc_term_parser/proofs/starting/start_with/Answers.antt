@@ -2,14 +2,14 @@ use Rattle.std.proofs.Common.{rules}
 use Rattle.mc_term_parser.proofs.Leading.{at_once, ok_at_once}
 use Rattle.mc_term_parser.proofs.starting.start_with.Goals as goal
 
-pub returns-in_ok-copied-in-Var : goal.returns-in_ok-copied-in-Var
-returns-in_ok-copied-in-Var c = at_once c.args.tokens.now _ c.done.result (search rules)
+pub returns-in-Var : goal.returns-in-Var
+returns-in-Var c = ok_at_once c.args.tokens.now _ c.start_var.result (search rules)
 
 pub returns-in-Int : goal.returns-in-Int
-returns-in-Int c = at_once c.args.tokens.now _ c.done-in-Int.result (search rules)
+returns-in-Int c = at_once c.args.tokens.now _ c.done.result (search rules)
 
-pub returns-in_ok-copied-in-Str : goal.returns-in_ok-copied-in-Str
-returns-in_ok-copied-in-Str c = at_once c.args.tokens.now _ c.done-in-Str.result (search rules)
+pub returns-in-Str : goal.returns-in-Str
+returns-in-Str c = ok_at_once c.args.tokens.now _ c.start_str.result (search rules)
 
 pub returns-in_default : goal.returns-in_default
 returns-in_default c = at_once c.args.tokens.now _ c.refused.result (search rules)
