@@ -36,26 +36,38 @@ fn determinism(term: &Term) -> Option<Det>
 fn common(name: &[u8]) -> Option<Det>
     ensures { result ≡ found common_determinisms name.now 0 }
 {
-    match name {
-        b"det" => Some(inferred(false, Most::One)),
-        b"semidet" => Some(inferred(true, Most::One)),
-        b"multi" => Some(inferred(false, Most::Many)),
-        b"nondet" => Some(inferred(true, Most::Many)),
-        _ => None,
+    if b"det".as_slice() == name {
+        return Some(inferred(false, Most::One));
     }
+    if b"semidet".as_slice() == name {
+        return Some(inferred(true, Most::One));
+    }
+    if b"multi".as_slice() == name {
+        return Some(inferred(false, Most::Many));
+    }
+    if b"nondet".as_slice() == name {
+        return Some(inferred(true, Most::Many));
+    }
+    None
 }
 
 #[tactic(auto, unfolding(crate::specs::Terms::rare_determinisms))]
 fn rare(name: &[u8]) -> Option<Det>
     ensures { result ≡ found rare_determinisms name.now 0 }
 {
-    match name {
-        b"cc_multi" => Some(committed(false)),
-        b"cc_nondet" => Some(committed(true)),
-        b"erroneous" => Some(inferred(false, Most::Zero)),
-        b"failure" => Some(inferred(true, Most::Zero)),
-        _ => None,
+    if b"cc_multi".as_slice() == name {
+        return Some(committed(false));
     }
+    if b"cc_nondet".as_slice() == name {
+        return Some(committed(true));
+    }
+    if b"erroneous".as_slice() == name {
+        return Some(inferred(false, Most::Zero));
+    }
+    if b"failure".as_slice() == name {
+        return Some(inferred(true, Most::Zero));
+    }
+    None
 }
 
 fn inferred(can_fail: bool, most: Most) -> Det

@@ -48,46 +48,64 @@ fn over(name: &[u8], count: usize) -> Option<Keyword>
 fn section(name: &[u8], count: usize) -> Option<Keyword>
     ensures { result ≡ found section_words name.now count }
 {
-    match count {
-        0 => match name {
-            b"interface" => Some(Keyword::Interface),
-            b"implementation" => Some(Keyword::Implementation),
-            _ => None,
-        },
-        _ => None,
+    if count != 0 {
+        return None;
     }
+    if b"interface".as_slice() == name {
+        return Some(Keyword::Interface);
+    }
+    if b"implementation".as_slice() == name {
+        return Some(Keyword::Implementation);
+    }
+    None
 }
 
 #[tactic(auto, unfolding(crate::specs::Declarations::module_words))]
 fn of_module(name: &[u8], count: usize) -> Option<Keyword>
     ensures { result ≡ found module_words name.now count }
 {
-    match count {
-        1 => match name {
-            b"module" => Some(Keyword::Module),
-            b"end_module" => Some(Keyword::EndModule),
-            b"import_module" => Some(Keyword::ImportModule),
-            b"use_module" => Some(Keyword::UseModule),
-            _ => None,
-        },
-        _ => None,
+    if count != 1 {
+        return None;
     }
+    if b"module".as_slice() == name {
+        return Some(Keyword::Module);
+    }
+    if b"end_module".as_slice() == name {
+        return Some(Keyword::EndModule);
+    }
+    if b"import_module".as_slice() == name {
+        return Some(Keyword::ImportModule);
+    }
+    if b"use_module".as_slice() == name {
+        return Some(Keyword::UseModule);
+    }
+    None
 }
 
 #[tactic(auto, unfolding(crate::specs::Declarations::declaring_words))]
 fn declaring(name: &[u8], count: usize) -> Option<Keyword>
     ensures { result ≡ found declaring_words name.now count }
 {
-    match count {
-        1 => match name {
-            b"type" => Some(Keyword::TypeWord),
-            b"inst" => Some(Keyword::Inst),
-            b"mode" => Some(Keyword::Mode),
-            b"pred" => Some(Keyword::Pred),
-            b"func" => Some(Keyword::Func),
-            b"pragma" => Some(Keyword::Pragma),
-            _ => None,
-        },
-        _ => None,
+    if count != 1 {
+        return None;
     }
+    if b"type".as_slice() == name {
+        return Some(Keyword::TypeWord);
+    }
+    if b"inst".as_slice() == name {
+        return Some(Keyword::Inst);
+    }
+    if b"mode".as_slice() == name {
+        return Some(Keyword::Mode);
+    }
+    if b"pred".as_slice() == name {
+        return Some(Keyword::Pred);
+    }
+    if b"func".as_slice() == name {
+        return Some(Keyword::Func);
+    }
+    if b"pragma".as_slice() == name {
+        return Some(Keyword::Pragma);
+    }
+    None
 }
