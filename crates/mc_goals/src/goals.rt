@@ -79,16 +79,11 @@ fn add_choice(
         (conjuncts_of (number_at numbers.now) (held into.old).next
         (If vars.now (plain_goal condition.now) (plain_goal then_part.now) (plain_goal else_part.now)))) }
 {
-    let vars = numbers.all(alloc, vars)?;
-    let condition = enclosed(alloc, numbers, into, condition)?;
-    let then_part = enclosed(alloc, numbers, into, then_part)?;
-    let else_part = enclosed(alloc, numbers, into, else_part)?;
-    into.add(Flat::Ite(
-        Row::of(vars)?,
-        Box::new(alloc, condition)?,
-        Box::new(alloc, then_part)?,
-        Box::new(alloc, else_part)?,
-    ))
+    let vars = Row::of(numbers.all(alloc, vars)?)?;
+    let condition = enclosed_part(alloc, numbers, into, condition)?;
+    let then_part = enclosed_part(alloc, numbers, into, then_part)?;
+    let else_part = enclosed_part(alloc, numbers, into, else_part)?;
+    into.add(Flat::Ite(vars, condition, then_part, else_part))
 }
 
 /// Puts a negation at the end.
@@ -102,8 +97,8 @@ fn add_negation(
     ensures { OnOk result (held into.new ≡ followed (held into.old)
         (conjuncts_of (number_at numbers.now) (held into.old).next (Not (plain_goal goal.now)))) }
 {
-    let goal = enclosed(alloc, numbers, into, goal)?;
-    into.add(Flat::Not(Box::new(alloc, goal)?))
+    let goal = enclosed_part(alloc, numbers, into, goal)?;
+    into.add(Flat::Not(goal))
 }
 
 /// Puts a goal at the end over which variables are quantified.
@@ -215,6 +210,23 @@ fn enclosed(
         ≡ numbered (conjuncts_of (number_at numbers.now) (held outer.old).next (plain_goal goal.now)).next (held outer.old)) }
 {
     inside(alloc, numbers, outer, goal)?.whole(alloc)
+}
+
+/// The same as a part of another goal. It is boxed here, since a tree in hand is dear to prove where memory may be wanting.
+#[cycle(goals)]
+fn enclosed_part(
+    alloc: Global,
+    numbers: &Numbers,
+    outer: &mut Building,
+    goal: &Goal,
+) -> Result<Box<Flat>, Memory>
+    ensures goal { IfOk result (λ part. let r = conjuncts_of (number_at numbers.now) (held outer.old).next (plain_goal goal.now) in
+        plain_flat part.value ≡ around r.made_variables (conjunction r.goals)) }
+    ensures outer { OnOk result (held outer.new
+        ≡ numbered (conjuncts_of (number_at numbers.now) (held outer.old).next (plain_goal goal.now)).next (held outer.old)) }
+{
+    let goal = enclosed(alloc, numbers, outer, goal)?;
+    Ok(Box::new(alloc, goal)?)
 }
 
 /// The disjuncts of goals, those of disjunctions among them in their places.

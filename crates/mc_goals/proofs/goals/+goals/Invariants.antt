@@ -17,15 +17,18 @@ decreases-inside l = 5 * size-Goal l.goal.now + 1
 abbrev pub decreases-enclosed : goal.decreases-enclosed
 decreases-enclosed l = 5 * size-Goal l.goal.now + 2
 
+abbrev pub decreases-enclosed_part : goal.decreases-enclosed_part
+decreases-enclosed_part l = 5 * size-Goal l.goal.now + 3
+
 abbrev pub decreases-add_negation : goal.decreases-add_negation
-decreases-add_negation l = 5 * size-Goal l.goal.now + 3
+decreases-add_negation l = 5 * size-Goal l.goal.now + 4
 
 abbrev pub decreases-add_quantified : goal.decreases-add_quantified
 decreases-add_quantified l = 5 * size-Goal l.goal.now + 3
 
 abbrev pub decreases-add_choice : goal.decreases-add_choice
 decreases-add_choice l =
-    5 * max (max (size-Goal l.condition.now) (size-Goal l.then_part.now)) (size-Goal l.else_part.now) + 3
+    5 * max (max (size-Goal l.condition.now) (size-Goal l.then_part.now)) (size-Goal l.else_part.now) + 4
 
 abbrev pub decreases-either : goal.decreases-either
 decreases-either l = 5 * most size-Goal l.goals.now + 3
