@@ -1,6 +1,7 @@
 ghost use Rattle.std.specs.Prelude.{◌≡◌, [], map, get_or, IfOk};
 ghost use Rattle.mc_program.specs.Programs.{variable};
 ghost use Rattle.mc_program.specs.PlainPrograms.{plain_expression, plain_goal, plain_clause};
+ghost use Rattle.mc_accepted.specs.Scope as scope;
 ghost use Rattle.mc_accepted.specs.Scope.{scoped};
 ghost use Rattle.mc_accepted.specs.NormalTypes as query;
 
@@ -22,14 +23,31 @@ pub fn query_clause(alloc: Global, goal: &Clause, names: &Row<Text>) -> Result<C
 {
     let free = free_variables(alloc, &goal.body)?;
     let asked = asked_of(alloc, names, free.as_slice())?;
-    let body = body_under(alloc, asked.as_slice(), &goal.body)?;
-    let unasked = unasked_of(alloc, names, free.as_slice())?;
+    let head = arguments(alloc, asked.as_slice())?;
+    let body = query_body(alloc, names, free.as_slice(), asked.as_slice(), &goal.body)?;
     Ok(Clause {
         vars: goal.vars,
-        head: arguments(alloc, asked.as_slice())?,
-        body: quantified(alloc, unasked, body)?,
+        head,
+        body,
         place: goal.place,
     })
+}
+
+/// A query's goal with its scopes written out, where those that are asked for are outside, and the others of its free
+/// variables quantified around it.
+fn query_body(
+    alloc: Global,
+    names: &Row<Text>,
+    free: &[u32],
+    asked: &[u32],
+    goal: &Goal,
+) -> Result<Goal, Memory>
+    ensures { IfOk result (λ body. plain_goal body
+        ≡ scope.quantified (query.unasked_of (λ v. get_or names.now v []) free.now) (scoped asked.now (plain_goal goal.now))) }
+{
+    let unasked = unasked_of(alloc, names, free)?;
+    let body = body_under(alloc, asked, goal)?;
+    quantified(alloc, unasked, body)
 }
 
 /// The variables that a query's goal doesn't quantify, each once, in the order in which they occur first.

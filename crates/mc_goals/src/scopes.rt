@@ -1,6 +1,6 @@
 ghost use Rattle.std.specs.Prelude.{◌≡◌, ℕ, List, ◌<◌, ◌^◌, ◌++◌, map, IsTrue, IfOk, OnOk};
-ghost use Rattle.mc_program.specs.Programs.{If};
-ghost use Rattle.mc_program.specs.PlainPrograms.{plain_goal, plain_clause, formulas};
+ghost use Rattle.mc_program.specs.Programs.{Equal, If};
+ghost use Rattle.mc_program.specs.PlainPrograms.{plain_expression, plain_goal, plain_clause, formulas};
 ghost use Rattle.mc_accepted.specs.Scope as scope;
 ghost use Rattle.mc_accepted.specs.Scope.{clause_scoped, occurring, occurring_all};
 ghost use Rattle.mc_goals.specs.code.Outside.{count, more, less, free_by, free_by_all, own_of, scoped_by, parts_by, disjuncts_by};
@@ -77,7 +77,6 @@ fn copied_terms(alloc: Global, terms: &[Expr]) -> Result<Row<Expr>, Memory>
 
 /// A goal with its scopes written out.
 #[cycle(scopes)]
-#[tactic(auto, using(crate::proofs::OutsideCounts::less_more))]
 pub fn scoped_goal(alloc: Global, outside: &mut Outside, goal: &Goal) -> Result<Goal, Memory>
     ensures goal { IfOk result (λ made. plain_goal made
         ≡ scoped_by (count outside.old) (plain_goal goal.now)) }
@@ -88,49 +87,91 @@ pub fn scoped_goal(alloc: Global, outside: &mut Outside, goal: &Goal) -> Result<
         Goal::Conj(goals) => Ok(Goal::Conj(parts(alloc, outside, goals.as_slice())?)),
         Goal::Disj(goals) => Ok(Goal::Disj(disjuncts(alloc, outside, goals.as_slice())?)),
         Goal::Ite(vars, condition, then_part, else_part) => {
-            let vars = vars.as_slice();
-            let made = beside(alloc, outside, condition, vars, then_part)?;
-            let then_part = beside(alloc, outside, then_part, vars, condition)?;
-            let all = with_own(alloc, outside, vars, &made)?;
-            let else_part = scoped_goal(alloc, outside, else_part)?;
-            choice(alloc, all, made, then_part, else_part)
+            scoped_choice(alloc, outside, vars.as_slice(), condition, then_part, else_part)
         }
         Goal::Not(goal) => {
             let goal = scoped_goal(alloc, outside, goal)?;
-            let own = own_variables(alloc, outside, &goal)?;
-            Ok(Goal::Not(Box::new(alloc, quantified(alloc, own, goal)?)?))
+            Ok(Goal::Not(own_quantified(alloc, outside, goal)?))
         }
         Goal::Some(vars, goal) => {
-            outside.add_all(vars.as_slice())?;
-            let goal = scoped_goal(alloc, outside, goal)?;
-            outside.remove_all(vars.as_slice());
-            Ok(Goal::Some(vars.copied(alloc)?, Box::new(alloc, goal)?))
+            let goal = scoped_under(alloc, outside, vars.as_slice(), goal)?;
+            Ok(Goal::Some(vars.copied(alloc)?, goal))
         }
-        Goal::Equal(left, right) => Ok(Goal::Equal(
-            copy_expr(alloc, left)?,
-            copy_expr(alloc, right)?,
-        )),
+        Goal::Equal(left, right) => copied_equation(alloc, left, right),
         Goal::Call(pred, args) => Ok(Goal::Call(*pred, copied_terms(alloc, args.as_slice())?)),
     }
 }
 
-/// The choice of these parts.
-fn choice(
+/// A choice with its scopes written out.
+#[cycle(scopes)]
+fn scoped_choice(
     alloc: Global,
-    vars: Vec<u32>,
-    condition: Goal,
-    then_part: Goal,
-    else_part: Goal,
+    outside: &mut Outside,
+    vars: &[u32],
+    condition: &Goal,
+    then_part: &Goal,
+    else_part: &Goal,
 ) -> Result<Goal, Memory>
-    ensures { IfOk result (λ goal. plain_goal goal
-        ≡ If vars.items (plain_goal condition) (plain_goal then_part) (plain_goal else_part)) }
+    ensures goal { IfOk result (λ made. plain_goal made
+        ≡ scoped_by (count outside.old) (If vars.now (plain_goal condition.now) (plain_goal then_part.now) (plain_goal else_part.now))) }
+    ensures kept { OnOk result (count outside.new ≡ count outside.old) }
 {
-    Ok(Goal::Ite(
-        Row::of(vars)?,
-        Box::new(alloc, condition)?,
-        Box::new(alloc, then_part)?,
-        Box::new(alloc, else_part)?,
-    ))
+    let made = beside(alloc, outside, condition, vars, then_part)?;
+    let all = with_own(alloc, outside, vars, &made)?;
+    let then_part = beside(alloc, outside, then_part, vars, condition)?;
+    let else_part = scoped_part(alloc, outside, else_part)?;
+    Ok(Goal::Ite(all, made, then_part, else_part))
+}
+
+/// A part of a goal with its scopes written out. It is boxed here, since a tree in hand is dear to prove where memory may
+/// be wanting.
+#[cycle(scopes)]
+fn scoped_part(alloc: Global, outside: &mut Outside, goal: &Goal) -> Result<Box<Goal>, Memory>
+    ensures goal { IfOk result (λ made. plain_goal made.value
+        ≡ scoped_by (count outside.old) (plain_goal goal.now)) }
+    ensures kept { OnOk result (count outside.new ≡ count outside.old) }
+{
+    let made = scoped_goal(alloc, outside, goal)?;
+    Ok(Box::new(alloc, made)?)
+}
+
+/// A part of a goal with its scopes written out, under the variables that are quantified over it.
+#[cycle(scopes)]
+#[tactic(auto, using(crate::proofs::OutsideCounts::less_more))]
+fn scoped_under(
+    alloc: Global,
+    outside: &mut Outside,
+    vars: &[u32],
+    goal: &Goal,
+) -> Result<Box<Goal>, Memory>
+    ensures goal { IfOk result (λ made. plain_goal made.value
+        ≡ scoped_by (more (count outside.old) vars.now) (plain_goal goal.now)) }
+    ensures kept { OnOk result (count outside.new ≡ count outside.old) }
+{
+    outside.add_all(vars)?;
+    let made = scoped_part(alloc, outside, goal)?;
+    outside.remove_all(vars);
+    Ok(made)
+}
+
+/// A goal whose scopes are written out, with its own variables quantified around it.
+fn own_quantified(alloc: Global, outside: &mut Outside, goal: Goal) -> Result<Box<Goal>, Memory>
+    ensures goal { IfOk result (λ made. plain_goal made.value
+        ≡ scope.quantified (own_of (count outside.old) (plain_goal goal)) (plain_goal goal)) }
+    ensures kept { OnOk result (count outside.new ≡ count outside.old) }
+{
+    let own = own_variables(alloc, outside, &goal)?;
+    let made = quantified(alloc, own, goal)?;
+    Ok(Box::new(alloc, made)?)
+}
+
+/// An equation of the same terms.
+fn copied_equation(alloc: Global, left: &Expr, right: &Expr) -> Result<Goal, Memory>
+    ensures { IfOk result (λ goal. plain_goal goal
+        ≡ Equal (plain_expression left.now) (plain_expression right.now)) }
+{
+    let left = copy_expr(alloc, left)?;
+    Ok(Goal::Equal(left, copy_expr(alloc, right)?))
 }
 
 /// A condition or its then part with its scopes written out, under the variables that are quantified over both, where
@@ -143,15 +184,15 @@ fn beside(
     goal: &Goal,
     vars: &[u32],
     other: &Goal,
-) -> Result<Goal, Memory>
-    ensures goal { IfOk result (λ made. plain_goal made
+) -> Result<Box<Goal>, Memory>
+    ensures goal { IfOk result (λ made. plain_goal made.value
         ≡ scoped_by (more (more (count outside.old) vars.now) (occurring (plain_goal other.now))) (plain_goal goal.now)) }
     ensures kept { OnOk result (count outside.new ≡ count outside.old) }
 {
     let variables = occurrences(alloc, other)?;
     outside.add_all(vars)?;
     outside.add_all(variables.as_slice())?;
-    let made = scoped_goal(alloc, outside, goal)?;
+    let made = scoped_part(alloc, outside, goal)?;
     outside.remove_all(variables.as_slice());
     outside.remove_all(vars);
     Ok(made)
@@ -164,8 +205,8 @@ fn with_own(
     outside: &mut Outside,
     vars: &[u32],
     condition: &Goal,
-) -> Result<Vec<u32>, Memory>
-    ensures vars { IfOk result (λ all. all.items
+) -> Result<Row<u32>, Memory>
+    ensures vars { IfOk result (λ all. all
         ≡ vars.now ++ own_of (more (count outside.old) vars.now) (plain_goal condition.now)) }
     ensures kept { OnOk result (count outside.new ≡ count outside.old) }
 {
@@ -174,7 +215,7 @@ fn with_own(
     outside.remove_all(vars);
     let mut all = Vec::from_slice(alloc, vars)?;
     all.extend_from_slice(own.as_slice())?;
-    Ok(all)
+    Row::of(all)
 }
 
 /// The variables that occur in a goal, in order.
