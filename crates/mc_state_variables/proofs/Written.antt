@@ -148,24 +148,21 @@ both_ways_is l a b hs n forth m back next e f =
     ∙ ap (λ w. written (at (Conj (more_terms w.text (more_terms (implied l q p hs w.next).text no_term))) l) (implied l q p hs w.next).next) e
 
 -- a clause with a body
-pub rule_is : (l : ℕ) (h b : PlainTerm) (names : List (List ℕ)) (ins : List Held) (m : ℕ) (head text : PlainTerm) (next : ℕ)
+pub rule_is : (l : ℕ) (h b : PlainTerm) (names : List (List ℕ)) (ins : List Held) (m : ℕ)
     → names ≡ states_of h → ins ≡ entered names 0 [] → m ≡ entered_behind names 0
-    → head ≡ term_of ins h → written text next ≡ (goal_of b).branch.writing (put_all [] names) ins m
-    → at (App (codes ":-" ∷ []) (more_terms head (more_terms text no_term))) l
+    → rule_of l (term_of ins h) ((goal_of b).branch.writing (put_all [] names) ins m).text
     ≡ rule_of l (term_of (head_states h) h) ((goal_of b).branch.writing (states_of h) (head_states h) (behind 0 (distinct (states_of h)))).text
-rule_is l h b names ins m head text next f i j k e =
+rule_is l h b names ins m f i j =
     let inside : ins ≡ head_states h = i ∙ ap (λ ns. entered ns 0 []) f in
     let from : m ≡ behind 0 (distinct (states_of h)) = j ∙ ap (λ ns. entered_behind ns 0) f in
-    let body : written text next ≡ (goal_of b).branch.writing (states_of h) (head_states h) (behind 0 (distinct (states_of h))) =
-    e ∙ branch-same b (put_all [] names) names (set_same names) ins m ∙ ap (λ ns. (goal_of b).branch.writing ns ins m) f ∙ ap₂ ((goal_of b).branch.writing (states_of h)) inside from in
-    ap₂ (λ t u. rule_of l t u) (k ∙ ap (λ hs. term_of hs h) inside) (ap (λ w. w.text) body)
+    let body : (goal_of b).branch.writing (put_all [] names) ins m ≡ (goal_of b).branch.writing (states_of h) (head_states h) (behind 0 (distinct (states_of h))) =
+    branch-same b (put_all [] names) names (set_same names) ins m ∙ ap (λ ns. (goal_of b).branch.writing ns ins m) f ∙ ap₂ ((goal_of b).branch.writing (states_of h)) inside from in
+    ap₂ (λ t u. rule_of l t u) (ap (λ hs. term_of hs h) inside) (ap (λ w. w.text) body)
 
 -- a clause without a body
-pub fact_is : (l : ℕ) (h : PlainTerm) (names : List (List ℕ)) (ins : List Held) (head : PlainTerm) (goals : List PlainTerm)
-    → names ≡ states_of h → ins ≡ entered names 0 [] → head ≡ term_of ins h → goals ≡ listed (closings (put_all [] names) [] l ins)
-    → fact_of l head (tms goals) ≡ fact_of l (term_of (head_states h) h) (closings (states_of h) [] l (head_states h))
-fact_is l h names ins head goals f i k e =
+pub fact_is : (l : ℕ) (h : PlainTerm) (names : List (List ℕ)) (ins : List Held)
+    → names ≡ states_of h → ins ≡ entered names 0 []
+    → fact_of l (term_of ins h) (closings (put_all [] names) [] l ins) ≡ fact_of l (term_of (head_states h) h) (closings (states_of h) [] l (head_states h))
+fact_is l h names ins f i =
     let inside : ins ≡ head_states h = i ∙ ap (λ ns. entered ns 0 []) f in
-    let all : tms goals ≡ closings (states_of h) [] l (head_states h) =
-    terms_from_list goals (closings (put_all [] names) [] l ins) e ∙ closings-wanted_set names [] l ins ∙ ap₂ (λ ns hs. closings ns [] l hs) f inside in
-    ap₂ (λ t us. fact_of l t us) (k ∙ ap (λ hs. term_of hs h) inside) all
+    ap₂ (λ t us. fact_of l t us) (ap (λ hs. term_of hs h) inside) (closings-wanted_set names [] l ins ∙ ap₂ (λ ns hs. closings ns [] l hs) f inside)

@@ -119,9 +119,43 @@ pub fn closings_of_then(
         (seen_outside (names_of names.now) (plain_helds reached.now) (plain_helds held.now)))) }
 {
     let hidden = name_set(alloc, names)?;
+    closings_hiding(alloc, wanted, &hidden, then, reached, held, line)
+}
+
+// The same, by the set of those names.
+#[tactic(auto, using(crate::proofs::Lists::adding, crate::proofs::Sets::sets))]
+fn closings_hiding(
+    alloc: Global,
+    wanted: &NameSet<'_>,
+    hidden: &NameSet<'_>,
+    then: &Term,
+    reached: &[Held<'_>],
+    held: &[Held<'_>],
+    line: u32,
+) -> Result<Vec<Term>, Memory>
+    ensures { IfOk result
+        (λ goals.
+        map plain_term goals.items
+        ≡ listed
+        (closings wanted.now (leave_out hidden.now (updated (plain_term then.now))) line
+        (seen_outside hidden.now (plain_helds reached.now) (plain_helds held.now)))) }
+{
+    let updates = updates_outside(alloc, hidden, then)?;
+    closings_behind(alloc, wanted, &updates, hidden, reached, held, line)
+}
+
+// The names that a then part updates, without those that its condition hides.
+#[tactic(auto, using(crate::proofs::Lists::adding))]
+fn updates_outside<'a>(
+    alloc: Global,
+    hidden: &NameSet<'_>,
+    then: &'a Term,
+) -> Result<NameSet<'a>, Memory>
+    ensures { IfOk result
+        (λ names. names ≡ put_all [] (leave_out hidden.now (updated (plain_term then.now)))) }
+{
+    let inner = updated(alloc, then)?;
     let mut seen = Vec::new(alloc);
-    push_others(&mut seen, &hidden, &updated(alloc, then)?)?;
-    let updates = name_set(alloc, &seen)?;
-    let goals = closings_behind(alloc, wanted, &updates, &hidden, reached, held, line)?;
-    Ok(goals)
+    push_others(&mut seen, hidden, &inner)?;
+    name_set(alloc, &seen)
 }

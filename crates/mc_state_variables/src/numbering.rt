@@ -1,6 +1,6 @@
 ghost use Rattle.std.specs.Prelude.{◌≡◌, ◌++◌, [], ◌∷◌, suc, IfOk, OnOk, if◌then◌else◌};
 ghost use Rattle.mc_clause_syntax.specs.States.{names_of, in_scope};
-ghost use Rattle.mc_state_variables.specs.Versions.{renewed, renewed_behind, handed, entered, entered_behind, begun, behind};
+ghost use Rattle.mc_state_variables.specs.Versions.{renewed, renewed_behind, handed, entered, entered_behind, begun, behind, distinct, unnamed};
 ghost use Rattle.mc_state_variables.specs.code.Helds.{plain_held, plain_helds};
 
 use crate::held::{Held, unnamed};
@@ -55,7 +55,6 @@ impl Numbering {
     }
 
     /// What is in scope under a quantifier of these names, whose state variables begin anew.
-    #[tactic(auto, using(crate::proofs::Sets::sets))]
     pub fn entered<'a>(
         &mut self,
         held: &[Held<'a>],
@@ -66,11 +65,24 @@ impl Numbering {
             plain_helds inside.items ≡ entered (names_of names.now) self.old.next (plain_helds held.now)) }
         ensures next { OnOk result (self.new.next ≡ entered_behind (names_of names.now) self.old.next) }
     {
-        let hidden = name_set(self.alloc, names)?;
-        let mut inside = unnamed(self.alloc, &hidden, held)?;
-        let once = distinct(self.alloc, names)?;
-        self.begin(&mut inside, &once)?;
+        let mut inside = not_hidden(self.alloc, names, held)?;
+        self.begin_once(&mut inside, names)?;
         Ok(inside)
+    }
+
+    // Puts a new state variable of each name behind others.
+    fn begin_once<'a>(
+        &mut self,
+        inside: &mut Vec<Held<'a>>,
+        names: &[&'a [u8]],
+    ) -> Result<(), Memory>
+        ensures held { OnOk result
+            (plain_helds inside.new.items
+            ≡ plain_helds inside.old.items ++ begun self.old.next (distinct (names_of names.now))) }
+        ensures next { OnOk result (self.new.next ≡ entered_behind (names_of names.now) self.old.next) }
+    {
+        let once = distinct(self.alloc, names)?;
+        self.begin(inside, &once)
     }
 
     // Puts new state variables behind others.
@@ -129,6 +141,20 @@ impl Numbering {
             Ok(state.after)
         }
     }
+}
+
+// Those in scope that a quantifier of these names doesn't hide.
+#[tactic(auto, using(crate::proofs::Sets::sets))]
+fn not_hidden<'a>(
+    alloc: Global,
+    names: &[&[u8]],
+    held: &[Held<'a>],
+) -> Result<Vec<Held<'a>>, Memory>
+    ensures { IfOk result
+        (λ rest. plain_helds rest.items ≡ unnamed (names_of names.now) (plain_helds held.now)) }
+{
+    let hidden = name_set(alloc, names)?;
+    unnamed(alloc, &hidden, held)
 }
 
 // The version from which what stands behind a goal starts that ended with that version.

@@ -1,4 +1,4 @@
-ghost use Rattle.std.specs.Prelude.{◌≡◌, [], map, reverse, IfOk};
+ghost use Rattle.std.specs.Prelude.{◌≡◌, [], map, reverse, IfOk, OnOk, ◌++◌, ◌∷◌};
 ghost use Rattle.mc_base.specs.NameSets.{put_all};
 ghost use Rattle.mc_term_data.specs.Plain.{plain_term, tms};
 ghost use Rattle.mc_clause_syntax.specs.States.{names_of};
@@ -62,11 +62,25 @@ pub fn steps_in_order<'a>(alloc: Global, goals: &'a [Term]) -> Result<Vec<Step<'
     let mut k = goals.len();
     'back: while k > 0 {
         k -= 1;
-        let names = updated(alloc, &goals[k])?;
-        steps.push(Step::before(alloc, &names, &seen)?)?;
-        put_names(&mut seen, &names)?;
+        push_step(alloc, &mut steps, &mut seen, &goals[k])?;
     }
     Ok(steps)
+}
+
+// Puts the step of a goal behind others, and what it updates to what is updated behind it.
+fn push_step<'a>(
+    alloc: Global,
+    steps: &mut Vec<Step<'a>>,
+    seen: &mut NameSet<'a>,
+    goal: &'a Term,
+) -> Result<(), Memory>
+    ensures steps { OnOk result
+        (steps.new.items ≡ steps.old.items ++ step_of (updated (plain_term goal.now)) seen.old ∷ []) }
+    ensures seen { OnOk result (seen.new ≡ put_all seen.old (updated (plain_term goal.now))) }
+{
+    let names = updated(alloc, goal)?;
+    steps.push(Step::before(alloc, &names, seen)?)?;
+    put_names(seen, &names)
 }
 
 /// The names that each of these goals and those behind it update, the first goal's last.
@@ -80,8 +94,26 @@ pub fn wholes<'a>(alloc: Global, goals: &'a [Term]) -> Result<Vec<NameSet<'a>>, 
     let mut k = goals.len();
     'back: while k > 0 {
         k -= 1;
-        put_new_names(&mut seen, &mut distinct, &updated(alloc, &goals[k])?)?;
-        wholes.push(name_set(alloc, &distinct)?)?;
+        push_whole(alloc, &mut wholes, &mut seen, &mut distinct, &goals[k])?;
     }
     Ok(wholes)
+}
+
+// Puts what a goal updates to what is updated behind it, whose names stand in order too, and both behind other sets.
+fn push_whole<'a>(
+    alloc: Global,
+    wholes: &mut Vec<NameSet<'a>>,
+    seen: &mut NameSet<'a>,
+    in_order: &mut Vec<&'a [u8]>,
+    goal: &'a Term,
+) -> Result<(), Memory>
+    ensures seen { OnOk result (seen.new ≡ put_all seen.old (updated (plain_term goal.now))) }
+    ensures order { OnOk result (names_of in_order.old.items ≡ seen.old → names_of in_order.new.items ≡ seen.new) }
+    ensures wholes { OnOk result
+        (names_of in_order.old.items ≡ seen.old → wholes.new.items ≡ wholes.old.items ++ put_all [] seen.new ∷ []) }
+{
+    let names = updated(alloc, goal)?;
+    put_new_names(seen, in_order, &names)?;
+    wholes.push(name_set(alloc, in_order)?)?;
+    Ok(())
 }
