@@ -1,4 +1,4 @@
 pub mod WellWritten
 pub mod Tested
 pub mod Sources
-pub mod Examples
+pub mod code

@@ -1,4 +1,4 @@
-ghost use Rattle.mc_linking_laws.specs.Examples.{Variables, Circles, Regular, Tables, Hidden};
+ghost use Rattle.mc_linking_laws.specs.code.Examples.{Variables, Circles, Regular, Tables, Hidden};
 
 /// Definitions of types, the rules that they break and the tables that they are.
 pub fn types_of_programs()

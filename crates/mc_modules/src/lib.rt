@@ -1,4 +1,4 @@
-//! Linking: the names of a program, and what a name may mean in a module.
+//! Linking: the names of a program, made of its files.
 #![tactic(auto)]
 
 mod column;
