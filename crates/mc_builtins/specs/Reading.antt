@@ -6,7 +6,8 @@ use Rattle.mc_values.specs.Parts.{IsState}
 use Rattle.mc_values.specs.Heap.{IsLive, value_at}
 use Rattle.mc_values.specs.declared.heap.Heap.{Heap}
 use Rattle.mc_model.specs.Outcomes.{Outcome, reads, reads_and_throws}
-use Rattle.mc_model.specs.Builtins.{line_of, line_limit, Library as Known}
+use Rattle.mc_model.specs.Builtins.{line_of, line_limit}
+use Rattle.mc_model.specs.Builtins.{Library as Known}
 use Rattle.mc_model.specs.declared.run.Input.{Input}
 use Rattle.mc_model.specs.declared.run.Input.TheVariants as I
 use Rattle.mc_builtins.specs.Answers.{plain_exception}

@@ -2,7 +2,8 @@ ghost use Rattle.std.specs.Prelude.{◌≡◌, [], ◌∷◌, All, IfOk, OnErr, 
 ghost use Rattle.mc_values.specs.Heap.{IsLive, height, value_at, values_at, Extends, StandsFor};
 ghost use Rattle.mc_values.specs.Parts.{IsState, taken_of, with_written};
 ghost use Rattle.mc_model.specs.Outcomes.{writes};
-ghost use Rattle.mc_model.specs.Builtins.{outcome, char_list, Library as Known};
+ghost use Rattle.mc_model.specs.Builtins.{outcome, char_list};
+ghost use Rattle.mc_model.specs.Builtins.{Library as Known};
 ghost use Rattle.mc_builtins.specs.Answers.{known, IsOf, Tells};
 ghost use Rattle.mc_builtins.specs.code.Made.{made_outcome, written_text};
 

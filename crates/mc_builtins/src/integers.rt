@@ -2,7 +2,8 @@ ghost use Rattle.std.specs.Prelude.{◌≡◌, ◌≢◌, ℕ, List, [], ◌∷�
 ghost use Rattle.std.specs.Int.{w64, int_wrap};
 ghost use Rattle.std.specs.Int.RustNames.{int_div, int_rem};
 ghost use Rattle.mc_program.specs.Values.{int};
-ghost use Rattle.mc_model.specs.Builtins.{outcome, int_floor, int_mod, Library as Known};
+ghost use Rattle.mc_model.specs.Builtins.{outcome, int_floor, int_mod};
+ghost use Rattle.mc_model.specs.Builtins.{Library as Known};
 ghost use Rattle.mc_builtins.specs.code.Made.{made_outcome, number_made, test_made, quotient_of};
 
 use crate::made::Made;

@@ -2,7 +2,8 @@ ghost use Rattle.std.specs.Prelude.{◌≡◌, ℕ, List, [], ◌∷◌, IfOk, l
 ghost use Rattle.std.specs.Str.{IsUtf8, chars};
 ghost use Rattle.std.specs.Fmt.{signed_decimal};
 ghost use Rattle.mc_program.specs.Values.{int, char, str};
-ghost use Rattle.mc_model.specs.Builtins.{outcome, char_of_code, parsed_int, Library as Known};
+ghost use Rattle.mc_model.specs.Builtins.{outcome, char_of_code, parsed_int};
+ghost use Rattle.mc_model.specs.Builtins.{Library as Known};
 ghost use Rattle.mc_builtins.specs.code.Made.{made_outcome};
 
 use crate::integers::test;

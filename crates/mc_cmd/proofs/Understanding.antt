@@ -8,7 +8,8 @@ use Rattle.mc_compile.specs.declared.executable.Executable.{Executable}
 use Rattle.mc_compile.specs.declared.executable.Goal.{Goal}
 use Rattle.mc_compile.specs.declared.given.Given.{Given}
 use Rattle.mc_compile.specs.declared.given.Query.{Query as GivenQuery}
-use Rattle.mc_compile.specs.Sources.{texts_of, text_of, sources_of as given_sources, is_first as is_first_wanted}
+use Rattle.mc_compile.specs.Sources.{texts_of, text_of}
+use Rattle.mc_compile.specs.Sources.{sources_of as given_sources, is_first as is_first_wanted}
 use Rattle.mc_cmd.specs.Outcome.{sources_of, query_of, is_first, is_run}
 use Rattle.mc_cmd.specs.declared.decision.Decision.{Decision}
 use Rattle.mc_cmd.specs.declared.decision.Decision.TheVariants as D

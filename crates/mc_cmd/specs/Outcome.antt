@@ -5,7 +5,8 @@ use Rattle.std.specs.FinMap as finmap
 use Rattle.mc_outside.specs.Meaning.{Held, first_part}
 use Rattle.mc_command_line.specs.Words.{Meaning, Check, Run, Query, Bounds, meaning, query_text}
 use Rattle.mc_program.specs.Values.{Val, state}
-use Rattle.mc_program.specs.Printed.{printed, names_of as program_names}
+use Rattle.mc_program.specs.Printed.{printed}
+use Rattle.mc_program.specs.Printed.{names_of as program_names}
 use Rattle.mc_model.specs.Builtins.{outcome}
 use Rattle.mc_model.specs.EventList.{Items}
 use Rattle.mc_model.specs.Stream.{run_call, run_query}

@@ -1,6 +1,7 @@
 ghost use Rattle.std.specs.Prelude.{◌≡◌, ◌≤◌, length, map, string_bytes, IfOk, IfErr};
 ghost use Rattle.mc_command_line.specs.Plain.{plain_bounds, plain_command, plain_texts};
-ghost use Rattle.mc_compile.specs.Sources.{texts_of, text_of, is_first as is_first_wanted};
+ghost use Rattle.mc_compile.specs.Sources.{texts_of, text_of};
+ghost use Rattle.mc_compile.specs.Sources.{is_first as is_first_wanted};
 ghost use Rattle.mc_cmd.specs.Messages.{absent_line, unreadable_line};
 ghost use Rattle.mc_cmd.specs.Outcome.{bounds_of, files_of, query_of, is_first, is_run};
 ghost use Rattle.mc_cmd.specs.Call.{HoldTexts};

@@ -1,7 +1,8 @@
 -- A command's values as those of its meaning.
 use Rattle.std.specs.Prelude.{ℕ, List, map}
 use Rattle.std.specs.Borrow.{Bor}
-use Rattle.mc_command_line.specs.Words.{Meaning, Check, Run, Query, Bounds as SpecBounds}
+use Rattle.mc_command_line.specs.Words.{Meaning, Check, Run, Query}
+use Rattle.mc_command_line.specs.Words.{Bounds as SpecBounds}
 use Rattle.mc_command_line.specs.declared.limits.Bounds.{Bounds}
 use Rattle.mc_command_line.specs.declared.words.Command.{Command}
 use Rattle.mc_command_line.specs.declared.words.Command.TheVariants as command

@@ -6,9 +6,10 @@ use Rattle.mc_source.specs.declared.rule.Broken.{Broken}
 use Rattle.mc_items.specs.Laws.{AtMostOneList, AtMostOneGoal, NotGoalAndBroken, AtMostOneQueryRefusal}
 use Rattle.mc_type_table.specs.Sight.{definitions_seen}
 use Rattle.mc_clause_phase.specs.Laws as L
-use Rattle.mc_compile.specs.Reading.{plain_goal, Reading, FileReads, FilesRead, QueryReads, counted, rules_from, items_from, PlainRead, Reads}
+use Rattle.mc_compile.specs.Reading.{plain_goal}
 use Rattle.mc_compile.specs.Phases.{Refusal, unless_broken, AtMostOne}
 use Rattle.mc_compile.specs.Library.{library_texts}
+use Rattle.mc_compile.specs.Reading.{Reading, FileReads, FilesRead, QueryReads, counted, rules_from, items_from, PlainRead, Reads}
 use Rattle.mc_compile.specs.Linking.{PlainNamed, library_behind, linking_rules_of, linked_with, Links}
 use Rattle.mc_compile.specs.Typing.{Types}
 use Rattle.mc_compile.specs.Checking.{items_of, Clauses}

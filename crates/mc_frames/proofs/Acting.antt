@@ -12,7 +12,8 @@ use Rattle.mc_model.specs.EventList.{Items, End, Stopped, Wrote, Read, thrown, o
 use Rattle.mc_model.specs.Outcomes.{Outcome, fails, gives, throws, writes, reads, reads_and_throws}
 use Rattle.mc_model.specs.Builtins.{outcome}
 use Rattle.mc_model.specs.Stream.{Bindings, unify, gather, outcome_items, apply_items}
-use Rattle.mc_builtins.specs.Answers.{known, IsText, IsOf, output_at, ReadsFrom as OutcomeReads}
+use Rattle.mc_builtins.specs.Answers.{known, IsText, IsOf, output_at}
+use Rattle.mc_builtins.specs.Answers.{ReadsFrom as OutcomeReads}
 use Rattle.mc_builtins.specs.declared.library.Library.{Library}
 use Rattle.mc_frames.specs.Values.{IsValue, IsHeld, AreLive, HasLists}
 use Rattle.mc_frames.specs.Frames.{bindings, given}

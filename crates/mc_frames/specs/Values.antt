@@ -7,7 +7,8 @@ use Rattle.mc_program.specs.Printed.{Names}
 use Rattle.mc_program.specs.declared.program.Program.{Program}
 use Rattle.mc_program.specs.declared.builtin.Builtin.{Builtin}
 use Rattle.mc_program.specs.declared.builtin.Builtin.TheVariants.{ToCharList, ReadLine}
-use Rattle.mc_model.specs.Builtins.{fits_64, is_scalar, Library as Known}
+use Rattle.mc_model.specs.Builtins.{fits_64, is_scalar}
+use Rattle.mc_model.specs.Builtins.{Library as Known}
 use Rattle.mc_values.specs.Heap.{IsLive, value_at}
 use Rattle.mc_values.specs.declared.heap.Heap.{Heap}
 use Rattle.mc_builtins.specs.Answers.{known}

@@ -37,8 +37,9 @@ impl From<Memory> for InstFault {
     }
 }
 
-ghost use Rattle.mc_insts.specs.Defining.{plain_definitions, bounds_of, Defined, DefinitionsFit, AreSound, IsFault, plain_definition, plain_choice, FitsThere, AllFitThere, ChoicesFit, DefinitionFits, IsSound, IsNode};
+ghost use Rattle.mc_insts.specs.Defining.{plain_definitions, bounds_of, Defined, DefinitionsFit, AreSound, IsFault};
 ghost use Rattle.mc_accepted.specs.InstRules.{PlainInstDef, IsUnfounded, HasFreeInside, StandsFor, OneIsFree, OneHasFree, definition_at};
+ghost use Rattle.mc_insts.specs.Defining.{plain_definition, plain_choice, FitsThere, AllFitThere, ChoicesFit, DefinitionFits, IsSound, IsNode};
 ghost use Rattle.mc_insts.specs.code.Chains.{AllThere, ChainsAre, FirstChains, ChainsNodes, FaultAt, InstsAre};
 
 /// Where an inst leads by itself.

@@ -1,7 +1,8 @@
 -- The computed examples of definitions.
 use Rattle.std.proofs.Common.{◌≡◌, inl, inr, ℕ, zero, suc, ◌<◌, Option, Some, None, refl, arith, ⊎_elim}
 use Rattle.mc_accepted.specs.InstRules.{definition_at, named_by, at_once, by_another, IsUnfounded, HasFreeInside, that_node, another_name as by_name}
-use Rattle.mc_insts.specs.Defining.{there, made, another_name, AreSound}
+use Rattle.mc_insts.specs.Defining.{there, made, another_name}
+use Rattle.mc_insts.specs.Defining.{AreSound}
 use Rattle.mc_insts_tests.specs.Definitions.{Forward, ring, Ring, inside, Inside, Both}
 use Rattle.mc_insts.proofs.Chained.{step_out, along, node_next, ring_lost, first_step}
 

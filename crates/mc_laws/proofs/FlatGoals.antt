@@ -2,7 +2,8 @@
 use Rattle.std.proofs.Common.{◌≡◌, ◌⊎◌, inl, inr, ℕ, List, [], ◌∷◌, ◌++◌, refl, sym, ap, subst, ⊎_elim}
 use Rattle.mc_model.specs.Truth.{Assignment, SameOff, Facts}
 use Rattle.mc_model.specs.Flat as F
-use Rattle.mc_model.specs.Flat.{Flat_goal, Flat_goals, no_flat, flat_then, FlatYes, FlatNo, FlatAllYes, FlatOneNo, flats}
+use Rattle.mc_model.specs.Flat.{Flat_goal, Flat_goals, no_flat, flat_then, FlatYes, FlatNo, FlatAllYes, FlatOneNo}
+use Rattle.mc_model.specs.Flat.{flats}
 use Rattle.mc_accepted.specs.Normal.{listed_flats, conjuncts, all_conjuncts, one_or_and, conjunction, around}
 use Rattle.mc_model.specs.Lists.{In}
 

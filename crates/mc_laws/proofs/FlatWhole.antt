@@ -5,7 +5,8 @@ use Rattle.mc_program.specs.Values.{Val, int}
 use Rattle.mc_program.specs.Programs.{Formula, Equal, Call, And, Or, If, Not, Exists, Formulas, no_formulas, formula_then}
 use Rattle.mc_model.specs.Truth.{Assignment, SameOff, Facts, Choice, ForSome, ForEach, atoms, atoms_all, AtomYes, AreEqual, pair, YesBy, NoBy, AllYesBy, OneNoBy, OneYes, AllNo, stage}
 use Rattle.mc_model.specs.Flat as F
-use Rattle.mc_model.specs.Flat.{Flat_goal, Flat_goals, no_flat, flat_then, FlatYes, FlatNo, FlatAllYes, FlatOneYes, FlatAllNo, FlatOneNo, flats}
+use Rattle.mc_model.specs.Flat.{Flat_goal, Flat_goals, no_flat, flat_then, FlatYes, FlatNo, FlatAllYes, FlatOneYes, FlatAllNo, FlatOneNo}
+use Rattle.mc_model.specs.Flat.{flats}
 use Rattle.mc_accepted.specs.Normal.{disjuncts, all_disjuncts, conjunction, name_terms, equation, conjuncts_of, conjuncts_of_all, disjuncts_of}
 use Rattle.mc_laws.specs.FlatLaws.{Uses, AllUse, Numbers, flat_goal, FlatGoalsCarry}
 use Rattle.mc_laws.proofs.FlatGoals.{in_left, in_right, in_either, AllFlatYes, OneFlatNo, all_split, one_split, flats_listed, conjunction_yes, conjunction_no, around_yes, around_no}

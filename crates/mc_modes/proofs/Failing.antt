@@ -14,7 +14,7 @@ use Rattle.mc_mode_points.specs.declared.state.State.{State}
 use Rattle.mc_mode_points.specs.declared.part.Part.{Part}
 use Rattle.mc_mode_points.specs.declared.fault.Failed.{Failed}
 use Rattle.mc_mode_points.specs.declared.fault.Failed.TheVariants as E
-use Rattle.mc_mode_points.proofs.Steps.{stepped-refl, stepped-trans}
+use Rattle.mc_mode_points.proofs.Steps.{stepped-refl}
 use Rattle.mc_modes.specs.Tries.{Try, Told, trying, tells_outside, Does, Goes, Runs}
 use Rattle.mc_modes.specs.code.Parts.{IsOne, trying_beside, then_try, DoesBranch, DoesTest, DoesTestAndThen, IsCondition, IsBegun, outer_of}
 use Rattle.mc_modes.specs.declared.ending.Condition.{Condition}
@@ -23,6 +23,7 @@ use Rattle.mc_modes.proofs.Choosing.{test-breaks, then-breaks, choice-fails, els
 use Rattle.mc_modes.proofs.Closing.{negation-fails}
 use Rattle.mc_modes.proofs.Merging.{BranchesSoFar, branch-breaks, disjunction-fails}
 use Rattle.mc_modes.proofs.Ways.{goes, fails-wrapped}
+use Rattle.mc_mode_points.proofs.Steps.{stepped-trans}
 
 pub failed-wrapped : (told : Told) (a : Try) (b : Point ℕ) (f : Chosen → ℕ → Option (Point ℕ) → Nodes → Scheduled) (q r : PlainProcs) (s t : State) (e : Failed)
     → Does told a q r s t (Err e) → Goes told (λ O C T. wrapped (of_nodes C) (f C) b (a O C T)) q r s t (Err e)

@@ -3,12 +3,13 @@ use Rattle.std.proofs.Common.{◌≡◌, ℕ, zero, suc, ◌+◌, ◌<◌, ◌�
 use Rattle.std.specs.Prelude.{All}
 use Rattle.std.proofs.lemmas.List.{take_more, map_push}
 use Rattle.std.proofs.lemmas.List.Elements.{All-push, All-tail}
-use Rattle.mc_program.specs.Values.{Val, plain_value, int, char, str, con, state}
+use Rattle.mc_program.specs.Values.{Val, plain_value}
 use Rattle.mc_program.specs.declared.value.Value.{Value}
 use Rattle.mc_program.specs.declared.program.Program.{Program}
 use Rattle.mc_values.specs.declared.heap.Heap.{Heap}
 use Rattle.mc_values.specs.Heap.{IsLive, Extends, StandsFor, value_at, values_at}
 use Rattle.mc_frames.specs.Values.{IsConstant, IsProper, IsValue}
+use Rattle.mc_program.specs.Values.{int, char, str, con, state}
 
 pub next_of : {A : Type 0} (xs : List A) (n : ℕ) (x : A) → n < length xs → get_or xs n x ≡ x → take (n + 1) xs ≡ take n xs ++ x ∷ []
 next_of xs n x lt is = take_more xs n x lt ∙ ap (λ y. take n xs ++ y ∷ []) is

@@ -1,9 +1,10 @@
 -- Each step of a run with its heap, from what its stacks and atoms do.
 use Rattle.std.proofs.Common.{◌≡◌, ℕ, false, refl, sym, ap, subst, ◌∙◌, Option, Some, None, List, [], ◌∷◌, length, map, reverse, get_or}
-use Rattle.std.specs.Prelude.{slice_get, option_map, Vec}
+use Rattle.std.specs.Prelude.{slice_get, option_map}
 use Rattle.std.proofs.lemmas.Option.{slice_get-map, get_or_from_slice_get, slice_get_within}
 use Rattle.mc_values.specs.declared.heap.Heap.{Heap}
 use Rattle.mc_values.specs.Heap.{Extends, value_at}
+use Rattle.std.specs.Prelude.{Vec}
 use Rattle.std.specs.Global.{Global}
 use Rattle.mc_frames.specs.Frames.{bindings}
 use Rattle.mc_frames.specs.Values.{IsHeld, AreHeld}

@@ -1,11 +1,12 @@
 -- How the text of a value falls into what is written from its front.
 use Rattle.std.proofs.Common.{◌≡◌, ℕ, ◌<◌, List, [], ◌∷◌, ◌++◌, Bool, true, false, refl, ap, sym, ◌∙◌, nat_eq, append_assoc, map, subst, if◌then◌else◌}
 use Rattle.std.proofs.lemmas.List.{append-nil, map-append}
-use Rattle.mc_program.specs.Values.{plain_value, Val, con, vals}
+use Rattle.mc_program.specs.Values.{plain_value}
 use Rattle.mc_program.specs.declared.value.Value.{Value, Con}
 use Rattle.mc_program.proofs.Views.{plain_value-Con}
 use Rattle.std.specs.Prelude.{codes}
 use Rattle.std.specs.Cmp.Lexicographic.{pointwise}
+use Rattle.mc_program.specs.Values.{Val, con, vals}
 use Rattle.mc_program.specs.Printed.{printed, printed_tail, printed_tails, printed_more, name_at, name_text, is_cell, SymbolsBelow, AllSymbolsBelow}
 use Rattle.mc_print.specs.declared.value.Place.{Place}
 use Rattle.mc_print.specs.declared.value.Place.TheVariants.{Whole, Tail}

@@ -6,8 +6,10 @@ use Rattle.std.specs.Fmt.{signed_decimal}
 use Rattle.std.proofs.lemmas.Bool.{eqb-true, lt-ltb, ltb-true, leb-true}
 use Rattle.std.proofs.lemmas.List.Folds.{list_all-append}
 use Rattle.std.proofs.lemmas.List.{get_or_append_left}
-use Rattle.mc_program.specs.Printed.{in_quotes, is_bare, is_lower, is_word_byte, name_text, single_quote, double_quote, hex_digit, escaped as printed_byte}
-use Rattle.mc_tokens.specs.Classes.{is_name_tail, is_digit_of, is_blank, is_lower as starts_name}
+use Rattle.mc_program.specs.Printed.{in_quotes, is_bare, is_lower, is_word_byte, name_text, single_quote, double_quote, hex_digit}
+use Rattle.mc_program.specs.Printed.{escaped as printed_byte}
+use Rattle.mc_tokens.specs.Classes.{is_name_tail, is_digit_of, is_blank}
+use Rattle.mc_tokens.specs.Classes.{is_lower as starts_name}
 use Rattle.mc_tokens.specs.Utf8.{at}
 use Rattle.mc_tokens.specs.Tokens.{Tok, token, is_int, names, ends_item}
 use Rattle.mc_tokens.specs.Contents.{stands_for}

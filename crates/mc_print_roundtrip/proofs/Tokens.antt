@@ -7,9 +7,11 @@ use Rattle.std.proofs.lemmas.Fmt.{decimal_by_steps}
 use Rattle.std.proofs.lemmas.Bool.{ne_eqb, lt-ltb, le-ltb, eqb-true}
 use Rattle.std.proofs.lemmas.List.{append-nil, get_or_append_left, get_or-append-add}
 use Rattle.mc_program.specs.Printed.{in_quotes, is_bare, is_lower, is_word_byte}
-use Rattle.mc_tokens.specs.Classes.{is_name_tail, is_symbol, is_digit_of, hex_digit, hex_value, starts_var, between, is_lower as starts_name}
+use Rattle.mc_tokens.specs.Classes.{is_name_tail, is_symbol, is_digit_of, hex_digit, hex_value, starts_var, between}
+use Rattle.mc_tokens.specs.Classes.{is_lower as starts_name}
 use Rattle.mc_tokens.specs.Utf8.{at}
-use Rattle.mc_tokens.specs.Tokens.{Tok, Fault, token, begun, first, is_int, quoted, digits, of_form, form, form_after_zero, number, spelled, decimal as decimal_token}
+use Rattle.mc_tokens.specs.Tokens.{Tok, Fault, token, begun, first, is_int, quoted, digits, of_form, form, form_after_zero, number, spelled}
+use Rattle.mc_tokens.specs.Tokens.{decimal as decimal_token}
 use Rattle.mc_tokens.specs.Contents.{stands_for}
 use Rattle.mc_tokens.specs.declared.begins.First.TheVariants.{Lower, Digit}
 use Rattle.mc_tokens.specs.declared.begins.Form.TheVariants.{Decimal}

@@ -2,8 +2,9 @@
 use Rattle.std.proofs.Common.{◌≡◌, ℕ, suc, ◌+◌, Bool, true, false, cond, not, List, [], ◌∷◌, ◌++◌, refl, sym, ap, ◌∙◌, subst, arith, ℤ, pos, negsuc}
 use Rattle.std.specs.Prelude.{◌==◌, ◌≢◌, nat_eq, codes, encode_utf8, IsUtf8}
 use Rattle.std.specs.Fmt.{signed_decimal}
-use Rattle.std.specs.Cmp.Lexicographic.{pointwise, same_text}
+use Rattle.std.specs.Cmp.Lexicographic.{pointwise}
 use Rattle.std.proofs.lemmas.List.{append-nil, append_assoc}
+use Rattle.std.specs.Cmp.Lexicographic.{same_text}
 use lib.Utf8.{scalar}
 use Rattle.mc_program.specs.Values.{Val, int, char, str, con, state, Vals, no_vals, val_then}
 use Rattle.mc_program.specs.Printed.{printed, printed_more, printed_tail, name_at, name_text, constant_text, is_nil, is_bare, in_quotes, single_quote, double_quote}

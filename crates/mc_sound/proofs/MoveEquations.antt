@@ -3,22 +3,29 @@ use Rattle.std.proofs.Common.{◌≡◌, ◌≢◌, inl, inr, ℕ, ◌<◌, List
 use Rattle.mc_program.specs.Programs.{TypeTerm}
 use Rattle.mc_model.specs.Lists.{In, Among}
 use Rattle.mc_model.specs.Flat.{Flat_goal, variables_of}
-use Rattle.mc_model.specs.Stream.{Bindings, Calls, meet, made_items, same_items, stream_of, unify, gather}
+use Rattle.mc_model.specs.Stream.{Bindings, Calls, meet, made_items, same_items, stream_of}
 use Rattle.mc_model.specs.Scheduled.{Scheduled, Assign, Test, Build, Take, Const, TestConst}
-use Rattle.mc_accepted.specs.Ordered.{Insts, also, take_all, is_state, Ordered, IsSymbolOver}
-use Rattle.mc_accepted.specs.Determined.{Known, take_determinism}
-use Rattle.mc_accepted.specs.Typing.{TypedGoal, constructor_types}
-use Rattle.mc_model.specs.Good.{System, TypeChoice, BoundAs}
+use Rattle.mc_accepted.specs.Ordered.{Insts, also, take_all, is_state, Ordered}
+use Rattle.mc_accepted.specs.Determined.{Known}
+use Rattle.mc_accepted.specs.Typing.{TypedGoal}
+use Rattle.mc_model.specs.Good.{System, TypeChoice}
 use Rattle.mc_accepted.specs.ProperTypes.{Parameters, ProperType}
 use Rattle.mc_accepted.specs.Fits.{Fits}
-use Rattle.mc_sound.specs.code.Passes.{Closed, TypedAt, CallsSound, Sound}
-use Rattle.mc_sound.specs.code.Moves.{Calm, World, Holds, HoldsAfter, Shares, SharesAt}
+use Rattle.mc_sound.specs.code.Passes.{Closed, TypedAt, CallsSound}
+use Rattle.mc_sound.specs.code.Moves.{Calm, World, Holds, HoldsAfter}
 use Rattle.mc_accepted.specs.Ordered as O
 use Rattle.mc_sound.proofs.MoveArms.{quiet_same, quiet_made, quiet_option}
 use Rattle.mc_program.specs.Values.{Val, int, char, str, con, state, listed}
 use Rattle.mc_model.specs.Insts.{dead, AllowsSymbol, AllWithin}
 use Rattle.mc_model.specs.EventList.{of_option}
+use Rattle.mc_model.specs.Good.{BoundAs}
 use Rattle.mc_source.specs.Determinism.{Determinism}
+use Rattle.mc_accepted.specs.Ordered.{IsSymbolOver}
+use Rattle.mc_accepted.specs.Determined.{take_determinism}
+use Rattle.mc_accepted.specs.Typing.{constructor_types}
+use Rattle.mc_model.specs.Stream.{unify, gather}
+use Rattle.mc_sound.specs.code.Passes.{Sound}
+use Rattle.mc_sound.specs.code.Moves.{Shares, SharesAt}
 use Rattle.std.proofs.lemmas.Bool.{eqb-true}
 use Rattle.mc_laws.proofs.Inclusions.{allows_over, over_one}
 use Rattle.mc_sound.proofs.Atoms

@@ -1,7 +1,7 @@
 -- What calls do to the world gives what a run of main's form writes.
 use Rattle.std.proofs.Common.{◌≡◌, ◌⊎◌, inl, length, ℕ, zero, suc, ◌<◌, List, [], ◌∷◌, ◌++◌, false, Option, Some, None, refl, sym, ap, ap₂, ◌∙◌, subst, arith}
 use Rattle.mc_program.specs.Values.{Val, state}
-use Rattle.mc_program.specs.Programs.{TypeTerm, state_type}
+use Rattle.mc_program.specs.Programs.{TypeTerm}
 use Rattle.mc_model.specs.EventList.{Items, Each, written}
 use Rattle.mc_model.specs.Stream.{below, calls, run_call}
 use Rattle.mc_accepted.specs.Ordered.{Mode, modes_of_procedure, zipped}
@@ -12,6 +12,7 @@ use Rattle.mc_accepted.specs.Accepted.{Accepted}
 use Rattle.mc_sound.specs.code.Moves.{World, Flow, Tells, OnePlace, Taken, Handed, Returned, CallsMove, ReturnedBy, EachShares, StateAt, AllowsShared, TidyModes, TidyProcedures}
 use Rattle.mc_accepted.specs.Tidy.{EachTidy}
 use Rattle.mc_accepted.specs.Inclusion.{Path}
+use Rattle.mc_program.specs.Programs.{TypeTerm, state_type}
 use Rattle.mc_sound.proofs.MoveEntry.{calls_move}
 use Rattle.mc_sound.proofs.Entry.{calls_sound}
 use Rattle.mc_sound.proofs.LendEntry.{calls_lend}

@@ -1,15 +1,15 @@
 -- The third pass: what goals do to the world.
 use Rattle.std.proofs.Common.{◌≡◌, ◌⊎◌, inl, inr, ℕ, ◌<◌, ◌≤◌, List, [], ◌∷◌, ◌++◌, length, Bool, true, false, cond, ◌||◌, ◌&&◌, not, Option, Some, None, refl, sym, ◌∙◌, subst, arith, ⊎_elim}
-use Rattle.mc_program.specs.Values.{Val, same_value}
+use Rattle.mc_program.specs.Values.{Val}
 use Rattle.mc_program.specs.Programs.{TypeTerm}
 use Rattle.mc_model.specs.Flat.{Flat_goal, Flat_goals, variables_of, variables_of_all, free_in}
 use Rattle.mc_model.specs.Lists.{without, In, Among}
-use Rattle.mc_model.specs.EventList.{Items, End, Answer, append, answers, Succeeds, bind, first, of_option}
-use Rattle.mc_model.specs.Stream.{Bindings, Calls, pruned_to, stream, stream_of, stream_all, stream_any, stream_arms, same_items, is_bound}
+use Rattle.mc_model.specs.EventList.{Items, End, Answer, append, answers, Succeeds}
+use Rattle.mc_model.specs.Stream.{Bindings, Calls, pruned_to, stream, stream_of, stream_all, stream_any, stream_arms}
 use Rattle.mc_model.specs.Scheduled.{Label, Node, node, Scheduled, Ite, Not, Assign, Test, Build, Take, Const, TestConst, Call, Apply, Nodes, Arms}
 use Rattle.mc_source.specs.Determinism.{Determinism, disj, ite, pruned, rank, det}
 use Rattle.mc_model.specs.Outcomes.{inputs_of}
-use Rattle.mc_accepted.specs.Ordered.{Insts, IsLabel, AbsentFrom, arm_goal, at_inputs, at_outputs, tested_by, Ordered, OrderedNode, OrderedAll, OrderedAny, OrderedArms, variables_of_node, variables_of_nodes, TestsInOrder, implied_places, modes_of, firsts, unless_never}
+use Rattle.mc_accepted.specs.Ordered.{Insts, IsLabel, AbsentFrom, arm_goal, at_inputs, at_outputs, tested_by, Ordered, OrderedNode, OrderedAll, OrderedAny, OrderedArms, variables_of_node, variables_of_nodes}
 use Rattle.mc_accepted.specs.Determined.{Known, learned, insts_after, determined, determined_in, determined_all, determined_any, is_io, is_io_in, one_is_io, arm_is_io, none_fails, no_disjunct_fails, IoHere, IoPlaced, IoPlacedIn, IoAllPlaced, IoEachPlaced, IoArmsPlaced}
 use Rattle.mc_accepted.specs.Typing.{TypedGoal, TypedGoals}
 use Rattle.mc_model.specs.Good.{System, TypeChoice}
@@ -21,7 +21,7 @@ use Rattle.mc_sound.specs.code.Moves.{Calm, World, Moves, Holds, HoldsAfter, Cal
 use Rattle.mc_accepted.specs.Ordered as O
 use Rattle.mc_source.specs.declared.det.Most.{Most}
 use Rattle.mc_source.specs.declared.det.Most.TheVariants.{Zero, One, Many}
-use Rattle.mc_sound.proofs.Changes.{node_after, closed_after, closed_more, node_from, apply_from}
+use Rattle.mc_sound.proofs.Changes.{node_after, closed_after, closed_more, node_from}
 use Rattle.mc_sound.proofs.Combine
 use Rattle.mc_sound.proofs.Combine.{among_left, among_both, among_two, knows_more}
 use Rattle.mc_sound.proofs.MoveArms.{opens_calm}
@@ -33,7 +33,12 @@ use Rattle.mc_sound.proofs.MoveCallAtoms.{call_atom}
 use Rattle.mc_sound.proofs.MoveBuiltins.{apply_moves}
 use Rattle.mc_sound.proofs.TellFresh.{append_end}
 use Rattle.mc_sound.proofs.Callings
+use Rattle.mc_sound.proofs.Changes.{apply_from}
 use Rattle.mc_accepted.specs.BuiltinTypes.{Library_types}
+use Rattle.mc_model.specs.EventList.{bind, first, of_option}
+use Rattle.mc_model.specs.Stream.{same_items, is_bound}
+use Rattle.mc_program.specs.Values.{same_value}
+use Rattle.mc_accepted.specs.Ordered.{TestsInOrder, implied_places, modes_of, firsts, unless_never}
 use Rattle.mc_sound.proofs.Sound as Sounds
 use Rattle.mc_sound.proofs.Sound.{picks_goal, picks_rest, picks_typed, parts_typed, parts_some, parts_others, arm_typed, arm_variables, knows_learned, PairsIn, fresh_split, fresh_pairs, in_inputs, in_outputs}
 use Rattle.mc_sound.proofs.Typed

@@ -1,5 +1,6 @@
 -- Goals behind others, and branches that are one or several.
-use Rattle.std.proofs.Common.{◌≡◌, ℕ, zero, nat_eq, true, false, ◌≤◌, ◌-◌, ◌+◌, ◌<◌, List, [], ◌∷◌, ◌++◌, length, map, reverse, drop, get_or, refl, ap, sym, ◌∙◌, arith, drop-cons, suc, ap₂}
+use Rattle.std.proofs.Common.{◌≡◌, ℕ, zero, nat_eq, true, false, ◌≤◌, ◌-◌, ◌+◌, ◌<◌, List, [], ◌∷◌, ◌++◌, length, map, reverse, drop, get_or, refl, ap, sym, ◌∙◌, arith}
+use Rattle.std.proofs.Common.{drop-cons, suc, ap₂}
 use Rattle.std.proofs.lemmas.Grind.{reverse_onto}
 use Rattle.mc_term_data.specs.Plain.{PlainTerm, PlainTerms, PlainNode, at, no_term, more_terms, Var, Int, Str, App, Items, Tailed, Conj, Disj, plain_term, plain_node, node_step, term_step, tms}
 use Rattle.mc_term_data.specs.declared.term.Term.{Term, roll-Term}

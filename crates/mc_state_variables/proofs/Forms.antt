@@ -6,8 +6,9 @@ use Rattle.mc_term_data.specs.Names.{count}
 use Rattle.mc_clause_syntax.specs.declared.goal_form.GoalForm.{GoalForm}
 use Rattle.mc_clause_syntax.specs.declared.goal_form.GoalForm.TheVariants as G
 use Rattle.mc_clause_syntax.specs.GoalForms.{goal_form}
-use Rattle.mc_state_variables.specs.Updates.{updated, updated_by, updated_each, leave_out}
+use Rattle.mc_state_variables.specs.Updates.{updated, updated_by, updated_each}
 use Rattle.mc_state_variables.specs.Versions.{Held, closings, and_then, entered_behind, seen_outside}
+use Rattle.mc_state_variables.specs.Updates.{leave_out}
 use Rattle.mc_state_variables.proofs.Sets.{HaveSame, closings-same}
 use Rattle.mc_state_variables.specs.Numbered.{Goal, Part, Branch, Condition, Written, written, on_text, goal_of, goals_of, goal_by, branch_of, conditional, arrow, inside, behind_condition, ended}
 

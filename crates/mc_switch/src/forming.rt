@@ -1,9 +1,10 @@
 ghost use Rattle.std.specs.Prelude.{◌≡◌, true, length, map, IfOk, OnOk};
 ghost use Rattle.std.specs.List.{list_all};
-ghost use Rattle.mc_model.specs.Scheduled.{nodes, Disj};
+ghost use Rattle.mc_model.specs.Scheduled.{nodes};
 ghost use Rattle.mc_model.specs.PlainGoals.{plain_node, plain_sched, plain_arm, arms_of};
 ghost use Rattle.mc_accepted.specs.Determined.{insts_after};
 ghost use Rattle.mc_accepted.specs.Ordered.{change_at};
+ghost use Rattle.mc_model.specs.Scheduled.{Disj};
 ghost use Rattle.mc_procs.specs.Named.{Named, NamedIn, EachNamed, EachArmNamed, ChangesNamed};
 ghost use Rattle.mc_det.specs.code.Points.{undone};
 ghost use Rattle.mc_switch.specs.code.Grouping.{nodes_of};

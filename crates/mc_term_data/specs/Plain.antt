@@ -1,9 +1,10 @@
 -- Terms as plain data, without rows and boxes (the Mercury manual, Syntax).
-use Rattle.std.specs.Prelude.{ℕ, ℤ, ◌+◌, max, map, List, [], ◌∷◌, Option, Some, None, Box}
+use Rattle.std.specs.Prelude.{ℕ, ℤ, ◌+◌, max, map, List, [], ◌∷◌, Option, Some, None}
 use Rattle.mc_term_data.specs.declared.term.Term.{Term}
 use Rattle.mc_term_data.specs.declared.term.Node.{Node}
 use Rattle.mc_term_data.specs.declared.term.Node.TheOpen as O
 use Rattle.mc_term_data.specs.declared.term.Node.TheFolds.{fold-Term, fold-Node}
+use Rattle.std.specs.Prelude.{Box}
 use Rattle.std.specs.declared.alloc.Global.{Global}
 
 mutual

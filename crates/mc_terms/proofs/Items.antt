@@ -7,13 +7,14 @@ use Rattle.mc_tokens.specs.declared.token.Kind.TheVariants.{End, Eof}
 use Rattle.mc_tokens.specs.declared.token.FaultKind.{FaultKind}
 use Rattle.mc_tokens.specs.Contents.{stands_for}
 use Rattle.mc_tokens.specs.Tokens.{lexed, Tok, Fault}
-use Rattle.mc_tokens.specs.Items.{Piece, ends, Item, Faulty, Passes}
+use Rattle.mc_tokens.specs.Items.{Piece, ends, Item, Faulty}
 use Rattle.mc_tokens.specs.Items as I
 use Rattle.mc_tokens.specs.Answers.{InOrder}
 use Rattle.mc_terms.specs.Lines.{line_at}
 use Rattle.mc_terms.specs.Lexemes.{lexemes}
 use Rattle.mc_terms.specs.code.Walked.{with_token, walked}
 use Rattle.mc_terms.proofs.Walked.{walked_is}
+use Rattle.mc_tokens.specs.Items.{Passes}
 use Rattle.mc_tokens.specs.declared.token.TokenFault.{TokenFault}
 use Rattle.mc_tokens.specs.declared.token.Token as D
 use Rattle.mc_terms.specs.declared.fault.ReadFault.{ReadFault}

@@ -1,4 +1,4 @@
-ghost use Rattle.std.specs.Prelude.{◌≡◌, ◌≢◌, ◌+◌, ◌≤◌, ◌<◌, ◌^◌, ◌-◌, ◌∷◌, ◌++◌, [], length, reverse, OnOk, IfOk, IfErr, MatchOption, MatchResult, List, ℕ, IsTrue, false, slice_range, None, Some};
+ghost use Rattle.std.specs.Prelude.{◌≡◌, ◌≢◌, ◌+◌, ◌≤◌, ◌<◌, ◌^◌, ◌-◌, ◌∷◌, ◌++◌, [], length, reverse, OnOk, IfOk, IfErr, MatchOption, MatchResult, List, ℕ, IsTrue, false, slice_range};
 ghost use Rattle.mc_tokens.specs.Contents.{stands_for};
 ghost use Rattle.mc_terms.specs.Lines.{line_at};
 ghost use Rattle.mc_terms.specs.code.Walked.{qualifier, with_name, with_token, IsMark};
@@ -7,6 +7,7 @@ ghost use Rattle.mc_terms.specs.Answers.{AreItemTokens, IsRefused, IsOnward, Sta
 ghost use Rattle.mc_tokens.specs.Answers.{InOrder};
 ghost use Rattle.mc_tokens.specs.Tokens.{Tok, lexed};
 ghost use Rattle.mc_tokens.specs.Items.{Passes};
+ghost use Rattle.std.specs.Prelude.{None, Some};
 
 use crate::fault::{ItemFault, ReadFault, ReadKind};
 use crate::position::Position;

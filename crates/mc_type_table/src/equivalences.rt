@@ -1,19 +1,15 @@
-ghost use Rattle.std.specs.Prelude.{◌≡◌, ◌<◌, ◌^◌, length, map, Some, IfOk};
+ghost use Rattle.std.specs.Prelude.{◌≡◌, Some, IfOk};
 ghost use Rattle.std.specs.Option.{option_map};
-ghost use Rattle.mc_term_data.specs.Plain.{plain_term, tms};
-ghost use Rattle.mc_term_data.specs.Shapes.{variable};
 ghost use Rattle.mc_decl_syntax.specs.Plain.{plain_item};
 ghost use Rattle.mc_program.specs.PlainPrograms.{plain_type};
-ghost use Rattle.mc_names.specs.Linked.{plain_named, plain_names, module_from, home};
-ghost use Rattle.mc_names.specs.Parameters.{name_of, variable_names, parameters_of};
+ghost use Rattle.mc_names.specs.Linked.{plain_named, plain_names};
 ghost use Rattle.mc_type_table.specs.Expanded.{equivalent_by, equivalent_of};
 
 use crate::written::type_of_term;
-use mc_base::{Memory, Row, Text};
+use mc_base::Memory;
 use mc_decl_syntax::Decl;
 use mc_names::{Named, Names, home, parameters_of};
 use mc_program::ty::Ty;
-use mc_term_data::{Node, Term, variable};
 use std::alloc::Global;
 
 /// What a type stands for that is defined by `==`, over its parameters, with equivalences by their names; None of any

@@ -24,7 +24,8 @@ use Rattle.mc_plain.specs.code.Views.{machine}
 use Rattle.mc_plain.specs.code.Held.{AllHeld}
 use Rattle.mc_plain.specs.code.Constants.{AreConstants}
 use Rattle.mc_plain.specs.Names.{NamesAll}
-use Rattle.mc_plain.specs.Rest.{Rest, rest_of, Gives, GivesIf, reads as wish}
+use Rattle.mc_plain.specs.Rest.{Rest, rest_of, Gives, GivesIf}
+use Rattle.mc_plain.specs.Rest.{reads as wish}
 use Rattle.mc_plain.specs.declared.state.Now.TheVariants.{At}
 use Rattle.mc_plain.specs.declared.state.Control.{Control}
 use Rattle.mc_plain.specs.declared.state.Setting.{Setting}

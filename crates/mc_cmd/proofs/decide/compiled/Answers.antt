@@ -4,7 +4,8 @@ use Rattle.mc_command_line.specs.Plain.{plain_command}
 use Rattle.mc_compile.specs.declared.executable.Executable.{Executable}
 use Rattle.mc_compile.specs.declared.given.CompileFault.{CompileFault}
 use Rattle.mc_compile.specs.Phases.{Tells, Viewed}
-use Rattle.mc_compile.specs.Sources.{Sources, texts_of, sources_of as given_sources}
+use Rattle.mc_compile.specs.Sources.{Sources, texts_of}
+use Rattle.mc_compile.specs.Sources.{sources_of as given_sources}
 use Rattle.mc_compile.specs.Ruling.{plain_executable}
 use Rattle.mc_compile.specs.Compiling.{Compiles}
 use Rattle.mc_cmd.proofs.Understanding.{same_sources, understood_ok}
