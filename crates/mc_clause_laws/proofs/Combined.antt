@@ -12,7 +12,7 @@ use Rattle.mc_clause_syntax.specs.declared.goal_form.GoalForm.TheVariants as G
 use Rattle.mc_clause_syntax.specs.GoalForms.{goal_form}
 use Rattle.mc_clause_syntax.specs.Limits.{is_anonymous}
 use Rattle.mc_decl_syntax.specs.Plain.{Path}
-use Rattle.mc_defs_uses.specs.Occurrences.{comma, semicolon, cell_path, nil_path}
+use Rattle.mc_names.specs.Definitions.{comma, semicolon, cell_path, nil_path}
 use Rattle.mc_names.specs.Numbers.{number_of}
 use Rattle.mc_names.specs.Linked.{Linked}
 use Rattle.mc_accepted.specs.Resolving.{Unresolved, any_variable, any_number, any_text, any_name, Unresolved_terms, no_terms, term_then, Unresolved_goal, equation, atom, all_of, one_of, choice, negation, exists, Unresolved_goals, no_goals, goal_then}

@@ -6,7 +6,7 @@ use Rattle.mc_term_data.specs.declared.term.Term.{Term}
 use Rattle.mc_accepted.specs.Resolving.{Unresolved as PlainUnresolved, any_name, Unresolved_terms, no_terms, term_then}
 use Rattle.mc_source.specs.declared.name.Candidate.{Candidate}
 use Rattle.mc_decl_syntax.specs.Plain.{Path}
-use Rattle.mc_defs_uses.specs.Occurrences.{cell_path}
+use Rattle.mc_names.specs.Definitions.{cell_path}
 use Rattle.mc_names.specs.Linked.{Linked}
 use Rattle.mc_unresolved.specs.declared.term.Unresolved.{Unresolved, Name}
 use Rattle.mc_unresolved.proofs.Views.{plain-Name}

@@ -1,6 +1,6 @@
 ghost use Rattle.std.specs.Prelude.{◌≡◌, IfOk, map, ◌∷◌, []};
 ghost use Rattle.mc_accepted.specs.Resolving.{any_name, no_terms};
-ghost use Rattle.mc_defs_uses.specs.Occurrences.{nil_path};
+ghost use Rattle.mc_names.specs.Definitions.{nil_path};
 ghost use Rattle.mc_term_data.specs.Plain.{plain_term};
 ghost use Rattle.mc_names.specs.Linked.{plain_names};
 ghost use Rattle.mc_unresolved.specs.Unresolved.{plain_unresolved, unresolved_terms};

@@ -9,7 +9,8 @@ use Rattle.mc_decl_syntax.specs.Plain.{Path}
 use Rattle.mc_names.specs.declared.definition.Kind.TheVariants as K
 use Rattle.mc_names.specs.declared.occurrence.Occurrence.{Occurrence}
 use Rattle.mc_names.specs.Plain.{PlainOccurrence, plain_occurrence, used}
-use Rattle.mc_defs_uses.specs.Occurrences.{cell_path, nil_path, terms_in, terms_over, cells_in, elements_in, between, call_by, all_goals, goal_by}
+use Rattle.mc_names.specs.Definitions.{cell_path, nil_path}
+use Rattle.mc_defs_uses.specs.Occurrences.{terms_in, terms_over, cells_in, elements_in, between, call_by, all_goals, goal_by}
 use Rattle.mc_defs_uses.specs.code.Steps.{behind}
 
 pub append_none : (us : List PlainOccurrence) → us ++ [] ≡ us

@@ -14,6 +14,7 @@ use Rattle.mc_term_data.specs.Shapes.{operands, is_the_word}
 use Rattle.mc_decl_syntax.specs.Plain.{Path, PlainDecl, UnionType, SameType, SameInst, BoundInst, ModeDef, Pred, Func, Mode, Clause}
 use Rattle.mc_names.specs.declared.definition.Kind.TheVariants as K
 use Rattle.mc_names.specs.Plain.{PlainOccurrence, used}
+use Rattle.mc_names.specs.Definitions.{comma, semicolon, cell_path, nil_path}
 
 -- An infix operator stands between its operands, and every other name before its arguments.
 abbrev pub is_infix : Path → Bool
@@ -125,18 +126,6 @@ constructor_in _ = []
 abbrev pub all_constructors : PlainTerms → List PlainOccurrence
 all_constructors no_term = []
 all_constructors (more_terms t ts) = constructor_in t ++ all_constructors ts
-
-abbrev pub comma : Path
-comma = codes "," ∷ []
-
-abbrev pub semicolon : Path
-semicolon = codes ";" ∷ []
-
-abbrev pub cell_path : Path
-cell_path = codes "[|]" ∷ []
-
-abbrev pub nil_path : Path
-nil_path = codes "[]" ∷ []
 
 abbrev mutual
   -- The constructors, functions and characters in a term. A state variable is none; a list is `[|]`

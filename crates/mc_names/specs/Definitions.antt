@@ -3,7 +3,7 @@
 use Rattle.std.specs.Prelude.{List, [], ◌∷◌, Option, Some, None, codes}
 use Rattle.mc_term_data.specs.Plain.{PlainTerm, PlainTerms, at, no_term, more_terms, App, Items, Tailed}
 use Rattle.mc_term_data.specs.Names.{count}
-use Rattle.mc_decl_syntax.specs.Plain.{PlainDecl, AbstractType, UnionType, SameType, SameInst, BoundInst, ModeDef, Pred, Func}
+use Rattle.mc_decl_syntax.specs.Plain.{Path, PlainDecl, AbstractType, UnionType, SameType, SameInst, BoundInst, ModeDef, Pred, Func}
 use Rattle.mc_term_data.specs.Shapes.{operands}
 use Rattle.mc_names.specs.declared.definition.Kind.TheVariants as K
 use Rattle.mc_names.specs.Plain.{PlainNameArity, id, PlainDefinition, definition, last_part}
@@ -19,6 +19,19 @@ cell = id (codes "[|]") 2
 
 abbrev pub nil : PlainNameArity
 nil = id (codes "[]") 0
+
+-- the names of conjunctions, disjunctions and lists
+abbrev pub comma : Path
+comma = codes "," ∷ []
+
+abbrev pub semicolon : Path
+semicolon = codes ";" ∷ []
+
+abbrev pub cell_path : Path
+cell_path = codes "[|]" ∷ []
+
+abbrev pub nil_path : Path
+nil_path = codes "[]" ∷ []
 
 -- the name of a constructor, or of a symbol that an inst lists
 abbrev pub symbol_name : PlainTerm → PlainNameArity

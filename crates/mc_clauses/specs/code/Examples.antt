@@ -5,8 +5,8 @@ use Rattle.std.specs.Prelude.{◌≡◌, ℕ, List, [], ◌∷◌, codes}
 use Rattle.mc_term_data.specs.Plain.{PlainTerm, PlainTerms, at, no_term, more_terms, Var, App, Items, Tailed}
 use Rattle.mc_accepted.specs.Resolving.{Unresolved, any_variable, any_name, Unresolved_terms, no_terms, term_then, Unresolved_goal, equation, atom, all_of, one_of, choice, negation, exists, no_goals, goal_then}
 use Rattle.mc_names.specs.Linked.{Linked}
-use Rattle.mc_state_variables.specs.code.Examples.{over, just, two, three, sign, conj, disj, quantify, rule}
-use Rattle.mc_defs_uses.specs.Occurrences.{nil_path}
+use Rattle.mc_clause_syntax.specs.code.Written.{over, just, two, three, sign, conj, disj, quantify, rule}
+use Rattle.mc_names.specs.Definitions.{nil_path}
 use Rattle.mc_clauses.specs.Unresolved.{unresolved_clause, meanings, two_terms, two_goals}
 
 abbrev pub no_names : Linked

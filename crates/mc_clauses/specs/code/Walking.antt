@@ -9,7 +9,7 @@ use Rattle.mc_names.specs.Linked.{plain_names, Linked}
 use Rattle.mc_clauses.specs.Variables.{Numbers, Met}
 use Rattle.mc_source.specs.declared.name.Candidate.{Candidate}
 use Rattle.mc_decl_syntax.specs.Plain.{Path}
-use Rattle.mc_defs_uses.specs.Occurrences.{cell_path}
+use Rattle.mc_names.specs.Definitions.{cell_path}
 use Rattle.mc_clauses.specs.Unresolved.{Walk, two_terms, meanings, term_of, terms_of, in_turn}
 use Rattle.mc_clauses.specs.declared.terms.Module.{Module}
 use Rattle.mc_clauses.specs.declared.variables.Variables.{Variables}

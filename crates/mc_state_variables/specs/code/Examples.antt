@@ -1,36 +1,10 @@
 -- Clauses and their state variables written out, computed by the definition: for each sentence on the
 -- versions one or two of them. `a(!S)` updates S, `b` doesn't; numbers are the versions.
 use Rattle.std.specs.Prelude.{◌≡◌, ℕ, List, [], ◌∷◌, codes}
-use Rattle.mc_term_data.specs.Plain.{PlainTerm, PlainTerms, at, no_term, more_terms, Var, App, Items, Conj, Disj}
+use Rattle.mc_term_data.specs.Plain.{PlainTerm, at, more_terms, Var}
+use Rattle.mc_clause_syntax.specs.code.Written.{over, just, two, three, atom, sign, conj, disj, quantify, rule}
 use Rattle.mc_state_variables.specs.Versions.{version}
 use Rattle.mc_state_variables.specs.Numbered.{numbered_clause, numbered_goal}
-
-abbrev pub over : List ℕ → PlainTerms → PlainTerm
-over w ts = at (App (w ∷ []) ts) 1
-
-abbrev pub just : PlainTerm → PlainTerms
-just t = more_terms t no_term
-
-abbrev pub two : PlainTerm → PlainTerm → PlainTerms
-two t u = more_terms t (more_terms u no_term)
-
-abbrev pub three : PlainTerm → PlainTerm → PlainTerm → PlainTerms
-three t u v = more_terms t (more_terms u (more_terms v no_term))
-
-abbrev pub atom : List ℕ → PlainTerm
-atom w = over w no_term
-
-abbrev pub sign : List ℕ → PlainTerm → PlainTerm → PlainTerm
-sign w t u = over w (two t u)
-
-abbrev pub conj : PlainTerms → PlainTerm
-conj ts = at (Conj ts) 1
-
-abbrev pub disj : PlainTerms → PlainTerm
-disj ts = at (Disj ts) 1
-
-abbrev pub quantify : (name : List ℕ) → PlainTerms → PlainTerm → PlainTerm
-quantify w vs t = over w (two (at (Items vs) 1) t)
 
 -- `!S`, `!.S`, `!:S`
 abbrev pub both : List ℕ → PlainTerm
@@ -61,9 +35,6 @@ look w n = over w (just (version n 1))
 
 abbrev pub equation : ℕ → ℕ → PlainTerm
 equation m n = sign (codes "=") (version m 1) (version n 1)
-
-abbrev pub rule : PlainTerm → PlainTerm → PlainTerm
-rule h b = sign (codes ":-") h b
 
 -- A body under the head `h(!S)`, and what it becomes: the first version is 0 and the last is 1.
 abbrev pub becomes : PlainTerm → PlainTerm → Type 0

@@ -7,7 +7,7 @@ use Rattle.mc_unresolved.specs.Unresolved.{plain_unresolved, unresolved_terms}
 use Rattle.mc_unresolved.specs.declared.term.Unresolved.{Unresolved, Variable, Name}
 use Rattle.mc_unresolved.proofs.Views.{plain-Variable, plain-Name}
 use Rattle.mc_term_data.specs.declared.term.Term.{Term}
-use Rattle.mc_defs_uses.specs.Occurrences.{comma, semicolon, nil_path}
+use Rattle.mc_names.specs.Definitions.{comma, semicolon, nil_path}
 use Rattle.mc_names.specs.Linked.{plain_names}
 use Rattle.mc_clauses.specs.Unresolved.{term_of, terms_of, nil, meanings}
 use Rattle.mc_clauses.specs.code.Walking.{Taken, Comes, Walked, term_walk, terms_walk}

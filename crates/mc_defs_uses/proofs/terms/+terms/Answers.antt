@@ -2,7 +2,7 @@ use Rattle.std.proofs.Common.{ap, ap₂, ◌∙◌, ◌++◌, map, List, append_
 use Rattle.std.proofs.lemmas.Result.{on_ok_weaker}
 use Rattle.mc_term_data.specs.Plain.{plain_term, tms}
 use Rattle.mc_names.specs.Plain.{PlainOccurrence, plain_occurrence}
-use Rattle.mc_defs_uses.specs.Occurrences.{cell_path}
+use Rattle.mc_names.specs.Definitions.{cell_path}
 use Rattle.mc_defs_uses.specs.code.Steps.{behind}
 use Rattle.mc_defs_uses.proofs.Steps.{one_pushed, elements_are, after_first}
 use Rattle.mc_defs_uses.proofs.terms.+terms.Goals as goal
