@@ -62,33 +62,83 @@ impl GoalForm {
         ensures { result ≡ found goal_rows name.now arity }
     {
         match arity {
-            0 => match name {
-                b"true" => Some(GoalForm::True),
-                b"fail" | b"false" => Some(GoalForm::Fail),
-                _ => None,
-            },
-            1 => match name {
-                b"if" => Some(GoalForm::If),
-                b"not" | b"\\+" => Some(GoalForm::Negation),
-                _ => None,
-            },
-            2 => match name {
-                b"," => Some(GoalForm::Conjunction),
-                b";" => Some(GoalForm::Disjunction),
-                b"->" => Some(GoalForm::Arrow),
-                b"then" => Some(GoalForm::Then),
-                b"else" => Some(GoalForm::Else),
-                b"some" => Some(GoalForm::Existential),
-                b"all" => Some(GoalForm::Universal),
-                b"=>" => Some(GoalForm::Implication),
-                b"<=" => Some(GoalForm::ReverseImplication),
-                b"<=>" => Some(GoalForm::Equivalence),
-                b"=" => Some(GoalForm::Unification),
-                b"\\=" => Some(GoalForm::Disunification),
-                _ => None,
-            },
+            0 => GoalForm::alone(name),
+            1 => GoalForm::over_one(name),
+            2 => GoalForm::over_two(name),
             _ => None,
         }
+    }
+
+    // The form of a name without parts.
+    #[tactic(auto, unfolding(crate::specs::GoalForms::goal_rows))]
+    fn alone(name: &[u8]) -> Option<GoalForm>
+        ensures { result ≡ found goal_rows name.now 0 }
+    {
+        if b"true".as_slice() == name {
+            return Some(GoalForm::True);
+        }
+        if b"fail".as_slice() == name || b"false".as_slice() == name {
+            return Some(GoalForm::Fail);
+        }
+        None
+    }
+
+    // The form of a name over one part.
+    #[tactic(auto, unfolding(crate::specs::GoalForms::goal_rows))]
+    fn over_one(name: &[u8]) -> Option<GoalForm>
+        ensures { result ≡ found goal_rows name.now 1 }
+    {
+        if b"if".as_slice() == name {
+            return Some(GoalForm::If);
+        }
+        if b"not".as_slice() == name || b"\\+".as_slice() == name {
+            return Some(GoalForm::Negation);
+        }
+        None
+    }
+
+    // The form of a name over two parts.
+    #[tactic(auto, unfolding(crate::specs::GoalForms::goal_rows))]
+    fn over_two(name: &[u8]) -> Option<GoalForm>
+        ensures { result ≡ found goal_rows name.now 2 }
+    {
+        if b",".as_slice() == name {
+            return Some(GoalForm::Conjunction);
+        }
+        if b";".as_slice() == name {
+            return Some(GoalForm::Disjunction);
+        }
+        if b"->".as_slice() == name {
+            return Some(GoalForm::Arrow);
+        }
+        if b"then".as_slice() == name {
+            return Some(GoalForm::Then);
+        }
+        if b"else".as_slice() == name {
+            return Some(GoalForm::Else);
+        }
+        if b"some".as_slice() == name {
+            return Some(GoalForm::Existential);
+        }
+        if b"all".as_slice() == name {
+            return Some(GoalForm::Universal);
+        }
+        if b"=>".as_slice() == name {
+            return Some(GoalForm::Implication);
+        }
+        if b"<=".as_slice() == name {
+            return Some(GoalForm::ReverseImplication);
+        }
+        if b"<=>".as_slice() == name {
+            return Some(GoalForm::Equivalence);
+        }
+        if b"=".as_slice() == name {
+            return Some(GoalForm::Unification);
+        }
+        if b"\\=".as_slice() == name {
+            return Some(GoalForm::Disunification);
+        }
+        None
     }
 
     /// What the parts of a goal are.

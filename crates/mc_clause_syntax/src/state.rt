@@ -49,12 +49,16 @@ fn one_variable(parts: &[Term]) -> Option<&[u8]>
 fn state_form(name: &[u8]) -> Option<StateForm>
     ensures { result ≡ found state_rows name.now 1 }
 {
-    match name {
-        b"!" => Some(StateForm::Both),
-        b"!." => Some(StateForm::Before),
-        b"!:" => Some(StateForm::After),
-        _ => None,
+    if b"!".as_slice() == name {
+        return Some(StateForm::Both);
     }
+    if b"!.".as_slice() == name {
+        return Some(StateForm::Before);
+    }
+    if b"!:".as_slice() == name {
+        return Some(StateForm::After);
+    }
+    None
 }
 
 /// Whether a name over parts is a state variable.
