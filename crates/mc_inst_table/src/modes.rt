@@ -197,14 +197,20 @@ fn builtin(name: &[Text], arity: u32) -> Option<Mode>
 fn builtin_mode(name: &[u8], arity: u32) -> Option<Mode>
     ensures { option_map plain_mode result ≡ found builtin_modes name.now arity }
 {
-    match arity {
-        0 => match name {
-            b"in" => Some(Mode::FromTo(Inst::Node(1), Inst::Node(1))),
-            b"out" => Some(Mode::FromTo(Inst::Node(0), Inst::Node(1))),
-            b"di" => Some(Mode::FromTo(Inst::Node(2), Inst::Node(3))),
-            b"uo" => Some(Mode::FromTo(Inst::Node(0), Inst::Node(2))),
-            _ => None,
-        },
-        _ => None,
+    if arity != 0 {
+        return None;
     }
+    if b"in".as_slice() == name {
+        return Some(Mode::FromTo(Inst::Node(1), Inst::Node(1)));
+    }
+    if b"out".as_slice() == name {
+        return Some(Mode::FromTo(Inst::Node(0), Inst::Node(1)));
+    }
+    if b"di".as_slice() == name {
+        return Some(Mode::FromTo(Inst::Node(2), Inst::Node(3)));
+    }
+    if b"uo".as_slice() == name {
+        return Some(Mode::FromTo(Inst::Node(0), Inst::Node(2)));
+    }
+    None
 }

@@ -271,15 +271,23 @@ fn builtin(name: &[Text], arity: u32) -> Option<u32>
 fn builtin_inst(name: &[u8], arity: u32) -> Option<u32>
     ensures { result ≡ found builtin_insts name.now arity }
 {
-    match arity {
-        0 => match name {
-            b"free" => Some(0),
-            b"ground" => Some(1),
-            b"unique" => Some(2),
-            b"dead" => Some(3),
-            b"clobbered" => Some(3),
-            _ => None,
-        },
-        _ => None,
+    if arity != 0 {
+        return None;
     }
+    if b"free".as_slice() == name {
+        return Some(0);
+    }
+    if b"ground".as_slice() == name {
+        return Some(1);
+    }
+    if b"unique".as_slice() == name {
+        return Some(2);
+    }
+    if b"dead".as_slice() == name {
+        return Some(3);
+    }
+    if b"clobbered".as_slice() == name {
+        return Some(3);
+    }
+    None
 }

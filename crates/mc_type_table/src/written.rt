@@ -139,15 +139,19 @@ fn builtin(name: &[Text], arity: u32) -> Option<Ty>
 fn builtin_type(name: &[u8], arity: u32) -> Option<Ty>
     ensures { option_map plain_type result ≡ found builtin_rows name.now arity }
 {
-    match arity {
-        0 => match name {
-            b"int" => Some(Ty::Int),
-            b"char" => Some(Ty::Char),
-            b"string" => Some(Ty::Str),
-            _ => None,
-        },
-        _ => None,
+    if arity != 0 {
+        return None;
     }
+    if b"int".as_slice() == name {
+        return Some(Ty::Int);
+    }
+    if b"char".as_slice() == name {
+        return Some(Ty::Char);
+    }
+    if b"string".as_slice() == name {
+        return Some(Ty::Str);
+    }
+    None
 }
 
 // The first of these types over arguments; a number that no type has where there is none.
