@@ -9,13 +9,16 @@ use mc_term_data::{Node, Term, has_none};
 pub fn declaration(name: &[u8], parts: &[Term]) -> Option<LeftOut>
     ensures { result ≡ declaration name.now (tms (map plain_term parts.now)) }
 {
-    match name {
-        b"pragma" => sole_pragma(parts),
-        b"<=" => is_constrained(parts).then_some(LeftOut::TypeClass),
-        b"some" => is_existential(parts).then_some(LeftOut::ExistentialType),
-        b"mutable" => Some(LeftOut::Mutable),
-        _ => None,
+    if b"pragma".as_slice() == name {
+        return sole_pragma(parts);
     }
+    if b"<=".as_slice() == name {
+        return is_constrained(parts).then_some(LeftOut::TypeClass);
+    }
+    if b"some".as_slice() == name {
+        return is_existential(parts).then_some(LeftOut::ExistentialType);
+    }
+    (b"mutable".as_slice() == name).then_some(LeftOut::Mutable)
 }
 
 // The pragma of a declaration.
@@ -77,7 +80,7 @@ fn declared(name: &[u8], parts: &[Term]) -> bool
 fn is_constraint(name: &[u8]) -> bool
     ensures { result ≡ is_constraint name.now }
 {
-    matches!(name, b"<=" | b"=>")
+    b"<=".as_slice() == name || b"=>".as_slice() == name
 }
 
 // A pragma that isn't one of those that this profile knows, or that it knows and doesn't have yet.
@@ -96,11 +99,13 @@ fn pragma(term: &Term) -> Option<LeftOut>
 fn named_pragma(name: &[u8], parts: &[Term]) -> Option<LeftOut>
     ensures { result ≡ named_pragma name.now (tms (map plain_term parts.now)) }
 {
-    match name {
-        b"inline" | b"no_inline" => None,
-        b"fact_table" => is_fact_table(parts).then_some(LeftOut::Pragma),
-        _ => Some(LeftOut::Pragma),
+    if b"inline".as_slice() == name || b"no_inline".as_slice() == name {
+        return None;
     }
+    if b"fact_table".as_slice() == name {
+        return is_fact_table(parts).then_some(LeftOut::Pragma);
+    }
+    Some(LeftOut::Pragma)
 }
 
 // Whether these are the arguments of a pragma that names a file of facts.
@@ -188,5 +193,5 @@ fn is_string(term: &Term) -> bool
 pub fn is_order(name: &[u8]) -> bool
     ensures { result ≡ is_order name.now }
 {
-    matches!(name, b"pred" | b"func")
+    b"pred".as_slice() == name || b"func".as_slice() == name
 }

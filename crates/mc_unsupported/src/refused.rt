@@ -35,17 +35,25 @@ fn refused(name: &[u8], arity: usize) -> Option<LeftOut>
 fn infix(name: &[u8], arity: usize) -> Option<LeftOut>
     ensures { result ≡ found infix_rows name.now arity }
 {
-    match arity {
-        2 => match name {
-            b"^" | b":=" => Some(LeftOut::FieldAccess),
-            b"for" => Some(LeftOut::InstFor),
-            b"&" => Some(LeftOut::ParallelConjunction),
-            b"where" => Some(LeftOut::UserEquality),
-            b"-->" => Some(LeftOut::GrammarRule),
-            _ => None,
-        },
-        _ => None,
+    if arity != 2 {
+        return None;
     }
+    if b"^".as_slice() == name || b":=".as_slice() == name {
+        return Some(LeftOut::FieldAccess);
+    }
+    if b"for".as_slice() == name {
+        return Some(LeftOut::InstFor);
+    }
+    if b"&".as_slice() == name {
+        return Some(LeftOut::ParallelConjunction);
+    }
+    if b"where".as_slice() == name {
+        return Some(LeftOut::UserEquality);
+    }
+    if b"-->".as_slice() == name {
+        return Some(LeftOut::GrammarRule);
+    }
+    None
 }
 
 // Those before a declaration.
@@ -53,14 +61,16 @@ fn infix(name: &[u8], arity: usize) -> Option<LeftOut>
 fn prefix(name: &[u8], arity: usize) -> Option<LeftOut>
     ensures { result ≡ found prefix_rows name.now arity }
 {
-    match arity {
-        1 => match name {
-            b"impure" | b"semipure" => Some(LeftOut::Purity),
-            b"solver" => Some(LeftOut::SolverType),
-            _ => None,
-        },
-        _ => None,
+    if arity != 1 {
+        return None;
     }
+    if b"impure".as_slice() == name || b"semipure".as_slice() == name {
+        return Some(LeftOut::Purity);
+    }
+    if b"solver".as_slice() == name {
+        return Some(LeftOut::SolverType);
+    }
+    None
 }
 
 // Those that begin an item.
@@ -68,16 +78,22 @@ fn prefix(name: &[u8], arity: usize) -> Option<LeftOut>
 fn item(name: &[u8], arity: usize) -> Option<LeftOut>
     ensures { result ≡ found item_rows name.now arity }
 {
-    match arity {
-        1 => match name {
-            b"include_module" => Some(LeftOut::NestedModule),
-            b"typeclass" | b"instance" => Some(LeftOut::TypeClass),
-            b"promise" => Some(LeftOut::Promise),
-            b"initialise" => Some(LeftOut::Initialise),
-            _ => None,
-        },
-        _ => None,
+    if arity != 1 {
+        return None;
     }
+    if b"include_module".as_slice() == name {
+        return Some(LeftOut::NestedModule);
+    }
+    if b"typeclass".as_slice() == name || b"instance".as_slice() == name {
+        return Some(LeftOut::TypeClass);
+    }
+    if b"promise".as_slice() == name {
+        return Some(LeftOut::Promise);
+    }
+    if b"initialise".as_slice() == name {
+        return Some(LeftOut::Initialise);
+    }
+    None
 }
 
 // What is left out by what the name over these parts is there, and by its form as a goal.
@@ -112,13 +128,13 @@ fn conditional(form: GoalForm) -> Option<LeftOut>
 fn mode_specific(name: &[u8], arity: usize) -> Option<LeftOut>
     ensures { result ≡ found mode_specific_rows name.now arity }
 {
-    match arity {
-        2 => match name {
-            b"::" => Some(LeftOut::ModeSpecificClause),
-            _ => None,
-        },
-        _ => None,
+    if arity != 2 {
+        return None;
     }
+    if b"::".as_slice() == name {
+        return Some(LeftOut::ModeSpecificClause);
+    }
+    None
 }
 
 // The insts that this profile does not have.
@@ -126,14 +142,16 @@ fn mode_specific(name: &[u8], arity: usize) -> Option<LeftOut>
 fn inst(name: &[u8], arity: usize) -> Option<LeftOut>
     ensures { result ≡ found inst_rows name.now arity }
 {
-    match arity {
-        0 => match name {
-            b"any" => Some(LeftOut::AnyInst),
-            b"mostly_unique" | b"mostly_clobbered" => Some(LeftOut::MostlyUniqueInst),
-            _ => None,
-        },
-        _ => None,
+    if arity != 0 {
+        return None;
     }
+    if b"any".as_slice() == name {
+        return Some(LeftOut::AnyInst);
+    }
+    if b"mostly_unique".as_slice() == name || b"mostly_clobbered".as_slice() == name {
+        return Some(LeftOut::MostlyUniqueInst);
+    }
+    None
 }
 
 // A type or inst `pred(..)` or `func(..)`.

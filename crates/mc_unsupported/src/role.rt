@@ -90,18 +90,15 @@ impl Role {
             Role::InstItem => inst_parts(name, arity),
             Role::ModeItem => mode_parts(name, arity),
             Role::Signature => signature_parts(name, arity),
-            Role::Field => match (arity, name) {
-                (2, b"::") => Some((Role::Elsewhere, Role::TypeTerm)),
-                _ => None,
-            },
-            Role::Parameter => match (arity, name) {
-                (2, b"::") => Some((Role::TypeTerm, Role::Mode)),
-                _ => None,
-            },
-            Role::Inst => match (arity, name) {
-                (1, b"bound") => Some((Role::Symbols, Role::Symbols)),
-                _ => None,
-            },
+            Role::Field if arity == 2 && b"::".as_slice() == name => {
+                Some((Role::Elsewhere, Role::TypeTerm))
+            }
+            Role::Parameter if arity == 2 && b"::".as_slice() == name => {
+                Some((Role::TypeTerm, Role::Mode))
+            }
+            Role::Inst if arity == 1 && b"bound".as_slice() == name => {
+                Some((Role::Symbols, Role::Symbols))
+            }
             _ => None,
         }
     }
@@ -123,9 +120,12 @@ fn goal_roles(parts: Parts) -> (Role, Role)
 fn item_parts(name: &[u8], arity: usize) -> Option<(Role, Role)>
     ensures { result ≡ found item_rows name.now arity }
 {
-    match (arity, name) {
-        (1, b":-") => Some((Role::Declaration, Role::Elsewhere)),
-        (2, b":-") => Some((Role::Head, Role::Goal)),
+    if b":-".as_slice() != name {
+        return None;
+    }
+    match arity {
+        1 => Some((Role::Declaration, Role::Elsewhere)),
+        2 => Some((Role::Head, Role::Goal)),
         _ => None,
     }
 }
@@ -135,16 +135,22 @@ fn item_parts(name: &[u8], arity: usize) -> Option<(Role, Role)>
 fn declaration_parts(name: &[u8], arity: usize) -> Option<(Role, Role)>
     ensures { result ≡ found declaration_rows name.now arity }
 {
-    match arity {
-        1 => match name {
-            b"type" => Some((Role::TypeItem, Role::Elsewhere)),
-            b"inst" => Some((Role::InstItem, Role::Elsewhere)),
-            b"mode" => Some((Role::ModeItem, Role::Elsewhere)),
-            b"pred" | b"func" => Some((Role::Signature, Role::Elsewhere)),
-            _ => None,
-        },
-        _ => None,
+    if arity != 1 {
+        return None;
     }
+    if b"type".as_slice() == name {
+        return Some((Role::TypeItem, Role::Elsewhere));
+    }
+    if b"inst".as_slice() == name {
+        return Some((Role::InstItem, Role::Elsewhere));
+    }
+    if b"mode".as_slice() == name {
+        return Some((Role::ModeItem, Role::Elsewhere));
+    }
+    if b"pred".as_slice() == name || b"func".as_slice() == name {
+        return Some((Role::Signature, Role::Elsewhere));
+    }
+    None
 }
 
 // The parts of a type's definition.
@@ -152,14 +158,16 @@ fn declaration_parts(name: &[u8], arity: usize) -> Option<(Role, Role)>
 fn type_parts(name: &[u8], arity: usize) -> Option<(Role, Role)>
     ensures { result ≡ found type_rows name.now arity }
 {
-    match arity {
-        2 => match name {
-            b"--->" => Some((Role::Elsewhere, Role::Constructors)),
-            b"==" => Some((Role::Elsewhere, Role::TypeTerm)),
-            _ => None,
-        },
-        _ => None,
+    if arity != 2 {
+        return None;
     }
+    if b"--->".as_slice() == name {
+        return Some((Role::Elsewhere, Role::Constructors));
+    }
+    if b"==".as_slice() == name {
+        return Some((Role::Elsewhere, Role::TypeTerm));
+    }
+    None
 }
 
 // The parts of an inst's definition.
@@ -167,14 +175,16 @@ fn type_parts(name: &[u8], arity: usize) -> Option<(Role, Role)>
 fn inst_parts(name: &[u8], arity: usize) -> Option<(Role, Role)>
     ensures { result ≡ found inst_rows name.now arity }
 {
-    match arity {
-        2 => match name {
-            b"--->" => Some((Role::Elsewhere, Role::Symbols)),
-            b"==" => Some((Role::Elsewhere, Role::Inst)),
-            _ => None,
-        },
-        _ => None,
+    if arity != 2 {
+        return None;
     }
+    if b"--->".as_slice() == name {
+        return Some((Role::Elsewhere, Role::Symbols));
+    }
+    if b"==".as_slice() == name {
+        return Some((Role::Elsewhere, Role::Inst));
+    }
+    None
 }
 
 // The parts of a mode's definition, and of a mode of a predicate or function.
@@ -182,15 +192,19 @@ fn inst_parts(name: &[u8], arity: usize) -> Option<(Role, Role)>
 fn mode_parts(name: &[u8], arity: usize) -> Option<(Role, Role)>
     ensures { result ≡ found mode_rows name.now arity }
 {
-    match arity {
-        2 => match name {
-            b"==" => Some((Role::Elsewhere, Role::Mode)),
-            b"is" => Some((Role::ModeItem, Role::Elsewhere)),
-            b"=" => Some((Role::ModeItem, Role::Mode)),
-            _ => None,
-        },
-        _ => None,
+    if arity != 2 {
+        return None;
     }
+    if b"==".as_slice() == name {
+        return Some((Role::Elsewhere, Role::Mode));
+    }
+    if b"is".as_slice() == name {
+        return Some((Role::ModeItem, Role::Elsewhere));
+    }
+    if b"=".as_slice() == name {
+        return Some((Role::ModeItem, Role::Mode));
+    }
+    None
 }
 
 // The parts of what a declaration of a predicate or function declares.
@@ -198,12 +212,14 @@ fn mode_parts(name: &[u8], arity: usize) -> Option<(Role, Role)>
 fn signature_parts(name: &[u8], arity: usize) -> Option<(Role, Role)>
     ensures { result ≡ found signature_rows name.now arity }
 {
-    match arity {
-        2 => match name {
-            b"is" => Some((Role::Signature, Role::Elsewhere)),
-            b"=" => Some((Role::Signature, Role::Parameter)),
-            _ => None,
-        },
-        _ => None,
+    if arity != 2 {
+        return None;
     }
+    if b"is".as_slice() == name {
+        return Some((Role::Signature, Role::Elsewhere));
+    }
+    if b"=".as_slice() == name {
+        return Some((Role::Signature, Role::Parameter));
+    }
+    None
 }
