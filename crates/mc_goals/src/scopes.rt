@@ -87,7 +87,14 @@ pub fn scoped_goal(alloc: Global, outside: &mut Outside, goal: &Goal) -> Result<
         Goal::Conj(goals) => Ok(Goal::Conj(parts(alloc, outside, goals.as_slice())?)),
         Goal::Disj(goals) => Ok(Goal::Disj(disjuncts(alloc, outside, goals.as_slice())?)),
         Goal::Ite(vars, condition, then_part, else_part) => {
-            scoped_choice(alloc, outside, vars.as_slice(), condition, then_part, else_part)
+            scoped_choice(
+                alloc,
+                outside,
+                vars.as_slice(),
+                condition,
+                then_part,
+                else_part,
+            )
         }
         Goal::Not(goal) => {
             let goal = scoped_goal(alloc, outside, goal)?;

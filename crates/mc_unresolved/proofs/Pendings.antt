@@ -39,6 +39,10 @@ put_both a b m n first mid last p q = record {
   weighs = let e = p.weighs in let f = q.weighs in omega (arith, e, f);
 }
 
+-- the last first: three are put in front
+pub put_three : (a b c : List Step) (k m n : ℕ) (first one two last : List Task) → Put a k first one → Put b m one two → Put c n two last → Put (c ++ (b ++ a)) (n + (m + k)) first last
+put_three a b c k m n first one two last p q r = put_both (b ++ a) c (m + k) n first two last (put_both a b k m first one two p q) r
+
 pub put_as : (a b : List Step) (m n : ℕ) (first last : List Task) → a ≡ b → m ≡ n → Put a m first last → Put b n first last
 put_as a b m n first last e f p = record {
   is = p.is ∙ ap (λ xs. xs ++ agenda first) e;
@@ -124,52 +128,47 @@ name_opened t cs args before mid after is p q =
     let w : term_weight (plain_unresolved t) ≡ terms_weight args + 2 = ap twice e ∙ twice_both (steps_of_terms args) (choose cs (length args) ∷ []) in
     opens_by _ _ _ _ before after (sym e) (omega (arith, w)) (put_both (choose cs (length args) ∷ []) (steps_of_terms args) 1 (terms_weight args) before mid after p q)
 
-pub atom_opened : (g : UnresolvedGoal) (cs : List Candidate) (args : List Unresolved) (before mid after : List Task) → g ≡ Atom cs args → Put (call cs (length args) ∷ []) 1 before mid → Put (steps_of_terms args) (terms_weight args) mid after → Opens (goal_steps (plain_unresolved_goal g)) (goal_weight (plain_unresolved_goal g)) before after
-atom_opened g cs args before mid after is p q =
+pub atom_opened : (g : UnresolvedGoal) (cs : List Candidate) (args : List Unresolved) (before after : List Task) → g ≡ Atom cs args → Put (steps_of_terms args ++ call cs (length args) ∷ []) (terms_weight args + 1) before after → Opens (goal_steps (plain_unresolved_goal g)) (goal_weight (plain_unresolved_goal g)) before after
+atom_opened g cs args before after is p =
     let n = count (unresolved_terms (map plain_unresolved args)) in
     let v = ap plain_unresolved_goal is ∙ plain-Atom cs args in
     let e : goal_steps (plain_unresolved_goal g) ≡ steps_of_terms args ++ call cs (length args) ∷ [] = ap goal_steps v ∙ ap (λ n. steps_of_terms args ++ call cs n ∷ []) (counted args) in
     let w : goal_weight (plain_unresolved_goal g) ≡ terms_weight args + 2 = ap goal_weight v ∙ twice_both (steps_of_terms args) (call cs n ∷ []) in
-    opens_by _ _ _ _ before after (sym e) (omega (arith, w)) (put_both (call cs (length args) ∷ []) (steps_of_terms args) 1 (terms_weight args) before mid after p q)
+    opens_by _ _ _ _ before after (sym e) (omega (arith, w)) p
 
-pub equation_opened : (g : UnresolvedGoal) (a b : Unresolved) (tl tr : Task) (before one two after : List Task) → g ≡ Equation a b → Put (equate ∷ []) 1 before one → two ≡ one ++ tr ∷ [] → after ≡ two ++ tl ∷ [] → task_steps tr ≡ term_steps (plain_unresolved b) → task_weight tr ≡ term_weight (plain_unresolved b) → task_steps tl ≡ term_steps (plain_unresolved a) → task_weight tl ≡ term_weight (plain_unresolved a) → Opens (goal_steps (plain_unresolved_goal g)) (goal_weight (plain_unresolved_goal g)) before after
-equation_opened g a b tl tr before one two after is p er el sr wr sl wl =
+pub equation_opened : (g : UnresolvedGoal) (a b : Unresolved) (before after : List Task) → g ≡ Equation a b → Put (term_steps (plain_unresolved a) ++ (term_steps (plain_unresolved b) ++ equate ∷ [])) (term_weight (plain_unresolved a) + (term_weight (plain_unresolved b) + 1)) before after → Opens (goal_steps (plain_unresolved_goal g)) (goal_weight (plain_unresolved_goal g)) before after
+equation_opened g a b before after is p =
     let v = ap plain_unresolved_goal is ∙ plain-Equation a b in
     let sa = term_steps (plain_unresolved a) in
     let sb = term_steps (plain_unresolved b) in
     let e : goal_steps (plain_unresolved_goal g) ≡ sa ++ (sb ++ equate ∷ []) = ap goal_steps v in
     let w : goal_weight (plain_unresolved_goal g) ≡ twice sa + (twice sb + 2) = ap goal_weight v ∙ twice_both sa (sb ++ equate ∷ []) ∙ ap (λ n. twice sa + n) (twice_both sb (equate ∷ [])) in
-    opens_by _ _ _ _ before after (ap₂ (λ xs ys. xs ++ (ys ++ equate ∷ [])) sl sr ∙ sym e) (omega (arith, w, wr, wl))
-    (put_both (task_steps tr ++ equate ∷ []) (task_steps tl) (task_weight tr + 1) (task_weight tl) before two after
-    (put_both (equate ∷ []) (task_steps tr) 1 (task_weight tr) before one two p (pushed one two tr er)) (pushed two after tl el))
+    opens_by _ _ (twice sa + (twice sb + 1)) _ before after (sym e) (omega (arith, w)) p
 
-opened_alone : (g inner now : UnresolvedGoal) (t : Task) (before after : List Task) → goal_steps (plain_unresolved_goal g) ≡ goal_steps (plain_unresolved_goal inner) → goal_weight (plain_unresolved_goal g) ≡ suc (goal_weight (plain_unresolved_goal inner)) → now ≡ inner → task_steps t ≡ goal_steps (plain_unresolved_goal now) → task_weight t ≡ goal_weight (plain_unresolved_goal now) → after ≡ before ++ t ∷ [] → Opens (goal_steps (plain_unresolved_goal g)) (goal_weight (plain_unresolved_goal g)) before after
-opened_alone g inner now t before after e w same st wt put =
-    let weighs : task_weight t ≡ goal_weight (plain_unresolved_goal inner) = wt ∙ ap (λ x. goal_weight (plain_unresolved_goal x)) same in
-    opens_by _ _ _ _ before after (st ∙ ap (λ x. goal_steps (plain_unresolved_goal x)) same ∙ sym e) (omega (arith, w, weighs)) (pushed before after t put)
+opened_alone : (g inner now : UnresolvedGoal) (before after : List Task) → goal_steps (plain_unresolved_goal g) ≡ goal_steps (plain_unresolved_goal inner) → goal_weight (plain_unresolved_goal g) ≡ suc (goal_weight (plain_unresolved_goal inner)) → now ≡ inner → Put (goal_steps (plain_unresolved_goal now)) (goal_weight (plain_unresolved_goal now)) before after → Opens (goal_steps (plain_unresolved_goal g)) (goal_weight (plain_unresolved_goal g)) before after
+opened_alone g inner now before after e w same p =
+    let weighs : goal_weight (plain_unresolved_goal now) ≡ goal_weight (plain_unresolved_goal inner) = ap (λ x. goal_weight (plain_unresolved_goal x)) same in
+    opens_by _ _ _ _ before after (ap (λ x. goal_steps (plain_unresolved_goal x)) same ∙ sym e) (omega (arith, w, weighs)) p
 
-pub negation_opened : (g now : UnresolvedGoal) (inner : Box UnresolvedGoal Global) (t : Task) (before after : List Task) → g ≡ Negation inner → now ≡ inner.value → task_steps t ≡ goal_steps (plain_unresolved_goal now) → task_weight t ≡ goal_weight (plain_unresolved_goal now) → after ≡ before ++ t ∷ [] → Opens (goal_steps (plain_unresolved_goal g)) (goal_weight (plain_unresolved_goal g)) before after
-negation_opened g now inner t before after is same st wt put =
+pub negation_opened : (g now : UnresolvedGoal) (inner : Box UnresolvedGoal Global) (before after : List Task) → g ≡ Negation inner → now ≡ inner.value → Put (goal_steps (plain_unresolved_goal now)) (goal_weight (plain_unresolved_goal now)) before after → Opens (goal_steps (plain_unresolved_goal g)) (goal_weight (plain_unresolved_goal g)) before after
+negation_opened g now inner before after is same p =
     let v = ap plain_unresolved_goal is ∙ plain-Negation inner in
-    opened_alone g inner.value now t before after (ap goal_steps v) (ap goal_weight v) same st wt put
+    opened_alone g inner.value now before after (ap goal_steps v) (ap goal_weight v) same p
 
-pub exists_opened : (g now : UnresolvedGoal) (vs : List ℕ) (inner : Box UnresolvedGoal Global) (t : Task) (before after : List Task) → g ≡ Exists vs inner → now ≡ inner.value → task_steps t ≡ goal_steps (plain_unresolved_goal now) → task_weight t ≡ goal_weight (plain_unresolved_goal now) → after ≡ before ++ t ∷ [] → Opens (goal_steps (plain_unresolved_goal g)) (goal_weight (plain_unresolved_goal g)) before after
-exists_opened g now vs inner t before after is same st wt put =
+pub exists_opened : (g now : UnresolvedGoal) (vs : List ℕ) (inner : Box UnresolvedGoal Global) (before after : List Task) → g ≡ Exists vs inner → now ≡ inner.value → Put (goal_steps (plain_unresolved_goal now)) (goal_weight (plain_unresolved_goal now)) before after → Opens (goal_steps (plain_unresolved_goal g)) (goal_weight (plain_unresolved_goal g)) before after
+exists_opened g now vs inner before after is same p =
     let v = ap plain_unresolved_goal is ∙ plain-Exists vs inner in
-    opened_alone g inner.value now t before after (ap goal_steps v) (ap goal_weight v) same st wt put
+    opened_alone g inner.value now before after (ap goal_steps v) (ap goal_weight v) same p
 
--- a task is a goal
-abbrev pub IsGoal : Task → UnresolvedGoal → Type 0
-IsGoal t g = (task_steps t ≡ goal_steps (plain_unresolved_goal g)) × (task_weight t ≡ goal_weight (plain_unresolved_goal g))
-
-pub choice_opened : (g : UnresolvedGoal) (vs : List ℕ) (c t e : Box UnresolvedGoal Global) (tc tt' te : Task) (before one two after : List Task) → g ≡ Choice vs c t e → IsGoal tc c.value → IsGoal tt' t.value → IsGoal te e.value → one ≡ before ++ te ∷ [] → two ≡ one ++ tt' ∷ [] → after ≡ two ++ tc ∷ [] → Opens (goal_steps (plain_unresolved_goal g)) (goal_weight (plain_unresolved_goal g)) before after
-choice_opened g vs c t e tc tt' te before one two after is gc gt ge pe pt pc =
+pub choice_opened : (g c' t' e' : UnresolvedGoal) (vs : List ℕ) (c t e : Box UnresolvedGoal Global) (before after : List Task) → g ≡ Choice vs c t e → c' ≡ c.value → t' ≡ t.value → e' ≡ e.value → Put (goal_steps (plain_unresolved_goal c') ++ (goal_steps (plain_unresolved_goal t') ++ goal_steps (plain_unresolved_goal e'))) (goal_weight (plain_unresolved_goal c') + (goal_weight (plain_unresolved_goal t') + goal_weight (plain_unresolved_goal e'))) before after → Opens (goal_steps (plain_unresolved_goal g)) (goal_weight (plain_unresolved_goal g)) before after
+choice_opened g c' t' e' vs c t e before after is ic it ie p =
     let v = ap plain_unresolved_goal is ∙ plain-Choice vs c t e in
+    let S : UnresolvedGoal → List Step = λ x. goal_steps (plain_unresolved_goal x) in
     let w : goal_weight (plain_unresolved_goal g) ≡ suc (goal_weight (plain_unresolved_goal c.value) + (goal_weight (plain_unresolved_goal t.value) + goal_weight (plain_unresolved_goal e.value))) = ap goal_weight v in
-    let steps : task_steps tc ++ (task_steps tt' ++ task_steps te) ≡ goal_steps (plain_unresolved_goal g) = ap₂ (λ xs ys. xs ++ ys) gc.0 (ap₂ (λ xs ys. xs ++ ys) gt.0 ge.0) ∙ sym (ap goal_steps v) in
-    opens_by _ _ _ _ before after steps (let wc = gc.1 in let wt = gt.1 in let we = ge.1 in omega (arith, w, wc, wt, we))
-    (put_both (task_steps tt' ++ task_steps te) (task_steps tc) (task_weight tt' + task_weight te) (task_weight tc) before two after
-    (put_both (task_steps te) (task_steps tt') (task_weight te) (task_weight tt') before one two (pushed before one te pe) (pushed one two tt' pt)) (pushed two after tc pc))
+    let wc : goal_weight (plain_unresolved_goal c') ≡ goal_weight (plain_unresolved_goal c.value) = ap (λ x. goal_weight (plain_unresolved_goal x)) ic in
+    let wt : goal_weight (plain_unresolved_goal t') ≡ goal_weight (plain_unresolved_goal t.value) = ap (λ x. goal_weight (plain_unresolved_goal x)) it in
+    let we : goal_weight (plain_unresolved_goal e') ≡ goal_weight (plain_unresolved_goal e.value) = ap (λ x. goal_weight (plain_unresolved_goal x)) ie in
+    opens_by _ _ _ _ before after (ap₂ (λ xs ys. xs ++ ys) (ap S ic) (ap₂ (λ xs ys. xs ++ ys) (ap S it) (ap S ie)) ∙ sym (ap goal_steps v)) (omega (arith, w, wc, wt, we)) p
 
 -- STEPS THAT ARE TAKEN
 

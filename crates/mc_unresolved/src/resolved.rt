@@ -1,6 +1,6 @@
 ghost use Rattle.std.specs.Prelude.{◌≡◌, length, map, IfOk};
 ghost use Rattle.mc_program.specs.PlainPrograms.{plain_expression, plain_goal, plain_clause};
-ghost use Rattle.mc_accepted.specs.Resolving.{resolved, resolved_term, resolved_goal};
+ghost use Rattle.mc_accepted.specs.Resolving.{equation, choice, resolved, resolved_term, resolved_goal};
 ghost use Rattle.mc_unresolved.specs.Unresolved.{plain_unresolved, plain_unresolved_goal, plain_unresolved_clause};
 ghost use Rattle.mc_unresolved.specs.code.Picked.{resolved_list, resolved_goal_list};
 
@@ -89,11 +89,7 @@ fn make_goal(alloc: Global, goal: &UnresolvedGoal, picks: &mut Picks) -> Result<
         ≡ resolved_goal (plain_unresolved_goal goal.now) picks.old.rest.now) }
 {
     match goal {
-        UnresolvedGoal::Equation(left, right) => {
-            let left = make_term(alloc, left, picks)?;
-            let right = make_term(alloc, right, picks)?;
-            Ok(Goal::Equal(left, right))
-        }
+        UnresolvedGoal::Equation(left, right) => make_equation(alloc, left, right, picks),
         UnresolvedGoal::Atom(_, args) => {
             let args = make_terms(alloc, args.as_slice(), picks)?;
             Ok(picks.called(Row::of(args)?))
@@ -107,11 +103,7 @@ fn make_goal(alloc: Global, goal: &UnresolvedGoal, picks: &mut Picks) -> Result<
             Ok(Goal::Disj(Row::of(goals)?))
         }
         UnresolvedGoal::Choice(vars, condition, then_part, else_part) => {
-            let condition = make_part(alloc, condition, picks)?;
-            let then_part = make_part(alloc, then_part, picks)?;
-            let else_part = make_part(alloc, else_part, picks)?;
-            let vars = vars.copied(alloc)?;
-            Ok(Goal::Ite(vars, condition, then_part, else_part))
+            make_choice(alloc, vars, condition, then_part, else_part, picks)
         }
         UnresolvedGoal::Negation(part) => {
             let part = make_part(alloc, part, picks)?;
@@ -123,6 +115,42 @@ fn make_goal(alloc: Global, goal: &UnresolvedGoal, picks: &mut Picks) -> Result<
             Ok(Goal::Some(vars, part))
         }
     }
+}
+
+/// The equation that picks make of terms.
+fn make_equation(
+    alloc: Global,
+    left: &Unresolved,
+    right: &Unresolved,
+    picks: &mut Picks,
+) -> Result<Goal, Memory>
+    ensures { IfOk result (λ made. (plain_goal made, picks.new.rest.now)
+        ≡ resolved_goal (equation (plain_unresolved left.now) (plain_unresolved right.now)) picks.old.rest.now) }
+{
+    let left = make_term(alloc, left, picks)?;
+    let right = make_term(alloc, right, picks)?;
+    Ok(Goal::Equal(left, right))
+}
+
+/// The choice that picks make of its parts.
+#[cycle(goals)]
+fn make_choice(
+    alloc: Global,
+    vars: &Row<u32>,
+    condition: &UnresolvedGoal,
+    then_part: &UnresolvedGoal,
+    else_part: &UnresolvedGoal,
+    picks: &mut Picks,
+) -> Result<Goal, Memory>
+    ensures { IfOk result (λ made. (plain_goal made, picks.new.rest.now)
+        ≡ resolved_goal (choice vars.now (plain_unresolved_goal condition.now) (plain_unresolved_goal then_part.now)
+        (plain_unresolved_goal else_part.now)) picks.old.rest.now) }
+{
+    let vars = vars.copied(alloc)?;
+    let condition = make_part(alloc, condition, picks)?;
+    let then_part = make_part(alloc, then_part, picks)?;
+    let else_part = make_part(alloc, else_part, picks)?;
+    Ok(Goal::Ite(vars, condition, then_part, else_part))
 }
 
 /// The goal that picks make of a part of another.

@@ -1,5 +1,5 @@
-ghost use Rattle.std.specs.Prelude.{◌≡◌, ◌∷◌, [], map, IfOk, OnOk};
-ghost use Rattle.mc_accepted.specs.Resolving.{steps_of, term_steps, goal_steps};
+ghost use Rattle.std.specs.Prelude.{◌≡◌, ◌+◌, ◌∷◌, ◌++◌, [], length, map, IfOk, OnOk};
+ghost use Rattle.mc_accepted.specs.Resolving.{equate, call, steps_of, term_steps, goal_steps};
 ghost use Rattle.mc_unresolved.specs.Unresolved.{plain_unresolved, plain_unresolved_goal, plain_unresolved_clause};
 ghost use Rattle.mc_unresolved.specs.Steps.{plain_walk_step};
 ghost use Rattle.mc_unresolved.specs.code.Tasks.{steps_of_terms, steps_of_goals, term_weight, terms_weight, goal_weight, goals_weight, Put, Opens, Takes};
@@ -9,6 +9,7 @@ use crate::goal::UnresolvedGoal;
 use crate::steps::WalkStep;
 use crate::term::Unresolved;
 use mc_base::Memory;
+use mc_source::name::Candidate;
 use std::alloc::Global;
 
 /// What is still to be walked.
@@ -74,6 +75,24 @@ fn put<'a>(pending: &mut Vec<Task<'a>>, step: WalkStep<'a>) -> Result<(), Memory
     Ok(())
 }
 
+/// Puts a term in front of what is pending.
+fn put_term<'a>(pending: &mut Vec<Task<'a>>, term: &'a Unresolved) -> Result<(), Memory>
+    ensures { OnOk result (Put (term_steps (plain_unresolved term.now))
+        (term_weight (plain_unresolved term.now)) pending.old.items pending.new.items) }
+{
+    pending.push(Task::Term(term))?;
+    Ok(())
+}
+
+/// Puts a goal in front of what is pending.
+fn put_goal<'a>(pending: &mut Vec<Task<'a>>, goal: &'a UnresolvedGoal) -> Result<(), Memory>
+    ensures { OnOk result (Put (goal_steps (plain_unresolved_goal goal.now))
+        (goal_weight (plain_unresolved_goal goal.now)) pending.old.items pending.new.items) }
+{
+    pending.push(Task::Goal(goal))?;
+    Ok(())
+}
+
 /// Puts terms in front of what is pending.
 fn put_terms<'a>(pending: &mut Vec<Task<'a>>, terms: &'a [Unresolved]) -> Result<(), Memory>
     ensures { OnOk result (Put (steps_of_terms terms.now) (terms_weight terms.now)
@@ -124,33 +143,66 @@ fn open_goal<'a>(goal: &'a UnresolvedGoal, pending: &mut Vec<Task<'a>>) -> Resul
         (goal_weight (plain_unresolved_goal goal.now)) pending.old.items pending.new.items) }
 {
     match goal {
-        UnresolvedGoal::Equation(left, right) => {
-            put(pending, WalkStep::Equate)?;
-            pending.push(Task::Term(right))?;
-            pending.push(Task::Term(left))?;
-            Ok(())
-        }
+        UnresolvedGoal::Equation(left, right) => open_equation(left, right, pending),
         UnresolvedGoal::Atom(candidates, args) => {
-            let args = args.as_slice();
-            put(pending, WalkStep::Call(candidates.as_slice(), args.len()))?;
-            put_terms(pending, args)?;
-            Ok(())
+            open_atom(candidates.as_slice(), args.as_slice(), pending)
         }
         UnresolvedGoal::AllOf(goals) => put_goals(pending, goals.as_slice()),
         UnresolvedGoal::OneOf(goals) => put_goals(pending, goals.as_slice()),
         UnresolvedGoal::Choice(_, condition, then_part, else_part) => {
-            pending.push(Task::Goal(else_part))?;
-            pending.push(Task::Goal(then_part))?;
-            pending.push(Task::Goal(condition))?;
-            Ok(())
+            open_choice(condition, then_part, else_part, pending)
         }
-        UnresolvedGoal::Negation(goal) => {
-            pending.push(Task::Goal(goal))?;
-            Ok(())
-        }
-        UnresolvedGoal::Exists(_, goal) => {
-            pending.push(Task::Goal(goal))?;
-            Ok(())
-        }
+        UnresolvedGoal::Negation(goal) => put_goal(pending, goal),
+        UnresolvedGoal::Exists(_, goal) => put_goal(pending, goal),
     }
+}
+
+/// Puts an equation in front of what is pending, as its sides and the step that ends it.
+fn open_equation<'a>(
+    left: &'a Unresolved,
+    right: &'a Unresolved,
+    pending: &mut Vec<Task<'a>>,
+) -> Result<(), Memory>
+    ensures { OnOk result (Put
+        (term_steps (plain_unresolved left.now) ++ (term_steps (plain_unresolved right.now) ++ equate ∷ []))
+        (term_weight (plain_unresolved left.now) + (term_weight (plain_unresolved right.now) + 1))
+        pending.old.items pending.new.items) }
+{
+    put(pending, WalkStep::Equate)?;
+    put_term(pending, right)?;
+    put_term(pending, left)?;
+    Ok(())
+}
+
+/// Puts an atom in front of what is pending, as its arguments and the step that ends it.
+fn open_atom<'a>(
+    candidates: &'a [Candidate],
+    args: &'a [Unresolved],
+    pending: &mut Vec<Task<'a>>,
+) -> Result<(), Memory>
+    ensures { OnOk result (Put (steps_of_terms args.now ++ call candidates.now (length args.now) ∷ [])
+        (terms_weight args.now + 1) pending.old.items pending.new.items) }
+{
+    put(pending, WalkStep::Call(candidates, args.len()))?;
+    put_terms(pending, args)?;
+    Ok(())
+}
+
+/// Puts the parts of a choice in front of what is pending.
+fn open_choice<'a>(
+    condition: &'a UnresolvedGoal,
+    then_part: &'a UnresolvedGoal,
+    else_part: &'a UnresolvedGoal,
+    pending: &mut Vec<Task<'a>>,
+) -> Result<(), Memory>
+    ensures { OnOk result (Put (goal_steps (plain_unresolved_goal condition.now)
+        ++ (goal_steps (plain_unresolved_goal then_part.now) ++ goal_steps (plain_unresolved_goal else_part.now)))
+        (goal_weight (plain_unresolved_goal condition.now)
+        + (goal_weight (plain_unresolved_goal then_part.now) + goal_weight (plain_unresolved_goal else_part.now)))
+        pending.old.items pending.new.items) }
+{
+    put_goal(pending, else_part)?;
+    put_goal(pending, then_part)?;
+    put_goal(pending, condition)?;
+    Ok(())
 }

@@ -1,33 +1,29 @@
-use Rattle.std.proofs.Common.{List, refl, sym, ap, ap₂, ◌∙◌}
+use Rattle.std.proofs.Common.{List, sym, ap₂, ◌∙◌}
+use Rattle.std.proofs.lemmas.Result.{on_ok_weaker}
 use Rattle.mc_source.specs.declared.name.Candidate.{Candidate}
-use Rattle.mc_accepted.specs.Resolving.{goal_steps}
-use Rattle.mc_unresolved.specs.Unresolved.{plain_unresolved_goal}
-use Rattle.mc_unresolved.specs.code.Tasks.{goal_weight}
 use Rattle.mc_unresolved.specs.declared.term.Unresolved.{Unresolved}
 use Rattle.mc_unresolved.specs.declared.goal.UnresolvedGoal.{Atom}
 use Rattle.mc_unresolved.proofs.Pendings.{atom_opened, equation_opened, choice_opened, negation_opened, exists_opened}
 use Rattle.mc_unresolved.proofs.tasks.open_goal.Goals as goal
 
-pub returns-in_ok-push-in-Equation-2 : goal.returns-in_ok-push-in-Equation-2
-returns-in_ok-push-in-Equation-2 c =
-    equation_opened c.args.goal.now c.in-Equation.left c.in-Equation.right _ _ _ _ _ _ c.in-Equation.is c.in_ok-put-in-Equation.ensures c.in_ok-push-in-Equation.ensures.items c.in_ok-push-in-Equation-2.ensures.items refl refl refl refl
+pub returns-in-Equation : goal.returns-in-Equation
+returns-in-Equation c = on_ok_weaker c.open_equation.result (λ p. equation_opened c.args.goal.now c.in-Equation.left c.in-Equation.right _ _ c.in-Equation.is p) c.open_equation.ensures
 
-pub returns-in_ok-put_terms-in-Atom : goal.returns-in_ok-put_terms-in-Atom
-returns-in_ok-put_terms-in-Atom c =
-    atom_opened c.args.goal.now c.as_slice.result.now c.as_slice-args.result.now _ _ _
-    (c.in-Atom.is ∙ ap₂ (λ (cs : List Candidate) (xs : List Unresolved). Atom cs xs) (sym c.as_slice.ensures.items) (sym c.as_slice-args.ensures.items))
-    c.in_ok-put-in-Atom.ensures c.in_ok-put_terms-in-Atom.ensures
+pub returns-in-Atom : goal.returns-in-Atom
+returns-in-Atom c =
+    on_ok_weaker c.open_atom.result
+    (λ p. atom_opened c.args.goal.now c.as_slice.result.now c.as_slice-in-Atom.result.now _ _
+    (c.in-Atom.is ∙ ap₂ (λ (cs : List Candidate) (xs : List Unresolved). Atom cs xs) (sym c.as_slice.ensures.items) (sym c.as_slice-in-Atom.ensures.items)) p)
+    c.open_atom.ensures
 
-pub returns-in_ok-push-in-Choice-3 : goal.returns-in_ok-push-in-Choice-3
-returns-in_ok-push-in-Choice-3 c =
-    choice_opened c.args.goal.now c.in-Choice.field-0 c.in-Choice.condition c.in-Choice.then_part c.in-Choice.else_part _ _ _ _ _ _ _ c.in-Choice.is
-    (ap (λ g. goal_steps (plain_unresolved_goal g)) c.deref-in-Choice-2.ensures, ap (λ g. goal_weight (plain_unresolved_goal g)) c.deref-in-Choice-2.ensures)
-    (ap (λ g. goal_steps (plain_unresolved_goal g)) c.deref-in-Choice.ensures, ap (λ g. goal_weight (plain_unresolved_goal g)) c.deref-in-Choice.ensures)
-    (ap (λ g. goal_steps (plain_unresolved_goal g)) c.deref.ensures, ap (λ g. goal_weight (plain_unresolved_goal g)) c.deref.ensures)
-    c.in_ok-push-in-Choice.ensures.items c.in_ok-push-in-Choice-2.ensures.items c.in_ok-push-in-Choice-3.ensures.items
+pub returns-in-Choice : goal.returns-in-Choice
+returns-in-Choice c =
+    on_ok_weaker c.open_choice.result
+    (λ p. choice_opened c.args.goal.now _ _ _ c.in-Choice.field-0 c.in-Choice.condition c.in-Choice.then_part c.in-Choice.else_part _ _ c.in-Choice.is c.deref.ensures c.deref-in-Choice.ensures c.deref-in-Choice-2.ensures p)
+    c.open_choice.ensures
 
-pub returns-in_ok-push-in-Negation : goal.returns-in_ok-push-in-Negation
-returns-in_ok-push-in-Negation c = negation_opened c.args.goal.now _ c.in-Negation.goal _ _ _ c.in-Negation.is c.deref-in-Negation.ensures refl refl c.in_ok-push-in-Negation.ensures.items
+pub returns-in-Negation : goal.returns-in-Negation
+returns-in-Negation c = on_ok_weaker c.put_goal.result (λ p. negation_opened c.args.goal.now _ c.in-Negation.goal _ _ c.in-Negation.is c.deref-in-Negation.ensures p) c.put_goal.ensures
 
-pub returns-in_ok-push-in-Exists : goal.returns-in_ok-push-in-Exists
-returns-in_ok-push-in-Exists c = exists_opened c.args.goal.now _ c.in-Exists.field-0 c.in-Exists.goal _ _ _ c.in-Exists.is c.deref-in-Exists.ensures refl refl c.in_ok-push-in-Exists.ensures.items
+pub returns-in-Exists : goal.returns-in-Exists
+returns-in-Exists c = on_ok_weaker c.put_goal-in-Exists.result (λ p. exists_opened c.args.goal.now _ c.in-Exists.field-0 c.in-Exists.goal _ _ c.in-Exists.is c.deref-in-Exists.ensures p) c.put_goal-in-Exists.ensures
