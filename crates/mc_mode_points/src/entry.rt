@@ -3,6 +3,7 @@ ghost use Rattle.mc_program.specs.Programs.{TypeTerm, Source};
 ghost use Rattle.mc_model.specs.Lists.{is_in};
 ghost use Rattle.mc_accepted.specs.Arranged.{Declared, entry, first_unmet, with_inst};
 ghost use Rattle.mc_accepted.specs.Chosen.{Chosen, of_nodes};
+ghost use Rattle.mc_accepted.specs.Ordered.{times_in};
 ghost use Rattle.mc_insts.specs.Graphs.{count_of};
 ghost use Rattle.mc_procs.specs.Fitting.{AllFit};
 ghost use Rattle.mc_procs.specs.Named.{NumbersBelow};
@@ -13,7 +14,7 @@ ghost use Rattle.mc_mode_points.specs.Agreeing.{Agrees, Stands, Stepped, OnlyGro
 ghost use Rattle.mc_mode_points.specs.code.Entries.{entered};
 
 use crate::nodes::Nodes;
-use crate::state::State;
+use crate::state::{State, count_up};
 use mc_base::{Memory, Row};
 use mc_model::inst::InstId;
 use mc_procs::Procs;
@@ -61,6 +62,40 @@ fn first_insts(
     Ok(insts)
 }
 
+/// How often each of so many variables stands in a list.
+fn counts_of(alloc: Global, many: usize, vars: &[u32]) -> Result<Vec<u32>, Memory>
+    requires { NumbersBelow many vars.now }
+    ensures many { IfOk result (λ row. length row.items ≡ many) }
+    ensures counts { IfOk result (λ row. (x : ℕ) → get_or row.items x 0 ≡ times_in x vars.now) }
+{
+    let mut row = zeros(alloc, many)?;
+    count_up(&mut row, vars)?;
+    Ok(row)
+}
+
+/// The insts of a clause's variables at its beginning, and how often each occurs outside.
+#[derive(Drop)]
+struct AtEntry {
+    insts: Vec<InstId>,
+    outside: Vec<u32>,
+}
+
+/// Both of them: the insts by the first places of the head, which alone occurs outside. They are made before a state
+/// holds anything: much that is in hand across a `?` is dear to prove.
+fn at_entry(alloc: Global, many: usize, head: &[u32], first: &[InstId]) -> Result<AtEntry, Memory>
+    requires head { NumbersBelow many head.now }
+    requires arguments { length first.now ≡ length head.now }
+    ensures insts { IfOk result (λ entry. length entry.insts.items ≡ many) }
+    ensures point { IfOk result (λ entry. point_of entry.insts.items ≡ entered head.now first.now) }
+    ensures outside { IfOk result (λ entry. length entry.outside.items ≡ many) }
+    ensures counts { IfOk result (λ entry. (x : ℕ)
+        → get_or entry.outside.items x 0 ≡ times_in x head.now) }
+{
+    let insts = first_insts(alloc, many, head, first)?;
+    let outside = counts_of(alloc, many, head)?;
+    Ok(AtEntry { insts, outside })
+}
+
 impl State {
     /// The beginning of a clause whose variables have these types: the arguments of its head have the first insts of a
     /// mode, every other variable is free, and the head alone occurs outside. The nodes are those that were found so far.
@@ -84,17 +119,15 @@ impl State {
             → Stands q s) }
     {
         let many = types.as_slice().len();
-        let insts = first_insts(alloc, many, head, first)?;
-        let outside = zeros(alloc, many)?;
-        let mut state = State {
+        let entry = at_entry(alloc, many, head, first)?;
+        let AtEntry { insts, outside } = entry;
+        Ok(State {
             insts,
             log: Vec::new(alloc),
             outside,
             types,
             nodes,
-        };
-        state.enter(head)?;
-        Ok(state)
+        })
     }
 
     /// The place of the first argument whose final inst isn't met.

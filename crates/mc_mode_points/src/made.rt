@@ -1,19 +1,21 @@
-ghost use Rattle.std.specs.Prelude.{◌≡◌, ◌<◌, ◌∷◌, [], ◌||◌, ℕ, List, length, map, get_or, not, nat_eq, Some, IfOk, OnOk, OnErr};
+ghost use Rattle.std.specs.Prelude.{◌≡◌, ◌<◌, ◌∷◌, [], ◌||◌, ℕ, List, length, map, get_or, not, nat_eq, true, Some, IfOk, OnOk, OnErr};
 ghost use Rattle.std.specs.List.{list_any};
 ghost use Rattle.mc_program.specs.Programs.{TypeTerm};
 ghost use Rattle.mc_model.specs.Flat.{Made};
 ghost use Rattle.mc_model.specs.Stream.{is_bound};
-ghost use Rattle.mc_model.specs.Scheduled.{Take};
-ghost use Rattle.mc_accepted.specs.Arranged.{Declared, take, took, one, built};
-ghost use Rattle.mc_accepted.specs.Chosen.{Chosen, of_nodes};
+ghost use Rattle.mc_model.specs.PlainGoals.{plain_node};
+ghost use Rattle.mc_model.specs.Scheduled.{Take, Build, nodes, node_then, no_nodes};
+ghost use Rattle.mc_accepted.specs.Arranged.{Declared, take, took, one, built, changing};
+ghost use Rattle.mc_accepted.specs.Chosen.{Chosen, of_nodes, other_node};
 ghost use Rattle.mc_accepted.specs.Ordered.{is_state};
 ghost use Rattle.mc_insts.specs.Graphs.{count_of};
 ghost use Rattle.mc_procs.specs.Named.{NumbersBelow};
 ghost use Rattle.mc_procs.specs.Procedures.{PlainProcs, source_of};
 ghost use Rattle.mc_mode_points.specs.Nodes.{type_in};
-ghost use Rattle.mc_mode_points.specs.States.{point_of};
+ghost use Rattle.mc_mode_points.specs.States.{point_of, LogWithin, LeadsBack};
 ghost use Rattle.mc_mode_points.specs.Agreeing.{Agrees, Stands, Stepped, OnlyGrown};
-ghost use Rattle.mc_mode_points.specs.Answers.{tried, IsWaiting, Ran, Answers, FreshAlike};
+ghost use Rattle.mc_mode_points.specs.Answers.{tried, IsWaiting, Ran, Answers, FreshAlike, end_of};
+ghost use Rattle.mc_mode_points.specs.declared.state.State.{State};
 ghost use Rattle.mc_mode_points.specs.code.Applying.{TestsAgree};
 ghost use Rattle.mc_mode_points.specs.code.Taking.{take_each};
 
@@ -125,18 +127,41 @@ impl State {
         ensures kept { OnErr result (OnlyGrown procs.old procs.new) }
     {
         let log = self.log.len();
-        let goal = Sched::Take(x, symbol, row_of(alloc, ys)?);
         match procs.narrow(alloc, self.inst(x), symbol)? {
             None => {
-                let part = self.one(alloc, goal, log, false)?;
+                let part = self.taking(alloc, x, symbol, ys, log, false)?;
                 Ok(part)
             }
             Some(insts) => {
                 self.take_as(alloc, procs, x, symbol, ys, insts.as_slice())?;
-                let part = self.one(alloc, goal, log, true)?;
+                let part = self.taking(alloc, x, symbol, ys, log, true)?;
                 Ok(part)
             }
         }
+    }
+
+    /// The goal that takes a variable apart, with what was changed since the log had this length.
+    fn taking(
+        &self,
+        alloc: Global,
+        x: u32,
+        symbol: u32,
+        ys: &[u32],
+        log: usize,
+        reachable: bool,
+    ) -> Result<Part, Memory>
+        requires { LogWithin (length self.now.insts.items) self.now.log.items }
+        ensures goals { IfOk result (λ part. (s : State) → LeadsBack s self.now
+            → length s.log.items ≡ log
+            → nodes (map plain_node part.goals.items) ≡ node_then
+            (changing other_node (length self.now.insts.items) (point_of s.insts.items)
+            (end_of reachable self.now) (Take x symbol ys.now)) no_nodes) }
+        ensures reachable { IfOk result (λ part. part.reachable ≡ reachable) }
+        ensures freshened { IfOk result (λ part. part.freshened.items ≡ []) }
+    {
+        let row = row_of(alloc, ys)?;
+        let part = self.one(alloc, Sched::Take(x, symbol, row), log, reachable)?;
+        Ok(part)
     }
 
     /// A variable is taken apart, where these are the insts of the constructor's arguments.
@@ -254,11 +279,58 @@ impl State {
         ensures kept { OnErr result (OnlyGrown procs.old procs.new) }
     {
         let log = self.log.len();
-        let goal = Sched::Build(x, symbol, row_of(alloc, ys)?);
+        let inst = self.over_these(alloc, procs, symbol, ys)?;
+        self.set(x, inst)?;
+        let part = self.building(alloc, x, symbol, ys, log)?;
+        Ok(part)
+    }
+
+    /// The inst of a constructor over variables.
+    #[tactic(auto, using(crate::proofs::Growths::refused_here, crate::proofs::Growths::refused_by, crate::proofs::Growths::refused_stepped, crate::proofs::Growths::refused_after))]
+    fn over_these(
+        &mut self,
+        alloc: Global,
+        procs: &mut Procs,
+        symbol: u32,
+        ys: &[u32],
+    ) -> Result<InstId, Memory>
+        requires stands { Stands procs.old self.old }
+        requires variables { NumbersBelow (length self.old.insts.items) ys.now }
+        requires symbol { symbol < length procs.old.program.symbols }
+        requires arity { length ys.now ≡ ((source_of procs.old).symbols symbol).name.arity }
+        ensures found { IfOk result (λ node. (C : Chosen) (T : ℕ → TypeTerm)
+            → Agrees procs.new self.new C T
+            → C.over symbol (map (point_of self.old.insts.items) ys.now) ≡ Some node) }
+        ensures there { IfOk result (λ node. node < count_of procs.new.insts) }
+        ensures insts { OnOk result (self.new.insts ≡ self.old.insts) }
+        ensures stepped { OnOk result (Stepped procs.old procs.new self.old self.new) }
+        ensures kept { OnErr result (OnlyGrown procs.old procs.new) }
+    {
         let insts = self.insts_at(alloc, ys)?;
         let inst = self.over(alloc, procs, symbol, &insts)?;
-        self.set(x, inst)?;
-        let part = self.one(alloc, goal, log, true)?;
+        Ok(inst)
+    }
+
+    /// The goal that gives a variable a constructor, with what was changed since the log had this length.
+    fn building(
+        &self,
+        alloc: Global,
+        x: u32,
+        symbol: u32,
+        ys: &[u32],
+        log: usize,
+    ) -> Result<Part, Memory>
+        requires { LogWithin (length self.now.insts.items) self.now.log.items }
+        ensures goals { IfOk result (λ part. (s : State) → LeadsBack s self.now
+            → length s.log.items ≡ log
+            → nodes (map plain_node part.goals.items) ≡ node_then
+            (changing other_node (length self.now.insts.items) (point_of s.insts.items)
+            (end_of true self.now) (Build x symbol ys.now)) no_nodes) }
+        ensures reachable { IfOk result (λ part. part.reachable ≡ true) }
+        ensures freshened { IfOk result (λ part. part.freshened.items ≡ []) }
+    {
+        let row = row_of(alloc, ys)?;
+        let part = self.one(alloc, Sched::Build(x, symbol, row), log, true)?;
         Ok(part)
     }
 }

@@ -30,6 +30,23 @@ pub struct Mark {
     pub variables: usize,
 }
 
+/// Counts each variable outside, as often as it stands in the list.
+pub(crate) fn count_up(outside: &mut Vec<u32>, vars: &[u32]) -> Result<(), Memory>
+    requires { NumbersBelow (length outside.old.items) vars.now }
+    ensures len { OnOk result (length outside.new.items ≡ length outside.old.items) }
+    ensures counts { OnOk result ((x : ℕ) → get_or outside.new.items x 0
+        ≡ get_or outside.old.items x 0 + times_in x vars.now) }
+{
+    for x in vars {
+        let count = outside[*x as usize].checked_add(1);
+        match count {
+            Some(count) => outside[*x as usize] = count,
+            None => return Err(Memory),
+        }
+    }
+    Ok(())
+}
+
 impl State {
     /// The present moment.
     pub fn mark(&self) -> Mark
@@ -121,13 +138,7 @@ impl State {
         ensures counts { OnOk result ((x : ℕ) → get_or self.new.outside.items x 0
             ≡ get_or self.old.outside.items x 0 + times_in x vars.now) }
     {
-        for x in vars {
-            let count = self.outside[*x as usize].checked_add(1);
-            match count {
-                Some(count) => self.outside[*x as usize] = count,
-                None => return Err(Memory),
-            }
-        }
+        count_up(&mut self.outside, vars)?;
         Ok(())
     }
 

@@ -1,31 +1,22 @@
-use Rattle.std.proofs.Common.{◌∙◌, ◌<◌, ℕ, true, Vec, Global, List, length, get_or, Some, ap, sym, subst, arith}
+use Rattle.std.proofs.Common.{◌∙◌, ◌<◌, ℕ, true, Vec, Global, length, Some, ap, sym, subst, arith}
 use Rattle.mc_model.specs.Scheduled as S
 use Rattle.mc_accepted.specs.Arranged.{with_inst, built}
 use Rattle.mc_accepted.specs.Chosen.{of_nodes}
 use Rattle.mc_insts.specs.Graphs.{count_of}
 use Rattle.mc_procs.specs.Procedures.{source_of}
-use Rattle.mc_procs.proofs.Views.{plain_sched-Build}
 use Rattle.mc_mode_points.specs.States.{point_of}
 use Rattle.mc_mode_points.specs.Agreeing.{Stepped}
 use Rattle.mc_mode_points.proofs.Ahead.{agrees-before}
 use Rattle.mc_mode_points.proofs.Steps.{stepped-set, stepped-trans}
-use Rattle.mc_mode_points.proofs.AtomOutcomes.{one_goal, alike-one, none-fresh, runs-one}
-use Rattle.mc_mode_points.proofs.MadeOutcomes.{insts-below}
+use Rattle.mc_mode_points.proofs.AtomOutcomes.{alike-one, none-fresh, runs-one}
 use Rattle.mc_mode_points.proofs.state.State.build.Goals as goal
 
-pub over-requires-clause-insts : goal.over-requires-clause-insts
-over-requires-clause-insts c =
+pub building-requires : goal.building-requires
+building-requires c =
     let q = c.args.procs.now in
-    let b = point_of c.args.self.now.insts.items in
-    subst (λ (is : List ℕ). (n : ℕ) → n < length is → get_or is n 0 < count_of q.insts) (sym (c.deref.ensures.value ∙ c.in_ok-insts.ensures))
-    (insts-below b (count_of q.insts) c.args.ys.now c.requires.stands.insts)
-
-pub one-requires : goal.one-requires
-one-requires c =
-    let q = c.args.procs.now in
-    let r = c.over.new.procs in
+    let r = c.over_these.new.procs in
     let s = c.args.self.now in
-    let u = c.over.new.self in
+    let u = c.over_these.new.self in
     let t = c.set.new.self in
     let o = c.in_ok-inst.ensures in
     let e = c.in_ok-set.ensures in
@@ -36,9 +27,9 @@ one-requires c =
 pub returns-clause-ran : goal.returns-clause-ran
 returns-clause-ran c = λ declared.
     let q = c.args.procs.now in
-    let r = c.over.new.procs in
+    let r = c.over_these.new.procs in
     let s = c.args.self.now in
-    let u = c.over.new.self in
+    let u = c.over_these.new.self in
     let t = c.set.new.self in
     let x = c.args.x in
     let f = c.args.symbol in
@@ -54,10 +45,9 @@ returns-clause-ran c = λ declared.
     let step : Stepped q r s t = stepped-trans q r r s u t o.stepped set in
     record {
       outcome = λ C T a.
-          ap (built (of_nodes C) (source_of q) declared T x f ys n b)
-          (ap (C.over f) (sym (c.deref.ensures.value ∙ c.in_ok-insts.ensures)) ∙ o.found C T (agrees-before r r u t C T o.stepped.moved.stands set.moved a))
+          ap (built (of_nodes C) (source_of q) declared T x f ys n b) (o.found C T (agrees-before r r u t C T o.stepped.moved.stands set.moved a))
           ∙ runs-one C c.in_ok-part.part s t (S.Build x f ys) (Some (with_inst ℕ x i b)) n true
-          (p.goals s step.later.leads (omega (arith, c.len-log.ensures, c.args.self.now.log.ok.0)) ∙ ap (one_goal s t true) (plain_sched-Build x f c.in_ok-row_of.field-0 ∙ ap (S.Build x f) c.in_ok-row_of.ensures))
+          (p.goals s step.later.leads (omega (arith, c.len-log.ensures, c.args.self.now.log.ok.0)))
           p.reachable p.freshened
           (ap Some (sym (e.point ∙ ap (λ (v : Vec ℕ Global). with_inst ℕ x i (point_of v.items)) o.insts)))
           (sym (e.count ∙ ap (λ (v : Vec ℕ Global). length v.items) o.insts));
@@ -68,14 +58,14 @@ returns-clause-ran c = λ declared.
 pub returns-clause-alike : goal.returns-clause-alike
 returns-clause-alike c = λ T next same.
     let q = c.args.procs.now in
-    let r = c.over.new.procs in
+    let r = c.over_these.new.procs in
     let s = c.args.self.now in
-    let u = c.over.new.self in
+    let u = c.over_these.new.self in
     let t = c.set.new.self in
     let o = c.in_ok-inst.ensures in
     let e = c.in_ok-set.ensures in
     let h : c.args.x < length u.insts.items = subst (λ (v : Vec ℕ Global). c.args.x < length v.items) (sym o.insts) c.requires.variables.0 in
     let set : Stepped r r u t = stepped-set r u t c.args.x c.in_ok-inst.inst o.stepped.moved.stands h o.there e.point e.log e.count e.outside e.types e.nodes in
     let step : Stepped q r s t = stepped-trans q r r s u t o.stepped set in
-    alike-one T next c.in_ok-part.part s t true (S.Build c.args.x c.args.symbol c.in_ok-row_of.field-0)
-    (c.in_ok-part.ensures.goals s step.later.leads (omega (arith, c.len-log.ensures, c.args.self.now.log.ok.0)) ∙ ap (one_goal s t true) (plain_sched-Build c.args.x c.args.symbol c.in_ok-row_of.field-0)) tt
+    alike-one T next c.in_ok-part.part s t true (S.Build c.args.x c.args.symbol c.args.ys.now)
+    (c.in_ok-part.ensures.goals s step.later.leads (omega (arith, c.len-log.ensures, c.args.self.now.log.ok.0))) tt

@@ -5,13 +5,12 @@ use Rattle.mc_accepted.specs.Chosen.{of_nodes}
 use Rattle.mc_insts.specs.Graphs.{count_of}
 use Rattle.mc_insts.specs.Narrowed.{Narrowed}
 use Rattle.mc_procs.specs.Procedures.{source_of, insts_of}
-use Rattle.mc_procs.proofs.Views.{plain_sched-Take}
 use Rattle.mc_mode_points.specs.States.{point_of}
 use Rattle.mc_mode_points.proofs.Ahead.{agrees-before}
 use Rattle.mc_mode_points.proofs.Narrow.{narrowed-below, narrowed-many}
 use Rattle.mc_mode_points.proofs.Rewinds.{leads-refl}
 use Rattle.mc_mode_points.proofs.Steps.{stepped-refl}
-use Rattle.mc_mode_points.proofs.AtomOutcomes.{one_goal, alike-one, none-fresh, runs-one}
+use Rattle.mc_mode_points.proofs.AtomOutcomes.{alike-one, none-fresh, runs-one}
 use Rattle.mc_mode_points.proofs.MadeOutcomes.{narrowed-is}
 use Rattle.mc_mode_points.proofs.state.State.take.Goals as goal
 
@@ -52,7 +51,7 @@ returns-in_ok-part-in-None-clause-ran c = λ declared.
       outcome = λ C T a.
           ap (take (of_nodes C) (source_of q) declared T x f ys n b) (narrowed-is q s declared c.requires.stands C T a x f None h)
           ∙ runs-one C c.in_ok-part-in-None.part s s (S.Take x f ys) None n false
-          (p.goals s (leads-refl s) (omega (arith, c.len-log.ensures, c.args.self.now.log.ok.0)) ∙ ap (one_goal s s false) (plain_sched-Take x f c.in_ok-row_of.field-0 ∙ ap (S.Take x f) c.in_ok-row_of.ensures))
+          (p.goals s (leads-refl s) (omega (arith, c.len-log.ensures, c.args.self.now.log.ok.0)))
           p.reachable p.freshened refl refl;
       fresh = none-fresh n c.in_ok-part-in-None.part.freshened.items p.freshened;
       stepped = stepped-refl q s c.requires.stands;
@@ -81,7 +80,7 @@ returns-in_ok-part-in-Some-clause-ran c = λ declared.
           (narrowed-is q s declared c.requires.stands C T (agrees-before q r s t C T c.requires.stands e.stepped.moved a) x f (Some is) h)
           ∙ (subst (λ (js : List ℕ). took (of_nodes C) (source_of q) declared T x f ys js n b (C.over f js) ≡ one (of_nodes C) b (S.Take x f ys) (Some (point_of t.insts.items)) n) c.as_slice.ensures.items (e.took declared C T a)
           ∙ runs-one C c.in_ok-part-in-Some.part s t (S.Take x f ys) (Some (point_of t.insts.items)) n true
-          (p.goals s e.stepped.later.leads (omega (arith, c.len-log.ensures, c.args.self.now.log.ok.0)) ∙ ap (one_goal s t true) (plain_sched-Take x f c.in_ok-row_of.field-0 ∙ ap (S.Take x f) c.in_ok-row_of.ensures))
+          (p.goals s e.stepped.later.leads (omega (arith, c.len-log.ensures, c.args.self.now.log.ok.0)))
           p.reachable p.freshened refl (sym e.count));
       fresh = none-fresh (length t.insts.items) c.in_ok-part-in-Some.part.freshened.items p.freshened;
       stepped = e.stepped;
@@ -90,12 +89,12 @@ returns-in_ok-part-in-Some-clause-ran c = λ declared.
 pub returns-in_ok-part-in-None-clause-alike : goal.returns-in_ok-part-in-None-clause-alike
 returns-in_ok-part-in-None-clause-alike c = λ T next same.
     let s = c.args.self.now in
-    alike-one T next c.in_ok-part-in-None.part s s false (S.Take c.args.x c.args.symbol c.in_ok-row_of.field-0)
-    (c.in_ok-part-in-None.ensures.goals s (leads-refl s) (omega (arith, c.len-log.ensures, c.args.self.now.log.ok.0)) ∙ ap (one_goal s s false) (plain_sched-Take c.args.x c.args.symbol c.in_ok-row_of.field-0)) tt
+    alike-one T next c.in_ok-part-in-None.part s s false (S.Take c.args.x c.args.symbol c.args.ys.now)
+    (c.in_ok-part-in-None.ensures.goals s (leads-refl s) (omega (arith, c.len-log.ensures, c.args.self.now.log.ok.0))) tt
 
 pub returns-in_ok-part-in-Some-clause-alike : goal.returns-in_ok-part-in-Some-clause-alike
 returns-in_ok-part-in-Some-clause-alike c = λ T next same.
     let s = c.args.self.now in
     let t = c.take_as.new.self in
-    alike-one T next c.in_ok-part-in-Some.part s t true (S.Take c.args.x c.args.symbol c.in_ok-row_of.field-0)
-    (c.in_ok-part-in-Some.ensures.goals s c.in_ok-take_as-in-Some.ensures.stepped.later.leads (omega (arith, c.len-log.ensures, c.args.self.now.log.ok.0)) ∙ ap (one_goal s t true) (plain_sched-Take c.args.x c.args.symbol c.in_ok-row_of.field-0)) tt
+    alike-one T next c.in_ok-part-in-Some.part s t true (S.Take c.args.x c.args.symbol c.args.ys.now)
+    (c.in_ok-part-in-Some.ensures.goals s c.in_ok-take_as-in-Some.ensures.stepped.later.leads (omega (arith, c.len-log.ensures, c.args.self.now.log.ok.0))) tt
