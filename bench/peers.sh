@@ -16,7 +16,7 @@ root=$(cd "$(dirname "$0")/.." && pwd) || exit 2
 size=full
 [ "${1:-}" = --tiny ] && { size=tiny; shift; }
 program=$(readlink -f "${1:-$root/crates/merc/out/merc}")
-[ -x "$program" ] || { echo "build the program first: ./merc" >&2; exit 2; }
+[ -x "$program" ] || { echo "build the program first: scripts/build" >&2; exit 2; }
 exec python3 - "$root" "$program" "$size" <<'PY'
 import dataclasses, os, random, re, resource, shutil, statistics, subprocess, sys, tempfile, threading, time
 

@@ -6,7 +6,7 @@
 set -u
 root=$(cd "$(dirname "$0")/.." && pwd) || exit 2
 program=${MERC:-$root/crates/merc/out/merc}
-[ -x "$program" ] || { echo "build the program first: ./merc" >&2; exit 2; }
+[ -x "$program" ] || { echo "build the program first: scripts/build" >&2; exit 2; }
 exec python3 - "$program" <<'PY'
 import os, subprocess, sys, tempfile, time
 
