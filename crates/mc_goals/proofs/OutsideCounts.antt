@@ -1,10 +1,10 @@
 -- Counts of the variables that occur outside a goal.
-use Rattle.std.proofs.Common.{◌≡◌, ℕ, zero, suc, ◌+◌, ◌-◌, ◌<◌, ◌≤◌, List, [], ◌∷◌, ◌++◌, length, get_or, set, take, Bool, true, false, cond, nat_eq, nat_lt, ◌||◌, refl, sym, ap, ap₂, ◌∙◌, arith, append-nil}
+use Rattle.std.proofs.Common.{◌≡◌, ℕ, zero, suc, ◌+◌, ◌-◌, ◌<◌, ◌≤◌, List, [], ◌∷◌, ◌++◌, length, get_or, set, take, Bool, true, false, cond, nat_eq, nat_lt, ◌||◌, refl, sym, ap, ◌∙◌, arith, append-nil}
 use Rattle.std.proofs.Math.Path.{fun_ext}
 use Rattle.std.proofs.lemmas.Bool.{eqb-true}
 use Rattle.std.proofs.lemmas.List.{take_more}
 use Rattle.std.proofs.lemmas.Bool.Decides.{nat_tests}
-use Rattle.mc_model.specs.Lists.{is_in, without, once}
+use Rattle.mc_model.specs.Lists.{is_in, once}
 use Rattle.mc_goals.specs.declared.outside.Outside.{Outside}
 use Rattle.mc_goals.specs.code.Outside.{times, count, more, less, absent}
 use Rattle.mc_goals.proofs.Lists.{once-push, is_in-once}

@@ -1,9 +1,9 @@
 -- Scopes that are written out by counts are those that are written out by lists.
 use Rattle.std.proofs.Common.{◌≡◌, ℕ, ◌+◌, ◌-◌, List, [], ◌∷◌, ◌++◌, Bool, true, false, cond, nat_lt, ◌||◌, refl, sym, ap, ap₂, ◌∙◌, append_assoc, append-nil, arith}
-use Rattle.mc_program.specs.Programs.{expressions, Formula, Equal, Call, And, Or, If, Not, Exists, Formulas, no_formulas, formula_then, ClauseForm}
+use Rattle.mc_program.specs.Programs.{Formula, Equal, Call, And, Or, If, Not, Exists, Formulas, no_formulas, formula_then}
 use Rattle.mc_program.specs.PlainPrograms.{formulas}
 use Rattle.mc_model.specs.Lists.{is_in, without, once}
-use Rattle.mc_accepted.specs.Scope.{variables_in, variables_in_all, occurring, occurring_all, free_of, free_of_all, quantified, scoped_condition, scoped_negation, scoped, scoped_parts, scoped_disjuncts, clause_scoped}
+use Rattle.mc_accepted.specs.Scope.{variables_in, variables_in_all, occurring, occurring_all, free_of, free_of_all, quantified, scoped_condition, scoped, scoped_parts, scoped_disjuncts}
 use Rattle.mc_goals.specs.code.Outside.{times, more, less, absent, free_by, free_by_all, own_of, scoped_by, parts_by, disjuncts_by}
 use Rattle.mc_goals.proofs.Lists.{is_in-append, without-append}
 use Rattle.mc_goals.proofs.OutsideCounts.{times-append, times-in, positive-add, more_in, at_more, at_less}

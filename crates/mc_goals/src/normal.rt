@@ -148,18 +148,39 @@ fn finish(
     ensures names { IfOk result (λ goal. goal.var_names ≡ variables.names.items) }
     ensures body { IfOk result (λ goal. goal.body ≡ body) }
 {
+    let Columns { head, types, names } = columns_of(alloc, arity, variables)?;
+    Ok(Normal {
+        pred: number,
+        head,
+        var_types: types,
+        var_names: names,
+        body,
+    })
+}
+
+/// The rows of a normal goal.
+#[derive(Drop)]
+struct Columns {
+    head: Row<u32>,
+    types: Row<Ty>,
+    names: Row<Text>,
+}
+
+/// The head variables, and the types and names of all variables.
+fn columns_of(alloc: Global, arity: u32, variables: Variables) -> Result<Columns, Memory>
+    ensures head { IfOk result (λ columns. columns.head ≡ from 0 arity) }
+    ensures types { IfOk result (λ columns. columns.types ≡ variables.types.items) }
+    ensures names { IfOk result (λ columns. columns.names ≡ variables.names.items) }
+{
     let Variables {
         types,
         names,
         next: _,
     } = variables;
-    Ok(Normal {
-        pred: number,
-        head: below(alloc, arity)?,
-        var_types: Row::of(types)?,
-        var_names: Row::of(names)?,
-        body,
-    })
+    let types = Row::of(types)?;
+    let names = Row::of(names)?;
+    let head = below(alloc, arity)?;
+    Ok(Columns { head, types, names })
 }
 
 /// Puts the types of a clause's own variables that are no head arguments at the end, and those of the variables that

@@ -1,5 +1,5 @@
 -- How often variables occur outside a goal, and scopes as they are written out by these counts.
-use Rattle.std.specs.Prelude.{ℕ, suc, ◌+◌, ◌-◌, List, [], ◌∷◌, ◌++◌, Bool, nat_eq, nat_lt, slice_index_or, if◌then◌else◌}
+use Rattle.std.specs.Prelude.{ℕ, suc, ◌+◌, ◌-◌, List, [], ◌∷◌, ◌++◌, nat_eq, nat_lt, slice_index_or, if◌then◌else◌}
 use Rattle.mc_program.specs.Programs.{Formula, Equal, Call, And, Or, If, Not, Exists, Formulas, no_formulas, formula_then}
 use Rattle.mc_program.specs.PlainPrograms.{formulas}
 use Rattle.mc_model.specs.Lists.{once}

@@ -1,6 +1,6 @@
-use Rattle.std.proofs.Common.{◌≡◌, ap, ◌∙◌}
+use Rattle.std.proofs.Common.{ap, ◌∙◌}
 use Rattle.mc_program.specs.PlainPrograms.{plain_goal}
-use Rattle.mc_goals.specs.code.Outside.{count, more, scoped_by}
+use Rattle.mc_goals.specs.code.Outside.{count, scoped_by}
 use Rattle.mc_goals.proofs.Scoping.{scoped_from_nothing}
 use Rattle.mc_goals.proofs.query.body_under.Goals as goal
 

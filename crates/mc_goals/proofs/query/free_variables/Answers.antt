@@ -1,6 +1,6 @@
-use Rattle.std.proofs.Common.{◌≡◌, ap, ap₂, ◌∙◌}
+use Rattle.std.proofs.Common.{ap₂, ◌∙◌}
 use Rattle.mc_program.specs.PlainPrograms.{plain_goal}
-use Rattle.mc_goals.specs.code.Outside.{count, own_of, scoped_by}
+use Rattle.mc_goals.specs.code.Outside.{count, own_of}
 use Rattle.mc_goals.proofs.Scoping.{free_where_nothing_is}
 use Rattle.mc_goals.proofs.query.free_variables.Goals as goal
 

@@ -1,4 +1,4 @@
-use Rattle.std.proofs.Common.{◌≡◌, ◌<◌, map, length, ap, ◌∙◌, arith, rules}
+use Rattle.std.proofs.Common.{◌<◌, map, length, ap, ◌∙◌, arith, rules}
 use Rattle.mc_program.specs.PlainPrograms.{plain_goal, formulas}
 use Rattle.mc_program.specs.declared.program.Goal.{the_lemmas}
 use Rattle.mc_accepted.specs.Scope.{occurring, occurring_all}
