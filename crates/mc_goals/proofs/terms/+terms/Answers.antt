@@ -1,21 +1,23 @@
-use Rattle.std.proofs.Common.{arith, rules, FitsSigned, ◌≡◌, ◌++◌, ◌∷◌, [], ℕ, length, sym, ap, ap₂, ◌∙◌}
+use Rattle.std.proofs.Common.{arith, rules, FitsSigned, ◌≡◌, ◌<◌, ◌+◌, ◌++◌, ◌∷◌, [], ℕ, List, length, map, drop, sym, ap, ap₂, ◌∙◌}
 use Rattle.std.specs.Int.{w64}
 use Rattle.std.proofs.lemmas.Int.{to_z-of_z}
+use Rattle.std.proofs.lemmas.List.{at_drop_more}
 use Rattle.mc_program.specs.Values.{plain_value}
 use Rattle.mc_program.specs.declared.value.Value as V
 use Rattle.mc_model.specs.Flat as F
 use Rattle.mc_program.proofs.Fronts.{front_last, last_below, rebuilt, opens, closes}
 use Rattle.mc_program.proofs.Overs.{made_above, applied_above}
+use Rattle.mc_program.specs.Programs.{Expressions, expressions}
 use Rattle.mc_program.specs.PlainPrograms.{plain_expression}
-use Rattle.mc_program.specs.declared.expr.Expr.{size-Expr, Str}
-use Rattle.mc_accepted.specs.Normal.{Conjuncts}
+use Rattle.mc_program.specs.declared.expr.Expr.{Expr, size-Expr, Str}
+use Rattle.mc_accepted.specs.Normal.{Conjuncts, name_terms}
 use Rattle.mc_goals.specs.declared.building.Building.{Building}
 use Rattle.mc_goals.specs.declared.building.Head.TheVariants.{Con, Apply}
 use Rattle.mc_goals.specs.declared.terms.Front.{Front}
 use Rattle.mc_goals.specs.code.Numbering.{number_at}
-use Rattle.mc_goals.specs.code.Naming.{held, with_goal, with_variable, goal_over}
+use Rattle.mc_goals.specs.code.Naming.{held, followed, added, with_goal, with_variable, goal_over}
 use Rattle.mc_goals.proofs.Views.{plain_expression-Var, plain_expression-Int, plain_expression-Char, plain_expression-Str, plain_expression-Con, plain_expression-Apply}
-use Rattle.mc_goals.proofs.Naming.{run, over_front, leaf_variable, leaf_constant, leaf_head, front_named}
+use Rattle.mc_goals.proofs.Naming.{run, over_front, leaf_variable, leaf_constant, leaf_head, front_named, next_variables, next_held}
 use Rattle.mc_goals.proofs.terms.+terms.Goals as goal
 use Rattle.mc_goals.proofs.terms.+terms.Goals.{named-in-Var, named-in-Int+in_ok-variable-in-Int, named-in-Char+in_ok-variable-in-Char, named-in-Str+in_ok-copied-in-Str+in_ok-variable-in-Str, named-in-Con+in-empty+in_ok-variable-in-empty, named-in-Apply+in-empty-as_slice+in_ok-variable-in-empty-as_slice}
 
@@ -80,3 +82,23 @@ named-loop-front-preserved t c =
     closes (Conjuncts × ℕ) Front over_front _ _ c.in-Some.front (s, c.loop-front.variable) _ _ (c.in-Some.ensures {u = tt}).items
     (ap₂ (λ (p : Conjuncts) (v : ℕ). (p, v)) made.made made.value ∙ ap (λ vs. (with_goal (goal_over h s.next vs) (with_variable s), s.next)) (c.in_ok-push.ensures {u = tt}).items)
     c.loop-front.invariant
+
+pub named_all-loop-term-preserved : goal.named_all-loop-term-preserved
+named_all-loop-term-preserved t c =
+    let names = number_at c.args.numbers.now in
+    let terms = c.args.terms.now in
+    let i = c.loop-term.term-index in
+    let s = held c.loop-term.into in
+    let s' = held c.named.new.into in
+    let vs = c.loop-term.variables.items in
+    let all : List Expr → Expressions = λ es. expressions (map plain_expression es) in
+    let rest = all (drop (i + 1) terms) in
+    let inside : i < length terms = omega arith in
+    let step = at_drop_more all terms i c.term-item.result inside ∙ ap (λ (x : Expr). all (x ∷ drop (i + 1) terms)) (sym c.term-item.is) in
+    let one = c.in_ok-named.ensures {u = tt} in
+    record {
+      variables =
+          ap (λ l. l ++ (name_terms names s'.next rest).variables) (c.in_ok-push.ensures {u = tt}).items
+          ∙ next_variables names s s' (plain_expression c.term-item.result) rest vs _ c.in_ok-named.field-0 one (ap (λ ts. vs ++ (name_terms names s.next ts).variables) (sym step) ∙ c.loop-term.invariant.variables);
+      held = next_held names s s' _ (plain_expression c.term-item.result) rest c.in_ok-named.field-0 one (ap (λ ts. followed s (added (name_terms names s.next ts))) (sym step) ∙ c.loop-term.invariant.held);
+    }
