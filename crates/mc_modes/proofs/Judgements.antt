@@ -31,7 +31,7 @@ use Rattle.mc_modes.specs.Fitting.{Known, GoalFits}
 use Rattle.mc_modes.specs.Tries.{with_types, trying, tells_outside, Runs, Breaks}
 use Rattle.mc_modes.specs.Arrangements.{Becomes, NumbersTo, Numbers, Arranges}
 use Rattle.mc_modes.specs.code.Parts.{alone_at}
-use Rattle.mc_modes.specs.code.Judging.{IsBeginning, unmet_at, IsUnmet, Judges}
+use Rattle.mc_modes.specs.code.Judging.{IsBeginning, unmet_at, IsUnmet, Judges, JudgesGoal}
 use Rattle.mc_modes.specs.declared.arranging.Arrangement.{Arrangement}
 use Rattle.mc_modes.specs.declared.arranging.Refusal.{Refusal}
 use Rattle.mc_modes.specs.declared.arranging.Refusal.TheVariants as R
@@ -81,6 +81,12 @@ pub unmet-told : {E : Type 0} (head last : List ℕ) (reachable : Bool) (q r : P
 unmet-told head last true q r s (Ok place) e f g = record { unmet = f; stepped = g }
 unmet-told head last true q r s (Err m) e f g = tt
 unmet-told head last false q r s res e f g = absurd (cc e)
+
+-- a goal that has no order leaves its clause without one
+pub judges-refused : (head last : List ℕ) (p : Part) (log : ℕ) (q r : PlainProcs) (s : State) (e : Refusal) → JudgesGoal head last p log q r s (Err e) → Judges head last p log q r s (Err e)
+judges-refused head last p log q r s (R.Fault f) j = j
+judges-refused head last p log q r s (R.Unmet k) j = j
+judges-refused head last p log q r s R.Memory j = j
 
 -- at the end types of the head's variables alone count
 module _ (C : Chosen) (P : Source) (declared : ℕ → List Declared) (T U : ℕ → TypeTerm) (first : ℕ) (h : (x : ℕ) → x < first → T x ≡ U x) where

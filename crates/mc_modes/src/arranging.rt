@@ -7,7 +7,7 @@ ghost use Rattle.mc_modes.specs.Signatures.{SigsFit};
 ghost use Rattle.mc_modes.specs.Fitting.{Known};
 ghost use Rattle.mc_mode_points.specs.Agreeing.{Stands, OnlyGrown};
 ghost use Rattle.mc_modes.specs.Arrangements.{Arranges};
-ghost use Rattle.mc_modes.specs.code.Judging.{IsBeginning, IsUnmet, Judges};
+ghost use Rattle.mc_modes.specs.code.Judging.{IsBeginning, IsUnmet, Judges, JudgesGoal};
 
 use crate::ending::as_one;
 use crate::order::try_goal;
@@ -113,14 +113,43 @@ fn ended(
     requires lasts { length last.now ≡ length head.now }
     ensures { Judges head.now last.now part log procs.old procs.new state result }
 {
-    match unmet(alloc, procs, &state, head, last, part.reachable)? {
+    match judged(alloc, procs, &state, head, last, part, log) {
+        Ok(body) => Ok(Arrangement {
+            body,
+            types: types_in(state),
+        }),
+        Err(refusal) => Err(refusal),
+    }
+}
+
+/// The types of a state's variables.
+fn types_in(state: State) -> Vec<Ty>
+    ensures { result ≡ state.types }
+{
+    state.types
+}
+
+/// The goal itself. The state is lent: one in hand across a `?` is dear to prove.
+fn judged(
+    alloc: Global,
+    procs: &mut Procs,
+    state: &State,
+    head: &Row<u32>,
+    last: &Row<InstId>,
+    part: Part,
+    log: usize,
+) -> Result<GoalNode, Refusal>
+    requires stands { Stands procs.old state.now }
+    requires head { NumbersBelow (length state.now.insts.items) head.now }
+    requires last { NumbersBelow (count_of procs.old.insts) last.now }
+    requires lasts { length last.now ≡ length head.now }
+    ensures { JudgesGoal head.now last.now part log procs.old procs.new state.now result }
+{
+    match unmet(alloc, procs, state, head, last, part.reachable)? {
         Some(place) => Err(Refusal::Unmet(place)),
         None => {
-            let body = as_one(alloc, &state, part, log)?;
-            Ok(Arrangement {
-                body,
-                types: state.types,
-            })
+            let body = as_one(alloc, state, part, log)?;
+            Ok(body)
         }
     }
 }

@@ -66,11 +66,29 @@ pub fn ended(
         then ends.old.items ++ map (point_of state.now.insts.items) seen.now ∷ []
         else ends.old.items)) }
 {
-    if part.reachable {
+    note_end(alloc, state, seen, part.reachable, ends)?;
+    as_one(alloc, state, part, log)
+}
+
+/// Notes the insts of variables at the end of a branch, where it is reachable.
+fn note_end(
+    alloc: Global,
+    state: &State,
+    seen: &Row<u32>,
+    reachable: bool,
+    ends: &mut Vec<Row<InstId>>,
+) -> Result<(), Memory>
+    requires { NumbersBelow (length state.now.insts.items) seen.now }
+    ensures { OnOk result (ends.new.items ≡ (if reachable
+        then ends.old.items ++ map (point_of state.now.insts.items) seen.now ∷ []
+        else ends.old.items)) }
+{
+    if reachable {
         let insts = state.insts_at(alloc, seen.as_slice())?;
         ends.push(Row::of(insts)?)?;
+        return Ok(());
     }
-    as_one(alloc, state, part, log)
+    Ok(())
 }
 
 /// What stands for a then part that is never run.
@@ -183,7 +201,16 @@ pub fn chosen(
     }
 }
 
-/// An if-then-else of these goals.
+/// A goal in a box.
+fn boxed(alloc: Global, goal: GoalNode) -> Result<Box<GoalNode>, Memory>
+    ensures { IfOk result (λ made. made.value ≡ goal) }
+{
+    let made = Box::new(alloc, goal)?;
+    Ok(made)
+}
+
+/// An if-then-else of these goals. One after the other is boxed, each in a function of its own: trees in hand across a `?`
+/// are dear to prove.
 fn choice(
     alloc: Global,
     vars: &Row<u32>,
@@ -194,10 +221,38 @@ fn choice(
     ensures { IfOk result (λ goal. plain_sched goal ≡ Ite vars.now (plain_node condition)
         (plain_node then_part) (plain_node else_part)) }
 {
+    let condition = boxed(alloc, condition)?;
+    choice_behind(alloc, vars, condition, then_part, else_part)
+}
+
+/// The same, where the condition is boxed.
+fn choice_behind(
+    alloc: Global,
+    vars: &Row<u32>,
+    condition: Box<GoalNode>,
+    then_part: GoalNode,
+    else_part: GoalNode,
+) -> Result<Sched, Memory>
+    ensures { IfOk result (λ goal. plain_sched goal ≡ Ite vars.now (plain_node condition.value)
+        (plain_node then_part) (plain_node else_part)) }
+{
+    let then_part = boxed(alloc, then_part)?;
+    choice_with(alloc, vars, condition, then_part, else_part)
+}
+
+/// The same, where the then part is boxed too.
+fn choice_with(
+    alloc: Global,
+    vars: &Row<u32>,
+    condition: Box<GoalNode>,
+    then_part: Box<GoalNode>,
+    else_part: GoalNode,
+) -> Result<Sched, Memory>
+    ensures { IfOk result (λ goal. plain_sched goal ≡ Ite vars.now (plain_node condition.value)
+        (plain_node then_part.value) (plain_node else_part)) }
+{
+    let else_part = boxed(alloc, else_part)?;
     let vars = vars.copied(alloc)?;
-    let condition = Box::new(alloc, condition)?;
-    let then_part = Box::new(alloc, then_part)?;
-    let else_part = Box::new(alloc, else_part)?;
     Ok(Sched::Ite(vars, condition, then_part, else_part))
 }
 

@@ -8,7 +8,7 @@ use crate::arranging::{Arrangement, Refusal, arrange};
 use crate::atoms::modes_at;
 use mc_base::{Copied, Memory, Row};
 use mc_model::flat::Normal;
-use mc_model::inst::{ModeDecl, Sig};
+use mc_model::inst::{InstId, ModeDecl, Sig};
 use mc_model::sched::Proc;
 use mc_procs::Procs;
 use mc_program::ty::{Ty, copy_type};
@@ -83,6 +83,39 @@ fn first_determinism(declared: Option<Det>) -> Det
     }
 }
 
+/// The rows of a procedure.
+#[derive(Drop)]
+struct Columns {
+    head: Row<u32>,
+    var_types: Row<Ty>,
+    first: Row<InstId>,
+    last: Row<InstId>,
+}
+
+/// The rows of a goal's procedure in a mode, where its variables have these types.
+fn columns_of(
+    alloc: Global,
+    goal: &Normal,
+    declared: &ModeDecl,
+    types: Vec<Ty>,
+) -> Result<Columns, Memory>
+    ensures head { IfOk result (λ rows. rows.head ≡ goal.now.head) }
+    ensures types { IfOk result (λ rows. rows.var_types ≡ types.items) }
+    ensures first { IfOk result (λ rows. rows.first ≡ declared.now.first) }
+    ensures last { IfOk result (λ rows. rows.last ≡ declared.now.last) }
+{
+    let var_types = Row::of(types)?;
+    let head = goal.head.copied(alloc)?;
+    let first = declared.first.copied(alloc)?;
+    let last = declared.last.copied(alloc)?;
+    Ok(Columns {
+        head,
+        var_types,
+        first,
+        last,
+    })
+}
+
 /// The procedure of a goal that is in its order.
 fn procedure_of(
     alloc: Global,
@@ -94,13 +127,19 @@ fn procedure_of(
     ensures { IfOk result (IsMadeOf goal.now mode declared.now arranged) }
 {
     let Arrangement { body, types } = arranged;
+    let Columns {
+        head,
+        var_types,
+        first,
+        last,
+    } = columns_of(alloc, goal, declared, types)?;
     Ok(Proc {
         pred: goal.pred,
         mode,
-        head: goal.head.copied(alloc)?,
-        var_types: Row::of(types)?,
-        first: declared.first.copied(alloc)?,
-        last: declared.last.copied(alloc)?,
+        head,
+        var_types,
+        first,
+        last,
         body,
         declared: declared.det,
         det: first_determinism(declared.det),

@@ -3,6 +3,7 @@ use Rattle.std.specs.Prelude.{◌≡◌, ℕ, Bool, List, Option, Some, None, Re
 use Rattle.mc_program.specs.Programs.{TypeTerm, Source}
 use Rattle.mc_program.specs.declared.ty.Ty.{Ty}
 use Rattle.mc_model.specs.Lists.{is_in}
+use Rattle.mc_model.specs.declared.sched.GoalNode.{GoalNode}
 use Rattle.mc_accepted.specs.Arranged.{Point, Declared, entry, first_unmet}
 use Rattle.mc_accepted.specs.Chosen.{Chosen, of_nodes}
 use Rattle.mc_procs.specs.Procedures.{PlainProcs, source_of}
@@ -48,3 +49,14 @@ Judges head last p log q r s (Ok a) =
 Judges head last p log q r s (Err (R.Fault f)) = ⊥
 Judges head last p log q r s (Err (R.Unmet k)) = IsUnmet head last p.reachable q r s (Some k)
 Judges head last p log q r s (Err R.Memory) = OnlyGrown q r
+
+-- the same of the goal alone
+abbrev pub JudgesGoal :
+    (head last : List ℕ) → Part → (log : ℕ) → (q r : PlainProcs) → State
+    → Result GoalNode Refusal → Type 0
+JudgesGoal head last p log q r s (Ok n) =
+    IsUnmet head last p.reachable q r s None × AloneSince log s p n
+JudgesGoal head last p log q r s (Err (R.Fault f)) = ⊥
+JudgesGoal head last p log q r s (Err (R.Unmet k)) =
+    IsUnmet head last p.reachable q r s (Some k)
+JudgesGoal head last p log q r s (Err R.Memory) = OnlyGrown q r
