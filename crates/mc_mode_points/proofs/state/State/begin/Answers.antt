@@ -2,8 +2,7 @@ use Rattle.std.proofs.Common.{◌≡◌, ◌∙◌, ◌<◌, ℕ, length, ap, sy
 use Rattle.mc_accepted.specs.Arranged.{Point}
 use Rattle.mc_insts.specs.Graphs.{count_of}
 use Rattle.mc_procs.specs.Named.{NumbersBelow}
-use Rattle.mc_mode_points.specs.States.{point_of, LogWithin}
-use Rattle.mc_mode_points.specs.code.Entries.{entered}
+use Rattle.mc_mode_points.specs.States.{LogWithin}
 use Rattle.mc_mode_points.proofs.Beginnings.{entered-is, entered-below, outside-is}
 use Rattle.mc_mode_points.proofs.state.State.begin.Goals as goal
 

@@ -2,7 +2,6 @@ use Rattle.std.proofs.Common.{◌∙◌, ◌<◌, ℕ, true, Vec, Global, length
 use Rattle.mc_model.specs.Scheduled as S
 use Rattle.mc_accepted.specs.Arranged.{with_inst, built}
 use Rattle.mc_accepted.specs.Chosen.{of_nodes}
-use Rattle.mc_insts.specs.Graphs.{count_of}
 use Rattle.mc_procs.specs.Procedures.{source_of}
 use Rattle.mc_mode_points.specs.States.{point_of}
 use Rattle.mc_mode_points.specs.Agreeing.{Stepped}
