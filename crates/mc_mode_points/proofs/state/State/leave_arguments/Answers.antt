@@ -11,6 +11,7 @@ use Rattle.mc_mode_points.specs.code.Given.{there_before}
 use Rattle.mc_mode_points.specs.code.Leaving.{left_by}
 use Rattle.mc_mode_points.proofs.Ahead.{agrees-before}
 use Rattle.mc_mode_points.proofs.Numbers.{number-at}
+use Rattle.mc_mode_points.proofs.Growths.{refused_stepped}
 use Rattle.mc_mode_points.proofs.Steps.{stepped-trans}
 use Rattle.mc_mode_points.proofs.LeftInsts.{leaving_from, leaving-on, leaving-end, map-at}
 use Rattle.mc_mode_points.proofs.state.State.leave_arguments.Goals as goal
@@ -77,3 +78,13 @@ loop-k-preserved c =
           (c.in_ok-give.ensures ∙ ap₂ (λ (v z : Bool). if v && not z then x ∷ gs else gs) o w) (sym left)
           ∙ (sym (leaving-on C (source_of q) declared T fs ls xs b gs k (point_of u.insts.items) h i j) ∙ c.loop-k.invariant.rest declared C T before);
     }
+
+pub returns-in_err-give-clause-kept : goal.returns-in_err-give-clause-kept
+returns-in_err-give-clause-kept c =
+    let q = c.args.procs.now in
+    let s = c.args.self.now in
+    let p = c.loop-k.procs in
+    let u = c.loop-k.self in
+    let r = c.leave_one.new.procs in
+    let t = c.leave_one.new.self in
+    refused_stepped _ q r s t (stepped-trans q p r s u t c.loop-k.invariant.stepped c.in_ok-leave_one.ensures.stepped)
