@@ -4,6 +4,7 @@
 mod copies;
 mod facts;
 mod inference;
+mod keeping;
 mod law;
 mod mark;
 mod outside;
@@ -18,6 +19,7 @@ mod walk;
 
 pub use copies::{copy_changes, copy_on};
 pub use inference::determinisms;
+pub use keeping::kept;
 pub use law::{least_by_skeletons, marks_are_kept, pruned_keep_marks, skeletons_tell};
 pub use point::{Point, emptied};
 pub use procedures::{infer, replace_all, with_body};

@@ -13,10 +13,12 @@ ghost use Rattle.mc_det.specs.code.Places.{IsPlaced, HasNoGoals};
 ghost use Rattle.mc_det.specs.code.Walks.{InSystems};
 
 use crate::inference::determinisms;
+use crate::keeping::kept;
 use crate::mark::assigned;
 use crate::point::Point;
 use crate::walk::{DET, Walk};
 use mc_base::{Copied, Memory, Row};
+use mc_model::inst::InstId;
 use mc_model::sched::{GoalNode, Proc, Sched};
 use mc_procs::Procs;
 use mc_program::ty::{Ty, copy_type};
@@ -31,12 +33,23 @@ pub fn infer(alloc: Global, procs: Procs) -> Result<Procs, Memory>
     ensures marks { IfOk result MarksHold }
     ensures least { IfOk result (λ made. AreDeterminisms made (determinisms_of made)) }
 {
-    let dets = determinisms(alloc, &procs)?;
     let mut made = procs;
-    for k in 0..made.count() {
-        mark_proc(alloc, &mut made, k, dets.as_slice())?;
-    }
+    let told = infer_all(alloc, &mut made);
+    let ((), made) = kept(told, made)?;
     Ok(made)
+}
+
+/// Infers the determinisms of procedures that are lent.
+fn infer_all(alloc: Global, procs: &mut Procs) -> Result<(), Memory>
+    ensures inferred { OnOk result (Inferred procs.old procs.new) }
+    ensures marks { OnOk result (MarksHold procs.new) }
+    ensures least { OnOk result (AreDeterminisms procs.new (determinisms_of procs.new)) }
+{
+    let dets = determinisms(alloc, procs)?;
+    for k in 0..procs.count() {
+        mark_proc(alloc, procs, k, dets.as_slice())?;
+    }
+    Ok(())
 }
 
 /// Gives a procedure its determinism, and the goals of its body theirs.
@@ -46,11 +59,23 @@ fn mark_proc(alloc: Global, procs: &mut Procs, k: u32, dets: &[Det]) -> Result<(
         × (after.det ≡ assigned dets.now k)) procs.old k procs.new) }
 {
     procs.fit();
-    let mut p = taken_out(alloc, procs, k)?;
-    mark_body(alloc, procs, &mut p, dets)?;
+    let taken = taken_out(alloc, procs, k)?;
+    let mut p = marked(alloc, procs, taken, dets)?;
     p.det = assigned(dets, k);
-    procs.replace(k, p);
+    drop(procs.replace(k, p));
     Ok(())
+}
+
+/// A procedure with its body marked.
+fn marked(alloc: Global, procs: &Procs, mut p: Proc, dets: &[Det]) -> Result<Proc, Memory>
+    requires { ProcedureFits procs.now (plain_proc p) }
+    ensures others { IfOk result (λ made. made ≡ record p { body = made.body }) }
+    ensures body { IfOk result (λ made. InSystems procs.now
+        (λ S. plain_node made.body ≡ marked_body (under dets.now S) (plain_proc p))) }
+{
+    let told = mark_body(alloc, procs, &mut p, dets);
+    let ((), p) = kept(told, p)?;
+    Ok(p)
 }
 
 /// Takes a procedure out; one without goals stands in its place.
@@ -105,23 +130,63 @@ fn mark_body(alloc: Global, procs: &Procs, p: &mut Proc, dets: &[Det]) -> Result
 pub fn with_body(alloc: Global, p: &Proc, body: GoalNode, det: Det) -> Result<Proc, Memory>
     ensures { IfOk result (λ copy. copy ≡ record p.now { body = body; det = det }) }
 {
+    let columns = columns_of(alloc, p);
+    let (columns, body) = kept(columns, body)?;
+    Ok(of_columns(p, columns, body, det))
+}
+
+/// The rows of a procedure.
+#[derive(Drop)]
+struct Columns {
+    head: Row<u32>,
+    var_types: Row<Ty>,
+    first: Row<InstId>,
+    last: Row<InstId>,
+}
+
+/// Copies of the rows of a procedure.
+fn columns_of(alloc: Global, p: &Proc) -> Result<Columns, Memory>
+    ensures head { IfOk result (λ copy. copy.head ≡ p.now.head) }
+    ensures types { IfOk result (λ copy. copy.var_types ≡ p.now.var_types) }
+    ensures first { IfOk result (λ copy. copy.first ≡ p.now.first) }
+    ensures last { IfOk result (λ copy. copy.last ≡ p.now.last) }
+{
     let head = p.head.copied(alloc)?;
     let var_types = copy_types(alloc, &p.var_types)?;
     let first = p.first.copied(alloc)?;
     let last = p.last.copied(alloc)?;
-    Ok(Proc {
-        pred: p.pred,
-        mode: p.mode,
+    Ok(Columns {
         head,
         var_types,
         first,
         last,
+    })
+}
+
+/// A procedure as another one but for these rows, its body and its determinism.
+fn of_columns(p: &Proc, columns: Columns, body: GoalNode, det: Det) -> Proc
+    ensures { result ≡ record p.now {
+      head = columns.head;
+      var_types = columns.var_types;
+      first = columns.first;
+      last = columns.last;
+      body = body;
+      det = det;
+    } }
+{
+    Proc {
+        pred: p.pred,
+        mode: p.mode,
+        head: columns.head,
+        var_types: columns.var_types,
+        first: columns.first,
+        last: columns.last,
         body,
         declared: p.declared,
         det,
         exported: p.exported,
         at: p.at,
-    })
+    }
 }
 
 /// A copy of types.

@@ -6,6 +6,7 @@ ghost use Rattle.mc_det.specs.PrunedProcedures.{IsPruned, Pruned};
 ghost use Rattle.mc_det.specs.code.Places.{IsPlaced};
 ghost use Rattle.mc_det.specs.code.Prunes.{InDeclared};
 
+use crate::keeping::kept;
 use crate::outside::Outside;
 use crate::point::Point;
 use crate::procedures::taken_out;
@@ -22,10 +23,19 @@ pub fn prune_goals(alloc: Global, procs: Procs) -> Result<Procs, Memory>
     ensures { IfOk result (Pruned procs) }
 {
     let mut made = procs;
-    for k in 0..made.count() {
-        prune_proc(alloc, &mut made, k)?;
-    }
+    let told = prune_all(alloc, &mut made);
+    let ((), made) = kept(told, made)?;
     Ok(made)
+}
+
+/// Prunes the goals of procedures that are lent.
+fn prune_all(alloc: Global, procs: &mut Procs) -> Result<(), Memory>
+    ensures { OnOk result (Pruned procs.old procs.new) }
+{
+    for k in 0..procs.count() {
+        prune_proc(alloc, procs, k)?;
+    }
+    Ok(())
 }
 
 /// Prunes the goals of a procedure's body.
@@ -34,10 +44,22 @@ fn prune_proc(alloc: Global, procs: &mut Procs, k: u32) -> Result<(), Memory>
     ensures { OnOk result (IsPlaced (IsPruned procs.old) procs.old k procs.new) }
 {
     procs.fit();
-    let mut p = taken_out(alloc, procs, k)?;
-    prune_body(alloc, procs, &mut p)?;
-    procs.replace(k, p);
+    let taken = taken_out(alloc, procs, k)?;
+    let p = pruned(alloc, procs, taken)?;
+    drop(procs.replace(k, p));
     Ok(())
+}
+
+/// A procedure with the goals of its body pruned.
+fn pruned(alloc: Global, procs: &Procs, mut p: Proc) -> Result<Proc, Memory>
+    requires { ProcedureFits procs.now (plain_proc p) }
+    ensures others { IfOk result (λ made. made ≡ record p { body = made.body }) }
+    ensures body { IfOk result (λ made. InDeclared procs.now
+        (λ S. plain_node made.body ≡ pruned_body S (plain_proc p))) }
+{
+    let told = prune_body(alloc, procs, &mut p);
+    let ((), p) = kept(told, p)?;
+    Ok(p)
 }
 
 /// Prunes the goals of a body; the variables of the procedure's head occur outside.

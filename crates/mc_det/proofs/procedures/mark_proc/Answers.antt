@@ -9,29 +9,29 @@ use Rattle.mc_det.proofs.Placing.{of_its_pred, one_fits, same_count, same_pred, 
 use Rattle.mc_det.proofs.Replacing.{marked_fits, made_marked}
 use Rattle.mc_det.proofs.procedures.mark_proc.Goals as goal
 
-pub mark_body-requires : goal.mark_body-requires
-mark_body-requires c =
+pub marked-requires : goal.marked-requires
+marked-requires c =
     let q : PlainProcs = c.args.procs.now in
-    let p : Proc = c.in_ok-p.p in
-    fits_meanwhile HasNoGoals q c.taken_out.new.procs c.args.k c.in_ok-p.ensures.left p
-    (one_fits q c.fit.ensures.all c.args.k c.requires p c.in_ok-p.ensures.taken)
+    let p : Proc = c.in_ok-taken.taken in
+    fits_meanwhile HasNoGoals q c.taken_out.new.procs c.args.k c.in_ok-taken.ensures.left p
+    (one_fits q c.fit.ensures.all c.args.k c.requires p c.in_ok-taken.ensures.taken)
 
 pub replace-requires : goal.replace-requires
 replace-requires c =
     let q : PlainProcs = c.args.procs.now in
     let r : PlainProcs = c.taken_out.new.procs in
     let k = c.args.k in
-    let p : Proc = c.in_ok-p.p in
-    let x : Proc = record c.mark_body.new.p { det = c.assigned-p.result } in
-    let left = c.in_ok-p.ensures.left in
-    let others = c.in_ok-mark_body.ensures.others in
+    let p : Proc = c.in_ok-taken.taken in
+    let x : Proc = record c.in_ok-p.p { det = c.assigned-p.result } in
+    let left = c.in_ok-taken.ensures.left in
+    let others = c.in_ok-p.ensures.others in
     record {
       there = omega (arith, c.requires, same_count HasNoGoals q r k left);
-      pred = ap (λ (y : Proc). y.pred) others ∙ same_pred HasNoGoals q r k left p (of_its_pred q c.fit.ensures.all k c.requires p c.in_ok-p.ensures.taken);
+      pred = ap (λ (y : Proc). y.pred) others ∙ same_pred HasNoGoals q r k left p (of_its_pred q c.fit.ensures.all k c.requires p c.in_ok-taken.ensures.taken);
       fits =
           marked_fits r c.args.dets.now p x
-          (made_marked r c.args.dets.now p x c.mark_body.new.p.body x.det (ap (λ (y : Proc). record y { det = x.det }) others) c.in_ok-mark_body.ensures.body)
-          (fits_meanwhile HasNoGoals q r k left p (one_fits q c.fit.ensures.all k c.requires p c.in_ok-p.ensures.taken));
+          (made_marked r c.args.dets.now p x c.in_ok-p.p.body x.det (ap (λ (y : Proc). record y { det = x.det }) others) c.in_ok-p.ensures.body)
+          (fits_meanwhile HasNoGoals q r k left p (one_fits q c.fit.ensures.all k c.requires p c.in_ok-taken.ensures.taken));
     }
 
 pub returns : goal.returns
@@ -40,10 +40,10 @@ returns c =
     let r : PlainProcs = c.taken_out.new.procs in
     let ds = c.args.dets.now in
     let k = c.args.k in
-    let p : Proc = c.in_ok-p.p in
-    let x : Proc = record c.mark_body.new.p { det = c.assigned-p.result } in
-    let left = c.in_ok-p.ensures.left in
+    let p : Proc = c.in_ok-taken.taken in
+    let x : Proc = record c.in_ok-p.p { det = c.assigned-p.result } in
+    let left = c.in_ok-taken.ensures.left in
     let made : IsMarked r ds p x =
-    made_marked r ds p x c.mark_body.new.p.body x.det (ap (λ (y : Proc). record y { det = x.det }) c.in_ok-mark_body.ensures.others) c.in_ok-mark_body.ensures.body in
-    comes_back HasNoGoals q r k left (λ before after. IsMarked q ds before after × (after.det ≡ assigned ds k)) c.replace.new.self x p c.requires c.replace.ensures.new c.in_ok-p.ensures.taken
+    made_marked r ds p x c.in_ok-p.p.body x.det (ap (λ (y : Proc). record y { det = x.det }) c.in_ok-p.ensures.others) c.in_ok-p.ensures.body in
+    comes_back HasNoGoals q r k left (λ before after. IsMarked q ds before after × (after.det ≡ assigned ds k)) c.replace.new.self x p c.requires c.replace.ensures.new c.in_ok-taken.ensures.taken
     (marked_elsewhere q (set q.added k left.placed) ds p x (subst (λ (v : PlainProcs). IsMarked v ds p x) left.others made), c.assigned-p.ensures)

@@ -4,12 +4,12 @@ use Rattle.mc_procs.specs.Procedures.{PlainProcs, with_procs}
 use Rattle.mc_det.specs.PrunedProcedures.{IsPruned}
 use Rattle.mc_det.proofs.Placing.{same_count, each_placed, rest_stays}
 use Rattle.mc_det.proofs.PrunedElsewhere.{AlikeDeclared, declared_in, declared_stays, pruned_elsewhere}
-use Rattle.mc_det.proofs.pruned.prune_goals.Goals as goal
+use Rattle.mc_det.proofs.pruned.prune_all.Goals as goal
 
 pub loop-k-preserved : goal.loop-k-preserved
 loop-k-preserved c =
-    let q : PlainProcs = c.args.procs in
-    let v : PlainProcs = c.loop-k.made in
+    let q : PlainProcs = c.args.procs.now in
+    let v : PlainProcs = c.loop-k.procs in
     let k = c.loop-k.k in
     let inv = c.loop-k.invariant in
     let o = c.in_ok-prune_proc.ensures in
