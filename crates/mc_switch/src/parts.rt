@@ -97,6 +97,30 @@ pub(crate) fn switch_part(x: u32, parts: FormedArms) -> FormedGoal
     }
 }
 
+/// A goal in a box.
+fn boxed(alloc: Global, goal: GoalNode) -> Result<Box<GoalNode>, Memory>
+    ensures { IfOk result (λ made. made.value ≡ goal) }
+{
+    let made = Box::new(alloc, goal)?;
+    Ok(made)
+}
+
+/// A goal in a box, beside what is in hand; after want of memory all is dropped. What is in hand is of any type, so that
+/// the drop of large goals needn't be proved for each box.
+fn boxed_beside<T: Drop>(
+    alloc: Global,
+    goal: GoalNode,
+    others: T,
+) -> Result<(Box<GoalNode>, T), Memory>
+    ensures goal { IfOk result (λ both. both.0.value ≡ goal) }
+    ensures others { IfOk result (λ both. both.1 ≡ others) }
+{
+    match Box::new(alloc, goal) {
+        Ok(made) => Ok((made, others)),
+        Err(_) => Err(Memory),
+    }
+}
+
 pub(crate) fn not_part(alloc: Global, part: Formed) -> Result<FormedGoal, Memory>
     ensures goal { IfOk result (λ whole. plain_sched whole.goal ≡ Not (plain_node part.node)) }
     ensures never { IfOk result (λ whole. whole.never_ends ≡ false) }
@@ -110,9 +134,10 @@ pub(crate) fn some_part(alloc: Global, vars: &Row<u32>, part: Formed) -> Result<
     ensures never { IfOk result (λ whole. whole.never_ends ≡ part.never_ends) }
 {
     let Formed { node, never_ends } = part;
+    let node = boxed(alloc, node)?;
     let vars = vars.copied(alloc)?;
     Ok(FormedGoal {
-        goal: Sched::Some(vars, Box::new(alloc, node)?),
+        goal: Sched::Some(vars, node),
         never_ends,
     })
 }
@@ -133,10 +158,11 @@ pub(crate) fn ite_part(
         either(condition.never_ends, then_part.never_ends),
         else_part.never_ends,
     );
+    let others = (then_part.node, else_part.node);
+    let (condition, (then_part, else_part)) = boxed_beside(alloc, condition.node, others)?;
+    let (then_part, else_part) = boxed_beside(alloc, then_part, else_part)?;
+    let else_part = boxed(alloc, else_part)?;
     let vars = vars.copied(alloc)?;
-    let condition = Box::new(alloc, condition.node)?;
-    let then_part = Box::new(alloc, then_part.node)?;
-    let else_part = Box::new(alloc, else_part.node)?;
     Ok(FormedGoal {
         goal: Sched::Ite(vars, condition, then_part, else_part),
         never_ends,
