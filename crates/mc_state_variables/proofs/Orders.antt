@@ -63,18 +63,19 @@ stepwise_is (more_terms t ts) hs n =
     (ended-same p xs ys (step_same t ts) hs n) (behind-same us p.updates xs ys (updated_same t) (step_same t ts) hs n)
     ∙ ap (λ v. record { text = more_terms (ended p ys hs n).text v.text; next = v.next }) (stepwise_is ts (handed p.updates (renewed ys n hs) hs) (ended p ys hs n).next)
 
--- a goal that ends with new versions of all that it updates
-pub ended_whole : (t : PlainTerm) (hs : List Held) (n : ℕ) → ended (goal_of t).part (put_all [] (updated t)) hs n ≡ ended (goal_of t).part (goal_of t).part.updates hs n
-ended_whole t hs n = ended-same (goal_of t).part (put_all [] (updated t)) (goal_of t).part.updates (updated_same t) hs n
+-- the first of these goals, by its step
+pub passed_is : (s : Step) (ss : List Step) (hs given behind : List Held) (n m : ℕ)
+    → given ≡ renewed s.renewed n hs → behind ≡ handed s.updated given hs → m ≡ renewed_behind s.renewed n hs
+    → (p : Part) (rest : List Part) → stepwise (s ∷ ss) (p ∷ rest) hs n ≡ with_rest (p.writing given m) (stepwise ss rest behind)
+passed_is s ss hs given behind n m e f h p rest =
+    ap₂ (λ w gs. with_rest w (stepwise ss rest gs)) (ap₂ p.writing (sym e) (sym h)) (ap (λ gs. handed s.updated gs hs) (sym e) ∙ sym f)
 
-pub behind_whole : (t : PlainTerm) (hs : List Held) (n : ℕ)
-    → handed (put_all [] (updated t)) (renewed (put_all [] (updated t)) n hs) hs ≡ handed (goal_of t).part.updates (renewed (goal_of t).part.updates n hs) hs
-behind_whole t hs n = behind-same (put_all [] (updated t)) (goal_of t).part.updates (put_all [] (updated t)) (goal_of t).part.updates (updated_same t) (updated_same t) hs n
-
--- one goal more is written, by its step
-pub stepped : (xs : List PlainTerm) (s : Step) (ss : List Step) (p : Part) (ps : List Part) (hs behind : List Held) (n m : ℕ) (t : PlainTerm)
-    → written t m ≡ ended p s.renewed hs n → behind ≡ handed s.updated (renewed s.renewed n hs) hs
-    → on_text (λ ts. (xs ++ t ∷ []) ++ listed ts) (stepwise ss ps behind m) ≡ on_text (λ ts. xs ++ listed ts) (stepwise (s ∷ ss) (p ∷ ps) hs n)
-stepped xs s ss p ps hs behind n m t e f =
-    ap (λ ys. written ys (stepwise ss ps behind m).next) (append_assoc xs (t ∷ []) (listed (stepwise ss ps behind m).text))
-    ∙ ap₂ (λ w gs. written (xs ++ (w.text ∷ listed (stepwise ss ps gs w.next).text)) (stepwise ss ps gs w.next).next) e f
+-- one goal more is written before the others
+pub gone_on_is : (xs ys : List PlainTerm) (t : PlainTerm) (m : ℕ) (w : Written PlainTerm) (rest : ℕ → Written PlainTerms) (all : Written PlainTerms)
+    → ys ≡ xs ++ t ∷ [] → written t m ≡ w → all ≡ with_rest w rest
+    → on_text (λ ts. ys ++ listed ts) (rest m) ≡ on_text (λ ts. xs ++ listed ts) all
+gone_on_is xs ys t m w rest all e f h =
+    ap (λ zs. on_text (λ ts. zs ++ listed ts) (rest m)) e
+    ∙ ap (λ zs. written zs (rest m).next) (append_assoc xs (t ∷ []) (listed (rest m).text))
+    ∙ ap (λ v. on_text (λ ts. xs ++ listed ts) (with_rest v rest)) f
+    ∙ ap (on_text (λ ts. xs ++ listed ts)) (sym h)

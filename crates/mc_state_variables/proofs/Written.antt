@@ -4,19 +4,21 @@ use Rattle.std.proofs.lemmas.List.{append-nil}
 use Rattle.mc_base.specs.NameSets.{put_all}
 use Rattle.mc_term_data.specs.Plain.{PlainTerm, PlainTerms, at, no_term, more_terms, App, Conj, plain_term, tms}
 use Rattle.mc_term_data.specs.declared.term.Term.{Term}
-use Rattle.mc_clause_syntax.specs.States.{quantified, states_of}
+use Rattle.std.specs.Option.{option_map}
+use Rattle.mc_clause_syntax.specs.States.{names_of, quantified, states_of}
 use Rattle.mc_state_variables.specs.Updates.{leave_out, updated}
 use Rattle.mc_state_variables.specs.Versions.{Held, behind, distinct, entered, entered_behind, renewed, renewed_behind, handed, closings, seen_outside, and_then}
 use Rattle.mc_state_variables.specs.Numbered.{Written, Part, Goal, Condition, written, on_text, ended, goal_of, goals_of, goal_parts, branch_of, conditional, conjunction_of, in_order, quantified_goal, quantifier, negated, in_negation, applied, implied, both_ways, term_of, rule_of, fact_of, head_states}
-use Rattle.mc_state_variables.specs.code.Helds.{listed}
+use Rattle.mc_state_variables.specs.code.Helds.{listed, plain_helds}
 use Rattle.mc_state_variables.specs.code.Steps.{steps_of, stepwise}
 use Rattle.mc_state_variables.specs.code.Pieces.{Piece, pieces_of}
-use Rattle.mc_state_variables.specs.code.Conditions.{condition_by, condition_names}
+use Rattle.mc_state_variables.specs.code.Conditions.{condition_by, condition_names, condition_of, tried_goal, IsTried, arrow_of}
+use Rattle.mc_state_variables.specs.declared.conditions.Tried.{Tried}
 use Rattle.mc_state_variables.specs.declared.steps.Step.{Step}
 use Rattle.mc_state_variables.proofs.Lists.{terms-listed, terms_from_list}
 use Rattle.mc_state_variables.proofs.Sets.{set_same, closings-wanted_set, closings-updated_set}
 use Rattle.mc_state_variables.proofs.Forms.{part_updates, branch-same}
-use Rattle.mc_state_variables.proofs.Orders.{ended_whole, behind_whole, stepwise_is}
+use Rattle.mc_state_variables.proofs.Orders.{stepwise_is}
 
 pub if_ok : {T E : Type 0} (r : Result T E) (P Q : T → Type 0) → IfOk r P → ((x : T) → P x → Q x) → IfOk r Q
 if_ok (Ok x) P Q h f = f x h
@@ -46,17 +48,6 @@ pub pieces_are : (l : ℕ) (ps : List Piece) (ws : List (List (List ℕ))) (xs :
     → on_text (λ qs. ps ++ qs) (pieces_of l ws xs fresh [] hs m) ≡ all → written ps m ≡ all
 pieces_are l ps ws xs fresh hs m all e = ap (λ qs. written qs m) (sym (append-nil ps)) ∙ ap (on_text (λ qs. ps ++ qs)) (sym (pieces_none l ws xs fresh hs m)) ∙ e
 
--- a goal that isn't a conditional, as a branch
-pub closed_is : (l : ℕ) (t : PlainTerm) (xs us : List (List ℕ)) (hs : List Held) (n : ℕ) (text : PlainTerm) (m : ℕ) (goals : List PlainTerm) (out : PlainTerm)
-    → written text m ≡ (goal_of t).part.writing hs n → us ≡ put_all [] (updated t)
-    → goals ≡ listed (closings xs us l hs) → out ≡ and_then text (tms goals)
-    → written out m ≡ (branch_of l (goal_of t).part).writing xs hs n
-closed_is l t xs us hs n text m goals out e f k h =
-    let p : Part = (goal_of t).part in
-    let closed : tms goals ≡ closings xs p.updates l hs =
-    terms_from_list goals (closings xs us l hs) k ∙ ap (λ vs. closings xs vs l hs) f ∙ closings-updated_set xs (updated t) l hs ∙ ap (λ vs. closings xs vs l hs) (sym (part_updates t)) in
-    ap (λ o. written o m) h ∙ ap (λ cs. written (and_then text cs) m) closed ∙ ap (on_text (λ u. and_then u (closings xs p.updates l hs))) e
-
 pub condition_goal : (l : ℕ) (list : Option PlainTerm) (t : PlainTerm) → (condition_by l list t).goal ≡ (goal_of t).part
 condition_goal l None t = refl
 condition_goal l (Some q) t = refl
@@ -68,8 +59,8 @@ condition_quantifies l (Some q) t = refl
 -- a condition and its then part
 pub conditional_is : (l : ℕ) (c : Condition) (g t : PlainTerm) (xs : List (List ℕ)) (hs : List Held) (n : ℕ) (names : List (List ℕ)) (ins : List Held) (m : ℕ) (w : PlainTerm) (k : ℕ) (behind : List Held) (test result : PlainTerm) (next : ℕ) (cs : PlainTerms)
     → c.goal ≡ (goal_of g).part → names ≡ c.names → ins ≡ entered names n hs → m ≡ entered_behind names n
-    → written w k ≡ ended (goal_of g).part (put_all [] (updated g)) ins m
-    → behind ≡ handed (put_all [] (updated g)) (renewed (put_all [] (updated g)) m ins) ins
+    → written w k ≡ ended (goal_of g).part (updated g) ins m
+    → behind ≡ handed (updated g) (renewed (updated g) m ins) ins
     → test ≡ c.quantify ins (updated g ++ updated t) w
     → written result next ≡ (goal_of t).part.writing behind k
     → cs ≡ closings xs (leave_out names (updated t)) l (seen_outside names behind hs)
@@ -79,9 +70,9 @@ conditional_is l c g t xs hs n names ins m w k behind test result next cs e f i 
     let inside : ins ≡ entered c.names n hs = i ∙ ap (λ ns. entered ns n hs) f in
     let from : m ≡ entered_behind c.names n = j ∙ ap (λ ns. entered_behind ns n) f in
     let whole : written w k ≡ ended c.goal c.goal.updates (entered c.names n hs) (entered_behind c.names n) =
-    h ∙ ended_whole g ins m ∙ ap (λ p. ended p p.updates ins m) (sym e) ∙ ap₂ (λ hs m. ended c.goal c.goal.updates hs m) inside from in
+    h ∙ ap (λ us. ended (goal_of g).part us ins m) (sym (part_updates g)) ∙ ap (λ p. ended p p.updates ins m) (sym e) ∙ ap₂ (λ hs m. ended c.goal c.goal.updates hs m) inside from in
     let reached : behind ≡ handed c.goal.updates (renewed c.goal.updates (entered_behind c.names n) (entered c.names n hs)) (entered c.names n hs) =
-    b ∙ behind_whole g ins m ∙ ap (λ p. handed p.updates (renewed p.updates m ins) ins) (sym e) ∙ ap₂ (λ hs m. handed c.goal.updates (renewed c.goal.updates m hs) hs) inside from in
+    b ∙ ap (λ us. handed us (renewed us m ins) ins) (sym (part_updates g)) ∙ ap (λ p. handed p.updates (renewed p.updates m ins) ins) (sym e) ∙ ap₂ (λ hs m. handed c.goal.updates (renewed c.goal.updates m hs) hs) inside from in
     let all : updated g ++ updated t ≡ c.goal.updates ++ p.updates = ap₂ (λ us vs. us ++ vs) (sym (part_updates g) ∙ ap (λ p. p.updates) (sym e)) (sym (part_updates t)) in
     let closed : cs ≡ closings xs (leave_out c.names p.updates) l (seen_outside c.names behind hs) =
     d ∙ ap₂ (λ ns us. closings xs (leave_out ns us) l (seen_outside ns behind hs)) f (sym (part_updates t)) in
@@ -91,50 +82,52 @@ conditional_is l c g t xs hs n names ins m w k behind test result next cs e f i 
     ∙ ap (λ v. written (and_then v.text (closings xs (leave_out c.names p.updates) l (seen_outside c.names behind hs))) v.next) r
     ∙ ap₂ (λ hs' v. on_text (λ u. and_then u (closings xs (leave_out c.names p.updates) l (seen_outside c.names hs' hs))) (p.writing hs' v.next)) reached whole)
 
--- a goal under `some`
-pub existential_is : (l : ℕ) (q g : PlainTerm) (hs : List Held) (n : ℕ) (names : List (List ℕ)) (ins : List Held) (m : ℕ) (list text : PlainTerm) (next : ℕ)
-    → names ≡ quantified q → ins ≡ entered names n hs → m ≡ entered_behind names n
-    → list ≡ quantifier ins (updated g) q
-    → written text next ≡ (goal_of g).part.writing ins m
-    → written (at (App (codes "some" ∷ []) (more_terms list (more_terms text no_term))) l) next ≡ quantified_goal (codes "some") l q (goal_of g).part hs n
-existential_is l q g hs n names ins m list text next f i j k e =
-    let inside : ins ≡ entered (quantified q) n hs = i ∙ ap (λ ns. entered ns n hs) f in
-    let from : m ≡ entered_behind (quantified q) n = j ∙ ap (λ ns. entered_behind ns n) f in
-    ap₂ (λ v w. written (at (App (codes "some" ∷ []) (more_terms v (more_terms w.text no_term))) l) w.next)
-    (k ∙ ap₂ (λ hs us. quantifier hs us q) inside (sym (part_updates g)))
-    (e ∙ ap₂ (goal_of g).part.writing inside from)
+-- the same where the condition is tried
+pub arrow_is : (t : Tried) (u : PlainTerm) (xs : List (List ℕ)) (hs : List Held) (l n m : ℕ) → IsTried t hs n m
+    → arrow_of t u xs hs l m ≡ (conditional l (condition_of t) (goal_of u).part []).writing xs hs n
+arrow_is t u xs hs l n m h =
+    let g : PlainTerm = tried_goal t in
+    let names : List (List ℕ) = names_of t.names.items in
+    let ins : List Held = plain_helds t.inside.items in
+    let behind : List Held = plain_helds t.around.behind.items in
+    let w : Written PlainTerm = (goal_of g).part.writing (plain_helds t.around.given.items) m in
+    let v : Written PlainTerm = (goal_of u).part.writing behind w.next in
+    conditional_is l (condition_of t) g u xs hs n names ins (entered_behind names n) w.text w.next behind
+    ((condition_of t).quantify ins (updated g ++ updated u) w.text) v.text v.next
+    (closings xs (leave_out names (updated u)) l (seen_outside names behind hs))
+    (condition_goal t.condition.line (option_map (λ list. plain_term list.now) t.condition.list) g)
+    h.names h.inside refl
+    (ap₂ (goal_of g).part.writing h.given h.next)
+    (h.behind ∙ ap (λ gs. handed (updated g) gs ins) h.given)
+    refl refl refl
 
--- a goal under `all`
-pub universal_is : (l : ℕ) (q g : PlainTerm) (hs : List Held) (n : ℕ) (names : List (List ℕ)) (ins : List Held) (m : ℕ) (list text : PlainTerm) (next : ℕ)
-    → names ≡ quantified q → ins ≡ entered names n hs → m ≡ entered_behind names n
-    → list ≡ quantifier ins [] q
-    → written text next ≡ ended (goal_of g).part (put_all [] (updated g)) ins m
-    → written (at (App (codes "all" ∷ []) (more_terms list (more_terms text no_term))) l) next ≡ quantified_goal (codes "all") l q (negated (goal_of g).part) hs n
-universal_is l q g hs n names ins m list text next f i j k e =
-    let p : Part = (goal_of g).part in
-    let inside : ins ≡ entered (quantified q) n hs = i ∙ ap (λ ns. entered ns n hs) f in
-    let from : m ≡ entered_behind (quantified q) n = j ∙ ap (λ ns. entered_behind ns n) f in
-    ap₂ (λ v w. written (at (App (codes "all" ∷ []) (more_terms v (more_terms w.text no_term))) l) w.next)
-    (k ∙ ap (λ hs. quantifier hs [] q) inside)
-    (e ∙ ended_whole g ins m ∙ ap₂ (λ hs m. ended p p.updates hs m) inside from)
+-- a goal under a quantifier
+pub quantified_is : (w : List ℕ) (l : ℕ) (q : PlainTerm) (p : Part) (us : List (List ℕ)) (hs ins : List Held) (n m : ℕ) (text : PlainTerm) (next : ℕ)
+    → us ≡ p.updates → ins ≡ entered (quantified q) n hs → m ≡ entered_behind (quantified q) n
+    → written text next ≡ p.writing ins m
+    → written (at (App (w ∷ []) (more_terms (quantifier ins us q) (more_terms text no_term))) l) next ≡ quantified_goal w l q p hs n
+quantified_is w l q p us hs ins n m text next f i j e =
+    ap₂ (λ v x. written (at (App (w ∷ []) (more_terms v (more_terms x.text no_term))) l) x.next)
+    (ap₂ (λ hs us. quantifier hs us q) i f)
+    (e ∙ ap₂ p.writing i j)
 
--- a negation
-pub negation_is : (w : List (List ℕ)) (l : ℕ) (g : PlainTerm) (hs : List Held) (n : ℕ) (text : PlainTerm) (next : ℕ)
-    → written text next ≡ ended (goal_of g).part (put_all [] (updated g)) hs n
-    → written (at (App w (more_terms text no_term)) l) next ≡ applied w l (in_negation ((goal_of g).part ∷ []) hs n)
-negation_is w l g hs n text next e = ap (λ v. written (at (App w (more_terms v.text no_term)) l) v.next) (e ∙ ended_whole g hs n)
+-- a goal that ends with new versions of all that it updates
+pub whole_is : (g : PlainTerm) (hs given : List Held) (n m : ℕ)
+    → given ≡ renewed (updated g) n hs → m ≡ renewed_behind (updated g) n hs
+    → (goal_of g).part.writing given m ≡ (negated (goal_of g).part).writing hs n
+whole_is g hs given n m e f =
+    ap₂ (goal_of g).part.writing (e ∙ ap (λ us. renewed us n hs) (sym (part_updates g))) (f ∙ ap (λ us. renewed_behind us n hs) (sym (part_updates g)))
 
 -- an implication
 pub implied_is : (l : ℕ) (a b : PlainTerm) (hs : List Held) (n : ℕ) (left : PlainTerm) (m : ℕ) (behind : List Held) (right : PlainTerm) (next : ℕ)
-    → written left m ≡ ended (goal_of a).part (put_all [] (updated a)) hs n
-    → behind ≡ handed (put_all [] (updated a)) (renewed (put_all [] (updated a)) n hs) hs
-    → written right next ≡ ended (goal_of b).part (put_all [] (updated b)) behind m
+    → written left m ≡ ended (goal_of a).part (goal_of a).part.updates hs n
+    → behind ≡ handed (goal_of a).part.updates (renewed (goal_of a).part.updates n hs) hs
+    → written right next ≡ ended (goal_of b).part (goal_of b).part.updates behind m
     → written (at (App (codes "=>" ∷ []) (more_terms left (more_terms right no_term))) l) next ≡ implied l (goal_of a).part (goal_of b).part hs n
 implied_is l a b hs n left m behind right next e f h =
     let p : Part = (goal_of b).part in
-    ap (λ v. written (at (App (codes "=>" ∷ []) (more_terms left (more_terms v.text no_term))) l) v.next) (h ∙ ended_whole b behind m)
-    ∙ ap₂ (λ w hs. written (at (App (codes "=>" ∷ []) (more_terms w.text (more_terms (ended p p.updates hs w.next).text no_term))) l) (ended p p.updates hs w.next).next)
-    (e ∙ ended_whole a hs n) (f ∙ behind_whole a hs n)
+    ap (λ v. written (at (App (codes "=>" ∷ []) (more_terms left (more_terms v.text no_term))) l) v.next) h
+    ∙ ap₂ (λ w hs. written (at (App (codes "=>" ∷ []) (more_terms w.text (more_terms (ended p p.updates hs w.next).text no_term))) l) (ended p p.updates hs w.next).next) e f
 
 -- an equivalence
 pub both_ways_is : (l : ℕ) (a b : PlainTerm) (hs : List Held) (n : ℕ) (forth : PlainTerm) (m : ℕ) (back : PlainTerm) (next : ℕ)

@@ -1,10 +1,10 @@
 ghost use Rattle.std.specs.Prelude.{◌≡◌, ◌++◌, map, option_map, IfOk};
-ghost use Rattle.mc_term_data.specs.Plain.{PlainTerms, plain_term, tms};
+ghost use Rattle.mc_term_data.specs.Plain.{PlainTerms, at, App, Tailed, plain_term, tms};
 ghost use Rattle.mc_state_variables.specs.Numbered.{one_version, behind_before, term_of, terms_of};
 ghost use Rattle.mc_state_variables.specs.code.Helds.{plain_helds, listed, maybe_one};
 
 use crate::held::{Held, after_of, before_of, version};
-use mc_base::{Copied, Memory, Row};
+use mc_base::{Copied, Memory, Row, Text};
 use mc_clause_syntax::{StateForm, state_variable};
 use mc_term_data::{Node, Term};
 use std::alloc::Global;
@@ -15,32 +15,94 @@ pub fn term_of(alloc: Global, held: &[Held<'_>], term: &Term) -> Result<Term, Me
     ensures { IfOk result
         (λ out. plain_term out ≡ term_of (plain_helds held.now) (plain_term term.now)) }
 {
-    let node = match &term.node {
+    match &term.node {
         Node::App(name, parts) => match state_variable(name.as_slice(), parts.as_slice()) {
-            Some((form, variable)) => return one_version(alloc, held, form, variable, term.line),
-            None => Node::App(
-                name.copied(alloc)?,
-                terms_of(alloc, held, parts.as_slice())?,
-            ),
+            Some((form, variable)) => one_version(alloc, held, form, variable, term.line),
+            None => atom(alloc, held, name, parts.as_slice(), term.line),
         },
         Node::List(elements, None) => {
-            Node::List(terms_of(alloc, held, elements.as_slice())?, None)
+            let elements = terms_of(alloc, held, elements.as_slice())?;
+            Ok(Term {
+                node: Node::List(elements, None),
+                line: term.line,
+            })
         }
         Node::List(elements, Some(tail)) => {
-            let elements = terms_of(alloc, held, elements.as_slice())?;
-            let tail = term_of(alloc, held, tail)?;
-            Node::List(elements, Some(Box::new(alloc, tail)?))
+            list_of(alloc, held, elements.as_slice(), tail, term.line)
         }
-        Node::Conj(parts) => Node::Conj(terms_of(alloc, held, parts.as_slice())?),
-        Node::Disj(parts) => Node::Disj(terms_of(alloc, held, parts.as_slice())?),
-        Node::Var(name) => Node::Var(name.copied(alloc)?),
-        Node::Int(value) => Node::Int(*value),
-        Node::Str(bytes) => Node::Str(bytes.copied(alloc)?),
-    };
+        Node::Conj(parts) => {
+            let parts = terms_of(alloc, held, parts.as_slice())?;
+            Ok(Term {
+                node: Node::Conj(parts),
+                line: term.line,
+            })
+        }
+        Node::Disj(parts) => {
+            let parts = terms_of(alloc, held, parts.as_slice())?;
+            Ok(Term {
+                node: Node::Disj(parts),
+                line: term.line,
+            })
+        }
+        _ => term.copied(alloc),
+    }
+}
+
+/// An atom.
+#[cycle(atoms)]
+pub fn atom(
+    alloc: Global,
+    held: &[Held<'_>],
+    name: &Row<Text>,
+    parts: &[Term],
+    line: u32,
+) -> Result<Term, Memory>
+    ensures { IfOk result
+        (λ text.
+        plain_term text
+        ≡ at (App name.now (terms_of (plain_helds held.now) (tms (map plain_term parts.now)))) line) }
+{
+    let parts = terms_of(alloc, held, parts)?;
+    let name = name.copied(alloc)?;
     Ok(Term {
-        node,
-        line: term.line,
+        node: Node::App(name, parts),
+        line,
     })
+}
+
+// A list with something behind its bar.
+#[cycle(atoms)]
+fn list_of(
+    alloc: Global,
+    held: &[Held<'_>],
+    elements: &[Term],
+    tail: &Term,
+    line: u32,
+) -> Result<Term, Memory>
+    ensures { IfOk result
+        (λ out.
+        plain_term out
+        ≡ at
+        (Tailed (terms_of (plain_helds held.now) (tms (map plain_term elements.now))) (term_of (plain_helds held.now) (plain_term tail.now)))
+        line) }
+{
+    let elements = terms_of(alloc, held, elements)?;
+    let tail = boxed(alloc, held, tail)?;
+    Ok(Term {
+        node: Node::List(elements, Some(tail)),
+        line,
+    })
+}
+
+// A term of an atom, in a box.
+#[cycle(atoms)]
+fn boxed(alloc: Global, held: &[Held<'_>], term: &Term) -> Result<Box<Term>, Memory>
+    ensures { IfOk result
+        (λ out. plain_term out.value ≡ term_of (plain_helds held.now) (plain_term term.now)) }
+{
+    let written = term_of(alloc, held, term)?;
+    let made = Box::new(alloc, written)?;
+    Ok(made)
 }
 
 /// The terms of an atom with their state variables written out; `!X` is two terms.

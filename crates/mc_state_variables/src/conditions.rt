@@ -8,11 +8,11 @@ ghost use Rattle.mc_state_variables.specs.Updates.{leave_out, updated};
 ghost use Rattle.mc_state_variables.specs.Versions.{closings, seen_outside};
 ghost use Rattle.mc_state_variables.specs.Numbered.{goal_of};
 ghost use Rattle.mc_state_variables.specs.code.Helds.{plain_helds, listed};
-ghost use Rattle.mc_state_variables.specs.code.Conditions.{condition_by, condition_names};
+ghost use Rattle.mc_state_variables.specs.code.Conditions.{condition_by, condition_names, condition_of, IsTried};
 
 use crate::held::{Held, closings_behind};
-use crate::quantifiers::quantifier;
-use crate::terms::operator;
+use crate::numbering::{Around, Numbering};
+use crate::quantifiers::quantified;
 use crate::updates::{push_others, push_updated, updated};
 use mc_base::{Memory, NameSet};
 use mc_clause_syntax::{GoalForm, name_set, push_quantified};
@@ -90,13 +90,56 @@ impl<'a> Condition<'a> {
         match self.list {
             None => Ok(text),
             Some(list) => {
-                let mut names = updated(alloc, self.goal)?;
-                push_updated(alloc, &mut names, then)?;
-                let list = quantifier(alloc, inside, &name_set(alloc, &names)?, list)?;
-                let whole = operator(alloc, b"some", list, text, self.line)?;
-                Ok(whole)
+                let updates = updates_of_both(alloc, self.goal, then)?;
+                quantified(alloc, b"some", inside, &updates, list, text, self.line)
             }
         }
+    }
+}
+
+// What two goals update.
+fn updates_of_both<'a>(
+    alloc: Global,
+    first: &'a Term,
+    second: &'a Term,
+) -> Result<NameSet<'a>, Memory>
+    ensures { IfOk result
+        (λ names. names ≡ put_all [] (updated (plain_term first.now) ++ updated (plain_term second.now))) }
+{
+    let mut names = updated(alloc, first)?;
+    push_updated(alloc, &mut names, second)?;
+    name_set(alloc, &names)
+}
+
+/// A condition, and what is in scope in it and behind it.
+#[derive(Drop)]
+pub struct Tried<'a> {
+    pub condition: Condition<'a>,
+    /// the names of the state variables that it quantifies as a whole
+    pub names: Vec<&'a [u8]>,
+    /// what is in scope in it
+    pub inside: Vec<Held<'a>>,
+    /// the same as its goal is given it, and as it is behind that goal
+    pub around: Around<'a>,
+}
+
+impl Numbering {
+    /// A condition where these are in scope.
+    pub fn tried<'a>(&mut self, held: &[Held<'a>], condition: &'a Term) -> Result<Tried<'a>, Memory>
+        ensures same { IfOk result (λ tried. condition_of tried ≡ (goal_of (plain_term condition.now)).condition) }
+        ensures small { IfOk result (λ tried. size-Term tried.condition.goal.now ≤ size-Term condition.now) }
+        ensures around { IfOk result (λ tried. IsTried tried (plain_helds held.now) self.old.next self.new.next) }
+    {
+        let condition = condition_parts(condition);
+        let names = condition.names(self.alloc)?;
+        let inside = self.entered(held, &names)?;
+        let around = self.around_whole(&inside, condition.goal)?;
+        Ok(Tried {
+            condition,
+            names,
+            inside,
+            around,
+        })
     }
 }
 

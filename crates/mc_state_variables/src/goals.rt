@@ -1,32 +1,23 @@
-ghost use Rattle.std.specs.Prelude.{◌≡◌, [], ◌∷◌, true, map, codes, IfOk};
+ghost use Rattle.std.specs.Prelude.{◌≡◌, [], ◌∷◌, List, true, map, codes, IfOk, OnOk};
 ghost use Rattle.mc_term_data.specs.Plain.{plain_term, tms};
-ghost use Rattle.mc_state_variables.specs.Versions.{renewed, handed};
-ghost use Rattle.mc_state_variables.specs.Numbered.{written, branch_of, goal_of, goals_of, conditional, conjunction_of, disjunction_of, quantified_goal, negated, implied, both_ways, applied, in_negation, ended};
-ghost use Rattle.mc_state_variables.specs.code.Conditions.{written_goal, is_apart};
+ghost use Rattle.mc_state_variables.specs.Numbered.{Part, written, branch_of, goal_of, goals_of, conditional, conjunction_of, disjunction_of, quantified_goal, negated, implied, both_ways, applied, in_negation};
+ghost use Rattle.mc_state_variables.specs.code.Conditions.{written_goal, is_apart, test_of, then_of, arrow_of};
 ghost use Rattle.mc_state_variables.specs.code.Helds.{plain_helds};
 ghost use Rattle.mc_state_variables.specs.code.Pieces.{plain_piece, pieces_of};
-ghost use Rattle.mc_state_variables.specs.code.Steps.{wholes_of};
+ghost use Rattle.mc_state_variables.specs.code.Steps.{gone_on, wholes_of};
 
+use crate::atoms::atom;
 use crate::branches::{Branch, branch_kind, is_conditional};
-use crate::conditions::{closings_of_then, condition_parts};
-use crate::held::{Held, closings};
+use crate::conditions::{Tried, closings_of_then};
+use crate::finishing::{all_over, closings_of_goal, some_over};
+use crate::held::Held;
 use crate::numbering::{Around, Numbering};
 use crate::pieces::{Opening, Piece, and_then, begins, disjunction_of};
-use crate::plain_goals::atom;
-use crate::quantifiers::quantifier;
-use crate::steps::{Step, steps_in_order, wholes};
-use crate::terms::{operator, over};
-use crate::updates::updated_set;
+use crate::steps::{Conjuncts, wholes};
+use crate::terms::{both, conjunction_term, operator, over, over_one};
 use mc_base::{Copied, Memory, NameSet, Row, Text};
-use mc_clause_syntax::{GoalForm, push_quantified};
+use mc_clause_syntax::GoalForm;
 use mc_term_data::{Node, Term, arity};
-
-/// A goal that is written, and what is in scope behind it.
-#[derive(Drop)]
-pub struct Ended<'a> {
-    pub text: Term,
-    pub behind: Vec<Held<'a>>,
-}
 
 impl Numbering {
     /// A goal as one among others. It takes stack for each level of the goal.
@@ -126,7 +117,13 @@ impl Numbering {
                 [left, right, ..] => self.both_ways(held, left, right, line),
                 _ => over(self.alloc, name, parts, line),
             },
-            GoalForm::Unification | GoalForm::Call => atom(self.alloc, held, name, parts, line),
+            GoalForm::Unification | GoalForm::Call => atom(
+                self.alloc,
+                held,
+                name,
+                parts.as_slice(),
+                line,
+            ),
             GoalForm::Disunification => self.disunification(held, name, parts, line),
             _ => over(self.alloc, name, parts, line),
         }
@@ -146,44 +143,43 @@ impl Numbering {
             written (plain_term text) self.new.next
             ≡ conjunction_of line (goals_of (tms (map plain_term goals.now))) (plain_helds held.now) self.old.next) }
     {
-        let mut steps = steps_in_order(self.alloc, goals)?;
-        let mut current = Vec::from_slice(self.alloc, held)?;
-        let mut texts = Vec::new(self.alloc);
+        let mut written = Conjuncts::of(self.alloc, held, goals)?;
         for goal in goals {
-            // each goal has a step
-            let Some(step) = steps.pop() else {
-                return Err(Memory);
-            };
-            let Ended { text, behind } = self.ended(&current, goal, &step)?;
-            texts.push(text)?;
-            current = behind;
+            self.conjunct(&mut written, goal)?;
         }
-        Ok(Term {
-            node: Node::Conj(Row::of(texts)?),
-            line,
-        })
+        let Conjuncts {
+            steps: _,
+            current: _,
+            texts,
+        } = written;
+        conjunction_term(texts, line)
     }
 
-    // A goal that ends with new versions, and what is in scope behind it.
+    // One goal more of a conjunction.
     #[cycle(goals)]
-    fn ended<'a>(
-        &mut self,
-        held: &[Held<'a>],
-        goal: &'a Term,
-        step: &Step<'_>,
-    ) -> Result<Ended<'a>, Memory>
-        ensures text { IfOk result
-            (λ it.
-            written (plain_term it.text) self.new.next
-            ≡ ended (goal_of (plain_term goal.now)).part step.now.renewed (plain_helds held.now) self.old.next) }
-        ensures behind { IfOk result
-            (λ it.
-            plain_helds it.behind.items
-            ≡ handed step.now.updated (renewed step.now.renewed self.old.next (plain_helds held.now)) (plain_helds held.now)) }
+    fn conjunct<'a>(&mut self, written: &mut Conjuncts<'a>, goal: &'a Term) -> Result<(), Memory>
+        ensures { OnOk result
+            ((rest : List Part)
+            → gone_on written.new rest self.new.next
+            ≡ gone_on written.old ((goal_of (plain_term goal.now)).part ∷ rest) self.old.next) }
     {
-        let Around { given, behind } = self.around(&step.updated, &step.renewed, held)?;
+        let given = self.passed(written)?;
         let text = self.part(&given, goal)?;
-        Ok(Ended { text, behind })
+        written.texts.push(text)?;
+        Ok(())
+    }
+
+    // A goal that ends with new versions of all that it updates, of which nothing is seen outside.
+    #[cycle(goals)]
+    fn whole<'a>(&mut self, held: &[Held<'a>], goal: &'a Term) -> Result<Term, Memory>
+        ensures { IfOk result
+            (λ text.
+            written (plain_term text) self.new.next
+            ≡ (negated (goal_of (plain_term goal.now)).part).writing (plain_helds held.now) self.old.next) }
+    {
+        let around = self.around_whole(held, goal)?;
+        let text = self.part(&around.given, goal)?;
+        Ok(text)
     }
 
     // The disjuncts of a disjunction: each starts from the versions before the whole and ends with those after it, and
@@ -278,10 +274,8 @@ impl Numbering {
             ≡ (branch_of goal.now.line (goal_of (plain_term goal.now)).part).writing wanted.now (plain_helds held.now) self.old.next) }
     {
         let text = self.part(held, goal)?;
-        let updates = updated_set(self.alloc, goal)?;
-        let goals = closings(self.alloc, wanted, &updates, held, goal.line)?;
-        let text = and_then(self.alloc, text, goals)?;
-        Ok(text)
+        let goals = closings_of_goal(self.alloc, wanted, held, goal)?;
+        and_then(self.alloc, text, goals)
     }
 
     // A condition and its then part, which are one conjunction in which the condition ends with new versions.
@@ -300,21 +294,64 @@ impl Numbering {
             ≡ (conditional line (goal_of (plain_term condition.now)).condition (goal_of (plain_term then.now)).part []).writing
             wanted.now (plain_helds held.now) self.old.next) }
     {
-        let parts = condition_parts(condition);
-        let names = parts.names(self.alloc)?;
-        let inside = self.entered(held, &names)?;
-        let step = Step::whole(self.alloc, parts.goal)?;
-        let Ended { text, behind } = self.ended(&inside, parts.goal, &step)?;
-        let test = parts.quantified(self.alloc, then, &inside, text)?;
-        let result = self.part(&behind, then)?;
-        let goals = closings_of_then(self.alloc, wanted, &names, then, &behind, held, line)?;
-        operator(
-            self.alloc,
-            b"->",
-            test,
-            and_then(self.alloc, result, goals)?,
-            line,
-        )
+        let tried = self.tried(held, condition)?;
+        let text = self.arrow(&tried, then, wanted, held, line)?;
+        Ok(text)
+    }
+
+    // A condition that is tried, and its then part.
+    #[cycle(goals)]
+    fn arrow<'a>(
+        &mut self,
+        tried: &Tried<'a>,
+        then: &'a Term,
+        wanted: &NameSet<'_>,
+        held: &[Held<'a>],
+        line: u32,
+    ) -> Result<Term, Memory>
+        ensures { IfOk result
+            (λ text.
+            written (plain_term text) self.new.next
+            ≡ arrow_of tried.now (plain_term then.now) wanted.now (plain_helds held.now) line self.old.next) }
+    {
+        let test = self.test(tried, then)?;
+        let result = self.then_part(tried, then, wanted, held, line)?;
+        operator(self.alloc, b"->", test, result, line)
+    }
+
+    // The condition by itself.
+    #[cycle(goals)]
+    fn test<'a>(&mut self, tried: &Tried<'a>, then: &'a Term) -> Result<Term, Memory>
+        ensures { IfOk result
+            (λ text.
+            written (plain_term text) self.new.next
+            ≡ test_of tried.now (plain_term then.now) self.old.next) }
+    {
+        let text = self.part(&tried.around.given, tried.condition.goal)?;
+        tried
+            .condition
+            .quantified(self.alloc, then, &tried.inside, text)
+    }
+
+    // The then part behind it.
+    #[cycle(goals)]
+    fn then_part<'a>(
+        &mut self,
+        tried: &Tried<'a>,
+        then: &'a Term,
+        wanted: &NameSet<'_>,
+        held: &[Held<'a>],
+        line: u32,
+    ) -> Result<Term, Memory>
+        ensures { IfOk result
+            (λ text.
+            written (plain_term text) self.new.next
+            ≡ then_of tried.now (plain_term then.now) wanted.now (plain_helds held.now) line self.old.next) }
+    {
+        let behind = &tried.around.behind;
+        let result = self.part(behind, then)?;
+        let goals = closings_of_then(self.alloc, wanted, &tried.names, then, behind, held, line)?;
+        and_then(self.alloc, result, goals)
     }
 
     // A goal under `some`, whose state variables begin anew.
@@ -331,14 +368,9 @@ impl Numbering {
             written (plain_term text) self.new.next
             ≡ quantified_goal (codes "some") line (plain_term list.now) (goal_of (plain_term goal.now)).part (plain_helds held.now) self.old.next) }
     {
-        let mut names = Vec::new(self.alloc);
-        push_quantified(&mut names, list)?;
-        let inside = self.entered(held, &names)?;
-        let updates = updated_set(self.alloc, goal)?;
-        let list = quantifier(self.alloc, &inside, &updates, list)?;
+        let inside = self.entered_by(held, list)?;
         let text = self.part(&inside, goal)?;
-        let text = operator(self.alloc, b"some", list, text, line)?;
-        Ok(text)
+        some_over(self.alloc, &inside, list, goal, text, line)
     }
 
     // A goal under `all`, which is a negation.
@@ -355,14 +387,9 @@ impl Numbering {
             written (plain_term text) self.new.next
             ≡ quantified_goal (codes "all") line (plain_term list.now) (negated (goal_of (plain_term goal.now)).part) (plain_helds held.now) self.old.next) }
     {
-        let mut names = Vec::new(self.alloc);
-        push_quantified(&mut names, list)?;
-        let inside = self.entered(held, &names)?;
-        let list = quantifier(self.alloc, &inside, &NameSet::new(self.alloc), list)?;
-        let step = Step::whole(self.alloc, goal)?;
-        let Ended { text, behind: _ } = self.ended(&inside, goal, &step)?;
-        let text = operator(self.alloc, b"all", list, text, line)?;
-        Ok(text)
+        let inside = self.entered_by(held, list)?;
+        let text = self.whole(&inside, goal)?;
+        all_over(self.alloc, &inside, list, text, line)
     }
 
     // What is updated in a negation ends with new versions, and isn't seen outside.
@@ -379,12 +406,8 @@ impl Numbering {
             written (plain_term text) self.new.next
             ≡ applied name.now line (in_negation ((goal_of (plain_term goal.now)).part ∷ []) (plain_helds held.now) self.old.next)) }
     {
-        let step = Step::whole(self.alloc, goal)?;
-        let Ended { text, behind: _ } = self.ended(held, goal, &step)?;
-        Ok(Term {
-            node: Node::App(name.copied(self.alloc)?, Row::one(self.alloc, text)?),
-            line,
-        })
+        let text = self.whole(held, goal)?;
+        over_one(self.alloc, name, text, line)
     }
 
     // What `A => B` says is the negation of `A, not B`.
@@ -401,15 +424,10 @@ impl Numbering {
             written (plain_term text) self.new.next
             ≡ implied line (goal_of (plain_term premise.now)).part (goal_of (plain_term conclusion.now)).part (plain_helds held.now) self.old.next) }
     {
-        let step = Step::whole(self.alloc, premise)?;
-        let Ended { text: left, behind } = self.ended(held, premise, &step)?;
-        let step = Step::whole(self.alloc, conclusion)?;
-        let Ended {
-            text: right,
-            behind: _,
-        } = self.ended(&behind, conclusion, &step)?;
-        let text = operator(self.alloc, b"=>", left, right, line)?;
-        Ok(text)
+        let Around { given, behind } = self.around_whole(held, premise)?;
+        let left = self.part(&given, premise)?;
+        let right = self.whole(&behind, conclusion)?;
+        operator(self.alloc, b"=>", left, right, line)
     }
 
     // `A <=> B` is `A => B` and `B => A`.
@@ -428,11 +446,6 @@ impl Numbering {
     {
         let forth = self.implied(held, left, right, line)?;
         let back = self.implied(held, right, left, line)?;
-        let mut goals = Row::one(self.alloc, forth)?;
-        goals.push(back)?;
-        Ok(Term {
-            node: Node::Conj(goals),
-            line,
-        })
+        both(self.alloc, forth, back, line)
     }
 }

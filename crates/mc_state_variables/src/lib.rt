@@ -7,6 +7,7 @@ mod clause;
 mod conditions;
 mod examples;
 mod facts;
+mod finishing;
 mod goals;
 mod held;
 mod names;

@@ -1,12 +1,16 @@
 ghost use Rattle.std.specs.Prelude.{◌≡◌, ◌++◌, [], ◌∷◌, suc, IfOk, OnOk, if◌then◌else◌};
-ghost use Rattle.mc_clause_syntax.specs.States.{names_of, in_scope};
+ghost use Rattle.mc_term_data.specs.Plain.{plain_term};
+ghost use Rattle.mc_clause_syntax.specs.States.{names_of, in_scope, quantified};
+ghost use Rattle.mc_state_variables.specs.Updates.{updated};
 ghost use Rattle.mc_state_variables.specs.Versions.{renewed, renewed_behind, handed, entered, entered_behind, begun, behind, distinct, unnamed};
 ghost use Rattle.mc_state_variables.specs.code.Helds.{plain_held, plain_helds};
 
 use crate::held::{Held, unnamed};
 use crate::names::distinct;
+use crate::updates::updated_set;
 use mc_base::{Memory, NameSet};
-use mc_clause_syntax::name_set;
+use mc_clause_syntax::{name_set, push_quantified};
+use mc_term_data::Term;
 use std::alloc::Global;
 
 /// Where the numbering of versions stands.
@@ -70,6 +74,22 @@ impl Numbering {
         Ok(inside)
     }
 
+    /// The same, of a quantifier with this list.
+    pub fn entered_by<'a>(
+        &mut self,
+        held: &[Held<'a>],
+        list: &'a Term,
+    ) -> Result<Vec<Held<'a>>, Memory>
+        ensures held { IfOk result
+            (λ inside.
+            plain_helds inside.items ≡ entered (quantified (plain_term list.now)) self.old.next (plain_helds held.now)) }
+        ensures next { OnOk result (self.new.next ≡ entered_behind (quantified (plain_term list.now)) self.old.next) }
+    {
+        let mut names = Vec::new(self.alloc);
+        push_quantified(&mut names, list)?;
+        self.entered(held, &names)
+    }
+
     // Puts a new state variable of each name behind others.
     fn begin_once<'a>(
         &mut self,
@@ -126,6 +146,24 @@ impl Numbering {
             behind.push(Held { before, ..*state })?;
         }
         Ok(Around { given, behind })
+    }
+
+    /// The same of a goal that ends with new versions of all that it updates.
+    #[tactic(auto, using(crate::proofs::Sets::sets))]
+    pub fn around_whole<'a>(&mut self, held: &[Held<'a>], goal: &Term) -> Result<Around<'a>, Memory>
+        ensures given { IfOk result
+            (λ around.
+            plain_helds around.given.items
+            ≡ renewed (updated (plain_term goal.now)) self.old.next (plain_helds held.now)) }
+        ensures behind { IfOk result
+            (λ around.
+            plain_helds around.behind.items
+            ≡ handed (updated (plain_term goal.now)) (plain_helds around.given.items) (plain_helds held.now)) }
+        ensures next { OnOk result
+            (self.new.next ≡ renewed_behind (updated (plain_term goal.now)) self.old.next (plain_helds held.now)) }
+    {
+        let updates = updated_set(self.alloc, goal)?;
+        self.around(&updates, &updates, held)
     }
 
     // The version with which a goal must end, a new one of these names.

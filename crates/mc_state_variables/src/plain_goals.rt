@@ -5,35 +5,12 @@ ghost use Rattle.mc_clause_syntax.specs.States.{states_in_all};
 ghost use Rattle.mc_state_variables.specs.Numbered.{terms_of};
 ghost use Rattle.mc_state_variables.specs.code.Helds.{plain_helds};
 
-use crate::atoms::terms_of;
+use crate::atoms::atom;
 use crate::held::Held;
 use crate::numbering::{Around, Numbering};
-use mc_base::{Copied, Memory, Row, Text};
+use mc_base::{Memory, Row, Text};
 use mc_clause_syntax::{StatesWanted, name_set, push_all_states};
-use mc_term_data::{Node, Term};
-use std::alloc::Global;
-
-/// An atom.
-pub fn atom(
-    alloc: Global,
-    held: &[Held<'_>],
-    name: &Row<Text>,
-    parts: &Row<Term>,
-    line: u32,
-) -> Result<Term, Memory>
-    ensures { IfOk result
-        (λ text.
-        plain_term text
-        ≡ at (App name.now (terms_of (plain_helds held.now) (tms (map plain_term parts.now)))) line) }
-{
-    Ok(Term {
-        node: Node::App(
-            name.copied(alloc)?,
-            terms_of(alloc, held, parts.as_slice())?,
-        ),
-        line,
-    })
-}
+use mc_term_data::Term;
 
 impl Numbering {
     /// A disequation, which is the negation of an equation.
@@ -62,6 +39,6 @@ impl Numbering {
         push_all_states(&mut names, StatesWanted::Updated, parts.as_slice())?;
         let updates = name_set(self.alloc, &names)?;
         let Around { given, behind: _ } = self.around(&updates, &updates, held)?;
-        atom(self.alloc, &given, name, parts, line)
+        atom(self.alloc, &given, name, parts.as_slice(), line)
     }
 }

@@ -1,9 +1,10 @@
-ghost use Rattle.std.specs.Prelude.{◌≡◌, ◌++◌, map, IfOk, OnOk};
-ghost use Rattle.mc_term_data.specs.Plain.{PlainTerms, plain_term, more_terms, tms};
+ghost use Rattle.std.specs.Prelude.{◌≡◌, ◌++◌, [], ◌∷◌, map, IfOk, OnOk};
+ghost use Rattle.mc_term_data.specs.Plain.{PlainTerms, at, App, plain_term, no_term, more_terms, tms};
 ghost use Rattle.mc_state_variables.specs.Numbered.{quantifier, named_versions};
 ghost use Rattle.mc_state_variables.specs.code.Helds.{plain_helds, listed};
 
 use crate::held::{Held, after_of, before_of, version};
+use crate::terms::operator;
 use mc_base::{Memory, NameSet, Row};
 use mc_clause_syntax::state_variable;
 use mc_term_data::{Node, Term};
@@ -30,6 +31,28 @@ pub fn quantifier(
         }
         _ => list.copied(alloc),
     }
+}
+
+/// A quantifier over a goal that is written so and updates these.
+pub fn quantified(
+    alloc: Global,
+    word: &[u8],
+    held: &[Held<'_>],
+    updates: &NameSet<'_>,
+    list: &Term,
+    text: Term,
+    line: u32,
+) -> Result<Term, Memory>
+    ensures { IfOk result
+        (λ out.
+        plain_term out
+        ≡ at
+        (App (word.now ∷ [])
+        (more_terms (quantifier (plain_helds held.now) updates.now (plain_term list.now)) (more_terms (plain_term text) no_term)))
+        line) }
+{
+    let list = quantifier(alloc, held, updates, list)?;
+    operator(alloc, word, list, text, line)
 }
 
 #[tactic(auto, using(crate::proofs::Lists::adding))]

@@ -1,11 +1,15 @@
-ghost use Rattle.std.specs.Prelude.{◌≡◌, [], map, reverse, IfOk, OnOk, ◌++◌, ◌∷◌};
+ghost use Rattle.std.specs.Prelude.{◌≡◌, [], map, ◌∷◌, ◌++◌, List, reverse, IfOk, OnOk};
 ghost use Rattle.mc_base.specs.NameSets.{put_all};
 ghost use Rattle.mc_term_data.specs.Plain.{plain_term, tms};
 ghost use Rattle.mc_clause_syntax.specs.States.{names_of};
 ghost use Rattle.mc_state_variables.specs.Updates.{updated};
-ghost use Rattle.mc_state_variables.specs.code.Steps.{step_of, steps_of, wholes_of};
+ghost use Rattle.mc_state_variables.specs.code.Steps.{step_of, steps_of, stepwise, wholes_of};
+ghost use Rattle.mc_state_variables.specs.Numbered.{Part, with_rest};
+ghost use Rattle.mc_state_variables.specs.code.Helds.{plain_helds};
 
+use crate::held::Held;
 use crate::names::{common, put_names, put_new_names};
+use crate::numbering::{Around, Numbering};
 use crate::updates::updated;
 use mc_base::{Memory, NameSet};
 use mc_clause_syntax::name_set;
@@ -22,23 +26,6 @@ pub struct Step<'a> {
 }
 
 impl<'a> Step<'a> {
-    /// The step of a goal that ends with new versions of all that it updates.
-    pub fn whole(alloc: Global, goal: &'a Term) -> Result<Step<'a>, Memory>
-        ensures { IfOk result
-            (λ step.
-            step
-            ≡ record {
-              updated = put_all [] (updated (plain_term goal.now));
-              renewed = put_all [] (updated (plain_term goal.now));
-            }) }
-    {
-        let names = updated(alloc, goal)?;
-        Ok(Step {
-            updated: name_set(alloc, &names)?,
-            renewed: name_set(alloc, &names)?,
-        })
-    }
-
     // The step of a goal that updates these, behind which those are updated.
     fn before(alloc: Global, names: &[&'a [u8]], behind: &NameSet<'_>) -> Result<Step<'a>, Memory>
         ensures { IfOk result (λ step. step ≡ step_of (names_of names.now) behind.now) }
@@ -48,6 +35,55 @@ impl<'a> Step<'a> {
             updated: name_set(alloc, names)?,
             renewed: name_set(alloc, &both)?,
         })
+    }
+}
+
+/// Goals one behind another, as far as they are written.
+#[derive(Drop)]
+pub struct Conjuncts<'a> {
+    /// the steps of those that are left, the first one's last
+    pub steps: Vec<Step<'a>>,
+    /// what is in scope behind those that are written
+    pub current: Vec<Held<'a>>,
+    pub texts: Vec<Term>,
+}
+
+impl<'a> Conjuncts<'a> {
+    /// None of these goals is written yet.
+    pub fn of(alloc: Global, held: &[Held<'a>], goals: &'a [Term]) -> Result<Conjuncts<'a>, Memory>
+        ensures steps { IfOk result
+            (λ made. made.steps.items ≡ reverse (steps_of (tms (map plain_term goals.now)))) }
+        ensures current { IfOk result (λ made. made.current.items ≡ held.now) }
+        ensures texts { IfOk result (λ made. made.texts.items ≡ []) }
+    {
+        let steps = steps_in_order(alloc, goals)?;
+        let current = Vec::from_slice(alloc, held)?;
+        Ok(Conjuncts {
+            steps,
+            current,
+            texts: Vec::new(alloc),
+        })
+    }
+}
+
+impl Numbering {
+    /// What the next of these goals is given; it is left behind.
+    pub fn passed<'a>(&mut self, goals: &mut Conjuncts<'a>) -> Result<Vec<Held<'a>>, Memory>
+        ensures step { IfOk result
+            (λ given.
+            (p : Part) (rest : List Part)
+            → stepwise (reverse goals.old.steps.items) (p ∷ rest) (plain_helds goals.old.current.items) self.old.next
+            ≡ with_rest (p.writing (plain_helds given.items) self.new.next)
+            (stepwise (reverse goals.new.steps.items) rest (plain_helds goals.new.current.items))) }
+        ensures texts { OnOk result (goals.new.texts.items ≡ goals.old.texts.items) }
+    {
+        // each goal has a step
+        let Some(step) = goals.steps.pop() else {
+            return Err(Memory);
+        };
+        let Around { given, behind } = self.around(&step.updated, &step.renewed, &goals.current)?;
+        goals.current = behind;
+        Ok(given)
     }
 }
 

@@ -38,6 +38,34 @@ pub fn over(alloc: Global, name: &Row<Text>, parts: &Row<Term>, line: u32) -> Re
     })
 }
 
+/// A name, which is copied, over one part.
+pub fn over_one(alloc: Global, name: &Row<Text>, part: Term, line: u32) -> Result<Term, Memory>
+    ensures { IfOk result
+        (λ term. plain_term term ≡ at (App name.now (more_terms (plain_term part) no_term)) line) }
+{
+    let parts = Row::one(alloc, part)?;
+    let name = name.copied(alloc)?;
+    Ok(Term {
+        node: Node::App(name, parts),
+        line,
+    })
+}
+
+/// A conjunction of two goals.
+pub fn both(alloc: Global, left: Term, right: Term, line: u32) -> Result<Term, Memory>
+    ensures { IfOk result
+        (λ term.
+        plain_term term
+        ≡ at (Conj (more_terms (plain_term left) (more_terms (plain_term right) no_term))) line) }
+{
+    let mut goals = Row::one(alloc, left)?;
+    goals.push(right)?;
+    Ok(Term {
+        node: Node::Conj(goals),
+        line,
+    })
+}
+
 /// A conjunction of these goals.
 pub fn conjunction_term(goals: Vec<Term>, line: u32) -> Result<Term, Memory>
     ensures { IfOk result (λ term. plain_term term ≡ at (Conj (tms (map plain_term goals.items))) line) }

@@ -1,25 +1,22 @@
-use Rattle.std.proofs.Common.{◌≡◌, ℕ, ◌+◌, ◌-◌, ◌<◌, ◌≤◌, ◌&&◌, ◌||◌, not, ◌++◌, [], ◌∷◌, List, map, drop, reverse, length, refl, ap, ap₂, sym, ◌∙◌, true, false, arith, codes}
-use Rattle.std.proofs.lemmas.List.{drop_all, reverse-append, map-append}
-use Rattle.std.specs.Option.{option_map}
-use Rattle.mc_base.specs.NameSets.{put_all}
-use Rattle.mc_term_data.specs.Plain.{PlainTerm, plain_term, tms, at, no_term, more_terms, App, Conj}
-use Rattle.mc_clause_syntax.specs.States.{names_of, quantified}
+use Rattle.std.proofs.Common.{◌≡◌, ℕ, ◌+◌, ◌<◌, ◌≤◌, ◌++◌, [], ◌∷◌, List, ◌&&◌, ◌||◌, not, map, drop, reverse, length, refl, ap, ap₂, sym, ◌∙◌, true, arith, codes}
+use Rattle.std.proofs.lemmas.List.{drop_all, reverse-append, reverse-reverse, map-append}
+use Rattle.mc_term_data.specs.Plain.{plain_term, tms, at, no_term, more_terms, App}
+use Rattle.mc_term_data.specs.declared.term.Term.{Term}
+use Rattle.mc_clause_syntax.specs.States.{names_of}
 use Rattle.mc_state_variables.specs.Updates.{leave_out, updated}
 use Rattle.mc_state_variables.specs.Versions.{renewed, handed, closings, seen_outside, and_then}
-use Rattle.mc_state_variables.specs.Numbered.{Part, Condition, written, on_text, goal_of, goals_of, goal_parts, ended, quantifier, conditional}
-use Rattle.mc_state_variables.specs.declared.steps.Step.{Step}
+use Rattle.mc_state_variables.specs.Numbered.{Part, written, on_text, goal_of, goals_of, goal_parts, conditional, negated, quantifier}
 use Rattle.mc_state_variables.specs.declared.pieces.Piece.{Piece}
 use Rattle.mc_state_variables.specs.code.Helds.{plain_helds, listed}
-use Rattle.mc_state_variables.specs.code.Steps.{stepwise, steps_of, wholes_of}
+use Rattle.mc_state_variables.specs.code.Steps.{gone_on, stepwise, steps_of, wholes_of}
 use Rattle.mc_state_variables.specs.code.Pieces.{plain_piece, pieces_of, gathered, alone, is_last}
-use Rattle.mc_state_variables.specs.code.Conditions.{condition_by}
-use Rattle.mc_state_variables.proofs.Closing.{item_at, made_conj, made_app}
+use Rattle.mc_state_variables.specs.code.Conditions.{condition_of, tried_goal, then_of}
+use Rattle.mc_state_variables.proofs.Closing.{item_at}
 use Rattle.mc_state_variables.proofs.Lists.{terms-pushed, terms_from_list}
-use Rattle.mc_state_variables.proofs.Sets.{quantifier-set, closings-updated_set}
 use Rattle.mc_state_variables.proofs.Forms.{part_updates}
-use Rattle.mc_state_variables.proofs.Orders.{stepped}
+use Rattle.mc_state_variables.proofs.Orders.{gone_on_is}
 use Rattle.mc_state_variables.proofs.Disjunctions.{pieced, disjunction_is}
-use Rattle.mc_state_variables.proofs.Written.{if_ok, closed_is, conjunction_is, pieces_are, conditional_is, condition_goal, condition_quantifies, existential_is, universal_is, negation_is, implied_is, both_ways_is}
+use Rattle.mc_state_variables.proofs.Written.{if_ok, conjunction_is, pieces_are, arrow_is, quantified_is, whole_is, implied_is, both_ways_is}
 use Rattle.std.proofs.lemmas.Grind.{common_steps}
 use Rattle.mc_state_variables.proofs.ShortParts.{has_two, short_of_two}
 use Rattle.mc_state_variables.proofs.numbering.Numbering.+goals.Goals as goal
@@ -28,37 +25,53 @@ pub conjunction-loop-goal-preserved : goal.conjunction-loop-goal-preserved
 conjunction-loop-goal-preserved t c =
     let i = c.loop-goal.goal-index in
     let goals = c.args.goals.now in
-    let g = c.goal-item.result in
-    let part = (goal_of (plain_term g)).part in
-    let rest = goal_parts (goals_of (tms (map plain_term (drop (i + 1) goals)))) in
-    let texts = c.loop-goal.texts.items in
-    let held = plain_helds c.loop-goal.current.items in
-    let left = c.pop.new.self.items in
-    let step = c.in-Some.step in
-    let text = plain_term c.in_ok-text.field-0.text in
-    let behind = plain_helds c.in_ok-text.field-0.behind.items in
-    let from = c.loop-goal.self.next in
-    let next = c.ended.new.self.next in
-    let made = c.in_ok-text.ensures {u = tt} in
-    ap (λ xs. on_text (λ ts. xs ++ listed ts) (stepwise (reverse left) rest behind next)) (ap (map plain_term) (c.in_ok-push.ensures {u = tt}).items ∙ terms-pushed texts c.in_ok-text.field-0.text)
-    ∙ stepped (map plain_term texts) step (reverse left) part rest held behind from next text
-    (made.text ∙ ap (λ hs. ended part step.renewed (plain_helds hs) from) c.deref.ensures.value)
-    (made.behind ∙ ap (λ hs. handed step.updated (renewed step.renewed from (plain_helds hs)) (plain_helds hs)) c.deref.ensures.value)
-    ∙ ap₂ (λ ss ts. on_text (λ us. map plain_term texts ++ listed us) (stepwise ss (goal_parts (goals_of (tms (map plain_term ts)))) held from))
-    (sym (ap reverse c.in-Some.ensures.items ∙ reverse-append left (step ∷ [])))
-    (sym (item_at goals i g c.loop-goal-test.true c.goal-item.is))
+    c.in_ok-conjunct.ensures {u = tt} (goal_parts (goals_of (tms (map plain_term (drop (i + 1) goals)))))
+    ∙ ap (λ ts. gone_on c.loop-goal.written (goal_parts (goals_of (tms (map plain_term ts)))) c.loop-goal.self.next)
+    (sym (item_at goals i c.goal-item.result c.loop-goal-test.true c.goal-item.is))
     ∙ c.loop-goal.invariant
 
 pub conjunction-returns : goal.conjunction-returns
 conjunction-returns t c =
     let goals = c.args.goals.now in
+    let ts = tms (map plain_term goals) in
+    let l = c.args.line in
+    let made = c.in_ok-written.written in
+    let now = c.loop-goal.written in
+    let next = c.loop-goal.self.next in
     let none : drop c.loop-goal.goal-index goals ≡ [] = drop_all c.loop-goal.goal-index goals (omega arith) in
-    ap (λ v. written v c.loop-goal.self.next) (made_conj c.in_ok-of.field-0 c.args.line)
-    ∙ ap (λ ts. written (at (Conj (tms (map plain_term ts))) c.args.line) c.loop-goal.self.next) (c.in_ok-of.ensures {u = tt}).elements
-    ∙ conjunction_is c.args.line (tms (map plain_term goals)) (map plain_term c.loop-goal.texts.items) (reverse c.loop-goal.steps.items) (plain_helds c.args.held.now) (plain_helds c.loop-goal.current.items) c.args.self.now.next c.loop-goal.self.next
-    (ap (λ ts. on_text (λ us. map plain_term c.loop-goal.texts.items ++ listed us) (stepwise (reverse c.loop-goal.steps.items) (goal_parts (goals_of (tms (map plain_term ts)))) (plain_helds c.loop-goal.current.items) c.loop-goal.self.next)) (sym none)
+    let begun : gone_on made (goal_parts (goals_of ts)) c.args.self.now.next ≡ on_text listed (stepwise (steps_of ts) (goal_parts (goals_of ts)) (plain_helds c.args.held.now) c.args.self.now.next) =
+    ap (λ xs. on_text (λ us. map plain_term xs ++ listed us) (stepwise (reverse made.steps.items) (goal_parts (goals_of ts)) (plain_helds made.current.items) c.args.self.now.next)) c.in_ok-written.ensures.texts
+    ∙ ap₂ (λ ss hs. on_text listed (stepwise (reverse ss) (goal_parts (goals_of ts)) (plain_helds hs) c.args.self.now.next)) c.in_ok-written.ensures.steps c.in_ok-written.ensures.current
+    ∙ ap (λ ss. on_text listed (stepwise ss (goal_parts (goals_of ts)) (plain_helds c.args.held.now) c.args.self.now.next)) (reverse-reverse (steps_of ts)) in
+    if_ok c.conjunction_term.result _ _ c.conjunction_term.ensures
+    (λ x e.
+    ap (λ v. written v next) e
+    ∙ conjunction_is l ts (map plain_term now.texts.items) (reverse now.steps.items) (plain_helds c.args.held.now) (plain_helds now.current.items) c.args.self.now.next next
+    (ap (λ us. gone_on now (goal_parts (goals_of (tms (map plain_term us)))) next) (sym none)
     ∙ c.loop-goal.invariant
-    ∙ ap (λ hs. on_text listed (stepwise (steps_of (tms (map plain_term goals))) (goal_parts (goals_of (tms (map plain_term goals)))) (plain_helds hs) c.args.self.now.next)) c.in_ok-current.ensures.items)
+    ∙ begun))
+
+pub conjunct-returns : goal.conjunct-returns
+conjunct-returns t c rest =
+    let p = (goal_of (plain_term c.args.goal.now)).part in
+    let old = c.args.written.now in
+    let behind = c.passed.new.goals in
+    let passed = c.in_ok-given.ensures {u = tt} in
+    let text = c.in_ok-text.text in
+    gone_on_is (map plain_term old.texts.items) _ (plain_term text) c.part.new.self.next
+    (p.writing (plain_helds c.in_ok-given.given.items) c.passed.new.self.next)
+    (stepwise (reverse behind.steps.items) rest (plain_helds behind.current.items)) _
+    (ap (map plain_term) ((c.in_ok-push.ensures {u = tt}).items ∙ ap (λ (ts : List Term). ts ++ text ∷ []) passed.texts) ∙ terms-pushed old.texts.items text)
+    (c.in_ok-text.ensures {u = tt} ∙ ap (λ hs. p.writing (plain_helds hs) c.passed.new.self.next) c.deref.ensures.value)
+    (passed.step p rest)
+
+pub whole-returns : goal.whole-returns
+whole-returns t c =
+    let g = plain_term c.args.goal.now in
+    let around = c.in_ok-around.ensures {u = tt} in
+    c.in_ok-text.ensures {u = tt}
+    ∙ ap (λ hs. (goal_of g).part.writing (plain_helds hs) c.around_whole.new.self.next) c.deref.ensures.value
+    ∙ whole_is g (plain_helds c.args.held.now) (plain_helds c.in_ok-around.around.given.items) c.args.self.now.next c.around_whole.new.self.next around.given around.next
 
 pub disjunction-returns : goal.disjunction-returns
 disjunction-returns t c =
@@ -106,109 +119,146 @@ pieces-returns t c =
 
 pub closed-returns : goal.closed-returns
 closed-returns t c =
-    closed_is c.args.goal.now.line (plain_term c.args.goal.now) c.args.wanted.now c.in_ok-updates.updates (plain_helds c.args.held.now) c.args.self.now.next (plain_term c.in_ok-text.text) c.part.new.self.next
-    (map plain_term c.in_ok-goals.goals.items) (plain_term c.in_ok-text-2.text) (c.in_ok-text.ensures {u = tt}) c.in_ok-updates.ensures c.in_ok-goals.ensures c.in_ok-text-2.ensures
+    let g = plain_term c.args.goal.now in
+    let l = c.args.goal.now.line in
+    let held = plain_helds c.args.held.now in
+    let xs = c.args.wanted.now in
+    let p : Part = (goal_of g).part in
+    let text = plain_term c.in_ok-text.text in
+    if_ok c.and_then.result _ _ c.and_then.ensures
+    (λ x e.
+    ap (λ v. written v c.part.new.self.next) (e ∙ ap (λ cs. and_then text cs) (c.in_ok-goals.ensures ∙ ap (λ us. closings xs us l held) (sym (part_updates g))))
+    ∙ ap (on_text (λ u. and_then u (closings xs p.updates l held))) (c.in_ok-text.ensures {u = tt}))
 
 pub conditional-returns : goal.conditional-returns
 conditional-returns t c =
     let l = c.args.line in
+    let u = plain_term c.args.then.now in
     let held = plain_helds c.args.held.now in
     let xs = c.args.wanted.now in
-    let parts = c.condition_parts-parts.result in
-    let list = option_map (λ q. plain_term q.now) parts.list in
-    let g = plain_term parts.goal.now in
+    let from = c.args.self.now.next in
+    let tried = c.in_ok-tried.ensures {u = tt} in
+    c.in_ok-text.ensures {u = tt}
+    ∙ arrow_is c.in_ok-tried.tried u xs held l from c.tried.new.self.next tried.around
+    ∙ ap (λ d. (conditional l d (goal_of u).part []).writing xs held from) tried.same
+
+pub arrow-returns : goal.arrow-returns
+arrow-returns t c =
+    let l = c.args.line in
     let u = plain_term c.args.then.now in
-    let condition : Condition = condition_by parts.line list g in
-    let names = names_of c.deref.result.now in
-    let named = ap names_of c.deref.ensures.value in
-    let entered = c.in_ok-inside.ensures {u = tt} in
-    let inside = plain_helds c.in_ok-inside.inside.items in
-    let from = c.entered.new.self.next in
-    let made = c.in_ok-text.ensures {u = tt} in
-    let test = plain_term c.in_ok-test.test in
-    let then_text = plain_term c.in_ok-result.result in
-    let next = c.part.new.self.next in
-    let goals = tms (map plain_term c.in_ok-goals.goals.items) in
-    let behind = plain_helds c.in_ok-text.field-0.behind.items in
-    let text = plain_term c.in_ok-text.field-0.text in
-    let whole = conditional_is l condition g u xs held c.args.self.now.next names inside from text c.ended.new.self.next behind test then_text next goals
-    (condition_goal parts.line list g)
-    (named ∙ c.in_ok-names.ensures ∙ condition_quantifies parts.line list g)
-    entered.held entered.next
-    (made.text ∙ ap₂ (λ (s : Step) hs. ended (goal_of g).part s.renewed (plain_helds hs) from) c.in_ok-step.ensures c.deref-2.ensures.value)
-    (made.behind ∙ ap₂ (λ (s : Step) hs. handed s.updated (renewed s.renewed from (plain_helds hs)) (plain_helds hs)) c.in_ok-step.ensures c.deref-2.ensures.value)
-    (c.in_ok-test.ensures ∙ ap (λ hs. condition.quantify (plain_helds hs) (updated g ++ updated u) text) c.deref-3.ensures.value)
-    (c.in_ok-result.ensures {u = tt} ∙ ap (λ hs. (goal_of u).part.writing (plain_helds hs) c.ended.new.self.next) c.deref-4.ensures.value)
-    (terms_from_list _ _ c.in_ok-goals.ensures
-    ∙ ap₂ (λ ns bs. closings xs (leave_out ns (updated u)) l (seen_outside ns (plain_helds bs) held)) (ap names_of c.deref-5.ensures.value ∙ sym named) c.deref-6.ensures.value) in
+    let tried = c.args.tried.now in
+    let held = plain_helds c.args.held.now in
+    let xs = c.args.wanted.now in
+    let next = c.then_part.new.self.next in
     if_ok c.operator.result _ _ c.operator.ensures
     (λ x e.
-    ap (λ v. written v next) (e ∙ ap (λ v. at (App (codes "->" ∷ []) (more_terms test (more_terms v no_term))) l) c.in_ok-and_then.ensures)
-    ∙ whole
-    ∙ ap (λ d. (conditional l d (goal_of u).part []).writing xs held c.args.self.now.next) c.condition_parts-parts.ensures.same)
+    ap (λ v. written v next) e
+    ∙ ap (on_text (λ v. at (App (codes "->" ∷ []) (more_terms (plain_term c.in_ok-test.test) (more_terms v no_term))) l)) (c.in_ok-result.ensures {u = tt})
+    ∙ ap (λ w. on_text (λ v. at (App (codes "->" ∷ []) (more_terms w.text (more_terms v no_term))) l) (then_of tried u xs held l w.next)) (c.in_ok-test.ensures {u = tt}))
+
+pub test-returns : goal.test-returns
+test-returns t c =
+    let tried = c.args.tried.now in
+    let d = condition_of tried in
+    let g = tried_goal tried in
+    let u = plain_term c.args.then.now in
+    let us = updated g ++ updated u in
+    if_ok c.quantified.result _ _ c.quantified.ensures
+    (λ x e.
+    ap (λ v. written v c.part.new.self.next) (e ∙ ap (λ hs. d.quantify (plain_helds hs) us (plain_term c.in_ok-text.text)) c.deref-2.ensures.value)
+    ∙ ap (on_text (d.quantify (plain_helds tried.inside.items) us))
+    (c.in_ok-text.ensures {u = tt} ∙ ap (λ hs. (goal_of g).part.writing (plain_helds hs) c.args.self.now.next) c.deref.ensures.value))
+
+pub then_part-returns : goal.then_part-returns
+then_part-returns t c =
+    let tried = c.args.tried.now in
+    let l = c.args.line in
+    let u = plain_term c.args.then.now in
+    let held = plain_helds c.args.held.now in
+    let xs = c.args.wanted.now in
+    if_ok c.and_then.result _ _ c.and_then.ensures
+    (λ x e.
+    ap (λ v. written v c.part.new.self.next)
+    (e
+    ∙ ap (λ cs. and_then (plain_term c.in_ok-result.result) cs)
+    (terms_from_list _ _ c.in_ok-goals.ensures
+    ∙ ap₂ (λ ns bs. closings xs (leave_out (names_of ns) (updated u)) l (seen_outside (names_of ns) (plain_helds bs) held)) c.deref-2.ensures.value c.deref-3.ensures.value))
+    ∙ ap (on_text (λ v. and_then v (closings xs (leave_out (names_of tried.names.items) (updated u)) l (seen_outside (names_of tried.names.items) (plain_helds tried.around.behind.items) held))))
+    (c.in_ok-result.ensures {u = tt} ∙ ap (λ hs. (goal_of u).part.writing (plain_helds hs) c.args.self.now.next) c.deref.ensures.value))
 
 pub existential-returns : goal.existential-returns
 existential-returns t c =
+    let l = c.args.line in
     let q = plain_term c.args.list.now in
     let g = plain_term c.args.goal.now in
-    let names = names_of c.deref.result.now in
+    let p : Part = (goal_of g).part in
+    let text = plain_term c.in_ok-text.text in
+    let next = c.part.new.self.next in
+    let from = c.entered_by.new.self.next in
     let entered = c.in_ok-inside.ensures {u = tt} in
     let inside = plain_helds c.in_ok-inside.inside.items in
-    let hidden : names ≡ quantified q =
-    ap names_of c.deref.ensures.value ∙ c.in_ok-push_quantified.ensures {u = tt} ∙ ap (λ xs. names_of xs ++ quantified q) c.new-names.ensures.items in
-    ap (λ text. written text c.part.new.self.next) c.in_ok-text-2.ensures
-    ∙ existential_is c.args.line q g (plain_helds c.args.held.now) c.args.self.now.next names inside c.entered.new.self.next
-    (plain_term c.in_ok-list.list) (plain_term c.in_ok-text.text) c.part.new.self.next hidden entered.held entered.next
-    (c.in_ok-list.ensures ∙ ap₂ (λ hs us. quantifier (plain_helds hs) us q) c.deref-2.ensures.value c.in_ok-updates.ensures ∙ quantifier-set (updated g) inside q)
-    (c.in_ok-text.ensures {u = tt} ∙ ap (λ hs. (goal_of g).part.writing (plain_helds hs) c.entered.new.self.next) c.deref-3.ensures.value)
+    if_ok c.some_over.result _ _ c.some_over.ensures
+    (λ x e.
+    ap (λ v. written v next) (e ∙ ap (λ hs. at (App (codes "some" ∷ []) (more_terms (quantifier (plain_helds hs) (updated g) q) (more_terms text no_term))) l) c.deref-2.ensures.value)
+    ∙ quantified_is (codes "some") l q p (updated g) (plain_helds c.args.held.now) inside c.args.self.now.next from text next (sym (part_updates g)) entered.held entered.next
+    (c.in_ok-text.ensures {u = tt} ∙ ap (λ hs. p.writing (plain_helds hs) from) c.deref.ensures.value))
 
 pub universal-returns : goal.universal-returns
 universal-returns t c =
+    let l = c.args.line in
     let q = plain_term c.args.list.now in
     let g = plain_term c.args.goal.now in
-    let names = names_of c.deref.result.now in
+    let p : Part = negated (goal_of g).part in
+    let text = plain_term c.in_ok-text.text in
+    let next = c.whole.new.self.next in
+    let from = c.entered_by.new.self.next in
     let entered = c.in_ok-inside.ensures {u = tt} in
     let inside = plain_helds c.in_ok-inside.inside.items in
-    let hidden : names ≡ quantified q =
-    ap names_of c.deref.ensures.value ∙ c.in_ok-push_quantified.ensures {u = tt} ∙ ap (λ xs. names_of xs ++ quantified q) c.new-names.ensures.items in
-    ap (λ text. written text c.ended.new.self.next) c.in_ok-text-2.ensures
-    ∙ universal_is c.args.line q g (plain_helds c.args.held.now) c.args.self.now.next names inside c.entered.new.self.next
-    (plain_term c.in_ok-list.list) (plain_term c.in_ok-text.field-0.text) c.ended.new.self.next hidden entered.held entered.next
-    (c.in_ok-list.ensures ∙ ap₂ (λ hs us. quantifier (plain_helds hs) us q) c.deref-2.ensures.value c.new.ensures)
-    ((c.in_ok-text.ensures {u = tt}).text ∙ ap₂ (λ (s : Step) hs. ended (goal_of g).part s.renewed (plain_helds hs) c.entered.new.self.next) c.in_ok-step.ensures c.deref-3.ensures.value)
+    if_ok c.all_over.result _ _ c.all_over.ensures
+    (λ x e.
+    ap (λ v. written v next) (e ∙ ap (λ hs. at (App (codes "all" ∷ []) (more_terms (quantifier (plain_helds hs) [] q) (more_terms text no_term))) l) c.deref-2.ensures.value)
+    ∙ quantified_is (codes "all") l q p [] (plain_helds c.args.held.now) inside c.args.self.now.next from text next refl entered.held entered.next
+    (c.in_ok-text.ensures {u = tt} ∙ ap (λ hs. p.writing (plain_helds hs) from) c.deref.ensures.value))
 
 pub negation-returns : goal.negation-returns
 negation-returns t c =
-    let g = plain_term c.args.goal.now in
-    let held = plain_helds c.args.held.now in
-    let next = c.ended.new.self.next in
-    ap (λ v. written v next) (made_app c.in_ok-copied.field-0 c.in_ok-one.field-0 c.args.line)
-    ∙ ap₂ (λ w ts. written (at (App w (tms (map plain_term ts))) c.args.line) next) c.in_ok-copied.ensures c.in_ok-one.ensures
-    ∙ negation_is c.args.name.now c.args.line g held c.args.self.now.next (plain_term c.in_ok-text.field-0.text) next
-    ((c.in_ok-text.ensures {u = tt}).text ∙ ap (λ (s : Step). ended (goal_of g).part s.renewed held c.args.self.now.next) c.in_ok-step.ensures)
+    let l = c.args.line in
+    let w = c.args.name.now in
+    if_ok c.over_one.result _ _ c.over_one.ensures
+    (λ x e.
+    ap (λ v. written v c.whole.new.self.next) e
+    ∙ ap (λ v. written (at (App w (more_terms v.text no_term)) l) v.next) (c.in_ok-text.ensures {u = tt}))
 
 pub implied-returns : goal.implied-returns
 implied-returns t c =
     let a = plain_term c.args.premise.now in
     let b = plain_term c.args.conclusion.now in
+    let p : Part = (goal_of a).part in
+    let q : Part = negated (goal_of b).part in
     let held = plain_helds c.args.held.now in
     let from = c.args.self.now.next in
-    let middle = c.ended.new.self.next in
-    let next = c.ended-2.new.self.next in
-    let left = c.in_ok-left.ensures {u = tt} in
-    ap (λ text. written text next) c.in_ok-text.ensures
-    ∙ implied_is c.args.line a b held from (plain_term c.in_ok-left.field-0.text) middle (plain_helds c.in_ok-left.field-0.behind.items) (plain_term c.in_ok-right.field-0.text) next
-    (left.text ∙ ap (λ (s : Step). ended (goal_of a).part s.renewed held from) c.in_ok-step.ensures)
-    (left.behind ∙ ap (λ (s : Step). handed s.updated (renewed s.renewed from held) held) c.in_ok-step.ensures)
-    ((c.in_ok-right.ensures {u = tt}).text ∙ ap₂ (λ (s : Step) hs. ended (goal_of b).part s.renewed (plain_helds hs) middle) c.in_ok-step-2.ensures c.deref.ensures.value)
+    let first = c.around_whole.new.self.next in
+    let middle = c.part.new.self.next in
+    let next = c.whole.new.self.next in
+    let around = c.in_ok-given.ensures {u = tt} in
+    let given = plain_helds c.in_ok-given.field-0.given.items in
+    let behind = plain_helds c.in_ok-given.field-0.behind.items in
+    if_ok c.operator.result _ _ c.operator.ensures
+    (λ x e.
+    ap (λ v. written v next) e
+    ∙ implied_is c.args.line a b held from (plain_term c.in_ok-left.left) middle behind (plain_term c.in_ok-right.right) next
+    (c.in_ok-left.ensures {u = tt} ∙ ap (λ hs. p.writing (plain_helds hs) first) c.deref.ensures.value ∙ whole_is a held given from first around.given around.next)
+    (around.behind ∙ ap (λ gs. handed (updated a) gs held) around.given ∙ ap (λ us. handed us (renewed us from held) held) (sym (part_updates a)))
+    (c.in_ok-right.ensures {u = tt} ∙ ap (λ hs. q.writing (plain_helds hs) middle) c.deref-2.ensures.value))
 
 pub both_ways-returns : goal.both_ways-returns
 both_ways-returns t c =
     let next = c.implied-2.new.self.next in
-    ap (λ v. written v next) (made_conj c.push.new.self c.args.line)
-    ∙ ap (λ ts. written (at (Conj (tms (map plain_term ts))) c.args.line) next) ((c.in_ok-push.ensures {u = tt}).ok ∙ ap (λ xs. xs ++ c.in_ok-back.back ∷ []) c.in_ok-goals.ensures)
+    if_ok c.both.result _ _ c.both.ensures
+    (λ x e.
+    ap (λ v. written v next) e
     ∙ both_ways_is c.args.line (plain_term c.args.left.now) (plain_term c.args.right.now) (plain_helds c.args.held.now) c.args.self.now.next
-    (plain_term c.in_ok-forth.forth) c.implied.new.self.next (plain_term c.in_ok-back.back) next (c.in_ok-forth.ensures {u = tt}) (c.in_ok-back.ensures {u = tt})
+    (plain_term c.in_ok-forth.forth) c.implied.new.self.next (plain_term c.in_ok-back.back) next (c.in_ok-forth.ensures {u = tt}) (c.in_ok-back.ensures {u = tt}))
 
 pub formed-returns-in_default-as_slice : goal.formed-returns-in_default-as_slice
 formed-returns-in_default-as_slice t c =

@@ -1,10 +1,10 @@
-use Rattle.std.proofs.Common.{◌≡◌, ◌++◌, ◌+◌, ◌*◌, max, true, [], drop, map, reverse}
+use Rattle.std.proofs.Common.{◌≡◌, ◌++◌, ◌+◌, ◌*◌, [], true, max, drop, map, reverse}
 use denote.Param.Weighed.{most}
 use Rattle.mc_term_data.specs.Plain.{plain_term, tms}
 use Rattle.mc_term_data.specs.declared.term.Term.{size-Term}
 use Rattle.mc_state_variables.specs.Numbered.{on_text, goals_of, goal_parts}
-use Rattle.mc_state_variables.specs.code.Helds.{plain_helds, listed}
-use Rattle.mc_state_variables.specs.code.Steps.{steps_of, stepwise, wholes_of}
+use Rattle.mc_state_variables.specs.code.Helds.{plain_helds}
+use Rattle.mc_state_variables.specs.code.Steps.{gone_on, wholes_of}
 use Rattle.mc_state_variables.specs.code.Pieces.{plain_piece, pieces_of}
 use Rattle.mc_state_variables.proofs.numbering.Numbering.+goals.Given as goal
 
@@ -22,12 +22,6 @@ decreases-conjunction l = 16 * most size-Term l.goals.now + 10
 
 abbrev pub decreases-disjunction : goal.decreases-disjunction
 decreases-disjunction l = 16 * most size-Term l.goals.now + 11
-
-abbrev pub decreases-pieces : goal.decreases-pieces
-decreases-pieces l = 16 * most size-Term l.goals.now + 10
-
-abbrev pub decreases-ended : goal.decreases-ended
-decreases-ended l = 16 * size-Term l.goal.now + 1
 
 abbrev pub decreases-branch : goal.decreases-branch
 decreases-branch l = 16 * size-Term l.goal.now + 3
@@ -53,11 +47,28 @@ decreases-implied l = 16 * max (size-Term l.premise.now) (size-Term l.conclusion
 abbrev pub decreases-both_ways : goal.decreases-both_ways
 decreases-both_ways l = 16 * max (size-Term l.left.now) (size-Term l.right.now) + 9
 
+abbrev pub decreases-conjunct : goal.decreases-conjunct
+decreases-conjunct l = 16 * size-Term l.goal.now + 4
+
+abbrev pub decreases-whole : goal.decreases-whole
+decreases-whole l = 16 * size-Term l.goal.now + 1
+
+abbrev pub decreases-pieces : goal.decreases-pieces
+decreases-pieces l = 16 * most size-Term l.goals.now + 10
+
+abbrev pub decreases-arrow : goal.decreases-arrow
+decreases-arrow l = 16 * max (size-Term l.tried.now.condition.goal.now) (size-Term l.then.now) + 7
+
+abbrev pub decreases-test : goal.decreases-test
+decreases-test l = 16 * size-Term l.tried.now.condition.goal.now + 1
+
+abbrev pub decreases-then_part : goal.decreases-then_part
+decreases-then_part l = 16 * size-Term l.then.now + 1
+
 abbrev pub invariant-conjunction-loop-goal : goal.invariant-conjunction-loop-goal
 invariant-conjunction-loop-goal l =
-    on_text (λ ts. map plain_term l.texts.items ++ listed ts)
-    (stepwise (reverse l.steps.items) (goal_parts (goals_of (tms (map plain_term (drop l.goal-index l.goals))))) (plain_helds l.current.items) l.self.next)
-    ≡ on_text listed (stepwise (steps_of (tms (map plain_term l.goals))) (goal_parts (goals_of (tms (map plain_term l.goals)))) (plain_helds l.initial.current.items) l.initial.self.next)
+    gone_on l.written (goal_parts (goals_of (tms (map plain_term (drop l.goal-index l.goals))))) l.self.next
+    ≡ gone_on l.initial.written (goal_parts (goals_of (tms (map plain_term l.goals)))) l.initial.self.next
 
 abbrev pub invariant-pieces-loop-goal : goal.invariant-pieces-loop-goal
 invariant-pieces-loop-goal l =
