@@ -1,13 +1,13 @@
 #!/usr/bin/env bash
 # Merges the insts of 10,000, 100,000 and 200,000 facts over an enumeration of 1,000 constants, includes cycles of 5,000
 # to 100,000 insts of lists in `ground` and in one another, merges two of them, and defines insts of up to 200,000
-# constructors, by crates/bench_insts, which `rt run` proves and builds first. Each time is the best of several runs, in
+# constructors, by crates/bench_analysis, which `rt run` proves and builds first. Each time is the best of several runs, in
 # microseconds. It ends with status 1 where twice the facts or nodes take more than 2.5 times as long, where an inclusion
 # of 10,000 nodes takes more than 0.1 s, or where the same merge asked again takes more than a tenth of the first.
 set -eu
-cd "$(dirname "$0")/../crates/bench_insts"
+cd "$(dirname "$0")/../crates/bench_analysis"
 rt run >/dev/null 2>&1
-program=$(find out -type f -name bench_insts -perm -u+x | head -1)
+program=$(find out -type f -name bench_analysis -perm -u+x | head -1)
 exec python3 - "$program" "${RUNS:-5}" <<'PY'
 import re, subprocess, sys
 
@@ -17,7 +17,7 @@ ok = True
 def best(facts, nodes, symbols):
     least = None
     for _ in range(runs):
-        done = subprocess.run([program, str(facts), str(nodes), str(symbols)], capture_output=True, text=True, check=True)
+        done = subprocess.run([program, "insts", str(facts), str(nodes), str(symbols)], capture_output=True, text=True, check=True)
         if "false" in done.stdout:
             sys.exit("wrong answer: " + done.stdout)
         times = [int(t) for t in re.findall(r"(\d+) us", done.stderr)]

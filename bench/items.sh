@@ -1,17 +1,17 @@
 #!/bin/sh
 # Reads the items of texts of 1, 2 and 4 MiB, and gives the seconds and the most memory of each run. The program is
-# crates/bench_items, which `rt run` proves and builds first.
+# crates/bench_reading, which `rt run` proves and builds first.
 set -e
-cd "$(dirname "$0")/../crates/bench_items"
-rt run > /dev/null
-program=$(find out -type f -name bench_items -perm -u+x | head -1)
+cd "$(dirname "$0")/../crates/bench_reading"
+rt run -- items < stdin > /dev/null
+program=$(find out -type f -name bench_reading -perm -u+x | head -1)
 text=$(mktemp)
 trap 'rm -f "$text"' EXIT
 for mib in 1 2 4; do
     bytes=$((mib * 1048576))
     measure() {
         printf '%s, %s MiB: ' "$1" "$mib"
-        /usr/bin/time -f '%e s, %M KiB of memory' "$program" < "$text" 2>&1 | tr '\n' ' '
+        /usr/bin/time -f '%e s, %M KiB of memory' "$program" items < "$text" 2>&1 | tr '\n' ' '
         echo
     }
     yes 'depth(N, D) :- ( if N = 0 then D = 0 else depth(N - 1, D0), D = D0 + 1 ).' | head -c "$bytes" | sed '$d' > "$text"

@@ -4,9 +4,9 @@
 # numbered; memory is the greatest resident set.
 set -u
 root=$(cd "$(dirname "$0")/.." && pwd) || exit 2
-cd "$root/crates/bench_state_variables" || exit 2
-rt run >/tmp/bench_states.log 2>&1 || { cat /tmp/bench_states.log; exit 1; }
-exec python3 - "$PWD/out/bench_state_variables" <<'PY'
+cd "$root/crates/bench_reading" || exit 2
+rt run -- clauses <stdin >/tmp/bench_states.log 2>&1 || { cat /tmp/bench_states.log; exit 1; }
+exec python3 - "$PWD/out/bench_reading" <<'PY'
 import os, subprocess, sys, tempfile
 
 program = sys.argv[1]
@@ -50,7 +50,7 @@ for title, text in [
     with open(path, "w") as f:
         f.write(text)
     alone, small, said = run(["read"], path)
-    both, great, numbered = run([], path)
+    both, great, numbered = run(["clauses"], path)
     said = "" if said == numbered else " (read %s, numbered %s)" % (said, numbered)
     print("| %s | %d | %.2f s, %d KiB | %.2f s | %d KiB |%s" % (title, len(text), alone, small, both, great, said))
 PY

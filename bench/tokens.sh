@@ -5,9 +5,9 @@
 # 2.5 times as long at twice the length.
 set -eu
 cd "$(dirname "$0")/.."
-program=crates/bench_tokens/out/bench_tokens
+program=crates/bench_reading/out/bench_reading
 runs=${RUNS:-7}
-[ -x "$program" ] || (cd crates/bench_tokens && rt run <stdin >/dev/null)
+[ -x "$program" ] || (cd crates/bench_reading && rt run -- tokens <stdin >/dev/null)
 texts=$(mktemp -d)
 trap 'rm -rf "$texts"' EXIT
 
@@ -22,7 +22,7 @@ text() {
     unclosed_quotes) repeated "'\\" "$2" ;;
     float) repeated 7 "$(($2 - 2))" && printf '.5' ;;
     unclosed_escape) printf '"\\' && repeated 7 "$(($2 - 2))" ;;
-    source) { yes "$(<crates/bench_items/stdin)" || true; } | head -c "$2" ;;
+    source) { yes "$(<crates/bench_reading/stdin)" || true; } | head -c "$2" ;;
     comments) { yes '% a line of a comment, as long as lines of comments in source often are, or a little less' || true; } | head -c "$2" ;;
     blanks) repeated '                                ' "$2" ;;
     esac
@@ -33,7 +33,7 @@ best() {
     local least=
     for _ in $(seq "$runs"); do
         local took
-        took=$({ TIMEFORMAT=%3U; time "$program" <"$1" >/dev/null; } 2>&1 | tr -d .)
+        took=$({ TIMEFORMAT=%3U; time "$program" tokens <"$1" >/dev/null; } 2>&1 | tr -d .)
         took=$((10#$took))
         if [ -z "$least" ] || [ "$took" -lt "$least" ]; then least=$took; fi
     done

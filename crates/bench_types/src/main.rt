@@ -4,8 +4,8 @@
 #![tactic(auto)]
 
 use mc_base::{Memory, Row, Text};
-use mc_clause_phase::judge;
 use mc_compile::{CompileFault, Given, Named, Read, Typed};
+use mc_type_phase::typecheck;
 use std::alloc::Global;
 use std::{env, io};
 
@@ -48,7 +48,7 @@ fn judged(alloc: Global, named: Named) -> Result<usize, Memory> {
     let mut files = files.into_vec();
     files.truncate(1);
     let files = Row::of(files)?;
-    let judged = judge(alloc, &names, files, 1, None)?.judged;
+    let judged = typecheck(alloc, &names, files, 1, None)?.judged;
     Ok(if judged.broken.is_empty() {
         judged.clauses.len()
     } else {

@@ -3,7 +3,7 @@ pub mod Arranged
 pub mod BuiltinFits
 pub mod BuiltinTypes
 pub mod Calls
-pub mod Chosen
+pub mod NodeOracle
 pub mod Determined
 pub mod DeterminismFaults
 pub mod Fits

@@ -11,8 +11,8 @@ use Rattle.mc_model.specs.Builtins.{Library as Known}
 use Rattle.mc_model.specs.declared.run.Input.{Input}
 use Rattle.mc_model.specs.declared.run.Input.TheVariants as I
 use Rattle.mc_builtins.specs.Answers.{plain_exception}
-use Rattle.mc_builtins.specs.declared.reading.Got.{Got}
-use Rattle.mc_builtins.specs.declared.reading.Got.TheVariants as G
+use Rattle.mc_builtins.specs.declared.reading.ReadResult.{ReadResult}
+use Rattle.mc_builtins.specs.declared.reading.ReadResult.TheVariants as G
 
 -- what is fed is the line that comes next in what is left of the input, or that nothing is left, or
 -- that the line is too long
@@ -23,7 +23,7 @@ IsNext left I.TooLong = line_limit < length (line_of left)
 
 -- the answer tells what the outcome is from the byte on that is read first, by what the Refs in it
 -- stand for
-abbrev pub TellsRead : Heap → (from : ℕ) → Outcome → Got → Type 0
+abbrev pub TellsRead : Heap → (from : ℕ) → Outcome → ReadResult → Type 0
 TellsRead h from does (G.Gives read after) =
     does ≡ reads from (value_at h read ∷ value_at h after ∷ [])
 TellsRead h from does (G.Throws e) = does ≡ reads_and_throws from (plain_exception e)
@@ -35,7 +35,7 @@ IsResult L v =
     ⊎ ((text : List ℕ) × (IsUtf8 text × (v ≡ con L.ok (val_then (str text) no_vals))))
 
 -- what is given stands for such a value and a state of io
-abbrev pub GivesResult : Known → Heap → Got → Type 0
+abbrev pub GivesResult : Known → Heap → ReadResult → Type 0
 GivesResult L h (G.Gives read after) =
     IsLive h read
     × IsLive h after

@@ -13,4 +13,4 @@ mod texts;
 pub use applied::Applied;
 pub use applying::apply;
 pub use library::Library;
-pub use reading::{Got, read_line};
+pub use reading::{ReadResult, read_line};

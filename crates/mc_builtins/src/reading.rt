@@ -17,7 +17,7 @@ use std::alloc::Global;
 /// What a builtin that reads does where it is fed what comes next in the input: it gives what was read and the state of
 /// io after it, or throws.
 #[derive(Drop)]
-pub enum Got {
+pub enum ReadResult {
     Gives(Ref, Ref),
     Throws(Exception),
 }
@@ -30,7 +30,7 @@ pub fn read_line(
     before: Ref,
     heap: &mut Heap,
     library: &Library<'_>,
-) -> Result<Got, Memory>
+) -> Result<ReadResult, Memory>
     requires live { IsLive heap.old before }
     requires state { IsState (value_at heap.old before) }
     ensures tells { IfOk result (λ got. (input written : List ℕ) (taken : ℕ)
@@ -58,7 +58,7 @@ fn answered(
     before: Ref,
     heap: &mut Heap,
     library: &Library<'_>,
-) -> Result<Got, Memory>
+) -> Result<ReadResult, Memory>
     requires live { IsLive heap.old before }
     requires state { IsState (value_at heap.old before) }
     ensures tells { IfOk result (λ got. (input written : List ℕ) (taken : ℕ)
@@ -93,7 +93,7 @@ fn line_got(
     before: Ref,
     heap: &mut Heap,
     library: &Library<'_>,
-) -> Result<Got, Memory>
+) -> Result<ReadResult, Memory>
     requires live { IsLive heap.old before }
     requires state { IsState (value_at heap.old before) }
     ensures tells { IfOk result (λ got. (written : List ℕ) (taken : ℕ)
@@ -111,7 +111,7 @@ fn line_got(
     let text = heap.text(line)?;
     let read = heap.con(library.ok, &[text])?;
     let after = taken_more(before, u64::from(line.len()), heap)?;
-    Ok(Got::Gives(read, after))
+    Ok(ReadResult::Gives(read, after))
 }
 
 /// Whether bytes are UTF-8.
@@ -136,7 +136,7 @@ fn taken_more(before: Ref, more: u64, heap: &mut Heap) -> Result<Ref, Memory>
 }
 
 /// What the end of the input gives: nothing is taken.
-fn end_got(before: Ref, heap: &mut Heap, library: &Library<'_>) -> Result<Got, Memory>
+fn end_got(before: Ref, heap: &mut Heap, library: &Library<'_>) -> Result<ReadResult, Memory>
     requires live { IsLive heap.old before }
     requires state { IsState (value_at heap.old before) }
     ensures tells { IfOk result (λ got. (written : List ℕ) (taken : ℕ)
@@ -147,12 +147,12 @@ fn end_got(before: Ref, heap: &mut Heap, library: &Library<'_>) -> Result<Got, M
     ensures keeps { Extends heap.old heap.new }
 {
     let end = heap.con(library.eof, &[])?;
-    Ok(Got::Gives(end, before))
+    Ok(ReadResult::Gives(end, before))
 }
 
 /// An exception with this text.
-fn thrown(alloc: Global, text: &[u8]) -> Result<Got, Memory>
-    ensures { IfOk result (λ got. got ≡ Got.Throws (Exception.Error text.now)) }
+fn thrown(alloc: Global, text: &[u8]) -> Result<ReadResult, Memory>
+    ensures { IfOk result (λ got. got ≡ ReadResult.Throws (Exception.Error text.now)) }
 {
-    Ok(Got::Throws(Exception::Error(Text::new(alloc, text)?)))
+    Ok(ReadResult::Throws(Exception::Error(Text::new(alloc, text)?)))
 }

@@ -7,12 +7,12 @@ use Rattle.mc_base.specs.NameSets.{put_all}
 use Rattle.mc_base.proofs.NameSetLaws.{is_member-put_all}
 use Rattle.mc_term_data.specs.Names.{count}
 use Rattle.mc_term_data.specs.Plain.{PlainTerm, PlainTerms, at, no_term, more_terms, Var, Int, Str, App, Items, Tailed, Conj, Disj}
-use Rattle.mc_clause_syntax.specs.declared.goal_form.Stand.{Stand}
+use Rattle.mc_clause_syntax.specs.declared.goal_form.GoalContext.{GoalContext}
 use Rattle.mc_clause_syntax.specs.declared.goal_form.Parts.{Parts}
 use Rattle.mc_clause_syntax.specs.declared.goal_form.Parts.TheVariants.{Nothing, Goals, Quantified, Sides, Arguments}
 use Rattle.mc_clause_syntax.specs.declared.state.StateForm.{StateForm}
 use Rattle.mc_clause_syntax.specs.declared.state.StateForm.TheVariants.{Both, Before, After}
-use Rattle.mc_clause_syntax.specs.declared.goal_form.Stand.TheVariants.{Whole}
+use Rattle.mc_clause_syntax.specs.declared.goal_form.GoalContext.TheVariants.{Whole}
 use Rattle.mc_clause_syntax.specs.GoalForms.{goal_form, parts}
 use Rattle.mc_clause_syntax.specs.StateVariables.{state}
 use Rattle.mc_clause_syntax.specs.Goals.{is_goal, equivalences}
@@ -24,7 +24,7 @@ use Rattle.mc_clause_syntax.specs.code.Scopes.{all_names}
 abbrev pub HaveSame : List (List ℕ) → List (List ℕ) → Type 0
 HaveSame a b = (x : List ℕ) → in_scope a x ≡ in_scope b x
 
-pub parts_are_goals : (scope : List (List ℕ)) (a b : Stand) (ts : PlainTerms) → parts_placed scope scope (Goals a b) ts ≡ goals_placed scope ts
+pub parts_are_goals : (scope : List (List ℕ)) (a b : GoalContext) (ts : PlainTerms) → parts_placed scope scope (Goals a b) ts ≡ goals_placed scope ts
 parts_are_goals scope a b no_term = refl
 parts_are_goals scope a b (more_terms t ts) = refl
 

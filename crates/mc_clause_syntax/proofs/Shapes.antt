@@ -1,12 +1,12 @@
 -- What definitions by cases say of slices by their length.
 use Rattle.std.proofs.Common.{◌≡◌, ℕ, List, [], ◌∷◌, None, length, map, refl, arith, ◌≤◌, ◌<◌, ◌+◌, drop, get_or, drop-cons, add-one, ◌∙◌, take, zero, suc, ◌-◌}
-use Rattle.mc_term_data.specs.Plain.{plain_term, tms}
+use Rattle.mc_term_data.specs.Plain.{plain_term, term_list}
 use Rattle.std.proofs.Math.Seq.{take-nil, drop-nil}
 use denote.Param.Weighed.{most}
 use Rattle.mc_term_data.specs.declared.term.Term.{Term, size-Term}
 use Rattle.mc_clause_syntax.specs.StateVariables.{one_variable}
 
-pub no_one_variable : (ts : List Term) → 2 ≤ length ts → None ≡ one_variable (tms (map plain_term ts))
+pub no_one_variable : (ts : List Term) → 2 ≤ length ts → None ≡ one_variable (term_list (map plain_term ts))
 no_one_variable [] h = absurd (omega arith)
 no_one_variable (t ∷ []) h = absurd (omega arith)
 no_one_variable (t ∷ u ∷ ts) h = refl

@@ -2,7 +2,7 @@
 use Rattle.std.specs.Prelude.{ℕ, Bool, false, not, nat_le, ◌&&◌, List, [], ◌∷◌, Option, Some, None, codes}
 use Rattle.mc_term_data.specs.Plain.{PlainTerm, at, App}
 use Rattle.mc_term_data.specs.Shapes.{operands}
-use Rattle.mc_clause_syntax.specs.declared.goal_form.Stand.TheVariants.{Whole}
+use Rattle.mc_clause_syntax.specs.declared.goal_form.GoalContext.TheVariants.{Whole}
 use Rattle.mc_clause_syntax.specs.StateVariables.{is_state}
 use Rattle.mc_clause_syntax.specs.Goals.{is_goal, equivalences}
 use Rattle.mc_clause_syntax.specs.States.{states_of, placed, goal_placed}

@@ -5,8 +5,8 @@ use Rattle.std.specs.Option.{unwrap_or}
 use Rattle.mc_term_data.specs.Names.{Row, row, found}
 use Rattle.mc_clause_syntax.specs.declared.goal_form.GoalForm.{GoalForm}
 use Rattle.mc_clause_syntax.specs.declared.goal_form.GoalForm.TheVariants as G
-use Rattle.mc_clause_syntax.specs.declared.goal_form.Stand.{Stand}
-use Rattle.mc_clause_syntax.specs.declared.goal_form.Stand.TheVariants.{Whole, Disjunct, BeforeElse, BehindIf}
+use Rattle.mc_clause_syntax.specs.declared.goal_form.GoalContext.{GoalContext}
+use Rattle.mc_clause_syntax.specs.declared.goal_form.GoalContext.TheVariants.{Whole, Disjunct, BeforeElse, BehindIf}
 use Rattle.mc_clause_syntax.specs.declared.goal_form.Parts.{Parts}
 use Rattle.mc_clause_syntax.specs.declared.goal_form.Parts.TheVariants.{Nothing, Goals, Quantified, Sides, Arguments}
 
@@ -53,7 +53,7 @@ parts G.Call = Arguments
 parts _ = Goals Whole Whole
 
 -- whether a goal of this form may stand there
-abbrev pub admits : GoalForm → Stand → Bool
+abbrev pub admits : GoalForm → GoalContext → Bool
 admits G.Arrow Disjunct = true
 admits G.Arrow _ = false
 admits G.If BeforeElse = true
@@ -65,7 +65,7 @@ admits _ Disjunct = true
 admits _ _ = false
 
 -- whether any goal may stand there
-abbrev pub is_open : Stand → Bool
+abbrev pub is_open : GoalContext → Bool
 is_open s = admits G.Call s
 
 -- 1 for an equivalence

@@ -2,8 +2,8 @@
 use Rattle.std.specs.Prelude.{ℕ, ◌+◌, max, Bool, true, false, not, ◌&&◌}
 use Rattle.mc_term_data.specs.Plain.{PlainTerm, PlainTerms, at, no_term, more_terms, Var, App, Items, Conj, Disj}
 use Rattle.mc_term_data.specs.Names.{count}
-use Rattle.mc_clause_syntax.specs.declared.goal_form.Stand.{Stand}
-use Rattle.mc_clause_syntax.specs.declared.goal_form.Stand.TheVariants.{Whole, Disjunct}
+use Rattle.mc_clause_syntax.specs.declared.goal_form.GoalContext.{GoalContext}
+use Rattle.mc_clause_syntax.specs.declared.goal_form.GoalContext.TheVariants.{Whole, Disjunct}
 use Rattle.mc_clause_syntax.specs.declared.goal_form.Parts.{Parts}
 use Rattle.mc_clause_syntax.specs.declared.goal_form.Parts.TheVariants.{Nothing, Goals, Quantified, Sides, Arguments}
 use Rattle.mc_clause_syntax.specs.GoalForms.{goal_form, parts, admits, is_open, one_equivalence}
@@ -25,7 +25,7 @@ is_quantified_list _ = false
 
 abbrev mutual
   -- whether a term is a goal that may stand there
-  pub is_goal : Stand → PlainTerm → Bool
+  pub is_goal : GoalContext → PlainTerm → Bool
   is_goal s (at (Conj ts) l) = is_open s && are_goals Whole ts
   is_goal s (at (Disj ts) l) = is_open s && are_disjuncts ts
   is_goal s (at (App w ts) l) =
@@ -44,7 +44,7 @@ abbrev mutual
   have_form Sides ts = true
   have_form Arguments ts = true
 
-  pub are_goals : Stand → PlainTerms → Bool
+  pub are_goals : GoalContext → PlainTerms → Bool
   are_goals s no_term = true
   are_goals s (more_terms t ts) = is_goal s t && are_goals s ts
 

@@ -1,5 +1,5 @@
 ghost use Rattle.std.specs.Prelude.{◌≡◌, ◌<◌, ◌≤◌, ◌^◌, length, map, nat_lt, true, false};
-ghost use Rattle.mc_term_data.specs.Plain.{plain_term, tms};
+ghost use Rattle.mc_term_data.specs.Plain.{plain_term, term_list};
 ghost use Rattle.mc_clause_syntax.specs.Limits.{greatest_arguments, width, argument_count, too_many_arguments, any_too_many};
 
 use crate::state::is_both_versions;
@@ -48,7 +48,7 @@ fn has_too_many_arguments(term: &Term, in_clause: bool) -> bool
 
 #[cycle(arguments)]
 fn any_has_too_many(terms: &[Term], in_clause: bool) -> bool
-    ensures { result ≡ any_too_many in_clause (tms (map plain_term terms.now)) }
+    ensures { result ≡ any_too_many in_clause (term_list (map plain_term terms.now)) }
 {
     for term in terms {
         if has_too_many_arguments(term, in_clause) {
@@ -63,7 +63,7 @@ fn any_has_too_many(terms: &[Term], in_clause: bool) -> bool
 fn count_as_too_many(parts: &[Term], in_clause: bool) -> bool
     requires { length parts.now < 2 ^ 32 }
     ensures { result
-        ≡ nat_lt greatest_arguments (argument_count in_clause (tms (map plain_term parts.now))) }
+        ≡ nat_lt greatest_arguments (argument_count in_clause (term_list (map plain_term parts.now))) }
 {
     2 * parts.len() > GREATEST_ARGUMENTS && argument_count(parts, in_clause) > GREATEST_ARGUMENTS
 }
@@ -71,7 +71,7 @@ fn count_as_too_many(parts: &[Term], in_clause: bool) -> bool
 /// How many arguments these parts of a name count as; in a clause both versions of a state variable count as two.
 pub fn argument_count(parts: &[Term], in_clause: bool) -> usize
     requires { length parts.now < 2 ^ 32 }
-    ensures { result ≡ argument_count in_clause (tms (map plain_term parts.now)) }
+    ensures { result ≡ argument_count in_clause (term_list (map plain_term parts.now)) }
 {
     let mut count = 0;
     for part in parts {

@@ -5,7 +5,7 @@ ghost use Rattle.mc_clause_syntax.specs.code.Scopes.{all_names};
 
 use crate::equivalences::nests_at_most;
 use crate::goal::is_goal;
-use crate::goal_form::Stand;
+use crate::goal_form::GoalContext;
 use crate::scope::Scope;
 use crate::state::is_state;
 use mc_base::Memory;
@@ -66,7 +66,7 @@ fn is_body<'a>(scope: &mut Scope<'a>, goal: &'a Term) -> Result<bool, Memory>
     ensures { IfOk result
         (λ holds. holds ≡ is_body (all_names scope.old.sets.items) (plain_term goal.now)) }
 {
-    if is_goal(goal, Stand::Whole) && nests_at_most(goal, GREATEST_EQUIVALENCES) {
+    if is_goal(goal, GoalContext::Whole) && nests_at_most(goal, GREATEST_EQUIVALENCES) {
         scope.places_goal(goal)
     } else {
         Ok(false)

@@ -1,5 +1,5 @@
 ghost use Rattle.std.specs.Prelude.{◌≡◌, map, nat_le};
-ghost use Rattle.mc_term_data.specs.Plain.{plain_term, tms};
+ghost use Rattle.mc_term_data.specs.Plain.{plain_term, term_list};
 ghost use Rattle.mc_clause_syntax.specs.Goals.{equivalences, equivalences_within, most_equivalences};
 
 use crate::goal_form::{GoalForm, Parts};
@@ -25,7 +25,7 @@ pub fn nests_at_most(term: &Term, limit: u32) -> bool
 #[cycle(equivalences)]
 #[tactic(auto, using(crate::proofs::Nested::within_goals, crate::proofs::Nested::within_quantified))]
 fn parts_nest_at_most(parts: &[Term], form: Parts, limit: u32) -> bool
-    ensures { result ≡ nat_le (equivalences_within form (tms (map plain_term parts.now))) limit }
+    ensures { result ≡ nat_le (equivalences_within form (term_list (map plain_term parts.now))) limit }
 {
     match form {
         Parts::Goals(_, _) | Parts::Quantified => all_nest_at_most(parts, limit),
@@ -36,7 +36,7 @@ fn parts_nest_at_most(parts: &[Term], form: Parts, limit: u32) -> bool
 #[cycle(equivalences)]
 #[tactic(auto, using(crate::proofs::Nested::max_at_most))]
 fn all_nest_at_most(terms: &[Term], limit: u32) -> bool
-    ensures { result ≡ nat_le (most_equivalences (tms (map plain_term terms.now))) limit }
+    ensures { result ≡ nat_le (most_equivalences (term_list (map plain_term terms.now))) limit }
 {
     for term in terms {
         if !nests_at_most(term, limit) {

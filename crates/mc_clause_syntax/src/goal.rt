@@ -1,20 +1,20 @@
 ghost use Rattle.std.specs.Prelude.{◌≡◌, map};
-ghost use Rattle.mc_term_data.specs.Plain.{at, App, plain_term, tms};
+ghost use Rattle.mc_term_data.specs.Plain.{at, App, plain_term, term_list};
 ghost use Rattle.mc_term_data.specs.Names.{count};
 ghost use Rattle.mc_clause_syntax.specs.Goals.{is_quantifiable, all_quantifiable, is_quantified_list, is_goal, have_form, are_goals, are_disjuncts};
 
-use crate::goal_form::{GoalForm, Parts, Stand};
+use crate::goal_form::{GoalContext, GoalForm, Parts};
 use crate::state::{is_both_versions, is_state};
 use mc_base::Text;
 use mc_term_data::{Node, Term, arity};
 
 /// Whether a term is a goal that may stand there.
 #[cycle(goals)]
-pub fn is_goal(term: &Term, stand: Stand) -> bool
+pub fn is_goal(term: &Term, stand: GoalContext) -> bool
     ensures { result ≡ is_goal stand (plain_term term.now) }
 {
     match &term.node {
-        Node::Conj(goals) => stand.is_open() && are_goals(goals.as_slice(), Stand::Whole),
+        Node::Conj(goals) => stand.is_open() && are_goals(goals.as_slice(), GoalContext::Whole),
         Node::Disj(goals) => stand.is_open() && are_disjuncts(goals.as_slice()),
         Node::App(name, parts) => is_goal_of(name.as_slice(), parts.as_slice(), stand),
         Node::Var(_) | Node::Int(_) | Node::Str(_) | Node::List(_, _) => false,
@@ -23,8 +23,8 @@ pub fn is_goal(term: &Term, stand: Stand) -> bool
 
 // Whether a name over parts is a goal that may stand there.
 #[cycle(goals)]
-fn is_goal_of(name: &[Text], parts: &[Term], stand: Stand) -> bool
-    ensures { result ≡ is_goal stand (at (App name.now (tms (map plain_term parts.now))) 0) }
+fn is_goal_of(name: &[Text], parts: &[Term], stand: GoalContext) -> bool
+    ensures { result ≡ is_goal stand (at (App name.now (term_list (map plain_term parts.now))) 0) }
 {
     let form = GoalForm::of(name, arity(parts));
     !is_state(name, parts) && form.may_stand(stand) && have_form(parts, form.parts())
@@ -33,7 +33,7 @@ fn is_goal_of(name: &[Text], parts: &[Term], stand: Stand) -> bool
 // Whether the parts of a goal are what they are to be.
 #[cycle(goals)]
 fn have_form(parts: &[Term], form: Parts) -> bool
-    ensures { result ≡ have_form form (tms (map plain_term parts.now)) }
+    ensures { result ≡ have_form form (term_list (map plain_term parts.now)) }
 {
     match form {
         Parts::Goals(first, others) => match parts {
@@ -42,15 +42,15 @@ fn have_form(parts: &[Term], form: Parts) -> bool
         },
         Parts::Quantified => match parts {
             [] => false,
-            [list, goals @ ..] => is_quantified_list(list) && are_goals(goals, Stand::Whole),
+            [list, goals @ ..] => is_quantified_list(list) && are_goals(goals, GoalContext::Whole),
         },
         Parts::Nothing | Parts::Sides | Parts::Arguments => true,
     }
 }
 
 #[cycle(goals)]
-fn are_goals(terms: &[Term], stand: Stand) -> bool
-    ensures { result ≡ are_goals stand (tms (map plain_term terms.now)) }
+fn are_goals(terms: &[Term], stand: GoalContext) -> bool
+    ensures { result ≡ are_goals stand (term_list (map plain_term terms.now)) }
 {
     for term in terms {
         if !is_goal(term, stand) {
@@ -62,11 +62,12 @@ fn are_goals(terms: &[Term], stand: Stand) -> bool
 
 #[cycle(goals)]
 fn are_disjuncts(terms: &[Term]) -> bool
-    ensures { result ≡ are_disjuncts (tms (map plain_term terms.now)) }
+    ensures { result ≡ are_disjuncts (term_list (map plain_term terms.now)) }
 {
     match terms {
         [] => true,
-        [front @ .., last] => are_goals(front, Stand::Disjunct) && is_goal(last, Stand::Whole),
+        [front @ .., last] => are_goals(front, GoalContext::Disjunct)
+            && is_goal(last, GoalContext::Whole),
     }
 }
 
@@ -81,7 +82,7 @@ fn is_quantified_list(term: &Term) -> bool
 }
 
 fn are_quantifiable(terms: &[Term]) -> bool
-    ensures { result ≡ all_quantifiable (tms (map plain_term terms.now)) }
+    ensures { result ≡ all_quantifiable (term_list (map plain_term terms.now)) }
 {
     for term in terms {
         if !is_quantifiable(term) {

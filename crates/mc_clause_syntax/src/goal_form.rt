@@ -147,13 +147,13 @@ impl GoalForm {
     {
         match self {
             GoalForm::True | GoalForm::Fail => Parts::Nothing,
-            GoalForm::Disjunction => Parts::Goals(Stand::Disjunct, Stand::Whole),
-            GoalForm::If => Parts::Goals(Stand::BehindIf, Stand::BehindIf),
-            GoalForm::Else => Parts::Goals(Stand::BeforeElse, Stand::Whole),
+            GoalForm::Disjunction => Parts::Goals(GoalContext::Disjunct, GoalContext::Whole),
+            GoalForm::If => Parts::Goals(GoalContext::BehindIf, GoalContext::BehindIf),
+            GoalForm::Else => Parts::Goals(GoalContext::BeforeElse, GoalContext::Whole),
             GoalForm::Existential | GoalForm::Universal => Parts::Quantified,
             GoalForm::Unification | GoalForm::Disunification => Parts::Sides,
             GoalForm::Call => Parts::Arguments,
-            _ => Parts::Goals(Stand::Whole, Stand::Whole),
+            _ => Parts::Goals(GoalContext::Whole, GoalContext::Whole),
         }
     }
 
@@ -169,21 +169,21 @@ impl GoalForm {
     }
 
     /// Whether a goal of this form may stand there.
-    pub fn may_stand(self, stand: Stand) -> bool
+    pub fn may_stand(self, stand: GoalContext) -> bool
         ensures { result ≡ admits self stand }
     {
         match self {
-            GoalForm::Arrow => matches!(stand, Stand::Disjunct),
-            GoalForm::If => matches!(stand, Stand::BeforeElse),
-            GoalForm::Then => matches!(stand, Stand::BehindIf),
-            _ => matches!(stand, Stand::Whole | Stand::Disjunct),
+            GoalForm::Arrow => matches!(stand, GoalContext::Disjunct),
+            GoalForm::If => matches!(stand, GoalContext::BeforeElse),
+            GoalForm::Then => matches!(stand, GoalContext::BehindIf),
+            _ => matches!(stand, GoalContext::Whole | GoalContext::Disjunct),
         }
     }
 }
 
 /// Where a goal stands, as far as it decides which forms it may have.
 #[derive(Clone, Copy, Debug, PartialEq, Eq)]
-pub enum Stand {
+pub enum GoalContext {
     /// Any goal may stand here.
     Whole,
     /// A disjunct that others follow: it may be `C -> T`.
@@ -194,7 +194,7 @@ pub enum Stand {
     BehindIf,
 }
 
-impl Stand {
+impl GoalContext {
     ghost use Rattle.mc_clause_syntax.specs.GoalForms.{is_open};
 
     /// Whether any goal may stand there.
@@ -211,7 +211,7 @@ pub enum Parts {
     /// There are none.
     Nothing,
     /// Goals: the first stands in one place, the others in another.
-    Goals(Stand, Stand),
+    Goals(GoalContext, GoalContext),
     /// A list of variables, and a goal.
     Quantified,
     /// The sides of an equation.

@@ -1,7 +1,7 @@
 ghost use Rattle.std.specs.Prelude.{◌≡◌, ◌++◌, map, IfOk, OnOk};
-ghost use Rattle.mc_term_data.specs.Plain.{plain_term, tms};
+ghost use Rattle.mc_term_data.specs.Plain.{plain_term, term_list};
 ghost use Rattle.mc_clause_syntax.specs.declared.goal_form.Parts.TheVariants.{Goals};
-ghost use Rattle.mc_clause_syntax.specs.declared.goal_form.Stand.TheVariants.{Whole};
+ghost use Rattle.mc_clause_syntax.specs.declared.goal_form.GoalContext.TheVariants.{Whole};
 ghost use Rattle.mc_clause_syntax.specs.States.{quantified, condition_names, first_names, goal_placed, parts_placed, goals_placed};
 ghost use Rattle.mc_clause_syntax.specs.code.Scopes.{all_names};
 
@@ -40,7 +40,7 @@ impl<'a> Scope<'a> {
             (λ placed.
             placed
             ≡ parts_placed (all_names self.old.sets.items) (all_names self.old.sets.items) form
-            (tms (map plain_term parts.now))) }
+            (term_list (map plain_term parts.now))) }
         ensures kept { OnOk result (self.new.sets.items ≡ self.old.sets.items) }
     {
         match form {
@@ -62,9 +62,9 @@ impl<'a> Scope<'a> {
             (λ placed.
             placed
             ≡ parts_placed (all_names self.old.sets.items)
-            (first_names (tms (map plain_term parts.now)) ++ all_names self.old.sets.items)
+            (first_names (term_list (map plain_term parts.now)) ++ all_names self.old.sets.items)
             (Goals Whole Whole)
-            (tms (map plain_term parts.now))) }
+            (term_list (map plain_term parts.now))) }
         ensures kept { OnOk result (self.new.sets.items ≡ self.old.sets.items) }
     {
         match parts {
@@ -89,7 +89,7 @@ impl<'a> Scope<'a> {
             placed
             ≡ goals_placed
             (condition_names (plain_term condition.now) ++ all_names self.old.sets.items)
-            (tms (map plain_term then_part.now))) }
+            (term_list (map plain_term then_part.now))) }
         ensures kept { OnOk result (self.new.sets.items ≡ self.old.sets.items) }
     {
         self.sets.push(condition_names(self.alloc, condition)?)?;
@@ -105,7 +105,7 @@ impl<'a> Scope<'a> {
             placed
             ≡ goals_placed
             (quantified (plain_term list.now) ++ all_names self.old.sets.items)
-            (tms (map plain_term goals.now))) }
+            (term_list (map plain_term goals.now))) }
         ensures kept { OnOk result (self.new.sets.items ≡ self.old.sets.items) }
     {
         self.sets.push(quantified(self.alloc, list)?)?;
@@ -119,7 +119,7 @@ impl<'a> Scope<'a> {
         ensures answer { IfOk result
             (λ placed.
             placed
-            ≡ goals_placed (all_names self.old.sets.items) (tms (map plain_term goals.now))) }
+            ≡ goals_placed (all_names self.old.sets.items) (term_list (map plain_term goals.now))) }
         ensures kept { OnOk result (self.new.sets.items ≡ self.old.sets.items) }
     {
         for goal in goals {

@@ -16,7 +16,7 @@ pub use arguments::{
     argument_count, clause_has_too_many_arguments, declaration_has_too_many_arguments,
 };
 pub use clause::{is_clause, is_query};
-pub use goal_form::{GoalForm, Parts, Stand};
+pub use goal_form::{GoalContext, GoalForm, Parts};
 pub use state::{StateForm, is_state, state_variable};
 pub use state_names::{
     StatesWanted, name_set, push_all_states, push_condition_names, push_quantified, push_states,

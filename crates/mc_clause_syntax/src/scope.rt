@@ -1,6 +1,6 @@
 ghost use Rattle.std.specs.Prelude.{◌≡◌, ◌∷◌, [], map, IfOk};
 ghost use Rattle.mc_base.specs.NameSets.{put_all};
-ghost use Rattle.mc_term_data.specs.Plain.{plain_term, tms};
+ghost use Rattle.mc_term_data.specs.Plain.{plain_term, term_list};
 ghost use Rattle.mc_clause_syntax.specs.StateVariables.{state};
 ghost use Rattle.mc_clause_syntax.specs.States.{in_scope, states_of, placed_state, placed, all_placed};
 ghost use Rattle.mc_clause_syntax.specs.code.Scopes.{all_names};
@@ -84,7 +84,7 @@ impl<'a> Scope<'a> {
     pub fn places_all(&self, terms: &[Term], are_arguments: bool) -> bool
         ensures { result
             ≡ all_placed (all_names self.now.sets.items) are_arguments
-            (tms (map plain_term terms.now)) }
+            (term_list (map plain_term terms.now)) }
     {
         for term in terms {
             if !self.places(term, are_arguments) {
@@ -98,7 +98,7 @@ impl<'a> Scope<'a> {
     fn places_state(&self, name: &[Text], parts: &[Term], is_argument: bool) -> bool
         ensures { result
             ≡ placed_state (all_names self.now.sets.items) is_argument
-            (state name.now (tms (map plain_term parts.now))) }
+            (state name.now (term_list (map plain_term parts.now))) }
     {
         match state_variable(name, parts) {
             Some((StateForm::Both, variable)) => is_argument && self.has(variable),

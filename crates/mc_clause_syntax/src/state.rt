@@ -1,6 +1,6 @@
 ghost use Rattle.std.specs.Prelude.{◌≡◌, map};
 ghost use Rattle.std.specs.Option.{option_map};
-ghost use Rattle.mc_term_data.specs.Plain.{plain_term, tms};
+ghost use Rattle.mc_term_data.specs.Plain.{plain_term, term_list};
 ghost use Rattle.mc_term_data.specs.Names.{found};
 ghost use Rattle.mc_clause_syntax.specs.StateVariables.{one_variable, state, state_rows, both_versions, is_state};
 
@@ -20,7 +20,7 @@ pub enum StateForm {
 
 /// What a name over parts is as a state variable: which of its versions, and its name.
 pub fn state_variable<'a>(name: &[Text], parts: &'a [Term]) -> Option<(StateForm, &'a [u8])>
-    ensures { option_map (λ s. (s.0, s.1.now)) result ≡ state name.now (tms (map plain_term parts.now)) }
+    ensures { option_map (λ s. (s.0, s.1.now)) result ≡ state name.now (term_list (map plain_term parts.now)) }
 {
     match name {
         [word] => {
@@ -35,7 +35,7 @@ pub fn state_variable<'a>(name: &[Text], parts: &'a [Term]) -> Option<(StateForm
 // The name of the variable that these are, where they are one.
 #[tactic(auto, using(crate::proofs::Shapes::no_one_variable))]
 fn one_variable(parts: &[Term]) -> Option<&[u8]>
-    ensures { option_map (λ x. x.now) result ≡ one_variable (tms (map plain_term parts.now)) }
+    ensures { option_map (λ x. x.now) result ≡ one_variable (term_list (map plain_term parts.now)) }
 {
     match parts {
         [part] => variable(part),
@@ -63,14 +63,14 @@ fn state_form(name: &[u8]) -> Option<StateForm>
 
 /// Whether a name over parts is a state variable.
 pub fn is_state(name: &[Text], parts: &[Term]) -> bool
-    ensures { result ≡ is_state name.now (tms (map plain_term parts.now)) }
+    ensures { result ≡ is_state name.now (term_list (map plain_term parts.now)) }
 {
     state_variable(name, parts).is_some()
 }
 
 /// Whether a name over parts is both versions of a state variable.
 pub fn is_both_versions(name: &[Text], parts: &[Term]) -> bool
-    ensures { result ≡ both_versions (state name.now (tms (map plain_term parts.now))) }
+    ensures { result ≡ both_versions (state name.now (term_list (map plain_term parts.now))) }
 {
     match state_variable(name, parts) {
         Some((StateForm::Both, _)) => true,

@@ -1,6 +1,6 @@
 ghost use Rattle.std.specs.Prelude.{◌≡◌, ◌++◌, [], map, IfOk, OnOk};
 ghost use Rattle.mc_base.specs.NameSets.{put_all};
-ghost use Rattle.mc_term_data.specs.Plain.{plain_term, tms};
+ghost use Rattle.mc_term_data.specs.Plain.{plain_term, term_list};
 ghost use Rattle.mc_clause_syntax.specs.StateVariables.{state};
 ghost use Rattle.mc_clause_syntax.specs.States.{names_of, wanted_name, state_name, quantified_in, quantified, condition_names, condition_names_by, states_in, states_in_all};
 
@@ -59,7 +59,7 @@ pub fn push_all_states<'a>(
 ) -> Result<(), Memory>
     ensures { OnOk result
         (names_of names.new.items
-        ≡ names_of names.old.items ++ states_in_all wanted (tms (map plain_term terms.now))) }
+        ≡ names_of names.old.items ++ states_in_all wanted (term_list (map plain_term terms.now))) }
 {
     for term in terms {
         push_states(names, wanted, term)?;
@@ -77,7 +77,7 @@ fn push_state<'a>(
 ) -> Result<(), Memory>
     ensures { OnOk result
         (names_of names.new.items
-        ≡ names_of names.old.items ++ wanted_name wanted (state name.now (tms (map plain_term parts.now)))) }
+        ≡ names_of names.old.items ++ wanted_name wanted (state name.now (term_list (map plain_term parts.now)))) }
 {
     match (state_variable(name, parts), wanted) {
         (None, _) | (Some((StateForm::Before, _)), StatesWanted::Updated) => Ok(()),
@@ -103,7 +103,7 @@ pub fn push_quantified<'a>(names: &mut Vec<&'a [u8]>, list: &'a Term) -> Result<
 fn push_each_state<'a>(names: &mut Vec<&'a [u8]>, terms: &'a [Term]) -> Result<(), Memory>
     ensures { OnOk result
         (names_of names.new.items
-        ≡ names_of names.old.items ++ quantified_in (tms (map plain_term terms.now))) }
+        ≡ names_of names.old.items ++ quantified_in (term_list (map plain_term terms.now))) }
 {
     for term in terms {
         push_state_of(names, term)?;
@@ -166,7 +166,7 @@ fn push_first_quantified<'a>(names: &mut Vec<&'a [u8]>, parts: &'a [Term]) -> Re
     ensures { OnOk result
         (names_of names.new.items
         ≡ names_of names.old.items
-        ++ condition_names_by GoalForm.Existential (tms (map plain_term parts.now))) }
+        ++ condition_names_by GoalForm.Existential (term_list (map plain_term parts.now))) }
 {
     match parts {
         [list, ..] => push_quantified(names, list),

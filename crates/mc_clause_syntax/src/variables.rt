@@ -1,5 +1,5 @@
 ghost use Rattle.std.specs.Prelude.{◌≡◌, ◌+◌, map, length, nat_lt, IfOk, OnOk};
-ghost use Rattle.mc_term_data.specs.Plain.{plain_term, tms};
+ghost use Rattle.mc_term_data.specs.Plain.{plain_term, term_list};
 ghost use Rattle.mc_clause_syntax.specs.Limits.{variables, all_variables, greatest_variables, too_many_variables};
 ghost use Rattle.mc_clause_syntax.specs.code.Found.{with_variable, with_variables};
 
@@ -65,7 +65,7 @@ impl<'a> Variables<'a> {
     #[tactic(auto, using(crate::proofs::Appended::with_variables_append))]
     fn add_all(&mut self, terms: &'a [Term]) -> Result<(), Memory>
         ensures { OnOk result
-            (self.new ≡ with_variables self.old (all_variables (tms (map plain_term terms.now)))) }
+            (self.new ≡ with_variables self.old (all_variables (term_list (map plain_term terms.now)))) }
     {
         for term in terms {
             self.add(term)?;

@@ -1,6 +1,6 @@
 -- Disjunctions as they are made, from what stands around them.
 use Rattle.std.proofs.Common.{◌≡◌, ℕ, Bool, true, false, List, [], ◌∷◌, ◌++◌, map, length, Option, Some, None, Vec, Global, refl, ap, ap₂, sym, ◌∙◌}
-use Rattle.mc_term_data.specs.Plain.{plain_term, tms}
+use Rattle.mc_term_data.specs.Plain.{plain_term, term_list}
 use Rattle.mc_term_data.specs.declared.term.Term.{Term}
 use Rattle.mc_accepted.specs.Resolving.{Unresolved_goal, choice, one_of, Unresolved_goals, no_goals, goal_then}
 use Rattle.mc_unresolved.proofs.Views.{plain-OneOf}
@@ -11,14 +11,14 @@ use Rattle.mc_clauses.specs.Unresolved.{Walk, made, on_made, both, Goal, conditi
 use Rattle.mc_clauses.specs.declared.terms.Module.{Module}
 use Rattle.mc_clauses.specs.declared.variables.Variables.{Variables}
 use Rattle.mc_clauses.specs.declared.pieces.Chosen.{Chosen}
-use Rattle.mc_clauses.specs.declared.pieces.Around.{Around}
+use Rattle.mc_clauses.specs.declared.pieces.OuterDisjunction.{OuterDisjunction}
 use Rattle.mc_clauses.specs.declared.pieces.Unclosed.{Unclosed}
 use Rattle.mc_clauses.specs.code.Meanings.{Knows, KeepsHidden}
 use Rattle.mc_clauses.specs.code.Walking.{Walked, Comes}
 use Rattle.mc_clauses.specs.code.GoalWalks.{the_goal, the_goals, goal_row, plain_chosen, Choices, chosen_walk, goals_before, before_else, one_around, over_around, enclosed, closed, GoalsTaken, Passed, Passes}
 use Rattle.mc_clauses.proofs.Walks.{keeps-same, keeps-both}
 
-pub enclosed-push : (fs : List Around) (f : Around) (g : Unresolved_goal) → enclosed (fs ++ f ∷ []) g ≡ enclosed fs (over_around f g)
+pub enclosed-push : (fs : List OuterDisjunction) (f : OuterDisjunction) (g : Unresolved_goal) → enclosed (fs ++ f ∷ []) g ≡ enclosed fs (over_around f g)
 enclosed-push [] f g = refl
 enclosed-push (e ∷ fs) f g = ap (over_around e) (enclosed-push fs f g)
 
@@ -86,7 +86,7 @@ passed-none at q m ts u v a d k =
       met = m;
       knows = k;
       hidden = keeps-same q m;
-      is = ap₂ (λ (fs : List Around) (gs : List UnresolvedGoal). (closed fs (goals_before gs r.0), r.1)) (sym a) (sym d);
+      is = ap₂ (λ (fs : List OuterDisjunction) (gs : List UnresolvedGoal). (closed fs (goals_before gs r.0), r.1)) (sym a) (sym d);
     }
 
 -- none is left
@@ -126,7 +126,7 @@ passes-conditional at first others c t old new before after it is h around none 
           ∙ ap (λ (y : Unresolved_goals × Met). (closed old.around.items (goals_before old.made.items y.0), y.1)) start
           ∙ ap (λ (y : Choices). (closed old.around.items (goals_before old.made.items (alone (choice y.0 y.1.0 y.1.1 (one_or_several s.0)))), s.1)) (sym r.is)
           ∙ ap (λ (g : Unresolved_goal). (g, s.1)) (sym (enclosed-push old.around.items (one_around old.made (Some it)) (one_or_several s.0)))
-          ∙ ap₂ (λ (fs : List Around) (done : List UnresolvedGoal). (closed fs (goals_before done s.0), s.1)) (sym around) (sym none);
+          ∙ ap₂ (λ (fs : List OuterDisjunction) (done : List UnresolvedGoal). (closed fs (goals_before done s.0), s.1)) (sym around) (sym none);
     }
 
 -- any other goal
@@ -154,7 +154,7 @@ passes-goal at first others old new before after it plain h around more all q m 
           ∙ ap (λ (y : Unresolved_goal). (closed old.around.items (goals_before old.made.items (goal_then y s.0)), s.1)) (sym r.is)
           ∙ ap (λ (gs' : Unresolved_goals). (closed old.around.items gs', s.1)) (sym (goals_before-push old.made.items it s.0))
           ∙ ap (λ (done : List UnresolvedGoal). (closed old.around.items (goals_before done s.0), s.1)) (sym more)
-          ∙ ap (λ (fs : Vec Around Global). (closed fs.items (goals_before new.made.items s.0), s.1)) (sym around);
+          ∙ ap (λ (fs : Vec OuterDisjunction Global). (closed fs.items (goals_before new.made.items s.0), s.1)) (sym around);
     }
 
 -- a disjunction that is the last disjunct
@@ -176,5 +176,5 @@ passes-last at last parts old new now is around none all q m p =
           p.is
           ∙ ap (λ (y : Unresolved_goals × Met). (closed old.around.items (goals_before old.made.items y.0), y.1)) start
           ∙ ap (λ (g : Unresolved_goal). (g, s.1)) (sym (enclosed-push old.around.items (one_around old.made None) (one_or_several s.0)))
-          ∙ ap₂ (λ (fs : List Around) (done : List UnresolvedGoal). (closed fs (goals_before done s.0), s.1)) (sym around) (sym none);
+          ∙ ap₂ (λ (fs : List OuterDisjunction) (done : List UnresolvedGoal). (closed fs (goals_before done s.0), s.1)) (sym around) (sym none);
     }

@@ -1,6 +1,6 @@
 -- Goals as they are made, by what terms are as goals.
 use Rattle.std.proofs.Common.{Bor, ◌≡◌, ℕ, Bool, true, false, List, [], ◌∷◌, ◌++◌, map, refl, ap, ap₂, sym, ◌∙◌}
-use Rattle.mc_term_data.specs.Plain.{PlainTerm, plain_term, tms}
+use Rattle.mc_term_data.specs.Plain.{PlainTerm, plain_term, term_list}
 use Rattle.mc_term_data.specs.declared.term.Term.{Term}
 use Rattle.mc_accepted.specs.Resolving.{Unresolved_goal, all_of, one_of, choice, negation, exists, Unresolved_goals, no_goals, goal_then}
 use Rattle.mc_names.specs.Linked.{Linked, plain_names}

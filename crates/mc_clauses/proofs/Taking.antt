@@ -1,6 +1,6 @@
 -- Terms as they are made, one behind another.
 use Rattle.std.proofs.Common.{◌≡◌, ℕ, List, [], ◌∷◌, ◌++◌, map, length, ◌+◌, suc, arith, refl, ap, ap₂, sym, ◌∙◌}
-use Rattle.mc_term_data.specs.Plain.{plain_term, tms}
+use Rattle.mc_term_data.specs.Plain.{plain_term, term_list}
 use Rattle.mc_term_data.specs.Names.{count}
 use Rattle.mc_term_data.specs.declared.term.Term.{Term}
 use Rattle.mc_accepted.specs.Resolving.{Unresolved as PlainUnresolved, any_name, Unresolved_terms, no_terms, term_then}
@@ -20,7 +20,7 @@ use Rattle.mc_clauses.specs.code.Walking.{Comes, Walked, Taken, term_walk, terms
 use Rattle.mc_clauses.proofs.Walks.{keeps-same, keeps-both}
 
 -- as many terms as a row has
-pub count-terms : (ts : List Term) → count (tms (map plain_term ts)) ≡ length ts
+pub count-terms : (ts : List Term) → count (term_list (map plain_term ts)) ≡ length ts
 count-terms [] = refl
 count-terms (t ∷ ts) = ap (λ n. 1 + n) (count-terms ts) ∙ one-more (length ts)
   where

@@ -1,5 +1,5 @@
 ghost use Rattle.std.specs.Prelude.{◌≡◌, IfOk, map};
-ghost use Rattle.mc_term_data.specs.Plain.{plain_term, tms};
+ghost use Rattle.mc_term_data.specs.Plain.{plain_term, term_list};
 ghost use Rattle.mc_names.specs.Linked.{plain_names};
 ghost use Rattle.mc_unresolved.specs.Unresolved.{plain_unresolved, unresolved_terms, plain_unresolved_clause};
 ghost use Rattle.mc_clauses.specs.Unresolved.{unresolved_clause, unresolved_query, arguments_of, source_name};
@@ -111,7 +111,7 @@ fn head<'a>(
 
 /// The arguments of a name.
 fn arguments(head: &Term) -> &[Term]
-    ensures { tms (map plain_term result.now) ≡ arguments_of (plain_term head.now) }
+    ensures { term_list (map plain_term result.now) ≡ arguments_of (plain_term head.now) }
 {
     match &head.node {
         Node::App(_, args) => args.as_slice(),

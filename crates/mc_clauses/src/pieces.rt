@@ -20,7 +20,7 @@ pub struct Chosen {
 /// Disjuncts before one that is being made: where the condition and the then part of that one are made, its else part
 /// is to follow.
 #[derive(Drop)]
-pub struct Around {
+pub struct OuterDisjunction {
     pub before: Vec<UnresolvedGoal>,
     pub chosen: Option<Chosen>,
 }
@@ -28,7 +28,7 @@ pub struct Around {
 /// A disjunction that is being made: the disjuncts that are made, and what stands around them, the outermost first.
 #[derive(Drop)]
 pub struct Unclosed {
-    pub around: Vec<Around>,
+    pub around: Vec<OuterDisjunction>,
     pub made: Vec<UnresolvedGoal>,
 }
 
@@ -51,7 +51,7 @@ impl Unclosed {
         ensures made { OnOk result (self.new.made.items ≡ []) }
     {
         let before = mem::replace(&mut self.made, Vec::new(alloc));
-        self.around.push(Around { before, chosen })?;
+        self.around.push(OuterDisjunction { before, chosen })?;
         Ok(())
     }
 
@@ -62,7 +62,7 @@ impl Unclosed {
     {
         let Unclosed { mut around, made } = self;
         let mut whole = several(made)?;
-        while let Some(Around { mut before, chosen }) = around.pop() {
+        while let Some(OuterDisjunction { mut before, chosen }) = around.pop() {
             let last = conditional(alloc, chosen, whole)?;
             before.push(last)?;
             whole = several(before)?;

@@ -1,6 +1,6 @@
 ghost use Rattle.std.specs.Prelude.{List, ◌≡◌, ◌≤◌, ◌<◌, ℕ, Some, length, IfOk, OnOk, [], map, ◌++◌, ◌∷◌, if◌then◌else◌};
 ghost use Rattle.std.specs.Str.{bytes_eq};
-ghost use Rattle.mc_term_data.specs.Plain.{plain_term, tms};
+ghost use Rattle.mc_term_data.specs.Plain.{plain_term, term_list};
 ghost use Rattle.mc_clauses.specs.Variables.{Numbers, Met, Quantified, nothing_met, variable_of, one_quantified, quantified_by, listed};
 ghost use Rattle.mc_clauses.specs.code.Meanings.{Knows, KeepsHidden, meaning_of, meanings_of, Hides, Enters};
 
@@ -141,7 +141,7 @@ impl<'a> Variables<'a> {
 
 /// The elements of a list that has an end; a quantifier's list is one.
 fn elements(list: &Term) -> &[Term]
-    ensures { tms (map plain_term result.now) ≡ listed (plain_term list.now) }
+    ensures { term_list (map plain_term result.now) ≡ listed (plain_term list.now) }
 {
     match &list.node {
         Node::List(terms, None) => terms.as_slice(),

@@ -6,7 +6,7 @@ use Rattle.mc_command_line.specs.Words.{Meaning, meaning}
 use Rattle.mc_compile.specs.Phases.{Refusal, Breaks}
 use Rattle.mc_compile.specs.Compiling.{Compiles}
 use Rattle.mc_compile.specs.Ruling.{PlainExecutable}
-use Rattle.mc_one_answer.specs.OneCompiled.{CompiledAreOne, OneCompiled, OneToBeRun}
+use Rattle.laws_one_answer.specs.OneCompiled.{CompiledAreOne, OneCompiled, OneToBeRun}
 use Rattle.mc_cmd.specs.Ends.{Outcome}
 use Rattle.mc_cmd.specs.Outcome.{bounds_of, files_of, sources_of, refusal, written, Answers, refused, ran, Texts, These, Missing, texts_in, AnswersOver, DefinedFor}
 use Rattle.mc_cmd.specs.Laws.{AtMostOneAnswer}

@@ -8,7 +8,7 @@ use Rattle.mc_model.specs.EventList.{End, Stuck, Stopped, Answer, Called, Wrote,
 use Rattle.mc_model.specs.Output.{bytes_of, no_answer, texts_of}
 use Rattle.mc_outside.specs.Meaning.{PutsFront}
 use Rattle.mc_outside.specs.declared.traits.PutFault.{PutFault}
-use Rattle.mc_cmd.specs.declared.run.Went.{Went}
+use Rattle.mc_cmd.specs.declared.run.Progress.{Progress}
 use Rattle.mc_cmd.specs.Call as call
 use Rattle.mc_cmd.specs.Ends.{stop_of}
 use Rattle.mc_cmd.specs.code.Runs.{QueryItems, from_next, bound, size, last_line, rest_bytes, GoesOn, IsPut}
@@ -147,7 +147,7 @@ module _ (text : Val → List ℕ) (vs : List (List ℕ)) (a : Bool) (xs ys : Qu
       (front_longer w0 w1 t (rest_bytes text vs a ys) f)
 
 -- a fault of a put is passed on by a `?`
-pub passed_put : (Q : PutFault → Type 0) (text : Val → List ℕ) (vs : List (List ℕ)) (a : Bool) (xs ys : QueryItems) (w0 w1 : Option (List ℕ)) (r : Result Went PutFault) → IsErrAnd r Q → PutsFront w0 w1 (rest_bytes text vs a xs) → IsPut text vs a xs ys w0 w1 r
+pub passed_put : (Q : PutFault → Type 0) (text : Val → List ℕ) (vs : List (List ℕ)) (a : Bool) (xs ys : QueryItems) (w0 w1 : Option (List ℕ)) (r : Result Progress PutFault) → IsErrAnd r Q → PutsFront w0 w1 (rest_bytes text vs a xs) → IsPut text vs a xs ys w0 w1 r
 passed_put Q text vs a xs ys w0 w1 (Ok y) e p = absurd e
 passed_put Q text vs a xs ys w0 w1 (Err f) e p = p
 

@@ -11,8 +11,8 @@ use Rattle.mc_procs.specs.Procedures.{PlainProcs, procedure_at}
 use Rattle.mc_compile.specs.Ruling.{PlainExecutable}
 use Rattle.mc_compile.specs.declared.executable.Goal.{Goal}
 use Rattle.mc_compile.specs.declared.executable.Goal.TheVariants as G
-use Rattle.mc_one_answer.specs.OneAnswer.{RunAlike}
-use Rattle.mc_one_answer.specs.OneCompiled.{OneExecutable, RunWithOne, OneToBeRun}
+use Rattle.laws_one_answer.specs.OneAnswer.{RunAlike}
+use Rattle.laws_one_answer.specs.OneCompiled.{OneExecutable, RunWithOne, OneToBeRun}
 use Rattle.mc_cmd.specs.Ends.{Outcome, shown, written_run, written_main}
 use Rattle.mc_cmd.specs.Outcome.{run_of_query, run_of_main, written_goal, written_procedures}
 

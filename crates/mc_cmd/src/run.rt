@@ -40,7 +40,7 @@ pub trait Run {
 
 /// How a run went on after a step.
 #[derive(Drop)]
-pub enum Went {
+pub enum Progress {
     /// There is more; an answer came, or came before.
     On(bool),
     Ended,
@@ -108,7 +108,7 @@ fn put_next<R: Run, O: Sink>(
     is_answered: bool,
     run: &mut R,
     out: &mut O,
-) -> Result<Went, PutFault>
+) -> Result<Progress, PutFault>
     requires { R.is_run run.old }
     ensures is_run { R.is_run run.new }
     ensures put { IsPut (printed (names_of program.now)) variables.now is_answered
@@ -118,19 +118,19 @@ fn put_next<R: Run, O: Sink>(
     match run.next(alloc) {
         Ok(Step::Answer(values)) => {
             put_answer(alloc, program, variables, &values, out)?;
-            Ok(Went::On(true))
+            Ok(Progress::On(true))
         }
         Ok(Step::Wrote(text)) => {
             out.put(text.bytes())?;
-            Ok(Went::On(is_answered))
+            Ok(Progress::On(is_answered))
         }
         Ok(Step::End) => {
             if !is_answered {
                 out.put(messages::NO_ANSWER)?;
             }
-            Ok(Went::Ended)
+            Ok(Progress::Ended)
         }
-        Ok(Step::Stopped(stop)) => Ok(Went::Stopped(stop)),
+        Ok(Step::Stopped(stop)) => Ok(Progress::Stopped(stop)),
         Ok(Step::Wants(_)) | Err(Memory) => Err(PutFault::Memory),
     }
 }
@@ -154,9 +154,9 @@ fn put_run<R: Run, O: Sink>(
     let mut is_answered = false;
     'steps: loop {
         match put_next(alloc, program, variables, is_answered, run, out)? {
-            Went::On(now) => is_answered = now,
-            Went::Ended => return Ok(None),
-            Went::Stopped(stop) => return Ok(Some(stop)),
+            Progress::On(now) => is_answered = now,
+            Progress::Ended => return Ok(None),
+            Progress::Stopped(stop) => return Ok(Some(stop)),
         }
     }
 }

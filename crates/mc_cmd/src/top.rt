@@ -6,7 +6,7 @@ ghost use Rattle.mc_command_line.specs.Words.{Meaning, meaning};
 ghost use Rattle.mc_compile.specs.Sources.{Sources};
 ghost use Rattle.mc_compile.specs.Compiling.{Compiles};
 ghost use Rattle.mc_compile.specs.Ruling.{PlainExecutable};
-ghost use Rattle.mc_program_laws.specs.ProgramTruth.{IsTrueExecutable};
+ghost use Rattle.laws_truth.specs.ProgramTruth.{IsTrueExecutable};
 ghost use Rattle.mc_cmd.specs.Ends.{Outcome};
 ghost use Rattle.mc_cmd.specs.Outcome.{Defined, files_of};
 ghost use Rattle.mc_cmd.specs.Call.{AnswersWhole, BreaksRules, IsThrown, NoneRose, OfFiles, OfSources, PutsDefined, RunsToEnd, SaidAbsent, SaidUnreadable, SaysUnreadable, StopsBy, Told, Wrote};
@@ -19,8 +19,8 @@ use crate::messages;
 use crate::procs_run::write_goal;
 use crate::status::Status;
 use crate::write::{put_line, put_rules};
+use laws_truth::program_laws::executables_are_true;
 use mc_outside::{Files, PutFault, Sink, Source};
-use mc_program_laws::laws::executables_are_true;
 use std::alloc::Global;
 
 /// The command: reads the words and then the files that they name, one after another, and compiles them. Writes the

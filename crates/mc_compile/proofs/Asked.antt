@@ -8,9 +8,9 @@ use Rattle.mc_items.specs.Queries.{IsQueryRefusal}
 use Rattle.mc_decl_syntax.specs.declared.entry.ItemsFault.TheVariants as I
 use Rattle.mc_model.specs.declared.inst.Sig.{Sig}
 use Rattle.mc_procs.specs.Procedures.{PlainProcs}
-use Rattle.mc_rules.specs.declared.rules.Ruled.{Ruled}
-use Rattle.mc_rules.specs.declared.rules.Ruled.TheVariants as R
-use Rattle.mc_whole_program.specs.declared.program.WholeProgram.{WholeProgram}
+use Rattle.mc_analysis.specs.declared.rules.AnalysisResult.{AnalysisResult}
+use Rattle.mc_analysis.specs.declared.rules.AnalysisResult.TheVariants as R
+use Rattle.mc_core_program.specs.declared.whole_program_program.WholeProgram.{WholeProgram}
 use Rattle.mc_compile.specs.declared.moded.Moded.{Moded}
 use Rattle.mc_compile.specs.Phases.{Refusal, went_on}
 use Rattle.mc_compile.specs.Sources.{Sources}
@@ -49,7 +49,7 @@ goal_there procs (Some number) variables = refl
 executed : (s : Sources) (moded : Moded) (e : PlainExecutable) → Procedures s moded (Ok e) → s.wants_main ≡ false → is_some e.goal ≡ is_some moded.query
 executed s moded e p wants = at p.ruled p.is
   where
-    at : (ruled : Ruled) → ◌≡◌ {A = Result PlainExecutable Refusal} (Ok e) (executable s.wants_main moded ruled) → is_some e.goal ≡ is_some moded.query
+    at : (ruled : AnalysisResult) → ◌≡◌ {A = Result PlainExecutable Refusal} (Ok e) (executable s.wants_main moded ruled) → is_some e.goal ≡ is_some moded.query
     at (R.Procs procs) is =
         let made : PlainExecutable = record { procs = procs; goal = goal_of s.wants_main procs moded.query moded.whole.variables } in
         ap (λ (x : PlainExecutable). is_some x.goal) (ok_same e made is)

@@ -5,10 +5,10 @@ use Rattle.mc_source.specs.declared.rule.Broken.{Broken}
 use Rattle.mc_decl_syntax.specs.declared.entry.Entry.{Entry}
 use Rattle.mc_decl_syntax.specs.Entries.{plain_entry, File, plain_files}
 use Rattle.mc_names.specs.Linked.{plain_names}
-use Rattle.mc_type_table.specs.Sight.{definitions_seen}
-use Rattle.mc_clause_phase.specs.Items.{without_clauses}
-use Rattle.mc_clause_phase.specs.Judging.{IsJudged}
-use Rattle.mc_clause_phase.specs.declared.judged.Judged.{Judged}
+use Rattle.mc_type_table.specs.Visibility.{definitions_seen}
+use Rattle.mc_type_phase.specs.Items.{without_clauses}
+use Rattle.mc_type_phase.specs.Judging.{IsJudged}
+use Rattle.mc_type_phase.specs.declared.judged.TypecheckResult.{TypecheckResult}
 use Rattle.mc_compile.specs.declared.given.CompileFault.TheVariants as F
 use Rattle.mc_compile.specs.declared.named.Named.{Named}
 use Rattle.mc_compile.specs.declared.typed.Typed.{Typed}
@@ -49,12 +49,12 @@ left_out named others left =
     ap₂ made few left
 
 -- what typing says of what is linked
-abbrev Says : Named → Judged → Type 0
+abbrev Says : Named → TypecheckResult → Type 0
 Says named judged =
     let names = plain_names named.names in
     IsJudged names (definitions_seen names) (items_of (plain_named named)) judged
 
-module _ (typed : Typed) (judged : Judged) (says : Says typed.named judged) where
+module _ (typed : Typed) (judged : TypecheckResult) (says : Says typed.named judged) where
   -- where no clause breaks a rule
   pub are_typed :
       (named : Named) → plain_named named ≡ clauses_left_out (plain_named typed.named)

@@ -7,13 +7,13 @@ use Rattle.mc_model.specs.Outcomes.{fails}
 use Rattle.mc_accepted.specs.DeterminismFaults.{determinism_faults}
 use Rattle.mc_insts.specs.Defining.{plain_definitions}
 use Rattle.mc_procs.specs.Procedures.{PlainProcs}
-use Rattle.mc_skeletons.specs.Least.{assigned}
+use Rattle.mc_det_constraints.specs.Least.{assigned}
 use Rattle.mc_det.specs.Determinisms.{declared_system}
 use Rattle.mc_det.specs.MarkedProcedures.{determinisms_of}
 use Rattle.mc_det_rules.specs.Main.{MainIsThere, main_number}
-use Rattle.mc_rules.specs.Rules.{Comes, FaultsAre, break_no_rule}
-use Rattle.mc_rules.specs.declared.rules.Ruled.{Ruled}
-use Rattle.mc_rules.specs.declared.rules.Ruled.TheVariants as R
+use Rattle.mc_analysis.specs.Rules.{AnalysisGives, FaultsAre, break_no_rule}
+use Rattle.mc_analysis.specs.declared.rules.AnalysisResult.{AnalysisResult}
+use Rattle.mc_analysis.specs.declared.rules.AnalysisResult.TheVariants as R
 use Rattle.mc_compile.specs.declared.moded.Moded.{Moded}
 use Rattle.mc_compile.specs.declared.executable.Goal.TheVariants as G
 use Rattle.mc_compile.specs.Phases.{Refusal, went_on}
@@ -36,7 +36,7 @@ procs_there there runs procs faults wants =
 main_of : MainIsThere → (s : Sources) (moded : Moded) (e : PlainExecutable) → Procedures s moded (Ok e) → s.wants_main ≡ true → (number : ℕ) × (e.goal ≡ Some (G.Main number))
 main_of there s moded e p wants = at p.ruled p.comes p.is
   where
-    at : (ruled : Ruled) → Comes moded.whole.program (plain_definitions moded.defs) moded.sigs.items moded.whole.goals.items moded.whole.exported.items s.wants_main ruled → ◌≡◌ {A = Result PlainExecutable Refusal} (Ok e) (executable s.wants_main moded ruled) → (number : ℕ) × (e.goal ≡ Some (G.Main number))
+    at : (ruled : AnalysisResult) → AnalysisGives moded.whole.program (plain_definitions moded.defs) moded.sigs.items moded.whole.goals.items moded.whole.exported.items s.wants_main ruled → ◌≡◌ {A = Result PlainExecutable Refusal} (Ok e) (executable s.wants_main moded ruled) → (number : ℕ) × (e.goal ≡ Some (G.Main number))
     at (R.Procs procs) (break_no_rule o d faults fit) is =
         let main = number_there (main_number procs) (procs_there there s.wants_main procs faults wants) in
         let made : PlainExecutable = record { procs = procs; goal = goal_of s.wants_main procs moded.query moded.whole.variables } in (

@@ -10,20 +10,20 @@ use Rattle.mc_model.specs.declared.inst.Sig.{Sig}
 use Rattle.mc_state_variables.specs.Numbered.{line_of}
 use Rattle.mc_decl_syntax.specs.Entries.{plain_files}
 use Rattle.mc_names.specs.Linked.{plain_names}
-use Rattle.mc_type_table.specs.Sight.{definitions_seen}
+use Rattle.mc_type_table.specs.Visibility.{definitions_seen}
 use Rattle.mc_goals.specs.Resolved.{typed_clause}
-use Rattle.mc_clause_phase.specs.Items.{without_clauses}
-use Rattle.mc_clause_phase.specs.Judging.{AreTyped, typed_clauses}
-use Rattle.mc_clause_phase.specs.declared.judged.TypedClause.{TypedClause}
-use Rattle.mc_declared_modes.specs.WrittenModes.{plain_written, declared_modes}
-use Rattle.mc_declared_modes.specs.declared.written.WrittenMode.{WrittenMode}
+use Rattle.mc_type_phase.specs.Items.{without_clauses}
+use Rattle.mc_type_phase.specs.Judging.{AreTyped, typed_clauses}
+use Rattle.mc_type_phase.specs.declared.judged.TypedClause.{TypedClause}
+use Rattle.mc_signatures.specs.WrittenModes.{plain_written, declared_modes}
+use Rattle.mc_signatures.specs.declared.written.WrittenMode.{WrittenMode}
 use Rattle.mc_insts.specs.Defining.{plain_definitions, DefinitionsFit}
 use Rattle.mc_signatures.specs.MeantModes.{MeansMode}
 use Rattle.mc_signatures.specs.Signatures.{AreSignatures, builtin_of, query_signature}
-use Rattle.mc_orders.specs.Numbering.{mode_ids}
+use Rattle.mc_modes.specs.Numbering.{mode_ids}
 use Rattle.mc_compile.specs.Reading.{plain_goal}
-use Rattle.mc_whole_program.specs.Wholes.{numbered_clause, IsWhole}
-use Rattle.mc_whole_program.specs.declared.program.WholeProgram.{WholeProgram}
+use Rattle.mc_core_program.specs.Wholes.{numbered_clause, IsWhole}
+use Rattle.mc_core_program.specs.declared.whole_program_program.WholeProgram.{WholeProgram}
 use Rattle.mc_compile.specs.declared.moded.Moded.{Moded}
 use Rattle.mc_compile.specs.Phases.{Tells, Viewed}
 use Rattle.mc_compile.specs.Sources.{Sources}

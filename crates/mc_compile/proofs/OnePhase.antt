@@ -4,8 +4,8 @@ use Rattle.mc_term_data.specs.Plain.{PlainTerm}
 use Rattle.mc_term_data.specs.declared.term.Term.{Term}
 use Rattle.mc_source.specs.declared.rule.Broken.{Broken}
 use Rattle.mc_items.specs.Laws.{AtMostOneList, AtMostOneGoal, NotGoalAndBroken, AtMostOneQueryRefusal}
-use Rattle.mc_type_table.specs.Sight.{definitions_seen}
-use Rattle.mc_clause_phase.specs.Laws as L
+use Rattle.mc_type_table.specs.Visibility.{definitions_seen}
+use Rattle.mc_type_phase.specs.Laws as L
 use Rattle.mc_compile.specs.Reading.{plain_goal}
 use Rattle.mc_compile.specs.Phases.{Refusal, unless_broken, AtMostOne}
 use Rattle.mc_compile.specs.Library.{library_texts}

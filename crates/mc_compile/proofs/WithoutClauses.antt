@@ -8,10 +8,10 @@ use Rattle.mc_source.specs.declared.place.Place.{Place}
 use Rattle.mc_source.specs.declared.rule.Broken.{Broken}
 use Rattle.mc_decl_syntax.specs.Plain.{PlainDecl, Clause}
 use Rattle.mc_decl_syntax.specs.Entries.{File}
-use Rattle.mc_names.specs.Linked.{Defined, Linked, home}
-use Rattle.mc_clause_phase.specs.Items.{is_clause, without_clauses}
+use Rattle.mc_names.specs.Linked.{Defined, Linked, defining_module}
+use Rattle.mc_type_phase.specs.Items.{is_clause, without_clauses}
 use Rattle.mc_inst_table.specs.Rules.{InstItem, module_items, items_from, InstSays, is_sound, AreInstFaults, item_then}
-use Rattle.mc_declared_modes.specs.WrittenModes.{PlainMode, Callable, callable, callable_of, is_that, mode_by, modes_by, modes_among, modes_of, or_default, declared_modes}
+use Rattle.mc_signatures.specs.WrittenModes.{PlainMode, Callable, callable, callable_of, is_that, mode_by, modes_by, modes_among, modes_of, or_default, declared_modes}
 
 -- A clause breaks no rule of insts.
 clause_is_sound :
@@ -87,7 +87,7 @@ modes_of_same :
     (l : Linked) (fs : List File) (d : Defined)
     → modes_of l (map without_clauses fs) d ≡ modes_of l fs d
 modes_of_same l fs d =
-    let own = home l d in
+    let own = defining_module l d in
     ap (or_default d)
     (ap (modes_among l own (callable_of d)) (file_at fs own)
     ∙ modes_same l own (callable_of d) (slice_index_or fs own []))

@@ -2,9 +2,9 @@
 -- break, and then the query's (this project's rules; the Mercury manual: Types, overloading).
 use Rattle.std.specs.Prelude.{◌≡◌, List, map, length, Result}
 use Rattle.mc_source.specs.declared.rule.Broken.{Broken}
-use Rattle.mc_type_table.specs.Sight.{definitions_seen}
-use Rattle.mc_clause_phase.specs.Items.{Item, items, without_clauses}
-use Rattle.mc_clause_phase.specs.Judging.{AreFaults, AreTyped, typed_clauses}
+use Rattle.mc_type_table.specs.Visibility.{definitions_seen}
+use Rattle.mc_type_phase.specs.Items.{Item, items, without_clauses}
+use Rattle.mc_type_phase.specs.Judging.{AreFaults, AreTyped, typed_clauses}
 use Rattle.mc_compile.specs.declared.checked.Checked.{Checked}
 use Rattle.mc_compile.specs.Phases.{Refusal, unless_broken}
 use Rattle.mc_compile.specs.Linking.{LinkedFiles, PlainNamed}

@@ -7,7 +7,7 @@ use Rattle.mc_source.specs.Rules.{broken_at}
 use Rattle.mc_decl_syntax.specs.declared.entry.Entry.{Entry}
 use Rattle.mc_state_variables.specs.Numbered.{line_of}
 use Rattle.mc_decl_syntax.specs.Entries.{File, plain_files}
-use Rattle.mc_linking.specs.Faults.{link_faults, goal_fault}
+use Rattle.mc_modules.specs.Faults.{link_faults, goal_fault}
 use Rattle.mc_names.specs.Linked.{Linked, plain_names}
 use Rattle.mc_modules.specs.Linked.{linked}
 use Rattle.mc_names.specs.declared.names.Names.{Names}

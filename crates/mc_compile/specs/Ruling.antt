@@ -8,24 +8,24 @@ use Rattle.mc_source.specs.declared.det.Det.{Det}
 use Rattle.mc_source.specs.declared.det.Most.TheVariants as M
 use Rattle.mc_state_variables.specs.Numbered.{line_of}
 use Rattle.mc_model.specs.declared.inst.Sig.{Sig}
-use Rattle.mc_type_table.specs.Sight.{definitions_seen}
+use Rattle.mc_type_table.specs.Visibility.{definitions_seen}
 use Rattle.mc_goals.specs.Resolved.{typed_clause}
-use Rattle.mc_clause_phase.specs.Judging.{AreTyped}
-use Rattle.mc_clause_phase.specs.declared.judged.TypedClause.{TypedClause}
+use Rattle.mc_type_phase.specs.Judging.{AreTyped}
+use Rattle.mc_type_phase.specs.declared.judged.TypedClause.{TypedClause}
 use Rattle.mc_inst_table.specs.Rules.{items_from, AreInstFaults}
-use Rattle.mc_declared_modes.specs.WrittenModes.{declared_modes}
+use Rattle.mc_signatures.specs.WrittenModes.{declared_modes}
 use Rattle.mc_insts.specs.Defining.{plain_definitions, DefinitionsFit}
 use Rattle.mc_signatures.specs.MeantModes.{MeansMode}
 use Rattle.mc_signatures.specs.Signatures.{AreSignatures, builtin_of, query_signature}
 use Rattle.mc_procs.specs.Procedures.{PlainProcs}
-use Rattle.mc_orders.specs.Numbering.{mode_ids}
+use Rattle.mc_modes.specs.Numbering.{mode_ids}
 use Rattle.mc_det_rules.specs.Main.{main_number}
-use Rattle.mc_rules.specs.Rules.{Comes}
-use Rattle.mc_rules.specs.declared.rules.Ruled.{Ruled}
-use Rattle.mc_rules.specs.declared.rules.Ruled.TheVariants as R
-use Rattle.mc_whole_program.specs.Wholes.{IsWhole}
+use Rattle.mc_analysis.specs.Rules.{AnalysisGives}
+use Rattle.mc_analysis.specs.declared.rules.AnalysisResult.{AnalysisResult}
+use Rattle.mc_analysis.specs.declared.rules.AnalysisResult.TheVariants as R
+use Rattle.mc_core_program.specs.Wholes.{IsWhole}
 use Rattle.mc_accepted.specs.NormalTypes as N
-use Rattle.mc_whole_program.specs.declared.program.WholeProgram.{WholeProgram}
+use Rattle.mc_core_program.specs.declared.whole_program_program.WholeProgram.{WholeProgram}
 use Rattle.mc_compile.specs.declared.executable.Executable.{Executable}
 use Rattle.mc_compile.specs.declared.executable.Goal.{Goal}
 use Rattle.mc_compile.specs.declared.executable.Goal.TheVariants as G
@@ -112,7 +112,8 @@ goal_of true procs query variables = option_map G.Main (main_number procs)
 goal_of false procs query variables = option_map (λ k. G.Query k variables) query
 
 -- Procedures are answered with what is run over them, or the rules that they break.
-abbrev pub executable : (wants_main : Bool) → Moded → Ruled → Result PlainExecutable Refusal
+abbrev pub executable : (wants_main : Bool) → Moded → AnalysisResult
+    → Result PlainExecutable Refusal
 executable wants_main moded (R.Procs procs) =
     Ok
     (record {
@@ -125,9 +126,9 @@ executable wants_main moded (R.Broken list) = Err (Breaks list.items)
 -- a rule of modes (M1 to M4, M8) or of determinism (E1 to E4, U1).
 pub record Procedures (sources : Sources) (moded : Moded) (result : Result PlainExecutable Refusal)
     : Type 0 where
-  pub ruled : Ruled
+  pub ruled : AnalysisResult
   pub comes :
-      Comes moded.whole.program (plain_definitions moded.defs) moded.sigs.items
+      AnalysisGives moded.whole.program (plain_definitions moded.defs) moded.sigs.items
       moded.whole.goals.items moded.whole.exported.items sources.wants_main ruled
   pub is : result ≡ executable sources.wants_main moded ruled
 

@@ -1,7 +1,7 @@
 ghost use Rattle.std.specs.Prelude.{◌≡◌, length, IfOk};
 ghost use Rattle.mc_names.specs.Linked.{plain_names};
-ghost use Rattle.mc_type_table.specs.Sight.{definitions_seen};
-ghost use Rattle.mc_clause_phase.specs.Judging.{IsJudged};
+ghost use Rattle.mc_type_table.specs.Visibility.{definitions_seen};
+ghost use Rattle.mc_type_phase.specs.Judging.{IsJudged};
 ghost use Rattle.mc_compile.specs.Linking.{plain_named};
 ghost use Rattle.mc_compile.specs.Checking.{clauses_left_out, items_of};
 
@@ -9,7 +9,7 @@ use crate::given::CompileFault;
 use crate::named::Named;
 use crate::typed::Typed;
 use mc_base::{Memory, Row};
-use mc_clause_phase::{Judged, Judgement, TypedClause, judge};
+use mc_type_phase::{TypecheckOutput, TypecheckResult, TypedClause, typecheck};
 use std::alloc::Global;
 
 /// Sources whose clauses are typed: what has a table of types, and the clauses of the given files and of the library's
@@ -30,7 +30,7 @@ fn query_number(named: &Named) -> u32
 }
 
 // What typing says of the clauses of all files and of the query, and what is linked without these clauses.
-fn judged(alloc: Global, named: Named) -> Result<(Named, Judged), Memory>
+fn judged(alloc: Global, named: Named) -> Result<(Named, TypecheckResult), Memory>
     ensures named { IfOk result
         (λ made. plain_named made.0 ≡ clauses_left_out (plain_named named)) }
     ensures judged { IfOk result
@@ -45,8 +45,8 @@ fn judged(alloc: Global, named: Named) -> Result<(Named, Judged), Memory>
         names,
         goal,
     } = named;
-    let judgement = judge(alloc, &names, files, number, goal.as_ref())?;
-    let Judgement { judged, others } = judgement;
+    let judgement = typecheck(alloc, &names, files, number, goal.as_ref())?;
+    let TypecheckOutput { judged, others } = judgement;
     let named = Named {
         files: others,
         given,
@@ -72,7 +72,7 @@ impl Checked {
     {
         let Typed { named, types } = typed;
         let (named, judged) = judged(alloc, named)?;
-        let Judged { clauses, broken } = judged;
+        let TypecheckResult { clauses, broken } = judged;
         if broken.is_empty() {
             let typed = Typed { named, types };
             return Ok(Checked { typed, clauses });

@@ -8,7 +8,7 @@ ghost use Rattle.mc_compile.specs.Laws.{MainIsRun, QueryIsAsked};
 use mc_det_rules::main_is_there;
 use mc_items::{at_most_one_goal, at_most_one_list};
 
-/// Each phase up to that of clauses answers one thing at most: a law, and nothing to run. (Of those behind it mc_one_answer
+/// Each phase up to that of clauses answers one thing at most: a law, and nothing to run. (Of those behind it laws_one_answer
 /// says so.)
 pub fn at_most_one_phase()
     ensures reads { AtMostOne Reads }
@@ -18,7 +18,7 @@ pub fn at_most_one_phase()
 {
     at_most_one_list();
     at_most_one_goal();
-    mc_clause_phase::at_most_one_list();
+    mc_type_phase::at_most_one_list();
 }
 
 /// Where `main` isn't wanted, something is run of what sources are compiled to exactly where there is a query: a law, and

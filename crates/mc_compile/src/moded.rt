@@ -2,13 +2,13 @@ ghost use Rattle.std.specs.Prelude.{◌≡◌, ◌++◌, map, IfOk};
 ghost use Rattle.mc_compile.specs.Reading.{plain_goal};
 ghost use Rattle.mc_insts.specs.Defining.{plain_definitions, DefinitionsFit};
 ghost use Rattle.mc_accepted.specs.NormalGoals.{HasNormalGoals};
-ghost use Rattle.mc_clause_phase.specs.Judging.{typed_clauses};
+ghost use Rattle.mc_type_phase.specs.Judging.{typed_clauses};
 ghost use Rattle.mc_compile.specs.Phases.{Tells, Viewed};
 ghost use Rattle.mc_compile.specs.Sources.{Sources};
 ghost use Rattle.mc_compile.specs.Linking.{plain_named};
 ghost use Rattle.mc_compile.specs.Typing.{PlainTyped};
 ghost use Rattle.mc_compile.specs.Checking.{Shows};
-ghost use Rattle.mc_whole_program.specs.Wholes.{numbered_clause};
+ghost use Rattle.mc_core_program.specs.Wholes.{numbered_clause};
 ghost use Rattle.mc_compile.specs.Ruling.{numbered, query_determinism, query_number, query_sigs, IsModed, Modes};
 ghost use Rattle.mc_compile.specs.code.Parts.{IsParted};
 
@@ -16,16 +16,15 @@ use crate::checked::Checked;
 use crate::given::CompileFault;
 use crate::named::Named;
 use mc_base::{Memory, Row};
-use mc_clause_phase::TypedClause;
-use mc_declared_modes::declared_modes;
+use mc_core_program::{WholeProgram, whole_program};
 use mc_insts::InstDef;
 use mc_model::inst::Sig;
-use mc_orders::mode_ids;
+use mc_modes::mode_ids;
 use mc_program::program::Resolved;
-use mc_signatures::{ModeTable, query_signature, signatures};
+use mc_signatures::{ModeTable, declared_modes, query_signature, signatures};
 use mc_source::det::{Det, Most};
 use mc_source::place::Place;
-use mc_whole_program::{WholeProgram, whole_program};
+use mc_type_phase::TypedClause;
 use std::alloc::Global;
 
 /// A program that is put in order: as it runs, with the declared modes of its predicates, the query's behind the others,

@@ -14,12 +14,12 @@ use crate::executable::{Executable, Goal};
 use crate::given::{CompileFault, Query};
 use crate::moded::Moded;
 use crate::typed::Typed;
+use mc_analysis::{AnalysisResult, procedures};
 use mc_base::{Row, Text};
+use mc_core_program::WholeProgram;
 use mc_det_rules::main_procedure;
 use mc_inst_table::inst_faults;
 use mc_procs::Procs;
-use mc_rules::{Ruled, procedures};
-use mc_whole_program::WholeProgram;
 use std::alloc::Global;
 
 /// The procedures of a program with rules, whose clauses and query are typed.
@@ -97,11 +97,11 @@ fn executable(alloc: Global, moded: Moded, want_main: bool) -> Result<Executable
     } = whole;
     let (sigs, goals, exported) = (sigs.as_slice(), goals.as_slice(), exported.as_slice());
     match procedures(alloc, program, &defs, sigs, goals, exported, want_main)? {
-        Ruled::Procs(procs) => {
+        AnalysisResult::Procs(procs) => {
             let goal = goal_of(want_main, &procs, query, variables);
             Ok(Executable { procs, goal })
         }
-        Ruled::Broken(broken) => Err(CompileFault::Rejected(Row::of(broken)?)),
+        AnalysisResult::Broken(broken) => Err(CompileFault::Rejected(Row::of(broken)?)),
     }
 }
 

@@ -1,6 +1,6 @@
 -- Items as plain data, without rows and boxes (the Mercury manual: Items; Declarations).
 use Rattle.std.specs.Prelude.{ℕ, List, map, Option}
-use Rattle.mc_term_data.specs.Plain.{PlainTerm, PlainTerms, tms, plain_term}
+use Rattle.mc_term_data.specs.Plain.{PlainTerm, PlainTerms, term_list, plain_term}
 use Rattle.mc_source.specs.declared.det.Det.{Det}
 use Rattle.mc_decl_syntax.specs.declared.item.Decl.{Decl}
 use Rattle.mc_decl_syntax.specs.declared.item.Decl.TheVariants as D
@@ -38,10 +38,10 @@ plain_item D.Implementation = Implementation
 plain_item (D.Imports ws) = Imports ws
 plain_item (D.UseOnly ws) = UseOnly ws
 plain_item (D.AbstractType h) = AbstractType (plain_term h)
-plain_item (D.UnionType h ts) = UnionType (plain_term h) (tms (map plain_term ts.value))
+plain_item (D.UnionType h ts) = UnionType (plain_term h) (term_list (map plain_term ts.value))
 plain_item (D.SameType h t) = SameType (plain_term h) (plain_term t.value)
 plain_item (D.SameInst h t) = SameInst (plain_term h) (plain_term t.value)
-plain_item (D.BoundInst h ts) = BoundInst (plain_term h) (tms (map plain_term ts.value))
+plain_item (D.BoundInst h ts) = BoundInst (plain_term h) (term_list (map plain_term ts.value))
 plain_item (D.ModeDef h t) = ModeDef (plain_term h) (plain_term t.value)
 plain_item (D.Pred t d) = Pred (plain_term t) d
 plain_item (D.Func t d) = Func (plain_term t) d

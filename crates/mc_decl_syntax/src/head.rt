@@ -1,5 +1,5 @@
 ghost use Rattle.std.specs.Prelude.{◌≡◌, true, map, cond, None, IfOk, IsTrue};
-ghost use Rattle.mc_term_data.specs.Plain.{PlainTerms, more_terms, plain_term, tms};
+ghost use Rattle.mc_term_data.specs.Plain.{PlainTerms, more_terms, plain_term, term_list};
 ghost use Rattle.mc_term_data.specs.Shapes.{variable};
 ghost use Rattle.mc_decl_syntax.specs.Terms.{is_distinct, parameters_in, parameters};
 ghost use Rattle.mc_decl_syntax.specs.code.Steps.{parameters_with};
@@ -27,7 +27,7 @@ pub fn parameters<'a>(alloc: Global, head: &'a Term) -> Result<Option<NameSet<'a
 
 /// The names of distinct variables.
 fn parameters_in<'a>(alloc: Global, terms: &'a [Term]) -> Result<Option<NameSet<'a>>, Memory>
-    ensures { IfOk result (λ names. names ≡ parameters_in (tms (map plain_term terms.now))) }
+    ensures { IfOk result (λ names. names ≡ parameters_in (term_list (map plain_term terms.now))) }
 {
     let mut names = NameSet::new(alloc);
     for term in terms {

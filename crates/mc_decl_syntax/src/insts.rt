@@ -1,5 +1,5 @@
 ghost use Rattle.std.specs.Prelude.{◌≡◌, map};
-ghost use Rattle.mc_term_data.specs.Plain.{plain_term, tms};
+ghost use Rattle.mc_term_data.specs.Plain.{plain_term, term_list};
 ghost use Rattle.mc_decl_syntax.specs.Terms.{alternatives};
 ghost use Rattle.mc_decl_syntax.specs.Insts.{is_inst, is_inst_over, are_insts, are_bound, is_symbol, are_symbols, is_mode};
 
@@ -28,7 +28,7 @@ pub fn is_inst(parameters: &NameSet, term: &Term) -> bool
 /// Whether a name over these terms is an inst, by whether it is `bound`.
 #[cycle(insts)]
 fn is_inst_over(parameters: &NameSet, is_bound: bool, arguments: &[Term]) -> bool
-    ensures { result ≡ is_inst_over parameters.now is_bound (tms (map plain_term arguments.now)) }
+    ensures { result ≡ is_inst_over parameters.now is_bound (term_list (map plain_term arguments.now)) }
 {
     match arguments {
         [] => true,
@@ -46,7 +46,7 @@ fn is_inst_over(parameters: &NameSet, is_bound: bool, arguments: &[Term]) -> boo
 /// Whether each of these terms is an inst.
 #[cycle(insts)]
 fn are_insts(parameters: &NameSet, terms: &[Term]) -> bool
-    ensures { result ≡ are_insts parameters.now (tms (map plain_term terms.now)) }
+    ensures { result ≡ are_insts parameters.now (term_list (map plain_term terms.now)) }
 {
     for term in terms {
         if !is_inst(parameters, term) {
@@ -75,7 +75,7 @@ fn are_bound(parameters: &NameSet, term: &Term) -> bool
 /// Whether each of these terms is a symbol of a bound inst.
 #[cycle(insts)]
 fn are_symbols(parameters: &NameSet, terms: &[Term]) -> bool
-    ensures { result ≡ are_symbols parameters.now (tms (map plain_term terms.now)) }
+    ensures { result ≡ are_symbols parameters.now (term_list (map plain_term terms.now)) }
 {
     for term in terms {
         if !is_symbol(parameters, term) {

@@ -1,6 +1,6 @@
 ghost use Rattle.std.specs.Prelude.{◌≡◌, true, [], ◌∷◌, map, IfOk, MatchResult};
 ghost use Rattle.std.specs.Option.{option_map, is_some};
-ghost use Rattle.mc_term_data.specs.Plain.{plain_term, tms};
+ghost use Rattle.mc_term_data.specs.Plain.{plain_term, term_list};
 ghost use Rattle.mc_term_data.specs.Shapes.{one, two, operands};
 ghost use Rattle.mc_decl_syntax.specs.Terms.{path, paths, only, alternatives, conjuncts};
 
@@ -26,8 +26,8 @@ pub fn into_pair(name: &[u8], term: Term) -> Result<(Term, Term), Term>
 /// The two terms that these are.
 #[tactic(auto, using(crate::proofs::Views::two_taken))]
 fn into_two(mut terms: Row<Term>) -> (Term, Term)
-    requires { is_some (two (tms (map plain_term terms))) ≡ true }
-    ensures { Some (plain_term result.0, plain_term result.1) ≡ two (tms (map plain_term terms)) }
+    requires { is_some (two (term_list (map plain_term terms))) ≡ true }
+    ensures { Some (plain_term result.0, plain_term result.1) ≡ two (term_list (map plain_term terms)) }
 {
     match (terms.pop(), terms.pop()) {
         (Some(second), Some(first)) => (first, second),
@@ -48,7 +48,7 @@ pub fn into_only(term: Term) -> Option<Term>
 /// The one term that these are.
 #[tactic(auto, using(crate::proofs::Views::not_one, crate::proofs::Views::one_taken))]
 fn into_one(mut terms: Row<Term>) -> Option<Term>
-    ensures { option_map plain_term result ≡ one (tms (map plain_term terms)) }
+    ensures { option_map plain_term result ≡ one (term_list (map plain_term terms)) }
 {
     if terms.len() == 1 { terms.pop() } else { None }
 }
@@ -72,7 +72,7 @@ pub fn into_path(term: Term) -> Option<Row<Text>>
 /// The parts of each of these names, which have no arguments; None where a term is no such name.
 #[tactic(auto, using(crate::proofs::Paths::with_path, crate::proofs::Paths::without_path, crate::proofs::Paths::all_paths))]
 pub fn into_paths(alloc: Global, terms: Row<Term>) -> Result<Option<Row<Row<Text>>>, Memory>
-    ensures { IfOk result (λ names. names ≡ paths (tms (map plain_term terms))) }
+    ensures { IfOk result (λ names. names ≡ paths (term_list (map plain_term terms))) }
 {
     let mut names = Row::new(alloc);
     for term in terms.into_vec() {
@@ -86,7 +86,7 @@ pub fn into_paths(alloc: Global, terms: Row<Term>) -> Result<Option<Row<Row<Text
 
 /// The terms that `;` stands between.
 pub fn into_alternatives(alloc: Global, term: Term) -> Result<Row<Term>, Memory>
-    ensures { IfOk result (λ row. tms (map plain_term row) ≡ alternatives (plain_term term)) }
+    ensures { IfOk result (λ row. term_list (map plain_term row) ≡ alternatives (plain_term term)) }
 {
     let line = term.line;
     match term.into_node() {
@@ -97,7 +97,7 @@ pub fn into_alternatives(alloc: Global, term: Term) -> Result<Row<Term>, Memory>
 
 /// The terms that `,` stands between.
 pub fn into_conjuncts(alloc: Global, term: Term) -> Result<Row<Term>, Memory>
-    ensures { IfOk result (λ row. tms (map plain_term row) ≡ conjuncts (plain_term term)) }
+    ensures { IfOk result (λ row. term_list (map plain_term row) ≡ conjuncts (plain_term term)) }
 {
     let line = term.line;
     match term.into_node() {

@@ -1,5 +1,5 @@
 ghost use Rattle.std.specs.Prelude.{◌≡◌, map, codes};
-ghost use Rattle.mc_term_data.specs.Plain.{plain_term, tms};
+ghost use Rattle.mc_term_data.specs.Plain.{plain_term, term_list};
 ghost use Rattle.mc_term_data.specs.Shapes.{operands};
 ghost use Rattle.mc_decl_syntax.specs.Declarations.{is_moded, are_moded, is_plain, are_plain, is_pred, is_func, is_func_over, is_further, has_modes, is_pragma};
 ghost use Rattle.mc_decl_syntax.specs.Insts.{are_modes};
@@ -74,7 +74,7 @@ fn has_modes(alloc: Global, term: &Term) -> bool
 
 /// Whether each of these terms is a mode.
 fn are_modes(alloc: Global, terms: &[Term]) -> bool
-    ensures { result ≡ are_modes (tms (map plain_term terms.now)) }
+    ensures { result ≡ are_modes (term_list (map plain_term terms.now)) }
 {
     let none = NameSet::new(alloc);
     for term in terms {
@@ -87,7 +87,7 @@ fn are_modes(alloc: Global, terms: &[Term]) -> bool
 
 /// Whether each of these terms is an argument with its mode.
 pub fn are_moded(alloc: Global, terms: &[Term]) -> bool
-    ensures { result ≡ are_moded (tms (map plain_term terms.now)) }
+    ensures { result ≡ are_moded (term_list (map plain_term terms.now)) }
 {
     for term in terms {
         if !is_moded(alloc, term) {
@@ -109,7 +109,7 @@ fn is_moded(alloc: Global, term: &Term) -> bool
 
 /// Whether each of these terms is an argument without a mode.
 fn are_plain(terms: &[Term]) -> bool
-    ensures { result ≡ are_plain (tms (map plain_term terms.now)) }
+    ensures { result ≡ are_plain (term_list (map plain_term terms.now)) }
 {
     for term in terms {
         if !is_plain(term) {

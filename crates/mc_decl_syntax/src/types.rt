@@ -1,5 +1,5 @@
 ghost use Rattle.std.specs.Prelude.{◌≡◌, map};
-ghost use Rattle.mc_term_data.specs.Plain.{plain_term, tms};
+ghost use Rattle.mc_term_data.specs.Plain.{plain_term, term_list};
 ghost use Rattle.mc_decl_syntax.specs.Terms.{alternatives};
 ghost use Rattle.mc_decl_syntax.specs.Types.{is_type, are_types, is_field_name, is_field, are_fields, is_constructor, are_constructors};
 
@@ -20,7 +20,7 @@ pub fn is_type(term: &Term) -> bool
 /// Whether each of these terms is a type.
 #[cycle(types)]
 fn are_types(terms: &[Term]) -> bool
-    ensures { result ≡ are_types (tms (map plain_term terms.now)) }
+    ensures { result ≡ are_types (term_list (map plain_term terms.now)) }
 {
     for term in terms {
         if !is_type(term) {
@@ -43,7 +43,7 @@ pub fn has_constructors(body: &Term) -> bool
 
 /// Whether each of these terms is a constructor.
 fn are_constructors(terms: &[Term]) -> bool
-    ensures { result ≡ are_constructors (tms (map plain_term terms.now)) }
+    ensures { result ≡ are_constructors (term_list (map plain_term terms.now)) }
 {
     for term in terms {
         if !is_constructor(term) {
@@ -69,7 +69,7 @@ fn is_constructor(term: &Term) -> bool
 
 /// Whether each of these terms is an argument of a constructor.
 fn are_fields(terms: &[Term]) -> bool
-    ensures { result ≡ are_fields (tms (map plain_term terms.now)) }
+    ensures { result ≡ are_fields (term_list (map plain_term terms.now)) }
 {
     for term in terms {
         if !is_field(term) {

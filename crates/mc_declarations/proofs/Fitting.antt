@@ -17,12 +17,12 @@ use Rattle.mc_accepted.specs.Fits.{FitsTypes}
 use Rattle.mc_decl_syntax.specs.Plain.{PlainDecl, UnionType, SameType}
 use Rattle.mc_decl_syntax.specs.Types.{is_field, are_fields, is_constructor, are_constructors}
 use Rattle.mc_names.specs.Definitions.{symbol_name}
-use Rattle.mc_names.specs.Linked.{Defined, Linked, home}
+use Rattle.mc_names.specs.Linked.{Defined, Linked, defining_module}
 use Rattle.mc_type_table.specs.Written.{written_type}
 use Rattle.mc_names.specs.Parameters.{parameters_of}
 use Rattle.mc_type_table.specs.Expanded.{equivalent_by, equivalent_of, equivalent, after_rounds, expanded}
-use Rattle.mc_type_table.specs.Rules.{fields, constructor_fields, union_fields, named_parameters, stray, first_of, stray_in, variable_fault, goes_round, definitions, type_fault, type_faults, numbered}
-use Rattle.mc_type_table.specs.Sight.{sees_definition, definitions_seen}
+use Rattle.mc_type_table.specs.Rules.{fields, constructor_fields, union_fields, named_parameters, stray, first_of, stray_in, variable_fault, is_cyclic, definitions, type_fault, type_faults, numbered}
+use Rattle.mc_type_table.specs.Visibility.{sees_definition, definitions_seen}
 use Rattle.mc_clauses.specs.Variables.{nothing_met}
 use Rattle.mc_declarations.specs.Declarations.{parameter_counts, declared_types, listed_types, type_terms_of, constructor_of, constructors_in, constructors_by, constructors_from, predicate_of, declarations}
 use Rattle.mc_declarations.specs.Proper.{IsHeadOf, IsMeant, EachMeant, IsWellWritten, AreWellWritten, DeclarationsFit, AllDeclarationsFit}
@@ -115,27 +115,27 @@ in_any_sight false o b is = absurd (let clash : None ≡ Some b = is in cc)
 -- a type in the body of a definition is well formed, and over its parameters
 body_fits :
     (l : Linked) (u : ℕ) (d : Defined) (h t : PlainTerm)
-    → slice_get l.types u ≡ Some d → IsHeadOf d h → IsMeant l (home l d) t
+    → slice_get l.types u ≡ Some d → IsHeadOf d h → IsMeant l (defining_module l d) t
     → stray (named_parameters h) t ≡ None
     → (k : ℕ) × (parameter_counts l u ≡ Some k)
-    × ProperType (parameter_counts l) (written_type l (home l d) (parameters_of h) t)
-    × Below k (written_type l (home l d) (parameters_of h) t)
+    × ProperType (parameter_counts l) (written_type l (defining_module l d) (parameters_of h) t)
+    × Below k (written_type l (defining_module l d) (parameters_of h) t)
 body_fits l u d h t there head meant none =
     let counted = head_count d h head in (
       length (parameters_of h),
       parameters_at l u d there ∙ ap Some (sym counted),
-      proper_written l (home l d) (parameters_of h) t meant,
-      below_written l (home l d) (named_parameters h) (parameters_of h) t (places_of d h head) none,
+      proper_written l (defining_module l d) (parameters_of h) t meant,
+      below_written l (defining_module l d) (named_parameters h) (parameters_of h) t (places_of d h head) none,
     )
 
 equivalent_fits :
     (l : Linked) (u : ℕ) (d : Defined) (i : PlainDecl) (b : TypeTerm)
     → slice_get l.types u ≡ Some d → IsWellWritten l d i → stray_in i ≡ None
-    → equivalent_by l (home l d) i ≡ Some b
+    → equivalent_by l (defining_module l d) i ≡ Some b
     → (k : ℕ) × (parameter_counts l u ≡ Some k) × ProperType (parameter_counts l) b × Below k b
 equivalent_fits l u d (SameType h t) b there well none is =
-    let same : Some (written_type l (home l d) (parameters_of h) t) ≡ Some b = is in
-    let it : written_type l (home l d) (parameters_of h) t ≡ b = cc in
+    let same : Some (written_type l (defining_module l d) (parameters_of h) t) ≡ Some b = is in
+    let it : written_type l (defining_module l d) (parameters_of h) t ≡ b = cc in
     subst
     (λ b.
     (k : ℕ) × (parameter_counts l u ≡ Some k) × ProperType (parameter_counts l) b × Below k b) it
@@ -156,7 +156,7 @@ pub definitions_fit :
     → AreWellWritten l → type_faults l ≡ [] → AreProper (parameter_counts l) (definitions l)
 definitions_fit l well none u b is =
     written_fits l u b (slice_get l.types u) well none refl
-    (in_any_sight (not (goes_round l u)) (equivalent l u) b is)
+    (in_any_sight (not (is_cyclic l u)) (equivalent l u) b is)
 
 -- what is seen is defined
 pub defined_seen :
@@ -281,12 +281,12 @@ module _ (l : Linked) (E : ℕ → Option TypeTerm) (are : AreProper (parameter_
   constructor_fits :
       (w : List ℕ) (u : ℕ) (d : Defined) (h t : PlainTerm)
       → slice_get l.types u ≡ Some d → IsHeadOf d h → is_constructor t ≡ true
-      → EachMeant l (home l d) (constructor_fields t)
+      → EachMeant l (defining_module l d) (constructor_fields t)
       → first_of (named_parameters h) (constructor_fields t) ≡ None
-      → IsFit l (constructor_of l E w u (home l d) (parameters_of h) t)
+      → IsFit l (constructor_of l E w u (defining_module l d) (parameters_of h) t)
   constructor_fits w u d h t there head form meant none =
       let each =
-      fields_fit (home l d) d.name.arity (named_parameters h) (parameters_of h)
+      fields_fit (defining_module l d) d.name.arity (named_parameters h) (parameters_of h)
       (constructor_fields t) (places_of d h head) (head_count d h head) meant none
       in
       record {
@@ -294,7 +294,7 @@ module _ (l : Linked) (E : ℕ → Option TypeTerm) (are : AreProper (parameter_
             arity_is t form
             ∙ sym
             (length-map (constructor_fields t)
-            (λ f. expanded l E (written_type l (home l d) (parameters_of h) f)));
+            (λ f. expanded l E (written_type l (defining_module l d) (parameters_of h) f)));
         within =
             λ k is.
             let same : Some d.name.arity ≡ Some k = sym (parameters_at l u d there) ∙ is in
@@ -302,7 +302,7 @@ module _ (l : Linked) (E : ℕ → Option TypeTerm) (are : AreProper (parameter_
             subst
             (λ j.
             EachBelow j
-            (map (λ f. expanded l E (written_type l (home l d) (parameters_of h) f))
+            (map (λ f. expanded l E (written_type l (defining_module l d) (parameters_of h) f))
             (constructor_fields t))) count each.0;
         proper = each.1;
       }
@@ -310,13 +310,13 @@ module _ (l : Linked) (E : ℕ → Option TypeTerm) (are : AreProper (parameter_
   union_fits :
       (w : List ℕ) (u : ℕ) (d : Defined) (h : PlainTerm) (ts : PlainTerms)
       → slice_get l.types u ≡ Some d → IsHeadOf d h → are_constructors ts ≡ true
-      → EachMeant l (home l d) (union_fields ts)
+      → EachMeant l (defining_module l d) (union_fields ts)
       → first_of (named_parameters h) (union_fields ts) ≡ None
-      → AllFit l (constructors_in l E w u (home l d) (parameters_of h) ts)
+      → AllFit l (constructors_in l E w u (defining_module l d) (parameters_of h) ts)
   union_fits w u d h no_term there head form meant none = tt
   union_fits w u d h (more_terms t ts) there head form meant none =
       let forms = and_parts (is_constructor t) (are_constructors ts) form in
-      let means = meant_parts l (home l d) (constructor_fields t) (union_fields ts) meant in
+      let means = meant_parts l (defining_module l d) (constructor_fields t) (union_fields ts) meant in
       let strays =
       stray_parts (named_parameters h) (constructor_fields t) (union_fields ts) none
       in (
@@ -364,7 +364,7 @@ module _ (l : Linked) (E : ℕ → Option TypeTerm) (are : AreProper (parameter_
       (p : ℕ) (ds : List Defined)
       → ((q : ℕ) (d : Defined) → slice_get ds q ≡ Some d
       → ProperTypes (parameter_counts l)
-      (declared_types l (home l d) (type_terms_of d.item) nothing_met).0)
+      (declared_types l (defining_module l d) (type_terms_of d.item) nothing_met).0)
       → EachProper (parameter_counts l) (get_or (map (predicate_of l E) ds) p no_pred).types
   predicate_fits p [] each = tt
   predicate_fits zero (d ∷ ds) each = listed_fit _ (each 0 d refl)
@@ -386,7 +386,7 @@ module _
   predicates_fit p =
       predicate_fits l E are p l.preds
       (λ q d there.
-      all_proper_declared l (home l d) (type_terms_of d.item) nothing_met (well.preds q d there))
+      all_proper_declared l (defining_module l d) (type_terms_of d.item) nothing_met (well.preds q d there))
 
   declared_fit :
       FitsTypes (declarations l E) (parameter_counts l)

@@ -1,7 +1,7 @@
 -- What a term is, and the type that it declares, by its node.
 use Rattle.std.proofs.Common.{◌≡◌, ℕ, ℤ, suc, ◌+◌, arith, List, [], ◌∷◌, map, length, Some, None, Box, refl, ap, ap₂, sym, ◌∙◌}
 use Rattle.std.specs.declared.alloc.Global.{Global}
-use Rattle.mc_term_data.specs.Plain.{PlainTerm, PlainNode, PlainTerms, no_term, more_terms, at, Var, App, Int, Str, Items, Tailed, Conj, Disj, plain_term, plain_node, node_step, term_step, tms}
+use Rattle.mc_term_data.specs.Plain.{PlainTerm, PlainNode, PlainTerms, no_term, more_terms, at, Var, App, Int, Str, Items, Tailed, Conj, Disj, plain_term, plain_node, node_step, term_step, term_list}
 use Rattle.mc_term_data.specs.Names.{count}
 use Rattle.mc_term_data.specs.declared.term.Term.{Term}
 use Rattle.mc_term_data.specs.declared.term.Node.TheVariants as N
@@ -45,29 +45,29 @@ node_str s =
     ∙ fold-roll-Node PlainNode PlainTerm node_step term_step (O.Str s)
 
 pub node_app :
-    (w : List (List ℕ)) (ts : List Term) → plain_node (N.App w ts) ≡ App w (tms (map plain_term ts))
+    (w : List (List ℕ)) (ts : List Term) → plain_node (N.App w ts) ≡ App w (term_list (map plain_term ts))
 node_app w ts =
     ap plain_node (sym (rolls-App w ts))
     ∙ fold-roll-Node PlainNode PlainTerm node_step term_step (O.App w ts)
 
-pub node_items : (ts : List Term) → plain_node (N.List ts None) ≡ Items (tms (map plain_term ts))
+pub node_items : (ts : List Term) → plain_node (N.List ts None) ≡ Items (term_list (map plain_term ts))
 node_items ts =
     ap plain_node (sym (rolls-List ts None))
     ∙ fold-roll-Node PlainNode PlainTerm node_step term_step (O.List ts None)
 
 pub node_tailed :
     (ts : List Term) (b : Box Term Global)
-    → plain_node (N.List ts (Some b)) ≡ Tailed (tms (map plain_term ts)) (plain_term b.value)
+    → plain_node (N.List ts (Some b)) ≡ Tailed (term_list (map plain_term ts)) (plain_term b.value)
 node_tailed ts b =
     ap plain_node (sym (rolls-List ts (Some b)))
     ∙ fold-roll-Node PlainNode PlainTerm node_step term_step (O.List ts (Some b))
 
-pub node_conj : (ts : List Term) → plain_node (N.Conj ts) ≡ Conj (tms (map plain_term ts))
+pub node_conj : (ts : List Term) → plain_node (N.Conj ts) ≡ Conj (term_list (map plain_term ts))
 node_conj ts =
     ap plain_node (sym (rolls-Conj ts))
     ∙ fold-roll-Node PlainNode PlainTerm node_step term_step (O.Conj ts)
 
-pub node_disj : (ts : List Term) → plain_node (N.Disj ts) ≡ Disj (tms (map plain_term ts))
+pub node_disj : (ts : List Term) → plain_node (N.Disj ts) ≡ Disj (term_list (map plain_term ts))
 node_disj ts =
     ap plain_node (sym (rolls-Disj ts))
     ∙ fold-roll-Node PlainNode PlainTerm node_step term_step (O.Disj ts)
@@ -119,11 +119,11 @@ app_walked here t w ts args types made v after is same walked named m k =
     let l = plain_names here.names.now in
     let own = here.own in
     let r = walked m k in
-    let terms = tms (map plain_term args) in
+    let terms = term_list (map plain_term args) in
     let term : plain_term t ≡ at (App w terms) t.line =
     opened t
     ∙ ap (λ y. at y t.line)
-    (ap plain_node is ∙ node_app w ts ∙ ap (λ us. App w (tms (map plain_term us))) (sym same))
+    (ap plain_node is ∙ node_app w ts ∙ ap (λ us. App w (term_list (map plain_term us))) (sym same))
     in
     let counted : length types ≡ count terms =
     count_made types ∙ ap count_types r.is ∙ count_declared l own terms m

@@ -4,7 +4,7 @@ use Rattle.std.specs.Prelude.{Option}
 use mathlib.Core.Path.{fun_ext}
 use Rattle.mc_term_data.specs.Plain.{PlainTerms, no_term, more_terms}
 use Rattle.mc_program.specs.Programs.{TypeTerm}
-use Rattle.mc_names.specs.Linked.{Defined, Linked, home}
+use Rattle.mc_names.specs.Linked.{Defined, Linked, defining_module}
 use Rattle.mc_type_table.specs.Expanded.{after_rounds}
 use Rattle.mc_decl_syntax.specs.Plain.{PlainDecl, UnionType}
 use Rattle.mc_names.specs.Parameters.{parameters_of}
@@ -30,7 +30,7 @@ by_item :
     (l : Linked) (D : ℕ → Option TypeTerm) (u : ℕ) (d : Defined) (i : PlainDecl)
     → constructors_with l (rounds l D) u d i ≡ constructors_by l D u d i
 by_item l D u d (UnionType h ts) =
-    in_union l D d.name.«module» u (home l d) (parameters_of h) ts
+    in_union l D d.name.«module» u (defining_module l d) (parameters_of h) ts
 by_item l D u d i = refl
 
 pub all_so :

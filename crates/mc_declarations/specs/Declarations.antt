@@ -16,7 +16,7 @@ use Rattle.mc_accepted.specs.ProperTypes.{Parameters}
 use Rattle.mc_accepted.specs.BuiltinTypes.{Builtin_name, builtin_name}
 use Rattle.mc_decl_syntax.specs.Plain.{PlainDecl, UnionType, Pred, Func}
 use Rattle.mc_names.specs.Definitions.{symbol_name}
-use Rattle.mc_names.specs.Linked.{Defined, Linked, home}
+use Rattle.mc_names.specs.Linked.{Defined, Linked, defining_module}
 use Rattle.mc_type_table.specs.Written.{named_type, written_type}
 use Rattle.mc_names.specs.Parameters.{parameters_of}
 use Rattle.mc_type_table.specs.Expanded.{expanded}
@@ -129,7 +129,7 @@ module _ (l : Linked) (D : ℕ → Option TypeTerm) where
 
   abbrev pub constructors_by : (u : ℕ) → Defined → PlainDecl → List Constructor
   constructors_by u d (UnionType h ts) =
-      constructors_in d.name.«module» u (home l d) (parameters_of h) ts
+      constructors_in d.name.«module» u (defining_module l d) (parameters_of h) ts
   constructors_by u d i = []
 
   -- those of types that are numbered from u on
@@ -143,7 +143,8 @@ module _ (l : Linked) (D : ℕ → Option TypeTerm) where
         name = plain_name d.name;
         types =
             map (expanded l D)
-            (listed_types (declared_types l (home l d) (type_terms_of d.item) nothing_met).0);
+            (listed_types
+            (declared_types l (defining_module l d) (type_terms_of d.item) nothing_met).0);
         clauses = [];
         builtin = builtin_among builtins (plain_name d.name) (is_function d.item);
       }

@@ -8,11 +8,11 @@ use Rattle.mc_accepted.specs.Fits.{FitsTypes}
 use Rattle.mc_decl_syntax.specs.Plain.{Path, PlainDecl, UnionType, SameType}
 use Rattle.mc_decl_syntax.specs.Types.{are_constructors}
 use Rattle.mc_names.specs.Plain.{id, qualifiers, last_part}
-use Rattle.mc_names.specs.Linked.{Defined, Linked, home}
+use Rattle.mc_names.specs.Linked.{Defined, Linked, defining_module}
 use Rattle.mc_names.specs.Candidates.{type_candidates}
 use Rattle.mc_type_table.specs.Written.{builtin}
 use Rattle.mc_type_table.specs.Rules.{union_fields, definitions, type_faults}
-use Rattle.mc_type_table.specs.Sight.{definitions_seen}
+use Rattle.mc_type_table.specs.Visibility.{definitions_seen}
 use Rattle.mc_declarations.specs.Declarations.{declarations, parameter_counts, type_terms_of}
 
 -- the head of what defines a type is a name over as many terms as the type has parameters
@@ -43,8 +43,9 @@ module _ (l : Linked) where
 
   abbrev pub IsWellWritten : Defined → PlainDecl → Type 0
   IsWellWritten d (UnionType h ts) =
-      IsHeadOf d h × (are_constructors ts ≡ true) × EachMeant (home l d) (union_fields ts)
-  IsWellWritten d (SameType h t) = IsHeadOf d h × IsMeant (home l d) t
+      IsHeadOf d h × (are_constructors ts ≡ true)
+      × EachMeant (defining_module l d) (union_fields ts)
+  IsWellWritten d (SameType h t) = IsHeadOf d h × IsMeant (defining_module l d) t
   IsWellWritten d i = Unit {0}
 
   -- What the items of a program have that have their form and break no rule of linking: heads and
@@ -53,7 +54,7 @@ module _ (l : Linked) where
     pub types : (u : ℕ) (d : Defined) → slice_get l.types u ≡ Some d → IsWellWritten d d.item
     pub preds :
         (p : ℕ) (d : Defined)
-        → slice_get l.preds p ≡ Some d → AreMeant (home l d) (type_terms_of d.item)
+        → slice_get l.preds p ≡ Some d → AreMeant (defining_module l d) (type_terms_of d.item)
 
   -- the program's declarations as the module of a number sees them
   abbrev pub declared_for : (own : ℕ) → Source

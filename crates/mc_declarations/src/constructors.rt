@@ -1,5 +1,5 @@
 ghost use Rattle.std.specs.Prelude.{◌≡◌, ◌++◌, ◌∷◌, [], IfOk, OnOk, map};
-ghost use Rattle.mc_term_data.specs.Plain.{plain_term, tms};
+ghost use Rattle.mc_term_data.specs.Plain.{plain_term, term_list};
 ghost use Rattle.mc_program.specs.PlainPrograms.{plain_type, plain_symbol};
 ghost use Rattle.mc_names.specs.Linked.{plain_named, plain_names};
 ghost use Rattle.mc_type_table.specs.Rules.{constructor_fields};
@@ -10,12 +10,12 @@ ghost use Rattle.mc_declarations.specs.code.With.{field_with, constructor_with, 
 use crate::declaring::Declaring;
 use mc_base::{Memory, Row, Text};
 use mc_decl_syntax::Decl;
-use mc_names::{Named, home, parameters_of, symbol_name};
+use mc_names::{Named, defining_module, parameters_of, symbol_name};
 use mc_program::program::Symbol;
 use mc_program::ty::Ty;
 use mc_source::name::Name;
 use mc_term_data::Term;
-use mc_type_table::{Room, constructor_fields, type_of_term, with_definitions};
+use mc_type_table::{SizeBudget, constructor_fields, type_of_term, with_definitions};
 
 /// A union type whose constructors are declared: its number, the name and the number of its module, and its parameters.
 #[derive(Clone, Copy)]
@@ -27,7 +27,7 @@ struct Union<'n> {
 }
 
 /// The constructors of a program, in the order of its types.
-pub fn constructors(at: &Declaring<'_>, room: &mut Room) -> Result<Row<Symbol>, Memory>
+pub fn constructors(at: &Declaring<'_>, room: &mut SizeBudget) -> Result<Row<Symbol>, Memory>
     ensures { IfOk result (λ all. map plain_symbol all
         ≡ all_with (plain_names at.now.names.now) (held at.now.definitions.now) 0
         (plain_names at.now.names.now).types) }
@@ -49,7 +49,7 @@ fn put_constructors(
     number: u32,
     named: &Named,
     all: &mut Vec<Symbol>,
-    room: &mut Room,
+    room: &mut SizeBudget,
 ) -> Result<(), Memory>
     ensures { OnOk result (map plain_symbol all.new.items
         ≡ map plain_symbol all.old.items
@@ -62,7 +62,7 @@ fn put_constructors(
             let union = Union {
                 number,
                 within: &named.name.module,
-                own: home(at.names, named),
+                own: defining_module(at.names, named),
                 parameters: parameters.as_slice(),
             };
             put_of_union(at, &union, constructors.as_slice(), all, room)
@@ -77,13 +77,13 @@ fn put_of_union(
     union: &Union<'_>,
     terms: &[Term],
     all: &mut Vec<Symbol>,
-    room: &mut Room,
+    room: &mut SizeBudget,
 ) -> Result<(), Memory>
     ensures { OnOk result (map plain_symbol all.new.items
         ≡ map plain_symbol all.old.items
         ++ constructors_of (plain_names at.now.names.now) (held at.now.definitions.now)
         union.now.within.now union.now.number union.now.own union.now.parameters.now
-        (tms (map plain_term terms.now))) }
+        (term_list (map plain_term terms.now))) }
 {
     for term in terms {
         all.push(constructor(at, union, term, room)?)?;
@@ -96,7 +96,7 @@ fn constructor(
     at: &Declaring<'_>,
     union: &Union<'_>,
     term: &Term,
-    room: &mut Room,
+    room: &mut SizeBudget,
 ) -> Result<Symbol, Memory>
     ensures { IfOk result (λ made. plain_symbol made
         ≡ constructor_with (plain_names at.now.names.now) (held at.now.definitions.now)
@@ -127,7 +127,7 @@ fn field_types(
     at: &Declaring<'_>,
     union: &Union<'_>,
     term: &Term,
-    room: &mut Room,
+    room: &mut SizeBudget,
 ) -> Result<Row<Ty>, Memory>
     ensures { IfOk result (λ types. map plain_type types
         ≡ map (field_with (plain_names at.now.names.now) (held at.now.definitions.now)
@@ -142,7 +142,7 @@ fn types_of_fields(
     at: &Declaring<'_>,
     union: &Union<'_>,
     fields: &[&Term],
-    room: &mut Room,
+    room: &mut SizeBudget,
 ) -> Result<Row<Ty>, Memory>
     ensures { IfOk result (λ types. map plain_type types
         ≡ map (λ t. field_with (plain_names at.now.names.now) (held at.now.definitions.now)

@@ -1,5 +1,5 @@
 ghost use Rattle.std.specs.Prelude.{◌≡◌, IfOk, length, map};
-ghost use Rattle.mc_term_data.specs.Plain.{plain_term, tms};
+ghost use Rattle.mc_term_data.specs.Plain.{plain_term, term_list};
 ghost use Rattle.mc_program.specs.Programs.{union_type, no_types};
 ghost use Rattle.mc_program.specs.PlainPrograms.{plain_type, type_terms};
 ghost use Rattle.mc_names.specs.Linked.{plain_names};

@@ -7,7 +7,7 @@ use mc_base::{Copied, Memory, Row};
 use mc_names::Names;
 use mc_program::ty::Ty;
 use mc_source::name::Name;
-use mc_type_table::{Room, with_definitions};
+use mc_type_table::{SizeBudget, with_definitions};
 use std::alloc::Global;
 
 /// The names of a program, and what its types are defined as, by their numbers.
@@ -20,7 +20,7 @@ pub struct Declaring<'n> {
 
 impl Declaring<'_> {
     /// Types with the body of its definition for each type that has one.
-    pub fn with_definitions(&self, types: &[Ty], room: &mut Room) -> Result<Row<Ty>, Memory>
+    pub fn with_definitions(&self, types: &[Ty], room: &mut SizeBudget) -> Result<Row<Ty>, Memory>
         ensures { IfOk result (λ all. map plain_type all
             ≡ map (λ t. replaced (held self.now.definitions.now) (plain_type t)) types.now) }
     {

@@ -13,13 +13,13 @@ use crate::terms::type_terms;
 use mc_base::{Memory, Row};
 use mc_clauses::{Module, Variables};
 use mc_decl_syntax::Decl;
-use mc_names::{Named, home};
+use mc_names::{Named, defining_module};
 use mc_program::program::Pred;
 use mc_program::ty::Ty;
-use mc_type_table::Room;
+use mc_type_table::SizeBudget;
 
 /// The predicates and functions of a program, which have no clauses yet.
-pub fn predicates(at: &Declaring<'_>, room: &mut Room) -> Result<Row<Pred>, Memory>
+pub fn predicates(at: &Declaring<'_>, room: &mut SizeBudget) -> Result<Row<Pred>, Memory>
     ensures preds { IfOk result (λ all. map plain_pred all
         ≡ map (λ d. predicate_with (plain_names at.now.names.now) (held at.now.definitions.now)
         (plain_named d)) at.now.names.now.preds) }
@@ -37,7 +37,7 @@ pub fn predicates(at: &Declaring<'_>, room: &mut Room) -> Result<Row<Pred>, Memo
 }
 
 // A predicate or function by its declaration.
-fn predicate(at: &Declaring<'_>, named: &Named, room: &mut Room) -> Result<Pred, Memory>
+fn predicate(at: &Declaring<'_>, named: &Named, room: &mut SizeBudget) -> Result<Pred, Memory>
     ensures pred { IfOk result (λ made. plain_pred made
         ≡ predicate_with (plain_names at.now.names.now) (held at.now.definitions.now)
         (plain_named named.now)) }
@@ -57,7 +57,7 @@ fn predicate(at: &Declaring<'_>, named: &Named, room: &mut Room) -> Result<Pred,
 }
 
 // The types that a predicate or function is declared with.
-fn types(at: &Declaring<'_>, named: &Named, room: &mut Room) -> Result<Row<Ty>, Memory>
+fn types(at: &Declaring<'_>, named: &Named, room: &mut SizeBudget) -> Result<Row<Ty>, Memory>
     ensures { IfOk result (λ types. map plain_type types
         ≡ types_with (plain_names at.now.names.now) (held at.now.definitions.now)
         (plain_named named.now)) }
@@ -65,7 +65,7 @@ fn types(at: &Declaring<'_>, named: &Named, room: &mut Room) -> Result<Row<Ty>, 
     let own = Module {
         alloc: at.alloc,
         names: at.names,
-        own: home(at.names, named),
+        own: defining_module(at.names, named),
     };
     let terms = type_terms(at.alloc, &named.decl)?;
     let written = terms.as_slice();

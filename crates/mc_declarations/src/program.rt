@@ -12,7 +12,7 @@ use mc_base::Memory;
 use mc_names::Names;
 use mc_program::program::Program;
 use mc_program::ty::Ty;
-use mc_type_table::{Room, types_of};
+use mc_type_table::{SizeBudget, types_of};
 use std::alloc::Global;
 
 /// What a program declares: its types, its constructors, and its predicates and functions, which have no clauses yet.
@@ -26,7 +26,7 @@ pub fn declarations(
     alloc: Global,
     names: &Names,
     definitions: &[Option<Ty>],
-    room: &mut Room,
+    room: &mut SizeBudget,
 ) -> Result<Program, Memory>
     ensures { IfOk result (λ program. (D : ℕ → Option TypeTerm)
         → ((u : ℕ) → held definitions.now u ≡ after_rounds (length (plain_names names.now).types) D u)

@@ -1,5 +1,5 @@
 ghost use Rattle.std.specs.Prelude.{◌≡◌, IfOk, codes, map};
-ghost use Rattle.mc_term_data.specs.Plain.{plain_term, tms};
+ghost use Rattle.mc_term_data.specs.Plain.{plain_term, term_list};
 ghost use Rattle.mc_term_data.specs.Shapes.{operands};
 ghost use Rattle.mc_decl_syntax.specs.Plain.{plain_item};
 ghost use Rattle.mc_clauses.specs.Unresolved.{arguments_of};
@@ -12,7 +12,7 @@ use std::alloc::Global;
 
 /// The terms that write the types of a predicate's arguments; a function's result comes last.
 pub fn type_terms<'a>(alloc: Global, decl: &'a Decl) -> Result<Vec<&'a Term>, Memory>
-    ensures { IfOk result (λ all. tms (map (λ t. plain_term t.now) all.items)
+    ensures { IfOk result (λ all. term_list (map (λ t. plain_term t.now) all.items)
         ≡ type_terms_of (plain_item decl.now)) }
 {
     match decl {
@@ -30,7 +30,7 @@ pub fn type_terms<'a>(alloc: Global, decl: &'a Decl) -> Result<Vec<&'a Term>, Me
 
 // The types of a function's arguments, then its result.
 fn with_result<'a>(alloc: Global, signature: &'a Term) -> Result<Vec<&'a Term>, Memory>
-    ensures { IfOk result (λ all. tms (map (λ t. plain_term t.now) all.items)
+    ensures { IfOk result (λ all. term_list (map (λ t. plain_term t.now) all.items)
         ≡ with_result (operands (codes "=") (plain_term signature.now))) }
 {
     match operands(b"=", signature) {
@@ -45,7 +45,7 @@ fn with_result<'a>(alloc: Global, signature: &'a Term) -> Result<Vec<&'a Term>, 
 
 // The types of the arguments of a name.
 fn argument_types<'a>(alloc: Global, head: &'a Term) -> Result<Vec<&'a Term>, Memory>
-    ensures { IfOk result (λ all. tms (map (λ t. plain_term t.now) all.items)
+    ensures { IfOk result (λ all. term_list (map (λ t. plain_term t.now) all.items)
         ≡ without_modes (arguments_of (plain_term head.now))) }
 {
     let terms = arguments(head);
@@ -58,7 +58,7 @@ fn argument_types<'a>(alloc: Global, head: &'a Term) -> Result<Vec<&'a Term>, Me
 
 // The arguments of a name.
 fn arguments(head: &Term) -> &[Term]
-    ensures { tms (map plain_term result.now) ≡ arguments_of (plain_term head.now) }
+    ensures { term_list (map plain_term result.now) ≡ arguments_of (plain_term head.now) }
 {
     match &head.node {
         Node::App(_, args) => args.as_slice(),

@@ -1,9 +1,9 @@
 -- Uses that are added one after another.
 use Rattle.std.proofs.Common.{◌≡◌, ℕ, ◌-◌, ◌≤◌, Bool, List, [], ◌∷◌, ◌++◌, length, map, take, drop, get_or, refl, ap, ◌∙◌, append_assoc, arith}
 use Rattle.std.proofs.lemmas.List.{append-nil, take_all}
-use Rattle.mc_term_data.specs.Plain.{PlainTerm, PlainTerms, no_term, more_terms, plain_term, tms}
+use Rattle.mc_term_data.specs.Plain.{PlainTerm, PlainTerms, no_term, more_terms, plain_term, term_list}
 use Rattle.mc_term_data.specs.declared.term.Term.{Term}
-use Rattle.mc_clause_syntax.specs.declared.goal_form.Stand.{Stand}
+use Rattle.mc_clause_syntax.specs.declared.goal_form.GoalContext.{GoalContext}
 use Rattle.mc_clause_syntax.specs.declared.goal_form.Parts.TheVariants.{Goals}
 use Rattle.mc_decl_syntax.specs.Plain.{Path}
 use Rattle.mc_names.specs.declared.definition.Kind.TheVariants as K
@@ -46,17 +46,17 @@ between_is w t (more_terms u ts) = ap (λ us. terms_in t ++ (used K.Symbol w 2 +
 
 -- a term, and those that a name stands before, are terms that it stands between
 pub after_first : (old mid new : List PlainOccurrence) (w : Path) (ts : List Term) (t : Term) → 1 ≤ length ts → t ≡ get_or ts 0 t → mid ≡ old ++ terms_in (plain_term t)
-    → new ≡ mid ++ behind w (tms (map plain_term (take (length ts - 1) (drop 1 ts)))) → new ≡ old ++ between w (tms (map plain_term ts))
+    → new ≡ mid ++ behind w (term_list (map plain_term (take (length ts - 1) (drop 1 ts)))) → new ≡ old ++ between w (term_list (map plain_term ts))
 after_first old mid new w [] t h e f g = absurd (omega arith)
 after_first old mid new w (x ∷ ts) t h e f g =
     let all : take (length (x ∷ ts) - 1) ts ≡ ts = take_all (length (x ∷ ts) - 1) ts (omega arith) in
-    let rest = behind w (tms (map plain_term ts)) in
+    let rest = behind w (term_list (map plain_term ts)) in
     g
-    ∙ ap (λ us. mid ++ behind w (tms (map plain_term us))) all
+    ∙ ap (λ us. mid ++ behind w (term_list (map plain_term us))) all
     ∙ ap (λ us. us ++ rest) (f ∙ ap (λ u. old ++ terms_in (plain_term u)) e)
     ∙ append_assoc old (terms_in (plain_term x)) rest
-    ∙ ap (λ us. old ++ us) (between_is w (plain_term x) (tms (map plain_term ts)))
+    ∙ ap (λ us. old ++ us) (between_is w (plain_term x) (term_list (map plain_term ts)))
 
-pub parts_are_goals : (w : Path) (a b : Stand) (ts : PlainTerms) → all_goals ts ≡ goal_by w (Goals a b) ts
+pub parts_are_goals : (w : Path) (a b : GoalContext) (ts : PlainTerms) → all_goals ts ≡ goal_by w (Goals a b) ts
 parts_are_goals w a b no_term = refl
 parts_are_goals w a b (more_terms t ts) = refl

@@ -1,5 +1,5 @@
 ghost use Rattle.std.specs.Prelude.{◌≡◌, ◌++◌, codes, map, OnOk};
-ghost use Rattle.mc_term_data.specs.Plain.{plain_term, tms};
+ghost use Rattle.mc_term_data.specs.Plain.{plain_term, term_list};
 ghost use Rattle.mc_term_data.specs.Shapes.{operands};
 ghost use Rattle.mc_names.specs.Plain.{plain_occurrence};
 ghost use Rattle.mc_defs_uses.specs.Occurrences.{field_by, all_fields, constructor_in, all_constructors};
@@ -17,7 +17,7 @@ pub fn add_all_constructors<'a>(
     ensures { OnOk result
         (map plain_occurrence uses.new.items
         ≡ map plain_occurrence uses.old.items
-        ++ all_constructors (tms (map plain_term terms.now))) }
+        ++ all_constructors (term_list (map plain_term terms.now))) }
 {
     for term in terms {
         add_constructor(uses, term)?;
@@ -45,7 +45,7 @@ fn add_fields_and<'a>(
     ensures { OnOk result
         (map plain_occurrence uses.new.items
         ≡ map plain_occurrence uses.old.items
-        ++ (all_fields (tms (map plain_term fields.now))
+        ++ (all_fields (term_list (map plain_term fields.now))
         ++ field_by (plain_term last.now) (operands (codes "::") (plain_term last.now)))) }
 {
     add_all_fields(uses, fields)?;
@@ -55,7 +55,7 @@ fn add_fields_and<'a>(
 fn add_all_fields<'a>(uses: &mut Vec<Occurrence<'a>>, terms: &'a [Term]) -> Result<(), Memory>
     ensures { OnOk result
         (map plain_occurrence uses.new.items
-        ≡ map plain_occurrence uses.old.items ++ all_fields (tms (map plain_term terms.now))) }
+        ≡ map plain_occurrence uses.old.items ++ all_fields (term_list (map plain_term terms.now))) }
 {
     for term in terms {
         add_field(uses, term)?;

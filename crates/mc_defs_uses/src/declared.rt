@@ -1,5 +1,5 @@
 ghost use Rattle.std.specs.Prelude.{◌≡◌, ◌∷◌, ◌++◌, [], codes, map, IfOk, OnOk};
-ghost use Rattle.mc_term_data.specs.Plain.{plain_term, tms};
+ghost use Rattle.mc_term_data.specs.Plain.{plain_term, term_list};
 ghost use Rattle.mc_decl_syntax.specs.Plain.{plain_item};
 ghost use Rattle.mc_term_data.specs.Shapes.{operands};
 ghost use Rattle.mc_names.specs.Plain.{plain_name_arity, plain_definition, definition};
@@ -57,7 +57,7 @@ fn add_symbols<'a>(definitions: &mut Vec<Definition<'a>>, terms: &'a [Term]) -> 
     ensures { OnOk result
         (map plain_definition definitions.new.items
         ≡ map plain_definition definitions.old.items
-        ++ T.symbols (tms (map plain_term terms.now))) }
+        ++ T.symbols (term_list (map plain_term terms.now))) }
 {
     for term in terms {
         add(definitions, Kind::Symbol, symbol_name(term))?;

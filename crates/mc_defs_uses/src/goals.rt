@@ -1,5 +1,5 @@
 ghost use Rattle.std.specs.Prelude.{◌≡◌, ◌++◌, map, OnOk};
-ghost use Rattle.mc_term_data.specs.Plain.{plain_term, tms};
+ghost use Rattle.mc_term_data.specs.Plain.{plain_term, term_list};
 ghost use Rattle.mc_term_data.specs.Names.{count};
 ghost use Rattle.mc_clause_syntax.specs.GoalForms.{goal_form, parts};
 ghost use Rattle.mc_names.specs.Plain.{plain_occurrence};
@@ -40,7 +40,7 @@ fn add_parts<'a>(
     ensures { OnOk result
         (map plain_occurrence uses.new.items
         ≡ map plain_occurrence uses.old.items
-        ++ goal_by name.now form (tms (map plain_term parts.now))) }
+        ++ goal_by name.now form (term_list (map plain_term parts.now))) }
 {
     match form {
         Parts::Nothing => Ok(()),
@@ -58,7 +58,7 @@ fn add_parts<'a>(
 fn add_all_goals<'a>(uses: &mut Vec<Occurrence<'a>>, goals: &'a [Term]) -> Result<(), Memory>
     ensures { OnOk result
         (map plain_occurrence uses.new.items
-        ≡ map plain_occurrence uses.old.items ++ all_goals (tms (map plain_term goals.now))) }
+        ≡ map plain_occurrence uses.old.items ++ all_goals (term_list (map plain_term goals.now))) }
 {
     for goal in goals {
         add_goals(uses, goal)?;

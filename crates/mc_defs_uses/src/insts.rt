@@ -1,5 +1,5 @@
 ghost use Rattle.std.specs.Prelude.{◌≡◌, ◌++◌, [], cond, codes, false, nat_eq, ◌&&◌, map, OnOk};
-ghost use Rattle.mc_term_data.specs.Plain.{plain_term, tms};
+ghost use Rattle.mc_term_data.specs.Plain.{plain_term, term_list};
 ghost use Rattle.mc_term_data.specs.Names.{count};
 ghost use Rattle.mc_term_data.specs.Shapes.{is_the_word};
 ghost use Rattle.mc_names.specs.Plain.{plain_occurrence, used};
@@ -34,10 +34,10 @@ fn add_insts_over<'a>(
         ≡ map plain_occurrence uses.old.items
         ++ insts_over name.now
         (is_the_word (codes "bound") name.now
-        && nat_eq (count (tms (map plain_term arguments.now))) 1)
-        (nat_eq (count (tms (map plain_term arguments.now))) 2 && is_infix name.now)
-        (count (tms (map plain_term arguments.now)))
-        (tms (map plain_term arguments.now))) }
+        && nat_eq (count (term_list (map plain_term arguments.now))) 1)
+        (nat_eq (count (term_list (map plain_term arguments.now))) 2 && is_infix name.now)
+        (count (term_list (map plain_term arguments.now)))
+        (term_list (map plain_term arguments.now))) }
 {
     match arguments {
         [symbols, ..] if is_bound(name, arguments) => add_symbols(uses, symbols),
@@ -49,7 +49,7 @@ fn add_insts_over<'a>(
 pub fn is_bound(name: &Row<Text>, arguments: &[Term]) -> bool
     ensures { result
         ≡ (is_the_word (codes "bound") name.now
-        && nat_eq (count (tms (map plain_term arguments.now))) 1) }
+        && nat_eq (count (term_list (map plain_term arguments.now))) 1) }
 {
     is_the_word(b"bound", name) && arity(arguments) == 1
 }
@@ -64,9 +64,9 @@ fn add_named_inst<'a>(
         (map plain_occurrence uses.new.items
         ≡ map plain_occurrence uses.old.items
         ++ insts_over name.now false
-        (nat_eq (count (tms (map plain_term arguments.now))) 2 && is_infix name.now)
-        (count (tms (map plain_term arguments.now)))
-        (tms (map plain_term arguments.now))) }
+        (nat_eq (count (term_list (map plain_term arguments.now))) 2 && is_infix name.now)
+        (count (term_list (map plain_term arguments.now)))
+        (term_list (map plain_term arguments.now))) }
 {
     let occurrence = Occurrence::of(Kind::Inst, name, arity(arguments));
     match arguments {
@@ -86,7 +86,7 @@ fn add_named_inst<'a>(
 fn add_all_insts<'a>(uses: &mut Vec<Occurrence<'a>>, terms: &'a [Term]) -> Result<(), Memory>
     ensures { OnOk result
         (map plain_occurrence uses.new.items
-        ≡ map plain_occurrence uses.old.items ++ all_insts (tms (map plain_term terms.now))) }
+        ≡ map plain_occurrence uses.old.items ++ all_insts (term_list (map plain_term terms.now))) }
 {
     for term in terms {
         add_insts(uses, term)?;
@@ -118,7 +118,7 @@ fn add_insts_and<'a>(
     ensures { OnOk result
         (map plain_occurrence uses.new.items
         ≡ map plain_occurrence uses.old.items
-        ++ (all_insts (tms (map plain_term insts.now)) ++ insts_in (plain_term tail.now))) }
+        ++ (all_insts (term_list (map plain_term insts.now)) ++ insts_in (plain_term tail.now))) }
 {
     add_all_insts(uses, insts)?;
     add_insts(uses, tail)
@@ -129,7 +129,7 @@ fn add_insts_and<'a>(
 pub fn add_all_symbols<'a>(uses: &mut Vec<Occurrence<'a>>, terms: &'a [Term]) -> Result<(), Memory>
     ensures { OnOk result
         (map plain_occurrence uses.new.items
-        ≡ map plain_occurrence uses.old.items ++ all_symbols (tms (map plain_term terms.now))) }
+        ≡ map plain_occurrence uses.old.items ++ all_symbols (term_list (map plain_term terms.now))) }
 {
     for term in terms {
         add_symbols(uses, term)?;
@@ -174,7 +174,7 @@ fn add_mode_name<'a>(
 pub fn add_all_modes<'a>(uses: &mut Vec<Occurrence<'a>>, terms: &'a [Term]) -> Result<(), Memory>
     ensures { OnOk result
         (map plain_occurrence uses.new.items
-        ≡ map plain_occurrence uses.old.items ++ all_modes (tms (map plain_term terms.now))) }
+        ≡ map plain_occurrence uses.old.items ++ all_modes (term_list (map plain_term terms.now))) }
 {
     for term in terms {
         add_modes(uses, term)?;

@@ -1,5 +1,5 @@
 ghost use Rattle.std.specs.Prelude.{◌≡◌, ◌++◌, codes, map, OnOk};
-ghost use Rattle.mc_term_data.specs.Plain.{plain_term, tms};
+ghost use Rattle.mc_term_data.specs.Plain.{plain_term, term_list};
 ghost use Rattle.mc_term_data.specs.Shapes.{operands};
 ghost use Rattle.mc_names.specs.Plain.{plain_occurrence};
 ghost use Rattle.mc_defs_uses.specs.Occurrences.{parameter_in, all_parameters, parameters_of, func_by, modes_of, further_by};
@@ -26,7 +26,7 @@ fn add_all_parameters<'a>(uses: &mut Vec<Occurrence<'a>>, terms: &'a [Term]) -> 
     ensures { OnOk result
         (map plain_occurrence uses.new.items
         ≡ map plain_occurrence uses.old.items
-        ++ all_parameters (tms (map plain_term terms.now))) }
+        ++ all_parameters (term_list (map plain_term terms.now))) }
 {
     for term in terms {
         add_parameter(uses, term)?;

@@ -1,5 +1,5 @@
 ghost use Rattle.std.specs.Prelude.{◌≡◌, ◌∷◌, ◌++◌, [], true, nat_eq, ◌&&◌, map, OnOk};
-ghost use Rattle.mc_term_data.specs.Plain.{plain_term, tms};
+ghost use Rattle.mc_term_data.specs.Plain.{plain_term, term_list};
 ghost use Rattle.mc_term_data.specs.Names.{count};
 ghost use Rattle.mc_clause_syntax.specs.Limits.{argument_count};
 ghost use Rattle.mc_names.specs.Plain.{plain_occurrence, used};
@@ -48,10 +48,10 @@ pub fn add_over<'a>(
         (map plain_occurrence uses.new.items
         ≡ map plain_occurrence uses.old.items
         ++ call_by
-        (nat_eq (count (tms (map plain_term arguments.now))) 2 && is_infix name.now)
+        (nat_eq (count (term_list (map plain_term arguments.now))) 2 && is_infix name.now)
         (used kind name.now
-        (argument_count true (tms (map plain_term arguments.now))))
-        (tms (map plain_term arguments.now))) }
+        (argument_count true (term_list (map plain_term arguments.now))))
+        (term_list (map plain_term arguments.now))) }
 {
     let name = name.as_slice();
     let arguments = arguments.as_slice();
@@ -74,7 +74,7 @@ pub fn add_over<'a>(
 pub fn add_all_terms<'a>(uses: &mut Vec<Occurrence<'a>>, terms: &'a [Term]) -> Result<(), Memory>
     ensures { OnOk result
         (map plain_occurrence uses.new.items
-        ≡ map plain_occurrence uses.old.items ++ all_terms (tms (map plain_term terms.now))) }
+        ≡ map plain_occurrence uses.old.items ++ all_terms (term_list (map plain_term terms.now))) }
 {
     for term in terms {
         add_terms(uses, term)?;
@@ -89,7 +89,7 @@ fn add_list<'a>(uses: &mut Vec<Occurrence<'a>>, elements: &'a [Term]) -> Result<
     ensures { OnOk result
         (map plain_occurrence uses.new.items
         ≡ map plain_occurrence uses.old.items
-        ++ elements_in (tms (map plain_term elements.now))) }
+        ++ elements_in (term_list (map plain_term elements.now))) }
 {
     add_behind(uses, b"[|]", elements)?;
     uses.push(Occurrence::of_symbol(b"[]", 0))?;
@@ -106,7 +106,7 @@ fn add_list_before<'a>(
     ensures { OnOk result
         (map plain_occurrence uses.new.items
         ≡ map plain_occurrence uses.old.items
-        ++ (cells_in (tms (map plain_term elements.now))
+        ++ (cells_in (term_list (map plain_term elements.now))
         ++ terms_in (plain_term tail.now))) }
 {
     add_behind(uses, b"[|]", elements)?;
@@ -123,7 +123,7 @@ fn add_between<'a>(
     ensures { OnOk result
         (map plain_occurrence uses.new.items
         ≡ map plain_occurrence uses.old.items
-        ++ between (name.now ∷ []) (tms (map plain_term parts.now))) }
+        ++ between (name.now ∷ []) (term_list (map plain_term parts.now))) }
 {
     match parts {
         [first, others @ ..] => {
@@ -144,7 +144,7 @@ fn add_behind<'a>(
     ensures { OnOk result
         (map plain_occurrence uses.new.items
         ≡ map plain_occurrence uses.old.items
-        ++ behind (name.now ∷ []) (tms (map plain_term terms.now))) }
+        ++ behind (name.now ∷ []) (term_list (map plain_term terms.now))) }
 {
     for term in terms {
         uses.push(Occurrence::of_symbol(name, 2))?;

@@ -1,6 +1,6 @@
 ghost use Rattle.std.specs.Prelude.{◌≡◌, ◌&&◌, ◌∷◌, [], codes, nat_eq, map, IfOk};
 ghost use Rattle.std.specs.Option.{option_map, option_or};
-ghost use Rattle.mc_term_data.specs.Plain.{plain_term, tms};
+ghost use Rattle.mc_term_data.specs.Plain.{plain_term, term_list};
 ghost use Rattle.mc_term_data.specs.Names.{count};
 ghost use Rattle.mc_decl_syntax.specs.Plain.{plain_item};
 ghost use Rattle.mc_term_data.specs.Shapes.{operands, is_the_word};
@@ -36,7 +36,7 @@ pub fn twice_in<'a>(alloc: Global, decl: &'a Decl) -> Result<Option<NameArity<'a
 fn again_among<'a>(alloc: Global, terms: &'a [Term]) -> Result<Option<NameArity<'a>>, Memory>
     ensures { IfOk result
         (λ found.
-        option_map plain_name_arity found ≡ T.again_among [] (tms (map plain_term terms.now))) }
+        option_map plain_name_arity found ≡ T.again_among [] (term_list (map plain_term terms.now))) }
 {
     match terms {
         [] | [_] => Ok(None),
@@ -48,7 +48,7 @@ fn again_among<'a>(alloc: Global, terms: &'a [Term]) -> Result<Option<NameArity<
 // The same of two, without a set.
 fn again_of_two<'a>(first: &'a Term, second: &'a Term) -> Option<NameArity<'a>>
     ensures { option_map plain_name_arity result
-        ≡ T.again_among [] (tms (plain_term first.now ∷ plain_term second.now ∷ [])) }
+        ≡ T.again_among [] (term_list (plain_term first.now ∷ plain_term second.now ∷ [])) }
 {
     let name = symbol_name(second);
     if symbol_name(first) == name {
@@ -60,7 +60,7 @@ fn again_of_two<'a>(first: &'a Term, second: &'a Term) -> Option<NameArity<'a>>
 fn again_among_many<'a>(alloc: Global, terms: &'a [Term]) -> Result<Option<NameArity<'a>>, Memory>
     ensures { IfOk result
         (λ found.
-        option_map plain_name_arity found ≡ T.again_among [] (tms (map plain_term terms.now))) }
+        option_map plain_name_arity found ≡ T.again_among [] (term_list (map plain_term terms.now))) }
 {
     let mut names = NameAritySet::new(alloc);
     for term in terms {
@@ -94,8 +94,8 @@ fn again_over<'a>(
         option_map plain_name_arity found
         ≡ T.again_over
         (is_the_word (codes "bound") name.now
-        && nat_eq (count (tms (map plain_term arguments.now))) 1)
-        (tms (map plain_term arguments.now))) }
+        && nat_eq (count (term_list (map plain_term arguments.now))) 1)
+        (term_list (map plain_term arguments.now))) }
 {
     match arguments {
         [symbols, ..] if is_bound(name, arguments) => again_bound(alloc, symbols),
@@ -107,7 +107,7 @@ fn again_over<'a>(
 fn again_in_all<'a>(alloc: Global, terms: &'a [Term]) -> Result<Option<NameArity<'a>>, Memory>
     ensures { IfOk result
         (λ found.
-        option_map plain_name_arity found ≡ T.again_in_all (tms (map plain_term terms.now))) }
+        option_map plain_name_arity found ≡ T.again_in_all (term_list (map plain_term terms.now))) }
 {
     for term in terms {
         if let Some(found) = again_in(alloc, term)? {
@@ -140,7 +140,7 @@ fn again_tailed<'a>(
     ensures { IfOk result
         (λ found.
         option_map plain_name_arity found
-        ≡ option_or (T.again_in_all (tms (map plain_term insts.now)))
+        ≡ option_or (T.again_in_all (term_list (map plain_term insts.now)))
         (T.again_in (plain_term tail.now))) }
 {
     match again_in_all(alloc, insts)? {
@@ -154,7 +154,7 @@ fn again_symbols<'a>(alloc: Global, terms: &'a [Term]) -> Result<Option<NameArit
     ensures { IfOk result
         (λ found.
         option_map plain_name_arity found
-        ≡ T.again_symbols [] (tms (map plain_term terms.now))) }
+        ≡ T.again_symbols [] (term_list (map plain_term terms.now))) }
 {
     let mut names = NameAritySet::new(alloc);
     for term in terms {
@@ -186,7 +186,7 @@ fn again_in_parameters<'a>(
     ensures { IfOk result
         (λ found.
         option_map plain_name_arity found
-        ≡ T.again_in_parameters (tms (map plain_term terms.now))) }
+        ≡ T.again_in_parameters (term_list (map plain_term terms.now))) }
 {
     for term in terms {
         if let Some(found) = again_in_mode(alloc, term)? {

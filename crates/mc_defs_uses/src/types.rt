@@ -1,5 +1,5 @@
 ghost use Rattle.std.specs.Prelude.{◌≡◌, ◌++◌, nat_eq, ◌&&◌, map, OnOk};
-ghost use Rattle.mc_term_data.specs.Plain.{plain_term, tms};
+ghost use Rattle.mc_term_data.specs.Plain.{plain_term, term_list};
 ghost use Rattle.mc_term_data.specs.Names.{count};
 ghost use Rattle.mc_names.specs.Plain.{plain_occurrence};
 ghost use Rattle.mc_defs_uses.specs.Occurrences.{is_infix, types_in, types_over, all_types};
@@ -34,9 +34,9 @@ fn add_types_over<'a>(
         (map plain_occurrence uses.new.items
         ≡ map plain_occurrence uses.old.items
         ++ types_over name.now
-        (nat_eq (count (tms (map plain_term arguments.now))) 2 && is_infix name.now)
-        (count (tms (map plain_term arguments.now)))
-        (tms (map plain_term arguments.now))) }
+        (nat_eq (count (term_list (map plain_term arguments.now))) 2 && is_infix name.now)
+        (count (term_list (map plain_term arguments.now)))
+        (term_list (map plain_term arguments.now))) }
 {
     let occurrence = Occurrence::of(Kind::DefinedType, name, arity(arguments));
     match arguments {
@@ -56,7 +56,7 @@ fn add_types_over<'a>(
 fn add_all_types<'a>(uses: &mut Vec<Occurrence<'a>>, terms: &'a [Term]) -> Result<(), Memory>
     ensures { OnOk result
         (map plain_occurrence uses.new.items
-        ≡ map plain_occurrence uses.old.items ++ all_types (tms (map plain_term terms.now))) }
+        ≡ map plain_occurrence uses.old.items ++ all_types (term_list (map plain_term terms.now))) }
 {
     for term in terms {
         add_types(uses, term)?;

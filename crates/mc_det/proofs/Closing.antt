@@ -13,7 +13,7 @@ use Rattle.mc_accepted.specs.Fits.{type_of}
 use Rattle.mc_accepted.specs.Accepted.{entered}
 use Rattle.mc_accepted.specs.Inferred.{DeclaredProcedure, DeclaredSystem, system_of, body_determinism, Closed, LeastClosed}
 use Rattle.mc_procs.specs.Procedures.{PlainProcs, with_procs}
-use Rattle.mc_skeletons.specs.Least.{assigned}
+use Rattle.mc_det_constraints.specs.Least.{assigned}
 use Rattle.mc_det.specs.Marked.{with_marks}
 use Rattle.mc_det.specs.Determinisms.{as_declared, declared_procedure, declared_system, AreDeterminisms}
 use Rattle.mc_det.specs.MarkedProcedures.{IsMarked, determinisms_of, where_determined}

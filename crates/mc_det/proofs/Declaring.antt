@@ -18,11 +18,11 @@ use Rattle.mc_insts.specs.Graphs.{count_of}
 use Rattle.mc_procs.specs.Named.{NumbersBelow, Named}
 use Rattle.mc_procs.specs.Fitting.{AllFit, ProcedureFits}
 use Rattle.mc_procs.specs.Procedures.{PlainProcs, procedure_at, as_system}
-use Rattle.mc_skeletons.specs.declared.skeleton.Step.{Step}
-use Rattle.mc_skeletons.specs.Least as L
-use Rattle.mc_skeletons.specs.Least.{body_at, assigned, Least}
-use Rattle.mc_det.specs.SkeletonLaws.{AreBodies, as_they_stand, skeleton_of}
-use Rattle.mc_det.specs.Bodies.{skeleton}
+use Rattle.mc_det_constraints.specs.declared.constraint.Step.{Step}
+use Rattle.mc_det_constraints.specs.Least as L
+use Rattle.mc_det_constraints.specs.Least.{body_at, assigned, Least}
+use Rattle.mc_det.specs.ConstraintLaws.{AreBodies, as_they_stand, constraint_of}
+use Rattle.mc_det.specs.Bodies.{constraint}
 use Rattle.mc_det.specs.Determinisms.{declared_procedure, declared_system, AreDeterminisms}
 use Rattle.mc_det.specs.declared.walk.Walk.{Walk}
 use Rattle.mc_det.specs.declared.facts.Fact.{Fact}
@@ -58,19 +58,19 @@ same_system outcome q =
     ap (λ (procs : ℕ → Procedure). record (as_system outcome q) { procs = procs }) (fun_ext (λ k. sym (same_procedure q.added k)))
 
 -- these are the skeletons of all bodies, and what is declared of each procedure
-pub are_bodies : (q : PlainProcs) (bodies : List (List Step)) (declared : List (Option Det)) → length bodies ≡ length q.added → declared ≡ map (λ (p : Proc). p.declared) q.added → InSystems q (λ S. (k : ℕ) → k < length q.added → body_at bodies k ≡ skeleton_of S (procedure_at q.added k)) → (outcome : Builtin → List Val → Outcome) → AreBodies (declared_system outcome q) bodies declared
+pub are_bodies : (q : PlainProcs) (bodies : List (List Step)) (declared : List (Option Det)) → length bodies ≡ length q.added → declared ≡ map (λ (p : Proc). p.declared) q.added → InSystems q (λ S. (k : ℕ) → k < length q.added → body_at bodies k ≡ constraint_of S (procedure_at q.added k)) → (outcome : Builtin → List Val → Outcome) → AreBodies (declared_system outcome q) bodies declared
 are_bodies q bodies declared count told each outcome =
     record {
       count = count;
       bodies_are = λ k lt.
           each outcome k lt
-          ∙ ap (λ (S : System). skeleton_of S (procedure_at q.added k)) (same_system outcome q)
-          ∙ ap (skeleton_of (as_they_stand (declared_system outcome q))) (sym (same_procedure q.added k));
+          ∙ ap (λ (S : System). constraint_of S (procedure_at q.added k)) (same_system outcome q)
+          ∙ ap (constraint_of (as_they_stand (declared_system outcome q))) (sym (same_procedure q.added k));
       declared_are = λ k lt. ap (λ (ds : List (Option Det)). L.declared_at ds k) told ∙ same_declared q.added k;
       others = λ k le. past_procedures q.added k le;
     }
 
-pub are_determinisms : (q : PlainProcs) (bodies : List (List Step)) (declared : List (Option Det)) (ds : List Det) → length bodies ≡ length q.added → declared ≡ map (λ (p : Proc). p.declared) q.added → InSystems q (λ S. (k : ℕ) → k < length q.added → body_at bodies k ≡ skeleton_of S (procedure_at q.added k)) → Least bodies declared (assigned ds) → AreDeterminisms q ds
+pub are_determinisms : (q : PlainProcs) (bodies : List (List Step)) (declared : List (Option Det)) (ds : List Det) → length bodies ≡ length q.added → declared ≡ map (λ (p : Proc). p.declared) q.added → InSystems q (λ S. (k : ℕ) → k < length q.added → body_at bodies k ≡ constraint_of S (procedure_at q.added k)) → Least bodies declared (assigned ds) → AreDeterminisms q ds
 are_determinisms q bodies declared ds count told each least outcome =
     least_by_skeletons (declared_system outcome q) bodies declared (assigned ds) (are_bodies q bodies declared count told each outcome) least
 
@@ -96,25 +96,25 @@ head_there q p f = subst (λ n. NumbersBelow n p.head) (length-map p.var_types p
 pub body_named : (q : PlainProcs) (p : Proc) → ProcedureFits q (plain_proc p) → Named (bounds_in q (length p.var_types)) (plain_node p.body)
 body_named q p f = subst (λ n. Named (bounds_in q n) (plain_node p.body)) (length-map p.var_types plain_type) f.body
 
-pub whole_body : (q : PlainProcs) (p : Proc) (a b : Walk) → a.known.items ≡ [] → a.steps.items ≡ [] → insts_in a.point ≡ entered p.head p.first → Puts q a b (λ S is kn. skeleton S (typed p.var_types) is kn (plain_node p.body)) → InSystems q (λ S. b.steps.items ≡ skeleton_of S (plain_proc p))
+pub whole_body : (q : PlainProcs) (p : Proc) (a b : Walk) → a.known.items ≡ [] → a.steps.items ≡ [] → insts_in a.point ≡ entered p.head p.first → Puts q a b (λ S is kn. constraint S (typed p.var_types) is kn (plain_node p.body)) → InSystems q (λ S. b.steps.items ≡ constraint_of S (plain_proc p))
 whole_body q p a b known steps are put outcome =
     let S = as_system outcome q in
     put.steps outcome
-    ∙ ap (λ (xs : List Step). xs ++ skeleton S (typed p.var_types) (insts_in a.point) (known_in a.known.items) (plain_node p.body)) steps
-    ∙ ap (λ (fs : List Fact). skeleton S (typed p.var_types) (insts_in a.point) (known_in fs) (plain_node p.body)) known
-    ∙ ap (λ (is : ℕ → ℕ). skeleton S (typed p.var_types) is (known_in []) (plain_node p.body)) are
-    ∙ ap (λ (kn : ℕ → Option Label). skeleton S (typed p.var_types) (entered p.head p.first) kn (plain_node p.body)) (fun_ext (λ x. refl))
+    ∙ ap (λ (xs : List Step). xs ++ constraint S (typed p.var_types) (insts_in a.point) (known_in a.known.items) (plain_node p.body)) steps
+    ∙ ap (λ (fs : List Fact). constraint S (typed p.var_types) (insts_in a.point) (known_in fs) (plain_node p.body)) known
+    ∙ ap (λ (is : ℕ → ℕ). constraint S (typed p.var_types) is (known_in []) (plain_node p.body)) are
+    ∙ ap (λ (kn : ℕ → Option Label). constraint S (typed p.var_types) (entered p.head p.first) kn (plain_node p.body)) (fun_ext (λ x. refl))
 
 -- one body more
-pub one_body : (q : PlainProcs) (bodies : List (List Step)) (k : ℕ) (p d : Proc) (steps : List Step) → length bodies ≡ k → k < length q.added → p ≡ get_or q.added k d → InSystems q (λ S. steps ≡ skeleton_of S (plain_proc p)) → InSystems q (λ S. (j : ℕ) → j < k → body_at bodies j ≡ skeleton_of S (procedure_at q.added j)) → InSystems q (λ S. (j : ℕ) → j < k + 1 → body_at (bodies ++ steps ∷ []) j ≡ skeleton_of S (procedure_at q.added j))
+pub one_body : (q : PlainProcs) (bodies : List (List Step)) (k : ℕ) (p d : Proc) (steps : List Step) → length bodies ≡ k → k < length q.added → p ≡ get_or q.added k d → InSystems q (λ S. steps ≡ constraint_of S (plain_proc p)) → InSystems q (λ S. (j : ℕ) → j < k → body_at bodies j ≡ constraint_of S (procedure_at q.added j)) → InSystems q (λ S. (j : ℕ) → j < k + 1 → body_at (bodies ++ steps ∷ []) j ≡ constraint_of S (procedure_at q.added j))
 one_body q bodies k p d steps count lt is put inv outcome j b =
     ⊎_elim
     (λ (e : j ≡ k).
     at_end bodies steps j (e ∙ sym count)
     ∙ put outcome
-    ∙ ap (λ (r : Proc). skeleton_of (as_system outcome q) (plain_proc r)) is
-    ∙ ap (skeleton_of (as_system outcome q)) (sym (procedure_is q.added k d lt))
-    ∙ ap (λ n. skeleton_of (as_system outcome q) (procedure_at q.added n)) (sym e))
+    ∙ ap (λ (r : Proc). constraint_of (as_system outcome q) (plain_proc r)) is
+    ∙ ap (constraint_of (as_system outcome q)) (sym (procedure_is q.added k d lt))
+    ∙ ap (λ n. constraint_of (as_system outcome q) (procedure_at q.added n)) (sym e))
     (λ (n : j ≡ k → ⊥). let less : j < k = omega arith in at_before bodies steps j (omega arith) ∙ inv outcome j less)
     (cases_eq j k)
   where

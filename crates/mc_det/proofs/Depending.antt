@@ -14,7 +14,7 @@ use Rattle.mc_accepted.specs.Determined.{Known, nothing_known, learned, insts_af
 use Rattle.mc_accepted.specs.Fits.{type_of}
 use Rattle.mc_accepted.specs.Accepted.{entered, KeepsDeterminism, KeepsInside, AllKeep, EachKeeps, ArmsKeep}
 use Rattle.mc_procs.specs.Procedures.{PlainProcs, procedure_at, as_system, with_procs}
-use Rattle.mc_skeletons.specs.Least.{assigned}
+use Rattle.mc_det_constraints.specs.Least.{assigned}
 use Rattle.mc_det.specs.Marked.{marked, marked_in, marked_all, marked_each, marked_arms, marked_body, with_marks}
 use Rattle.mc_det.specs.Determinisms.{AreDeterminisms}
 use Rattle.mc_det.specs.MarkedProcedures.{IsMarked, Inferred, MarksHold, determinisms_of, where_determined}

@@ -6,7 +6,7 @@ use Rattle.std.specs.Option.{option_or}
 use Rattle.mc_program.specs.Values.{plain_value, same_value}
 use Rattle.mc_program.specs.declared.value.Value.{Value}
 use Rattle.mc_program.proofs.Views.{plain_value-injective}
-use Rattle.mc_laws.proofs.Equality.{value_same, same_of}
+use Rattle.laws_language.proofs.Equality.{value_same, same_of}
 use Rattle.mc_model.specs.Scheduled.{Label}
 use Rattle.mc_model.specs.PlainGoals.{plain_label}
 use Rattle.mc_det.specs.declared.facts.Fact.{Fact}

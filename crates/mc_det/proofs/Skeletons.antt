@@ -13,13 +13,13 @@ use Rattle.mc_accepted.specs.DeterminismFaults.{is_empty}
 use Rattle.mc_accepted.specs.Inferred.{DeclaredSystem, with_determinisms, system_of, body_determinism, Closed}
 use Rattle.mc_accepted.specs.Fits.{type_of}
 use Rattle.mc_accepted.specs.Accepted.{entered}
-use Rattle.mc_skeletons.specs.declared.skeleton.Step.{Step}
-use Rattle.mc_skeletons.specs.declared.skeleton.Step.TheVariants as T
-use Rattle.mc_skeletons.specs.Skeletons.{top, after_step, after_steps, value}
-use Rattle.mc_skeletons.specs.Least as L
-use Rattle.mc_skeletons.specs.Least.{body_at, declared_at, Least}
-use Rattle.mc_det.specs.Bodies.{skeleton, skeleton_in, skeleton_all, skeleton_any, skeleton_arms}
-use Rattle.mc_det.specs.SkeletonLaws.{SkeletonsTell, LeastBySkeletons, AreBodies, as_they_stand}
+use Rattle.mc_det_constraints.specs.declared.constraint.Step.{Step}
+use Rattle.mc_det_constraints.specs.declared.constraint.Step.TheVariants as T
+use Rattle.mc_det_constraints.specs.Skeletons.{top, after_step, after_steps, value}
+use Rattle.mc_det_constraints.specs.Least as L
+use Rattle.mc_det_constraints.specs.Least.{body_at, declared_at, Least}
+use Rattle.mc_det.specs.Bodies.{constraint, constraint_in, constraint_all, constraint_any, constraint_arms}
+use Rattle.mc_det.specs.ConstraintLaws.{SkeletonsTell, LeastBySkeletons, AreBodies, as_they_stand}
 
 -- steps, and then other steps
 in_turn : (ds : ℕ → Det) (xs ys : List Step) (stack : List Determinism) → after_steps ds (xs ++ ys) stack ≡ after_steps ds ys (after_steps ds xs stack)
@@ -63,22 +63,22 @@ module _ (S : System) (type : ℕ → TypeTerm) (ds : ℕ → Det) where
   misses_tells false d stack = refl
 
   mutual
-    tells : (b : Insts) (known : Known) (n : Node) (stack : List Determinism) → after_steps ds (skeleton S type b known n) stack ≡ determined W type b known n ∷ stack
+    tells : (b : Insts) (known : Known) (n : Node) (stack : List Determinism) → after_steps ds (constraint S type b known n) stack ≡ determined W type b known n ∷ stack
     tells b known (node s changes d m) stack =
-        then_these ds (skeleton_in S type b known s) _ stack _ (tells_in b known s stack)
+        then_these ds (constraint_in S type b known s) _ stack _ (tells_in b known s stack)
         ∙ pruned_tells m (determined_in W type b known s) stack
 
-    tells_in : (b : Insts) (known : Known) (s : Scheduled) (stack : List Determinism) → after_steps ds (skeleton_in S type b known s) stack ≡ determined_in W type b known s ∷ stack
+    tells_in : (b : Insts) (known : Known) (s : Scheduled) (stack : List Determinism) → after_steps ds (constraint_in S type b known s) stack ≡ determined_in W type b known s ∷ stack
     tells_in b known (Conj ns) stack = tells_all b known ns stack
     tells_in b known (Disj ns) stack = tells_any b known ns stack
     tells_in b known (Switch x arms) stack =
-        then_these ds (skeleton_arms S type b known x arms) _ stack _ (tells_arms b known x arms stack)
+        then_these ds (constraint_arms S type b known x arms) _ stack _ (tells_arms b known x arms stack)
         ∙ misses_tells (misses S type (allowed_in S type (type x) (b x)) arms) (determined_arms W type b known x arms) stack
     tells_in b known (Ite vs c t e) stack =
-        then_these ds (skeleton S type b known c) _ stack _ (tells b known c stack)
-        ∙ then_these ds (skeleton S type (insts_after c b) known t) _ _ _ (tells (insts_after c b) known t (determined W type b known c ∷ stack))
-        ∙ then_these ds (skeleton S type b known e) (T.Ite ∷ []) _ _ (tells b known e (determined W type (insts_after c b) known t ∷ determined W type b known c ∷ stack))
-    tells_in b known (Not n) stack = then_these ds (skeleton S type b known n) (T.Not ∷ []) stack _ (tells b known n stack)
+        then_these ds (constraint S type b known c) _ stack _ (tells b known c stack)
+        ∙ then_these ds (constraint S type (insts_after c b) known t) _ _ _ (tells (insts_after c b) known t (determined W type b known c ∷ stack))
+        ∙ then_these ds (constraint S type b known e) (T.Ite ∷ []) _ _ (tells b known e (determined W type (insts_after c b) known t ∷ determined W type b known c ∷ stack))
+    tells_in b known (Not n) stack = then_these ds (constraint S type b known n) (T.Not ∷ []) stack _ (tells b known n stack)
     tells_in b known (Exists vs n) stack = tells b known n stack
     tells_in b known (Assign x y) stack = refl
     tells_in b known (Test x y) stack = refl
@@ -89,23 +89,23 @@ module _ (S : System) (type : ℕ → TypeTerm) (ds : ℕ → Det) where
     tells_in b known (Call p xs implied last) stack = ap (λ (d : Determinism). d ∷ stack) (tests_tell implied (row_of (ds p)))
     tells_in b known (Apply op xs ys) stack = refl
 
-    tells_all : (b : Insts) (known : Known) (ns : Nodes) (stack : List Determinism) → after_steps ds (skeleton_all S type b known ns) stack ≡ determined_all W type b known ns ∷ stack
+    tells_all : (b : Insts) (known : Known) (ns : Nodes) (stack : List Determinism) → after_steps ds (constraint_all S type b known ns) stack ≡ determined_all W type b known ns ∷ stack
     tells_all b known no_nodes stack = refl
     tells_all b known (node_then n ns) stack =
-        then_these ds (skeleton S type b known n) _ stack _ (tells b known n stack)
-        ∙ then_these ds (skeleton_all S type (insts_after n b) known ns) (T.Conj ∷ []) _ _ (tells_all (insts_after n b) known ns (determined W type b known n ∷ stack))
+        then_these ds (constraint S type b known n) _ stack _ (tells b known n stack)
+        ∙ then_these ds (constraint_all S type (insts_after n b) known ns) (T.Conj ∷ []) _ _ (tells_all (insts_after n b) known ns (determined W type b known n ∷ stack))
 
-    tells_any : (b : Insts) (known : Known) (ns : Nodes) (stack : List Determinism) → after_steps ds (skeleton_any S type b known ns) stack ≡ determined_any W type b known ns ∷ stack
+    tells_any : (b : Insts) (known : Known) (ns : Nodes) (stack : List Determinism) → after_steps ds (constraint_any S type b known ns) stack ≡ determined_any W type b known ns ∷ stack
     tells_any b known no_nodes stack = refl
     tells_any b known (node_then n ns) stack =
-        then_these ds (skeleton S type b known n) _ stack _ (tells b known n stack)
-        ∙ then_these ds (skeleton_any S type b known ns) (T.Disj ∷ []) _ _ (tells_any b known ns (determined W type b known n ∷ stack))
+        then_these ds (constraint S type b known n) _ stack _ (tells b known n stack)
+        ∙ then_these ds (constraint_any S type b known ns) (T.Disj ∷ []) _ _ (tells_any b known ns (determined W type b known n ∷ stack))
 
-    tells_arms : (b : Insts) (known : Known) (x : ℕ) (arms : Arms) (stack : List Determinism) → after_steps ds (skeleton_arms S type b known x arms) stack ≡ determined_arms W type b known x arms ∷ stack
+    tells_arms : (b : Insts) (known : Known) (x : ℕ) (arms : Arms) (stack : List Determinism) → after_steps ds (constraint_arms S type b known x arms) stack ≡ determined_arms W type b known x arms ∷ stack
     tells_arms b known x no_arms stack = refl
     tells_arms b known x (arm_then l n arms) stack =
-        then_these ds (skeleton S type b (learned x l known) n) _ stack _ (tells b (learned x l known) n stack)
-        ∙ then_these ds (skeleton_arms S type b known x arms) (T.Arms ∷ []) _ _ (tells_arms b known x arms (determined W type b (learned x l known) n ∷ stack))
+        then_these ds (constraint S type b (learned x l known) n) _ stack _ (tells b (learned x l known) n stack)
+        ∙ then_these ds (constraint_arms S type b known x arms) (T.Arms ∷ []) _ _ (tells_arms b known x arms (determined W type b (learned x l known) n ∷ stack))
 
 pub skeletons_tell : SkeletonsTell
 skeletons_tell S type b known n ds = ap top (tells S type ds b known n [])

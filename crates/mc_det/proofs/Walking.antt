@@ -20,9 +20,9 @@ use Rattle.mc_insts.specs.Graphs.{count_of}
 use Rattle.mc_procs.specs.Named.{Bounds, ChangesNamed, Named, EachNamed, EachArmNamed}
 use Rattle.mc_procs.specs.Procedures.{PlainProcs, as_system}
 use Rattle.mc_procs.proofs.Views.{plain_node-open, plain_arm-open}
-use Rattle.mc_skeletons.specs.declared.skeleton.Step.{Step}
-use Rattle.mc_skeletons.specs.declared.skeleton.Step.TheVariants as T
-use Rattle.mc_det.specs.Bodies.{fixed, skeleton, skeleton_in, skeleton_all, skeleton_any, skeleton_arms}
+use Rattle.mc_det_constraints.specs.declared.constraint.Step.{Step}
+use Rattle.mc_det_constraints.specs.declared.constraint.Step.TheVariants as T
+use Rattle.mc_det.specs.Bodies.{fixed, constraint, constraint_in, constraint_all, constraint_any, constraint_arms}
 use Rattle.mc_det.specs.declared.walk.Walk.{Walk}
 use Rattle.mc_det.specs.declared.facts.Fact.{Fact}
 use Rattle.mc_det.specs.code.Facts.{known_in}
@@ -119,64 +119,64 @@ arm_named_at B (a ∷ arms) (suc k) d lt h = arm_named_at B arms k d (omega arit
 module _ (S : System) (type : ℕ → TypeTerm) where
   -- what is left of a conjunction, of a disjunction, and of arms, from a place on
   abbrev pub all_left : Insts → Known → List GoalNode → ℕ → List Step
-  all_left b known gs k = skeleton_all S type b known (nodes (map plain_node (drop k gs))) ++ times k T.Conj
+  all_left b known gs k = constraint_all S type b known (nodes (map plain_node (drop k gs))) ++ times k T.Conj
 
   abbrev pub any_left : Insts → Known → List GoalNode → ℕ → List Step
-  any_left b known gs k = skeleton_any S type b known (nodes (map plain_node (drop k gs))) ++ times k T.Disj
+  any_left b known gs k = constraint_any S type b known (nodes (map plain_node (drop k gs))) ++ times k T.Disj
 
   abbrev pub arms_left : Insts → Known → ℕ → List Arm → ℕ → List Step
-  arms_left b known x arms k = skeleton_arms S type b known x (arms_of (map plain_arm (drop k arms))) ++ times k T.Arms
+  arms_left b known x arms k = constraint_arms S type b known x (arms_of (map plain_arm (drop k arms))) ++ times k T.Arms
 
-  pub all_step : (b c : Insts) (known : Known) (gs : List GoalNode) (k : ℕ) (d : GoalNode) (xs ys total : List Step) → k < length gs → ys ≡ xs ++ skeleton S type b known (plain_node (get_or gs k d)) → c ≡ insts_after (plain_node (get_or gs k d)) b → xs ++ all_left b known gs k ≡ total → ys ++ all_left c known gs (k + 1) ≡ total
+  pub all_step : (b c : Insts) (known : Known) (gs : List GoalNode) (k : ℕ) (d : GoalNode) (xs ys total : List Step) → k < length gs → ys ≡ xs ++ constraint S type b known (plain_node (get_or gs k d)) → c ≡ insts_after (plain_node (get_or gs k d)) b → xs ++ all_left b known gs k ≡ total → ys ++ all_left c known gs (k + 1) ≡ total
   all_step b c known gs k d xs ys total lt put after e =
       ap (λ n. ys ++ all_left c known gs n) (add-one k)
       ∙ ap (λ (l : List Step). l ++ all_left c known gs (suc k)) put
-      ∙ ap (λ (a : Insts). (xs ++ skeleton S type b known (plain_node (get_or gs k d))) ++ all_left a known gs (suc k)) after
-      ∙ part_put xs (skeleton S type b known (plain_node (get_or gs k d))) (skeleton_all S type (insts_after (plain_node (get_or gs k d)) b) known (nodes (map plain_node (drop (suc k) gs)))) T.Conj k
-      ∙ ap (λ (l : List GoalNode). xs ++ (skeleton_all S type b known (nodes (map plain_node l)) ++ times k T.Conj)) (sym (drop-cons gs k d lt))
+      ∙ ap (λ (a : Insts). (xs ++ constraint S type b known (plain_node (get_or gs k d))) ++ all_left a known gs (suc k)) after
+      ∙ part_put xs (constraint S type b known (plain_node (get_or gs k d))) (constraint_all S type (insts_after (plain_node (get_or gs k d)) b) known (nodes (map plain_node (drop (suc k) gs)))) T.Conj k
+      ∙ ap (λ (l : List GoalNode). xs ++ (constraint_all S type b known (nodes (map plain_node l)) ++ times k T.Conj)) (sym (drop-cons gs k d lt))
       ∙ e
 
   pub all_done : (b : Insts) (known : Known) (gs : List GoalNode) (k : ℕ) (xs total : List Step) → k ≡ length gs → xs ++ all_left b known gs k ≡ total → (xs ++ fixed det) ++ times (length gs) T.Conj ≡ total
   all_done b known gs k xs total e h =
       append_assoc xs (fixed det) (times (length gs) T.Conj)
-      ∙ ap (λ (l : List GoalNode). xs ++ (skeleton_all S type b known (nodes (map plain_node l)) ++ times (length gs) T.Conj)) (sym (drop-length gs))
+      ∙ ap (λ (l : List GoalNode). xs ++ (constraint_all S type b known (nodes (map plain_node l)) ++ times (length gs) T.Conj)) (sym (drop-length gs))
       ∙ ap (λ n. xs ++ all_left b known gs n) (sym e)
       ∙ h
 
-  pub any_step : (b : Insts) (known : Known) (gs : List GoalNode) (k : ℕ) (d : GoalNode) (xs ys total : List Step) → k < length gs → ys ≡ xs ++ skeleton S type b known (plain_node (get_or gs k d)) → xs ++ any_left b known gs k ≡ total → ys ++ any_left b known gs (k + 1) ≡ total
+  pub any_step : (b : Insts) (known : Known) (gs : List GoalNode) (k : ℕ) (d : GoalNode) (xs ys total : List Step) → k < length gs → ys ≡ xs ++ constraint S type b known (plain_node (get_or gs k d)) → xs ++ any_left b known gs k ≡ total → ys ++ any_left b known gs (k + 1) ≡ total
   any_step b known gs k d xs ys total lt put e =
       ap (λ n. ys ++ any_left b known gs n) (add-one k)
       ∙ ap (λ (l : List Step). l ++ any_left b known gs (suc k)) put
-      ∙ part_put xs (skeleton S type b known (plain_node (get_or gs k d))) (skeleton_any S type b known (nodes (map plain_node (drop (suc k) gs)))) T.Disj k
-      ∙ ap (λ (l : List GoalNode). xs ++ (skeleton_any S type b known (nodes (map plain_node l)) ++ times k T.Disj)) (sym (drop-cons gs k d lt))
+      ∙ part_put xs (constraint S type b known (plain_node (get_or gs k d))) (constraint_any S type b known (nodes (map plain_node (drop (suc k) gs)))) T.Disj k
+      ∙ ap (λ (l : List GoalNode). xs ++ (constraint_any S type b known (nodes (map plain_node l)) ++ times k T.Disj)) (sym (drop-cons gs k d lt))
       ∙ e
 
   pub any_done : (b : Insts) (known : Known) (gs : List GoalNode) (k : ℕ) (xs total : List Step) → k ≡ length gs → xs ++ any_left b known gs k ≡ total → (xs ++ fixed failure) ++ times (length gs) T.Disj ≡ total
   any_done b known gs k xs total e h =
       append_assoc xs (fixed failure) (times (length gs) T.Disj)
-      ∙ ap (λ (l : List GoalNode). xs ++ (skeleton_any S type b known (nodes (map plain_node l)) ++ times (length gs) T.Disj)) (sym (drop-length gs))
+      ∙ ap (λ (l : List GoalNode). xs ++ (constraint_any S type b known (nodes (map plain_node l)) ++ times (length gs) T.Disj)) (sym (drop-length gs))
       ∙ ap (λ n. xs ++ any_left b known gs n) (sym e)
       ∙ h
 
   -- an arm, and those after it
-  arm_first : (b : Insts) (known : Known) (x : ℕ) (a : Arm) (arms : List Arm) → skeleton_arms S type b known x (arms_of (map plain_arm (a ∷ arms))) ≡ skeleton S type b (learned x (plain_label a.on) known) (plain_node a.body) ++ (skeleton_arms S type b known x (arms_of (map plain_arm arms)) ++ T.Arms ∷ [])
+  arm_first : (b : Insts) (known : Known) (x : ℕ) (a : Arm) (arms : List Arm) → constraint_arms S type b known x (arms_of (map plain_arm (a ∷ arms))) ≡ constraint S type b (learned x (plain_label a.on) known) (plain_node a.body) ++ (constraint_arms S type b known x (arms_of (map plain_arm arms)) ++ T.Arms ∷ [])
   arm_first b known x a arms =
-      ap (λ (p : Label × Node). skeleton S type b (learned x p.0 known) p.1 ++ (skeleton_arms S type b known x (arms_of (map plain_arm arms)) ++ T.Arms ∷ [])) (plain_arm-open a)
+      ap (λ (p : Label × Node). constraint S type b (learned x p.0 known) p.1 ++ (constraint_arms S type b known x (arms_of (map plain_arm arms)) ++ T.Arms ∷ [])) (plain_arm-open a)
 
-  pub arms_step : (b : Insts) (known in_arm : Known) (x : ℕ) (arms : List Arm) (k : ℕ) (d : Arm) (xs ys total : List Step) → k < length arms → ys ≡ xs ++ skeleton S type b in_arm (plain_node (get_or arms k d).body) → in_arm ≡ learned x (plain_label (get_or arms k d).on) known → xs ++ arms_left b known x arms k ≡ total → ys ++ arms_left b known x arms (k + 1) ≡ total
+  pub arms_step : (b : Insts) (known in_arm : Known) (x : ℕ) (arms : List Arm) (k : ℕ) (d : Arm) (xs ys total : List Step) → k < length arms → ys ≡ xs ++ constraint S type b in_arm (plain_node (get_or arms k d).body) → in_arm ≡ learned x (plain_label (get_or arms k d).on) known → xs ++ arms_left b known x arms k ≡ total → ys ++ arms_left b known x arms (k + 1) ≡ total
   arms_step b known in_arm x arms k d xs ys total lt put told e =
       ap (λ n. ys ++ arms_left b known x arms n) (add-one k)
       ∙ ap (λ (l : List Step). l ++ arms_left b known x arms (suc k)) put
-      ∙ ap (λ (kn : Known). (xs ++ skeleton S type b kn (plain_node (get_or arms k d).body)) ++ arms_left b known x arms (suc k)) told
-      ∙ part_put xs (skeleton S type b (learned x (plain_label (get_or arms k d).on) known) (plain_node (get_or arms k d).body)) (skeleton_arms S type b known x (arms_of (map plain_arm (drop (suc k) arms)))) T.Arms k
+      ∙ ap (λ (kn : Known). (xs ++ constraint S type b kn (plain_node (get_or arms k d).body)) ++ arms_left b known x arms (suc k)) told
+      ∙ part_put xs (constraint S type b (learned x (plain_label (get_or arms k d).on) known) (plain_node (get_or arms k d).body)) (constraint_arms S type b known x (arms_of (map plain_arm (drop (suc k) arms)))) T.Arms k
       ∙ ap (λ (l : List Step). xs ++ (l ++ times k T.Arms)) (sym (arm_first b known x (get_or arms k d) (drop (suc k) arms)))
-      ∙ ap (λ (l : List Arm). xs ++ (skeleton_arms S type b known x (arms_of (map plain_arm l)) ++ times k T.Arms)) (sym (drop-cons arms k d lt))
+      ∙ ap (λ (l : List Arm). xs ++ (constraint_arms S type b known x (arms_of (map plain_arm l)) ++ times k T.Arms)) (sym (drop-cons arms k d lt))
       ∙ e
 
   pub arms_done : (b : Insts) (known : Known) (x : ℕ) (arms : List Arm) (k : ℕ) (xs total : List Step) → k ≡ length arms → xs ++ arms_left b known x arms k ≡ total → (xs ++ fixed erroneous) ++ times (length arms) T.Arms ≡ total
   arms_done b known x arms k xs total e h =
       append_assoc xs (fixed erroneous) (times (length arms) T.Arms)
-      ∙ ap (λ (l : List Arm). xs ++ (skeleton_arms S type b known x (arms_of (map plain_arm l)) ++ times (length arms) T.Arms)) (sym (drop-length arms))
+      ∙ ap (λ (l : List Arm). xs ++ (constraint_arms S type b known x (arms_of (map plain_arm l)) ++ times (length arms) T.Arms)) (sym (drop-length arms))
       ∙ ap (λ n. xs ++ arms_left b known x arms n) (sym e)
       ∙ h
 
@@ -241,7 +241,7 @@ module _ (q : PlainProcs) where
       }
 
   -- a then part after its condition's changes, which are undone
-  pub then_put : (types : List Ty) (a b d e : Walk) (n t : GoalNode) → b.known.items ≡ a.known.items → b.steps.items ≡ a.steps.items → insts_in b.point ≡ insts_after (plain_node n) (insts_in a.point) → Puts q b d (λ S is kn. skeleton S (typed types) is kn (plain_node t)) → e.point ≡ a.point → e.known.items ≡ d.known.items → e.steps.items ≡ d.steps.items → Puts q a e (λ S is kn. skeleton S (typed types) (insts_after (plain_node n) is) kn (plain_node t))
+  pub then_put : (types : List Ty) (a b d e : Walk) (n t : GoalNode) → b.known.items ≡ a.known.items → b.steps.items ≡ a.steps.items → insts_in b.point ≡ insts_after (plain_node n) (insts_in a.point) → Puts q b d (λ S is kn. constraint S (typed types) is kn (plain_node t)) → e.point ≡ a.point → e.known.items ≡ d.known.items → e.steps.items ≡ d.steps.items → Puts q a e (λ S is kn. constraint S (typed types) (insts_after (plain_node n) is) kn (plain_node t))
   then_put types a b d e n t bk bs after p ep ek es =
       record {
         point = ep;
@@ -250,66 +250,66 @@ module _ (q : PlainProcs) where
             let S = as_system outcome q in
             es
             ∙ p.steps outcome
-            ∙ ap (λ (l : List Step). l ++ skeleton S (typed types) (insts_in b.point) (known_in b.known.items) (plain_node t)) bs
-            ∙ ap (λ (fs : List Fact). a.steps.items ++ skeleton S (typed types) (insts_in b.point) (known_in fs) (plain_node t)) bk
-            ∙ ap (λ (is : Insts). a.steps.items ++ skeleton S (typed types) is (known_in a.known.items) (plain_node t)) after;
+            ∙ ap (λ (l : List Step). l ++ constraint S (typed types) (insts_in b.point) (known_in b.known.items) (plain_node t)) bs
+            ∙ ap (λ (fs : List Fact). a.steps.items ++ constraint S (typed types) (insts_in b.point) (known_in fs) (plain_node t)) bk
+            ∙ ap (λ (is : Insts). a.steps.items ++ constraint S (typed types) is (known_in a.known.items) (plain_node t)) after;
       }
 
   -- an if-then-else
-  pub ite_put : (types : List Ty) (a b c d z : Walk) (n t e : GoalNode) → Puts q a b (λ S is kn. skeleton S (typed types) is kn (plain_node n)) → Puts q b c (λ S is kn. skeleton S (typed types) (insts_after (plain_node n) is) kn (plain_node t)) → Puts q c d (λ S is kn. skeleton S (typed types) is kn (plain_node e)) → PutSteps d z (T.Ite ∷ []) → Puts q a z (λ S is kn. skeleton_in S (typed types) is kn (Ite [] (plain_node n) (plain_node t) (plain_node e)))
+  pub ite_put : (types : List Ty) (a b c d z : Walk) (n t e : GoalNode) → Puts q a b (λ S is kn. constraint S (typed types) is kn (plain_node n)) → Puts q b c (λ S is kn. constraint S (typed types) (insts_after (plain_node n) is) kn (plain_node t)) → Puts q c d (λ S is kn. constraint S (typed types) is kn (plain_node e)) → PutSteps d z (T.Ite ∷ []) → Puts q a z (λ S is kn. constraint_in S (typed types) is kn (Ite [] (plain_node n) (plain_node t) (plain_node e)))
   ite_put types a b c d z n t e pn pt pe pz =
       then_puts a b z
-      (λ S is kn. skeleton S (typed types) is kn (plain_node n))
-      (λ S is kn. skeleton S (typed types) (insts_after (plain_node n) is) kn (plain_node t) ++ (skeleton S (typed types) is kn (plain_node e) ++ T.Ite ∷ []))
-      (λ S is kn. skeleton_in S (typed types) is kn (Ite [] (plain_node n) (plain_node t) (plain_node e)))
+      (λ S is kn. constraint S (typed types) is kn (plain_node n))
+      (λ S is kn. constraint S (typed types) (insts_after (plain_node n) is) kn (plain_node t) ++ (constraint S (typed types) is kn (plain_node e) ++ T.Ite ∷ []))
+      (λ S is kn. constraint_in S (typed types) is kn (Ite [] (plain_node n) (plain_node t) (plain_node e)))
       pn
       (then_puts b c z
-      (λ S is kn. skeleton S (typed types) (insts_after (plain_node n) is) kn (plain_node t))
-      (λ S is kn. skeleton S (typed types) is kn (plain_node e) ++ T.Ite ∷ [])
-      (λ S is kn. skeleton S (typed types) (insts_after (plain_node n) is) kn (plain_node t) ++ (skeleton S (typed types) is kn (plain_node e) ++ T.Ite ∷ []))
+      (λ S is kn. constraint S (typed types) (insts_after (plain_node n) is) kn (plain_node t))
+      (λ S is kn. constraint S (typed types) is kn (plain_node e) ++ T.Ite ∷ [])
+      (λ S is kn. constraint S (typed types) (insts_after (plain_node n) is) kn (plain_node t) ++ (constraint S (typed types) is kn (plain_node e) ++ T.Ite ∷ []))
       pt
       (then_steps c d z (T.Ite ∷ [])
-      (λ S is kn. skeleton S (typed types) is kn (plain_node e))
-      (λ S is kn. skeleton S (typed types) is kn (plain_node e) ++ T.Ite ∷ [])
+      (λ S is kn. constraint S (typed types) is kn (plain_node e))
+      (λ S is kn. constraint S (typed types) is kn (plain_node e) ++ T.Ite ∷ [])
       pe pz (λ outcome. refl))
       (λ outcome. refl))
       (λ outcome. refl)
 
   module _ (types : List Ty) (a l m : Walk) (k : ℕ) (total : System → List Step) (known : l.known.items ≡ a.known.items) where
     -- one goal more of a conjunction
-    pub one_run : (p : List ℕ) (gs : List GoalNode) (g d : GoalNode) → k < length gs → g ≡ get_or gs k d → Puts q l m (λ S b kn. skeleton S (typed types) b kn (plain_node g)) → insts_in p ≡ insts_after (plain_node g) (insts_in m.point) → (n : Walk) → n.steps.items ≡ m.steps.items → InSystems q (λ S. l.steps.items ++ all_left S (typed types) (insts_in l.point) (known_in a.known.items) gs k ≡ total S) → InSystems q (λ S. n.steps.items ++ all_left S (typed types) (insts_in p) (known_in a.known.items) gs (k + 1) ≡ total S)
+    pub one_run : (p : List ℕ) (gs : List GoalNode) (g d : GoalNode) → k < length gs → g ≡ get_or gs k d → Puts q l m (λ S b kn. constraint S (typed types) b kn (plain_node g)) → insts_in p ≡ insts_after (plain_node g) (insts_in m.point) → (n : Walk) → n.steps.items ≡ m.steps.items → InSystems q (λ S. l.steps.items ++ all_left S (typed types) (insts_in l.point) (known_in a.known.items) gs k ≡ total S) → InSystems q (λ S. n.steps.items ++ all_left S (typed types) (insts_in p) (known_in a.known.items) gs (k + 1) ≡ total S)
     one_run p gs g d lt is put after n ns inv outcome =
         let S = as_system outcome q in
         all_step S (typed types) (insts_in l.point) (insts_in p) (known_in a.known.items) gs k d l.steps.items n.steps.items (total S) lt
         (ns
         ∙ put.steps outcome
-        ∙ ap (λ (fs : List Fact). l.steps.items ++ skeleton S (typed types) (insts_in l.point) (known_in fs) (plain_node g)) known
-        ∙ ap (λ (h : GoalNode). l.steps.items ++ skeleton S (typed types) (insts_in l.point) (known_in a.known.items) (plain_node h)) is)
+        ∙ ap (λ (fs : List Fact). l.steps.items ++ constraint S (typed types) (insts_in l.point) (known_in fs) (plain_node g)) known
+        ∙ ap (λ (h : GoalNode). l.steps.items ++ constraint S (typed types) (insts_in l.point) (known_in a.known.items) (plain_node h)) is)
         (after
         ∙ ap (λ (is : List ℕ). insts_after (plain_node g) (insts_in is)) put.point
         ∙ ap (λ (h : GoalNode). insts_after (plain_node h) (insts_in l.point)) is)
         (inv outcome)
 
     -- one disjunct more
-    pub one_tried : (gs : List GoalNode) (g d : GoalNode) → l.point ≡ a.point → k < length gs → g ≡ get_or gs k d → Puts q l m (λ S b kn. skeleton S (typed types) b kn (plain_node g)) → InSystems q (λ S. l.steps.items ++ any_left S (typed types) (insts_in a.point) (known_in a.known.items) gs k ≡ total S) → InSystems q (λ S. m.steps.items ++ any_left S (typed types) (insts_in a.point) (known_in a.known.items) gs (k + 1) ≡ total S)
+    pub one_tried : (gs : List GoalNode) (g d : GoalNode) → l.point ≡ a.point → k < length gs → g ≡ get_or gs k d → Puts q l m (λ S b kn. constraint S (typed types) b kn (plain_node g)) → InSystems q (λ S. l.steps.items ++ any_left S (typed types) (insts_in a.point) (known_in a.known.items) gs k ≡ total S) → InSystems q (λ S. m.steps.items ++ any_left S (typed types) (insts_in a.point) (known_in a.known.items) gs (k + 1) ≡ total S)
     one_tried gs g d point lt is put inv outcome =
         let S = as_system outcome q in
         any_step S (typed types) (insts_in a.point) (known_in a.known.items) gs k d l.steps.items m.steps.items (total S) lt
         (put.steps outcome
-        ∙ ap (λ (p : List ℕ). l.steps.items ++ skeleton S (typed types) (insts_in p) (known_in l.known.items) (plain_node g)) point
-        ∙ ap (λ (fs : List Fact). l.steps.items ++ skeleton S (typed types) (insts_in a.point) (known_in fs) (plain_node g)) known
-        ∙ ap (λ (h : GoalNode). l.steps.items ++ skeleton S (typed types) (insts_in a.point) (known_in a.known.items) (plain_node h)) is)
+        ∙ ap (λ (p : List ℕ). l.steps.items ++ constraint S (typed types) (insts_in p) (known_in l.known.items) (plain_node g)) point
+        ∙ ap (λ (fs : List Fact). l.steps.items ++ constraint S (typed types) (insts_in a.point) (known_in fs) (plain_node g)) known
+        ∙ ap (λ (h : GoalNode). l.steps.items ++ constraint S (typed types) (insts_in a.point) (known_in a.known.items) (plain_node h)) is)
         (inv outcome)
 
     -- one arm more; in it there is a fact more
-    pub one_chosen : (w : Walk) (x : ℕ) (f : Fact) (arms : List Arm) (r d : Arm) → w.point ≡ l.point → w.known.items ≡ l.known.items ++ f ∷ [] → w.steps.items ≡ l.steps.items → f.variable ≡ x → f.on ≡ r.on → l.point ≡ a.point → k < length arms → r ≡ get_or arms k d → Puts q w m (λ S b kn. skeleton S (typed types) b kn (plain_node r.body)) → InSystems q (λ S. l.steps.items ++ arms_left S (typed types) (insts_in a.point) (known_in a.known.items) x arms k ≡ total S) → InSystems q (λ S. m.steps.items ++ arms_left S (typed types) (insts_in a.point) (known_in a.known.items) x arms (k + 1) ≡ total S)
+    pub one_chosen : (w : Walk) (x : ℕ) (f : Fact) (arms : List Arm) (r d : Arm) → w.point ≡ l.point → w.known.items ≡ l.known.items ++ f ∷ [] → w.steps.items ≡ l.steps.items → f.variable ≡ x → f.on ≡ r.on → l.point ≡ a.point → k < length arms → r ≡ get_or arms k d → Puts q w m (λ S b kn. constraint S (typed types) b kn (plain_node r.body)) → InSystems q (λ S. l.steps.items ++ arms_left S (typed types) (insts_in a.point) (known_in a.known.items) x arms k ≡ total S) → InSystems q (λ S. m.steps.items ++ arms_left S (typed types) (insts_in a.point) (known_in a.known.items) x arms (k + 1) ≡ total S)
     one_chosen w x f arms r d wp wk ws fx fon point lt is put inv outcome =
         let S = as_system outcome q in
         arms_step S (typed types) (insts_in a.point) (known_in a.known.items) (known_in w.known.items) x arms k d l.steps.items m.steps.items (total S) lt
         (put.steps outcome
-        ∙ ap (λ (xs : List Step). xs ++ skeleton S (typed types) (insts_in w.point) (known_in w.known.items) (plain_node r.body)) ws
-        ∙ ap (λ (p : List ℕ). l.steps.items ++ skeleton S (typed types) (insts_in p) (known_in w.known.items) (plain_node r.body)) (wp ∙ point)
-        ∙ ap (λ (h : Arm). l.steps.items ++ skeleton S (typed types) (insts_in a.point) (known_in w.known.items) (plain_node h.body)) is)
+        ∙ ap (λ (xs : List Step). xs ++ constraint S (typed types) (insts_in w.point) (known_in w.known.items) (plain_node r.body)) ws
+        ∙ ap (λ (p : List ℕ). l.steps.items ++ constraint S (typed types) (insts_in p) (known_in w.known.items) (plain_node r.body)) (wp ∙ point)
+        ∙ ap (λ (h : Arm). l.steps.items ++ constraint S (typed types) (insts_in a.point) (known_in w.known.items) (plain_node h.body)) is)
         (ap known_in wk
         ∙ learned_last l.known.items f
         ∙ ap (λ y. learned y (plain_label f.on) (known_in l.known.items)) fx
@@ -319,10 +319,10 @@ module _ (q : PlainProcs) where
         (inv outcome)
 
 -- a goal, with the mark for pruned ones
-pub node_seen : (S : System) (type : ℕ → TypeTerm) (b : Insts) (kn : Known) (g : GoalNode) (xs : List Step) → xs ≡ (if g.pruned then T.Pruned ∷ [] else []) → skeleton_in S type b kn (plain_sched g.goal) ++ xs ≡ skeleton S type b kn (plain_node g)
+pub node_seen : (S : System) (type : ℕ → TypeTerm) (b : Insts) (kn : Known) (g : GoalNode) (xs : List Step) → xs ≡ (if g.pruned then T.Pruned ∷ [] else []) → constraint_in S type b kn (plain_sched g.goal) ++ xs ≡ constraint S type b kn (plain_node g)
 node_seen S type b kn g xs e =
-    ap (λ (l : List Step). skeleton_in S type b kn (plain_sched g.goal) ++ l) e
-    ∙ ap (skeleton S type b kn) (sym (plain_node-open g))
+    ap (λ (l : List Step). constraint_in S type b kn (plain_sched g.goal) ++ l) e
+    ∙ ap (constraint S type b kn) (sym (plain_node-open g))
 
 -- the last fact is taken off
 same_front : (xs ys : List Fact) (x y : Fact) → xs ++ x ∷ [] ≡ ys ++ y ∷ [] → xs ≡ ys

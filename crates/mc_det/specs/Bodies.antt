@@ -9,8 +9,8 @@ use Rattle.mc_model.specs.Good.{System}
 use Rattle.mc_accepted.specs.Ordered.{Insts}
 use Rattle.mc_accepted.specs.Determined.{Known, learned, knows_constant, insts_after, builtin_determinism, allowed_in, take_determinism, misses}
 use Rattle.mc_accepted.specs.DeterminismFaults.{is_empty}
-use Rattle.mc_skeletons.specs.declared.skeleton.Step.{Step}
-use Rattle.mc_skeletons.specs.declared.skeleton.Step.TheVariants as T
+use Rattle.mc_det_constraints.specs.declared.constraint.Step.{Step}
+use Rattle.mc_det_constraints.specs.declared.constraint.Step.TheVariants as T
 
 abbrev pub fixed : Determinism → List Step
 fixed d = T.Fixed (inferred d) ∷ []
@@ -18,42 +18,42 @@ fixed d = T.Fixed (inferred d) ∷ []
 module _ (S : System) (type : ℕ → TypeTerm) where
   -- a pruned goal, and a switch that misses a symbol, have a step more
   abbrev mutual
-    pub skeleton : Insts → Known → Node → List Step
-    skeleton b known (node s changes d is_pruned) =
-        skeleton_in b known s ++ (if is_pruned then T.Pruned ∷ [] else [])
+    pub constraint : Insts → Known → Node → List Step
+    constraint b known (node s changes d is_pruned) =
+        constraint_in b known s ++ (if is_pruned then T.Pruned ∷ [] else [])
 
-    pub skeleton_in : Insts → Known → Scheduled → List Step
-    skeleton_in b known (Conj ns) = skeleton_all b known ns
-    skeleton_in b known (Disj ns) = skeleton_any b known ns
-    skeleton_in b known (Switch x arms) =
-        skeleton_arms b known x arms
+    pub constraint_in : Insts → Known → Scheduled → List Step
+    constraint_in b known (Conj ns) = constraint_all b known ns
+    constraint_in b known (Disj ns) = constraint_any b known ns
+    constraint_in b known (Switch x arms) =
+        constraint_arms b known x arms
         ++ (if misses S type (allowed_in S type (type x) (b x)) arms then T.Misses ∷ [] else [])
-    skeleton_in b known (Ite vs c t e) =
-        skeleton b known c
-        ++ (skeleton (insts_after c b) known t ++ (skeleton b known e ++ T.Ite ∷ []))
-    skeleton_in b known (Not n) = skeleton b known n ++ T.Not ∷ []
-    skeleton_in b known (Exists vs n) = skeleton b known n
-    skeleton_in b known (Assign x y) = fixed det
-    skeleton_in b known (Test x y) = fixed semidet
-    skeleton_in b known (Build x s ys) = fixed det
-    skeleton_in b known (Take x s ys) = fixed (take_determinism S type b known x s ys)
-    skeleton_in b known (Const x v) = fixed det
-    skeleton_in b known (TestConst x v) =
+    constraint_in b known (Ite vs c t e) =
+        constraint b known c
+        ++ (constraint (insts_after c b) known t ++ (constraint b known e ++ T.Ite ∷ []))
+    constraint_in b known (Not n) = constraint b known n ++ T.Not ∷ []
+    constraint_in b known (Exists vs n) = constraint b known n
+    constraint_in b known (Assign x y) = fixed det
+    constraint_in b known (Test x y) = fixed semidet
+    constraint_in b known (Build x s ys) = fixed det
+    constraint_in b known (Take x s ys) = fixed (take_determinism S type b known x s ys)
+    constraint_in b known (Const x v) = fixed det
+    constraint_in b known (TestConst x v) =
         fixed (if knows_constant (known x) v then det else semidet)
-    skeleton_in b known (Call p xs implied last) = T.Call p (not (is_empty implied)) ∷ []
-    skeleton_in b known (Apply op xs ys) = fixed (builtin_determinism op)
+    constraint_in b known (Call p xs implied last) = T.Call p (not (is_empty implied)) ∷ []
+    constraint_in b known (Apply op xs ys) = fixed (builtin_determinism op)
 
-    pub skeleton_all : Insts → Known → Nodes → List Step
-    skeleton_all b known no_nodes = fixed det
-    skeleton_all b known (node_then n ns) =
-        skeleton b known n ++ (skeleton_all (insts_after n b) known ns ++ T.Conj ∷ [])
+    pub constraint_all : Insts → Known → Nodes → List Step
+    constraint_all b known no_nodes = fixed det
+    constraint_all b known (node_then n ns) =
+        constraint b known n ++ (constraint_all (insts_after n b) known ns ++ T.Conj ∷ [])
 
-    pub skeleton_any : Insts → Known → Nodes → List Step
-    skeleton_any b known no_nodes = fixed failure
-    skeleton_any b known (node_then n ns) =
-        skeleton b known n ++ (skeleton_any b known ns ++ T.Disj ∷ [])
+    pub constraint_any : Insts → Known → Nodes → List Step
+    constraint_any b known no_nodes = fixed failure
+    constraint_any b known (node_then n ns) =
+        constraint b known n ++ (constraint_any b known ns ++ T.Disj ∷ [])
 
-    pub skeleton_arms : Insts → Known → ℕ → Arms → List Step
-    skeleton_arms b known x no_arms = fixed erroneous
-    skeleton_arms b known x (arm_then l n arms) =
-        skeleton b (learned x l known) n ++ (skeleton_arms b known x arms ++ T.Arms ∷ [])
+    pub constraint_arms : Insts → Known → ℕ → Arms → List Step
+    constraint_arms b known x no_arms = fixed erroneous
+    constraint_arms b known x (arm_then l n arms) =
+        constraint b (learned x l known) n ++ (constraint_arms b known x arms ++ T.Arms ∷ [])

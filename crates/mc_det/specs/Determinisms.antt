@@ -9,7 +9,7 @@ use Rattle.mc_model.specs.PlainGoals.{plain_proc}
 use Rattle.mc_model.specs.declared.sched.Proc.{Proc}
 use Rattle.mc_accepted.specs.Inferred.{DeclaredProcedure, DeclaredSystem, LeastClosed}
 use Rattle.mc_procs.specs.Procedures.{PlainProcs, source_of, insts_of, no_procedure}
-use Rattle.mc_skeletons.specs.Least.{assigned}
+use Rattle.mc_det_constraints.specs.Least.{assigned}
 
 abbrev pub as_declared : Proc → DeclaredProcedure
 as_declared p =

@@ -1,5 +1,5 @@
 pub mod Bodies
-pub mod SkeletonLaws
+pub mod ConstraintLaws
 pub mod Determinisms
 pub mod Marked
 pub mod MarkedProcedures

@@ -12,7 +12,7 @@ use Rattle.mc_accepted.specs.Accepted.{entered, KeepsDeterminism}
 use Rattle.mc_accepted.specs.Determined.{nothing_known}
 use Rattle.mc_accepted.specs.Inferred.{with_determinisms}
 use Rattle.mc_procs.specs.Procedures.{PlainProcs, as_system, procedure_at, with_procs}
-use Rattle.mc_skeletons.specs.Least.{assigned}
+use Rattle.mc_det_constraints.specs.Least.{assigned}
 use Rattle.mc_det.specs.Determinisms.{AreDeterminisms}
 use Rattle.mc_det.specs.Marked.{marked_body}
 

@@ -3,17 +3,17 @@ ghost use Rattle.mc_model.specs.PlainGoals.{plain_proc};
 ghost use Rattle.mc_model.specs.declared.sched.Proc.{Proc};
 ghost use Rattle.mc_procs.specs.Fitting.{ProcedureFits};
 ghost use Rattle.mc_procs.specs.Procedures.{procedure_at};
-ghost use Rattle.mc_skeletons.specs.Least.{body_at};
-ghost use Rattle.mc_det.specs.SkeletonLaws.{skeleton_of};
+ghost use Rattle.mc_det_constraints.specs.Least.{body_at};
+ghost use Rattle.mc_det.specs.ConstraintLaws.{constraint_of};
 ghost use Rattle.mc_det.specs.Determinisms.{AreDeterminisms};
 ghost use Rattle.mc_det.specs.code.Walks.{InSystems};
 
 use crate::point::Point;
 use crate::walk::Walk;
 use mc_base::{Memory, Row};
+use mc_det_constraints::{Step, least};
 use mc_model::sched::Proc;
 use mc_procs::Procs;
-use mc_skeletons::{Step, least};
 use mc_source::det::Det;
 use std::alloc::Global;
 
@@ -24,30 +24,30 @@ pub fn determinisms(alloc: Global, procs: &Procs) -> Result<Vec<Det>, Memory>
     ensures least { IfOk result (λ ds. AreDeterminisms procs.now ds.items) }
 {
     procs.fit();
-    let bodies = skeletons(alloc, procs)?;
+    let bodies = constraints(alloc, procs)?;
     let declared = declared(alloc, procs)?;
     least(alloc, bodies.as_slice(), declared.as_slice())
 }
 
 /// The skeleton of each procedure's body.
-fn skeletons(alloc: Global, procs: &Procs) -> Result<Vec<Row<Step>>, Memory>
+fn constraints(alloc: Global, procs: &Procs) -> Result<Vec<Row<Step>>, Memory>
     ensures count { IfOk result (λ bodies. length bodies.items ≡ length procs.now.added) }
     ensures few { IfOk result (λ bodies. length bodies.items < 2 ^ 32) }
     ensures bodies { IfOk result (λ bodies. InSystems procs.now (λ S. (k : ℕ) → k < length procs.now.added
-        → body_at bodies.items k ≡ skeleton_of S (procedure_at procs.now.added k))) }
+        → body_at bodies.items k ≡ constraint_of S (procedure_at procs.now.added k))) }
 {
     procs.fit();
     let mut bodies = Vec::new(alloc);
     for k in 0..procs.count() {
-        bodies.push(skeleton_of(alloc, procs, procs.get(k))?)?;
+        bodies.push(constraint_of(alloc, procs, procs.get(k))?)?;
     }
     Ok(bodies)
 }
 
 /// The skeleton of a procedure's body.
-fn skeleton_of(alloc: Global, procs: &Procs, p: &Proc) -> Result<Row<Step>, Memory>
+fn constraint_of(alloc: Global, procs: &Procs, p: &Proc) -> Result<Row<Step>, Memory>
     requires { ProcedureFits procs.now (plain_proc p.now) }
-    ensures { IfOk result (λ steps. InSystems procs.now (λ S. steps ≡ skeleton_of S (plain_proc p.now))) }
+    ensures { IfOk result (λ steps. InSystems procs.now (λ S. steps ≡ constraint_of S (plain_proc p.now))) }
 {
     procs.fit();
     let variables = p.var_types.len();

@@ -1,6 +1,6 @@
 ghost use Rattle.mc_det.specs.Marked.{MarksAreKept};
 ghost use Rattle.mc_det.specs.Pruned.{PrunedKeepMarks};
-ghost use Rattle.mc_det.specs.SkeletonLaws.{SkeletonsTell, LeastBySkeletons};
+ghost use Rattle.mc_det.specs.ConstraintLaws.{SkeletonsTell, LeastBySkeletons};
 
 /// A goal's skeleton comes to what the table says of the goal.
 pub fn skeletons_tell()

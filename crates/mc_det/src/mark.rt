@@ -6,7 +6,7 @@ ghost use Rattle.mc_model.specs.Scheduled.{nodes, Conj, Disj, Switch, Take};
 ghost use Rattle.mc_model.specs.PlainGoals.{plain_node, plain_sched, plain_arm, arms_of};
 ghost use Rattle.mc_accepted.specs.Determined.{knows_constant, then_tests};
 ghost use Rattle.mc_procs.specs.Named.{Named, NamedIn, EachNamed, EachArmNamed};
-ghost use Rattle.mc_skeletons.specs.Least.{assigned};
+ghost use Rattle.mc_det_constraints.specs.Least.{assigned};
 ghost use Rattle.mc_accepted.specs.Inferred.{join};
 ghost use Rattle.mc_det.specs.Marked.{marked};
 ghost use Rattle.mc_det.specs.code.Facts.{known_in};

@@ -7,7 +7,7 @@ ghost use Rattle.mc_procs.specs.Procedures.{with_procs};
 ghost use Rattle.mc_det.specs.Determinisms.{AreDeterminisms};
 ghost use Rattle.mc_det.specs.MarkedProcedures.{IsMarked, Inferred, MarksHold, determinisms_of};
 ghost use Rattle.mc_det.specs.Marked.{marked_body};
-ghost use Rattle.mc_skeletons.specs.Least.{assigned};
+ghost use Rattle.mc_det_constraints.specs.Least.{assigned};
 ghost use Rattle.mc_det.specs.code.Marks.{under, AllStand};
 ghost use Rattle.mc_det.specs.code.Places.{IsPlaced, HasNoGoals};
 ghost use Rattle.mc_det.specs.code.Walks.{InSystems};

@@ -5,8 +5,8 @@ ghost use Rattle.mc_model.specs.Scheduled.{nodes, Take};
 ghost use Rattle.mc_model.specs.PlainGoals.{plain_node, plain_sched, plain_arm, arms_of};
 ghost use Rattle.mc_accepted.specs.Determined.{take_determinism, builtin_determinism, knows_constant, allowed_in, misses, insts_after};
 ghost use Rattle.mc_procs.specs.Named.{Named, NamedIn, EachNamed, EachArmNamed};
-ghost use Rattle.mc_skeletons.specs.declared.skeleton.Step.TheVariants as T;
-ghost use Rattle.mc_det.specs.Bodies.{fixed, skeleton, skeleton_in, skeleton_all, skeleton_any, skeleton_arms};
+ghost use Rattle.mc_det_constraints.specs.declared.constraint.Step.TheVariants as T;
+ghost use Rattle.mc_det.specs.Bodies.{fixed, constraint, constraint_in, constraint_all, constraint_any, constraint_arms};
 ghost use Rattle.mc_det.specs.code.Points.{insts_in, undone};
 ghost use Rattle.mc_det.specs.code.Facts.{known_in};
 ghost use Rattle.mc_det.specs.code.Walks.{typed, bounds_in, Ready, IsAmong, missed, times, InSystems, PutSteps, Puts};
@@ -17,13 +17,13 @@ use crate::point::{Point, emptied};
 use crate::symbols::{allows, is_alone, misses};
 use crate::tested::is_tested;
 use mc_base::Memory;
+use mc_det_constraints::Step;
 use mc_model::inst::InstId;
 use mc_model::sched::{Arm, GoalNode, Sched};
 use mc_procs::Procs;
 use mc_program::builtin::Builtin;
 use mc_program::ty::Ty;
 use mc_program::value::Value;
-use mc_skeletons::Step;
 use mc_source::det::{Det, Most};
 use std::alloc::Global;
 
@@ -208,7 +208,7 @@ impl Walk {
         requires ready { Ready procs.now types.now self.old.point }
         requires there { x < length types.now }
         ensures { OnOk result (Puts procs.now self.old self.new
-            (λ S b known. skeleton_in S (typed types.now) b known (Take x symbol args.now))) }
+            (λ S b known. constraint_in S (typed types.now) b known (Take x symbol args.now))) }
     {
         let known = self.known.as_slice();
         let d = take_determinism(alloc, procs, types, &self.point, known, x, symbol, args)?;
@@ -257,7 +257,7 @@ impl Walk {
         requires ready { Ready procs.now types.now self.old.point }
         requires named { Named (bounds_in procs.now (length types.now)) (plain_node goal.now) }
         ensures { OnOk result (Puts procs.now self.old self.new
-            (λ S b known. skeleton S (typed types.now) b known (plain_node goal.now))) }
+            (λ S b known. constraint S (typed types.now) b known (plain_node goal.now))) }
     {
         self.sched(alloc, &goal.goal, procs, types)?;
         if goal.pruned {
@@ -278,7 +278,7 @@ impl Walk {
         requires ready { Ready procs.now types.now self.old.point }
         requires named { NamedIn (bounds_in procs.now (length types.now)) (plain_sched goal.now) }
         ensures { OnOk result (Puts procs.now self.old self.new
-            (λ S b known. skeleton_in S (typed types.now) b known (plain_sched goal.now))) }
+            (λ S b known. constraint_in S (typed types.now) b known (plain_sched goal.now))) }
     {
         match goal {
             Sched::Conj(goals) => self.conj(alloc, goals.as_slice(), procs, types),
@@ -323,7 +323,7 @@ impl Walk {
         requires ready { Ready procs.now types.now self.old.point }
         requires named { EachNamed (bounds_in procs.now (length types.now)) (nodes (map plain_node goals.now)) }
         ensures { OnOk result (Puts procs.now self.old self.new
-            (λ S b known. skeleton_all S (typed types.now) b known (nodes (map plain_node goals.now)))) }
+            (λ S b known. constraint_all S (typed types.now) b known (nodes (map plain_node goals.now)))) }
     {
         let mut found = emptied(alloc, &mut self.found);
         for goal in goals {
@@ -348,7 +348,7 @@ impl Walk {
         requires ready { Ready procs.now types.now self.old.point }
         requires named { EachNamed (bounds_in procs.now (length types.now)) (nodes (map plain_node goals.now)) }
         ensures { OnOk result (Puts procs.now self.old self.new
-            (λ S b known. skeleton_any S (typed types.now) b known (nodes (map plain_node goals.now)))) }
+            (λ S b known. constraint_any S (typed types.now) b known (nodes (map plain_node goals.now)))) }
     {
         for goal in goals {
             is_named(procs, types, goals, goal);
@@ -371,7 +371,7 @@ impl Walk {
         requires ready { Ready procs.now types.now self.old.point }
         requires named { EachArmNamed (bounds_in procs.now (length types.now)) (arms_of (map plain_arm arms.now)) }
         ensures { OnOk result (Puts procs.now self.old self.new
-            (λ S b known. skeleton_arms S (typed types.now) b known x (arms_of (map plain_arm arms.now)))) }
+            (λ S b known. constraint_arms S (typed types.now) b known x (arms_of (map plain_arm arms.now)))) }
     {
         for arm in arms {
             arm_is_named(procs, types, arms, arm);
@@ -398,7 +398,7 @@ impl Walk {
         requires named { Named (bounds_in procs.now (length types.now)) (plain_node then_part.now) }
         requires condition { Named (bounds_in procs.now (length types.now)) (plain_node condition.now) }
         ensures { OnOk result (Puts procs.now self.old self.new
-            (λ S b known. skeleton S (typed types.now) (insts_after (plain_node condition.now) b) known (plain_node then_part.now))) }
+            (λ S b known. constraint S (typed types.now) (insts_after (plain_node condition.now) b) known (plain_node then_part.now))) }
     {
         let mut found = Vec::new(alloc);
         self.enter(condition, &mut found, procs, types)?;

@@ -13,7 +13,7 @@ use Rattle.mc_model.specs.Scheduled.{Procedure}
 use Rattle.mc_model.specs.declared.sched.Proc.{Proc}
 use Rattle.mc_accepted.specs.Inferred.{system_of}
 use Rattle.mc_procs.specs.Procedures.{PlainProcs, as_system, procedure_at}
-use Rattle.mc_skeletons.specs.Least.{assigned}
+use Rattle.mc_det_constraints.specs.Least.{assigned}
 use Rattle.mc_det.specs.Determinisms.{declared_procedure, declared_system}
 use Rattle.mc_det.specs.MarkedProcedures.{determinisms_of}
 

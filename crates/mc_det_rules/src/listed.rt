@@ -6,7 +6,7 @@ ghost use Rattle.mc_model.specs.Lists.{from};
 ghost use Rattle.mc_model.specs.Outcomes.{Outcome};
 ghost use Rattle.mc_accepted.specs.DeterminismFaults.{procedure_fault, determinism_faults};
 ghost use Rattle.mc_procs.specs.Procedures.{as_system, procedure_at};
-ghost use Rattle.mc_skeletons.specs.Least.{assigned};
+ghost use Rattle.mc_det_constraints.specs.Least.{assigned};
 ghost use Rattle.mc_det.specs.Determinisms.{declared_procedure, declared_system};
 ghost use Rattle.mc_det.specs.MarkedProcedures.{MarksHold, determinisms_of};
 ghost use Rattle.mc_det_rules.specs.code.Listed.{place_of, rule_of};
@@ -14,10 +14,10 @@ ghost use Rattle.mc_det_rules.specs.code.Listed.{place_of, rule_of};
 use crate::entry::main_fault;
 use crate::rules::{call_fault, declaration_fault, io_fault, undeclared_fault};
 use mc_base::{Memory, Text};
-use mc_places::sort_by_place;
 use mc_procs::Procs;
 use mc_source::place::Place;
 use mc_source::rule::{Broken, Rule};
+use mc_source::sort_by_place;
 use std::alloc::Global;
 
 /// Where a program begins, of which the rule of `main` is told.

@@ -10,7 +10,7 @@ use Rattle.mc_flat_code.specs.Standing.{At, Holds, Chain, Opens, Keyed, Cased}
 use Rattle.mc_flat_code.specs.code.Building.{Grows, IsKeyed}
 use Rattle.mc_flat_code.specs.declared.code.Instr.TheVariants as I
 use Rattle.mc_flat_code.proofs.Growth.{continues_same, holds_grows, keyed_grows, chain_grows, grows_then}
-use Rattle.mc_flat_code.specs.declared.code.Part.{Part}
+use Rattle.mc_flat_code.specs.declared.code.Span.{Span}
 use Rattle.mc_flat_code.specs.declared.code.Branch.{Branch}
 use Rattle.mc_flat_code.specs.declared.code.Code.{Code}
 
@@ -39,7 +39,7 @@ pub keyed_length : (code : Code) (v : ℕ) (arms : Arms) (bs : List Branch) (ps 
 keyed_length code v arms bs ps k = sym (places_length bs) ∙ ap length (keyed_places code v arms bs ps k)
 
 -- what is put at the end of a list is a part of it
-pub end_holds : {A : Type 0} (xs ys all : List A) (p : Part) → all ≡ xs ++ ys → p.start ≡ length xs → p.count ≡ length ys → Holds all p ys
+pub end_holds : {A : Type 0} (xs ys all : List A) (p : Span) → all ≡ xs ++ ys → p.start ≡ length xs → p.count ≡ length ys → Holds all p ys
 end_holds xs ys all p e s n =
     record {
       within = omega (arith, ap length e, length-append xs ys);
@@ -48,11 +48,11 @@ end_holds xs ys all p e s n =
           ∙ ap (take (length ys)) (drop-append_seam xs ys) ∙ take-length ys;
     }
 
-pub keyed_found : (code : Code) (v : ℕ) (arms : Arms) (ps : List ℕ) (o : Option Part) (part : Part) → o ≡ Some part → IfSome o (λ p. IsKeyed code v arms ps p) → IsKeyed code v arms ps part
+pub keyed_found : (code : Code) (v : ℕ) (arms : Arms) (ps : List ℕ) (o : Option Span) (part : Span) → o ≡ Some part → IfSome o (λ p. IsKeyed code v arms ps p) → IsKeyed code v arms ps part
 keyed_found code v arms ps o part e k = subst (λ x. IfSome x (λ p. IsKeyed code v arms ps p)) e k
 
 -- a case whose branches are for arms goes on at lower places
-pub case_lower : (code : Code) (v : ℕ) (arms : Arms) (ps : List ℕ) (part : Part) (other n : ℕ) → IsKeyed code v arms ps part → other < n → EachBelow n ps → Lower code n (I.Case v part other)
+pub case_lower : (code : Code) (v : ℕ) (arms : Arms) (ps : List ℕ) (part : Span) (other n : ℕ) → IsKeyed code v arms ps part → other < n → EachBelow n ps → Lower code n (I.Case v part other)
 case_lower code v arms ps part other n k o b = (
   o,
   k.held.within,
@@ -60,7 +60,7 @@ case_lower code v arms ps part other n k o b = (
 )
 
 -- arms by a case that was put behind other growth
-pub case_chosen : (first mid new : Code) (v : ℕ) (arms : Arms) (ps : List ℕ) (part : Part) (other pc : ℕ) → Grows first mid → Grows mid new → Chain first ps other → IsKeyed mid v arms ps part → At new pc (I.Case v part other) → Cased new v arms ps pc
+pub case_chosen : (first mid new : Code) (v : ℕ) (arms : Arms) (ps : List ℕ) (part : Span) (other pc : ℕ) → Grows first mid → Grows mid new → Chain first ps other → IsKeyed mid v arms ps part → At new pc (I.Case v part other) → Cased new v arms ps pc
 case_chosen first mid new v arms ps part other pc g h c k at =
     record {
       part = part;

@@ -6,7 +6,7 @@ use Rattle.mc_model.specs.Scheduled.{Label, Node, node, Scheduled, Conj, Disj, S
 use Rattle.mc_flat_code.specs.Running.{part_of, IsWithin, value_at, constant_label, label_of, EachBelow, places_of, Lower}
 use Rattle.mc_flat_code.specs.Standing.{At, Holds, Chain, Keyed, Cased, Stands, StandsOf, StandsAll, StandsEach, StandsArms}
 use Rattle.mc_flat_code.specs.code.Building.{Continues, Grows}
-use Rattle.mc_flat_code.specs.declared.code.Part.{Part}
+use Rattle.mc_flat_code.specs.declared.code.Span.{Span}
 use Rattle.mc_flat_code.specs.declared.code.Instr.{Instr}
 use Rattle.mc_flat_code.specs.declared.code.Instr.TheVariants as I
 use Rattle.mc_flat_code.specs.declared.code.Key.{Key}
@@ -49,17 +49,17 @@ get_more (x ∷ xs) v zero w p = inl p
 get_more (x ∷ xs) v (suc k) w p =
     elim (get_more xs v k w p) [ inl q ↦ inl q | inr q ↦ inr (ap suc q.0, q.1) ]
 
-pub part_grows : {A : Type 0} (xs ys : List A) → Continues xs ys → (p : Part) → IsWithin xs p → part_of ys p ≡ part_of xs p
+pub part_grows : {A : Type 0} (xs ys : List A) → Continues xs ys → (p : Span) → IsWithin xs p → part_of ys p ≡ part_of xs p
 part_grows xs ys c p w =
     let first : p.start ≤ length xs = omega arith in
     ap (λ l. take p.count (drop p.start l)) c.1
     ∙ ap (take p.count) (drop-append-le p.start xs c.0 first)
     ∙ take-append-le p.count (drop p.start xs) c.0 (omega (arith, length-drop p.start xs))
 
-pub within_grows : {A : Type 0} (xs ys : List A) → Continues xs ys → (p : Part) → IsWithin xs p → IsWithin ys p
+pub within_grows : {A : Type 0} (xs ys : List A) → Continues xs ys → (p : Span) → IsWithin xs p → IsWithin ys p
 within_grows xs ys c p w = omega (arith, continues_length xs ys c)
 
-pub holds_grows : {A : Type 0} (xs ys : List A) → Continues xs ys → (p : Part) (zs : List A) → Holds xs p zs → Holds ys p zs
+pub holds_grows : {A : Type 0} (xs ys : List A) → Continues xs ys → (p : Span) (zs : List A) → Holds xs p zs → Holds ys p zs
 holds_grows xs ys c p zs h =
     record {
       within = within_grows xs ys c p h.within;
@@ -101,7 +101,7 @@ module _ (old new : Code) (g : Grows old new) where
   label_grows (K.Symbol f) l p = p
   label_grows (K.Constant k) l p = label_constant k l (value_at old k) refl p
 
-  pub variables_grow : (p : Part) (xs : List ℕ) → Holds old.variables.items p xs → Holds new.variables.items p xs
+  pub variables_grow : (p : Span) (xs : List ℕ) → Holds old.variables.items p xs → Holds new.variables.items p xs
   variables_grow p xs h = holds_grows old.variables.items new.variables.items g.variables p xs h
 
   -- places stay lower

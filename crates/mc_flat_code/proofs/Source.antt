@@ -13,7 +13,7 @@ use Rattle.mc_flat_code.specs.Ticked.{Ticked, End, Stuck, Answer, events, bind, 
 use Rattle.mc_flat_code.specs.Running.{TickedCalls, variables_at, value_at, fits, label_of, fits_label, fitting, branch_items, case_items, constant_items, list_of, place_list, body_list, body_at, call_list, IsCode}
 use Rattle.mc_flat_code.specs.Standing.{At, Holds, Chain, Opens, Keyed, Cased, Stands, StandsOf, StandsAll, StandsEach, StandsArms, whole_body, StandsFor, StandsForAll}
 use Rattle.mc_flat_code.specs.SourceRuns.{GoalsRunAsSource, BodiesRunAsSource, CallsRunAsSource}
-use Rattle.mc_flat_code.specs.declared.code.Part.{Part}
+use Rattle.mc_flat_code.specs.declared.code.Span.{Span}
 use Rattle.mc_flat_code.specs.declared.code.Instr.{Instr}
 use Rattle.mc_flat_code.specs.declared.code.Instr.TheVariants as I
 use Rattle.mc_flat_code.specs.declared.code.Branch.{Branch}
@@ -107,7 +107,7 @@ module _ (outcome : Builtin → List Val → Outcome) (code : Code) (o : IsCode 
       ∙ ap (λ bs. events (case_items code go c.other e bs (e v))) c.held.elements
       ∙ case_done v q arms ps pc e c x (e v) refl ∙ arms_joined arms q ps e x
 
-  made_done : (x f q pc : ℕ) (ys : List ℕ) (e : Bindings) → (p : Part) × (At code pc (I.Made x f p q) × Holds code.variables.items p ys) → done pc e ≡ L.bind (made_items x f ys e (e x)) (done q)
+  made_done : (x f q pc : ℕ) (ys : List ℕ) (e : Bindings) → (p : Span) × (At code pc (I.Made x f p q) × Holds code.variables.items p ys) → done pc e ≡ L.bind (made_items x f ys e (e x)) (done q)
   made_done x f q pc ys e s =
       at_events pc (I.Made x f s.0 q) s.1.0 e
       ∙ events_follow (made_items x f (variables_at code s.0) e (e x)) (go q)
@@ -123,7 +123,7 @@ module _ (outcome : Builtin → List Val → Outcome) (code : Code) (o : IsCode 
   same_done x y q pc e s =
       at_events pc (I.Same x y q) s e ∙ events_follow (same_items x y e (e x) (e y)) (go q)
 
-  apply_done : (op : Builtin) (xs ys : List ℕ) (q pc : ℕ) (e : Bindings) → (a b : Part) × (At code pc (I.Apply op a b q) × Holds code.variables.items a xs × Holds code.variables.items b ys) → done pc e ≡ L.bind (apply_items (outcome op) ys e (gather xs e)) (done q)
+  apply_done : (op : Builtin) (xs ys : List ℕ) (q pc : ℕ) (e : Bindings) → (a b : Span) × (At code pc (I.Apply op a b q) × Holds code.variables.items a xs × Holds code.variables.items b ys) → done pc e ≡ L.bind (apply_items (outcome op) ys e (gather xs e)) (done q)
   apply_done op xs ys q pc e s =
       at_events pc (I.Apply op s.0 s.1 q) s.2.0 e
       ∙ events_follow (apply_items (outcome op) (variables_at code s.1) e (gather (variables_at code s.0) e)) (go q)
@@ -139,7 +139,7 @@ module _ (outcome : Builtin → List Val → Outcome) (code : Code) (o : IsCode 
       ∙ ap (λ (f : List (Option Val) → Items Bindings). L.bind (C k p (map e xs)) f) (fun_ext (λ vs. events_follow (after xs e vs) (go q)))
       ∙ sym (bind_bind (C k p (map e xs)) (after xs e) (done q))
 
-  call_done : (p : ℕ) (xs implied : List ℕ) (last : Bool) (q pc : ℕ) (e : Bindings) → (a : Part) × (At code pc (I.Call p a last q) × Holds code.variables.items a xs) → done pc e ≡ L.bind (stream_of outcome C h (Call p xs implied last) e) (done q)
+  call_done : (p : ℕ) (xs implied : List ℕ) (last : Bool) (q pc : ℕ) (e : Bindings) → (a : Span) × (At code pc (I.Call p a last q) × Holds code.variables.items a xs) → done pc e ≡ L.bind (stream_of outcome C h (Call p xs implied last) e) (done q)
   call_done p xs implied last q pc e s =
       let ys : List ℕ = variables_at code s.0 in
       at_events pc (I.Call p s.0 last q) s.1.0 e

@@ -9,7 +9,7 @@ use Rattle.mc_model.specs.Outcomes.{Outcome}
 use Rattle.mc_model.specs.Scheduled.{Label, for_symbol, for_constant}
 use Rattle.mc_model.specs.Stream.{Bindings, meet, unify, gather, same_items, made_items, apply_items, ready, enter, leave}
 use Rattle.mc_flat_code.specs.Ticked.{Ticked, End, Stuck, Stopped, Answer, Called, Tick, append, bind, choose, first, negate, follow, at_height}
-use Rattle.mc_flat_code.specs.declared.code.Part.{Part}
+use Rattle.mc_flat_code.specs.declared.code.Span.{Span}
 use Rattle.mc_flat_code.specs.declared.code.Instr.{Instr}
 use Rattle.mc_flat_code.specs.declared.code.Instr.TheVariants as I
 use Rattle.mc_flat_code.specs.declared.code.Key.{Key}
@@ -20,18 +20,18 @@ use Rattle.mc_flat_code.specs.declared.code.Body.{Body}
 use Rattle.mc_flat_code.specs.declared.code.FlatProgram.{FlatProgram}
 
 -- the elements of a part of a list
-abbrev pub part_of : {A : Type 0} → List A → Part → List A
+abbrev pub part_of : {A : Type 0} → List A → Span → List A
 part_of xs p = take p.count (drop p.start xs)
 
 -- a part that lies within its list
-abbrev pub IsWithin : {A : Type 0} → List A → Part → Type 0
+abbrev pub IsWithin : {A : Type 0} → List A → Span → Type 0
 IsWithin xs p = p.start + p.count ≤ length xs
 
 -- the goal in a place, where there is one
 abbrev pub instr_at : Code → ℕ → Option Instr
 instr_at code pc = slice_get code.instrs.items pc
 
-abbrev pub variables_at : Code → Part → List ℕ
+abbrev pub variables_at : Code → Span → List ℕ
 variables_at code p = part_of code.variables.items p
 
 abbrev pub value_at : Code → ℕ → Option Val
@@ -142,7 +142,7 @@ module _ (outcome : Builtin → List Val → Outcome) where
       else Stuck
 
 -- a procedure that isn't there: it has no arguments and answers once
-abbrev pub no_part : Part
+abbrev pub no_part : Span
 no_part = record { start = 0; count = 0 }
 
 abbrev pub no_body : Body

@@ -11,7 +11,7 @@ use Rattle.mc_model.specs.Stream.{Bindings, Calls, stream_of}
 use Rattle.mc_model.specs.PlainGoals.{plain_proc}
 use Rattle.mc_model.specs.declared.sched.Proc.{Proc}
 use Rattle.mc_flat_code.specs.Running.{IsWithin, part_of, instr_at, value_at, label_of, body_at}
-use Rattle.mc_flat_code.specs.declared.code.Part.{Part}
+use Rattle.mc_flat_code.specs.declared.code.Span.{Span}
 use Rattle.mc_flat_code.specs.declared.code.Instr.{Instr}
 use Rattle.mc_flat_code.specs.declared.code.Instr.TheVariants as I
 use Rattle.mc_flat_code.specs.declared.code.Branch.{Branch}
@@ -24,7 +24,7 @@ abbrev pub At : Code → ℕ → Instr → Type 0
 At code pc i = instr_at code pc ≡ Some i
 
 -- a part of a list holds these elements
-pub record Holds {A : Type 0} (xs : List A) (p : Part) (ys : List A) : Type 0 where
+pub record Holds {A : Type 0} (xs : List A) (p : Span) (ys : List A) : Type 0 where
   pub within : IsWithin xs p
   pub elements : part_of xs p ≡ ys
 
@@ -88,7 +88,7 @@ Keyed code v _ _ _ = ⊥
 
 -- arms by a case of a variable
 pub record Cased (code : Code) (v : ℕ) (arms : Arms) (ps : List ℕ) (pc : ℕ) : Type 0 where
-  pub part : Part
+  pub part : Span
   pub branches : List Branch
   pub other : ℕ
   pub at : At code pc (I.Case v part other)
@@ -119,17 +119,17 @@ abbrev mutual
   StandsOf code (Assign x y) q pc = At code pc (I.Same x y q)
   StandsOf code (Test x y) q pc = At code pc (I.Same x y q)
   StandsOf code (Build x f ys) q pc =
-      (p : Part) × (At code pc (I.Made x f p q) × Holds code.variables.items p ys)
+      (p : Span) × (At code pc (I.Made x f p q) × Holds code.variables.items p ys)
   StandsOf code (Take x f ys) q pc =
-      (p : Part) × (At code pc (I.Made x f p q) × Holds code.variables.items p ys)
+      (p : Span) × (At code pc (I.Made x f p q) × Holds code.variables.items p ys)
   StandsOf code (Const x v) q pc =
       (k : ℕ) × (At code pc (I.Constant x k q) × (value_at code k ≡ Some v))
   StandsOf code (TestConst x v) q pc =
       (k : ℕ) × (At code pc (I.Constant x k q) × (value_at code k ≡ Some v))
   StandsOf code (Call p xs implied last) q pc =
-      (a : Part) × (At code pc (I.Call p a last q) × Holds code.variables.items a xs)
+      (a : Span) × (At code pc (I.Call p a last q) × Holds code.variables.items a xs)
   StandsOf code (Apply op xs ys) q pc =
-      (a b : Part)
+      (a b : Span)
       × (At code pc (I.Apply op a b q)
       × Holds code.variables.items a xs × Holds code.variables.items b ys)
 

@@ -3,7 +3,7 @@ use mc_program::value::Value;
 
 /// A part of one of the lists of a code: where it starts, and how many elements it has.
 #[derive(Clone, Copy)]
-pub struct Part {
+pub struct Span {
     pub start: u32,
     pub count: u32,
 }
@@ -19,7 +19,7 @@ pub enum Instr {
     /// Two variables meet, and then a place.
     Same(u32, u32, u32),
     /// A variable meets a constructor, by its symbol, over the variables of a part, and then a place.
-    Made(u32, u32, Part, u32),
+    Made(u32, u32, Span, u32),
     /// A variable meets a constant, by its place among the values, and then a place.
     Constant(u32, u32, u32),
     /// Two places, one after another.
@@ -31,11 +31,11 @@ pub enum Instr {
     /// A pruned goal, and then a place.
     Once(u32, u32),
     /// A procedure, its arguments as a part of the variables, whether it is a last call, and then a place.
-    Call(u32, Part, bool, u32),
+    Call(u32, Span, bool, u32),
     /// A builtin, its inputs and its outputs as parts of the variables, and then a place.
-    Apply(Builtin, Part, Part, u32),
+    Apply(Builtin, Span, Span, u32),
     /// A variable, a part of the branches, and where it goes on if the variable is unbound or fits several of them.
-    Case(u32, Part, u32),
+    Case(u32, Span, u32),
 }
 
 /// What a branch is for: a constructor, by its symbol, or a constant, by its place among the values.
@@ -66,9 +66,9 @@ pub struct Code {
 #[derive(Clone, Copy)]
 pub struct Body {
     pub entry: u32,
-    pub head: Part,
-    pub first: Part,
-    pub last: Part,
+    pub head: Span,
+    pub first: Span,
+    pub last: Span,
     pub size: u32,
 }
 

@@ -8,7 +8,7 @@ ghost use Rattle.mc_flat_code.specs.code.Building.{Grows, Laid, IsKeyed, IsChose
 ghost use Rattle.mc_flat_code.specs.Mentions.{Mention, of_constant, Mentions, MentionsIn, AnyMentions, ArmsMention, MentionsAt, CodeMentions};
 ghost use Rattle.mc_flat_code.specs.code.Mentioning.{Brings, Nothing, LabelMentions};
 
-use crate::code::{Body, Branch, Code, Instr, Key, Part};
+use crate::code::{Body, Branch, Code, Instr, Key, Span};
 use crate::once::is_left;
 use crate::opening::opens;
 use mc_base::Memory;
@@ -54,7 +54,7 @@ impl Code {
     }
 
     /// Puts variables at the end of the variables.
-    pub(crate) fn add_variables(&mut self, variables: &[u32]) -> Result<Part, Memory>
+    pub(crate) fn add_variables(&mut self, variables: &[u32]) -> Result<Span, Memory>
         ensures grows { OnOk result (Grows self.old self.new) }
         ensures others { OnOk result (self.new ≡ record self.old { variables = self.new.variables }) }
         ensures part { IfOk result (λ part. Holds self.new.variables.items part variables.now) }
@@ -64,7 +64,7 @@ impl Code {
             return Err(Memory);
         }
         self.variables.extend_from_slice(variables)?;
-        Ok(Part {
+        Ok(Span {
             start: start as u32,
             count: variables.len() as u32,
         })
@@ -212,7 +212,7 @@ impl Code {
         variable: u32,
         arms: &[Arm],
         places: &[u32],
-    ) -> Result<Option<Part>, Memory>
+    ) -> Result<Option<Span>, Memory>
         requires { length places.now ≡ length arms.now }
         ensures grows { OnOk result (Grows self.old self.new) }
         ensures goals { OnOk result (self.new.instrs.items ≡ self.old.instrs.items) }
@@ -236,7 +236,7 @@ impl Code {
                 place: places[k],
             })?;
         }
-        Ok(Some(Part {
+        Ok(Some(Span {
             start: start as u32,
             count: arms.len() as u32,
         }))

@@ -2,13 +2,13 @@ ghost use Rattle.std.specs.Prelude.{◌≡◌, ◌+◌, min, option_map};
 ghost use Rattle.mc_program.specs.Values.{plain_value};
 ghost use Rattle.mc_flat_code.specs.Running.{part_of, instr_at, variables_at, value_at, body_at};
 
-use crate::code::{Body, Branch, Code, FlatProgram, Instr, Part};
+use crate::code::{Body, Branch, Code, FlatProgram, Instr, Span};
 use mc_program::value::Value;
 
 /// A part without elements.
-const NO_PART: Part = Part { start: 0, count: 0 };
+const NO_PART: Span = Span { start: 0, count: 0 };
 
-impl Part {
+impl Span {
     /// Where the part lies in a list of so many elements: where it starts and ends, as far as the list goes.
     fn range(self, length: usize) -> (usize, usize)
         ensures start { result.0 ≡ min self.start length }
@@ -29,7 +29,7 @@ impl Code {
     }
 
     /// The variables of a part.
-    pub fn variables(&self, part: Part) -> &[u32]
+    pub fn variables(&self, part: Span) -> &[u32]
         ensures { result.now ≡ variables_at self.now part }
     {
         let (start, end) = part.range(self.variables.len());
@@ -37,7 +37,7 @@ impl Code {
     }
 
     /// The branches of a part.
-    pub fn branches(&self, part: Part) -> &[Branch]
+    pub fn branches(&self, part: Span) -> &[Branch]
         ensures { result.now ≡ part_of self.now.branches.items part }
     {
         let (start, end) = part.range(self.branches.len());

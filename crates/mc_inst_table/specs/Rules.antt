@@ -11,7 +11,7 @@ use Rattle.mc_decl_syntax.specs.Plain.{PlainDecl, SameInst, BoundInst, ModeDef, 
 use Rattle.mc_names.specs.Plain.{PlainNameArity, id, PlainDefinition, shown}
 use Rattle.mc_names.specs.Definitions.{definitions}
 use Rattle.mc_decl_syntax.specs.Entries.{File}
-use Rattle.mc_names.specs.Linked.{Defined, Linked, home}
+use Rattle.mc_names.specs.Linked.{Defined, Linked, defining_module}
 use Rattle.mc_names.specs.Parameters.{parameters_of}
 use Rattle.mc_accepted.specs.InstRules.{InstTerm, defined, bound_over, InstTerms, no_insts, inst_then, Bodies, NotWellFounded, PutsFreeInside, OneIs, ModeIsUnfounded, free_inside, not_well_founded}
 use Rattle.mc_inst_table.specs.Written.{numbers_among, first_or, functors, written_inst, all_listed, append_insts, ModeTerm, from_to, defined_mode, written_mode, insts_of_mode}
@@ -30,7 +30,7 @@ body_or_none None = bound_over [] no_insts
 
 abbrev pub inst_body_of : Linked → Option Defined → InstTerm
 inst_body_of l None = bound_over [] no_insts
-inst_body_of l (Some d) = body_or_none (inst_body_by l (home l d) d.item)
+inst_body_of l (Some d) = body_or_none (inst_body_by l (defining_module l d) d.item)
 
 abbrev pub inst_bodies : Linked → Bodies
 inst_bodies l k = inst_body_of l (slice_get l.insts k)
@@ -46,7 +46,7 @@ names_mode _ = None
 
 abbrev pub mode_named_of : Linked → Option Defined → Option ℕ
 mode_named_of l None = None
-mode_named_of l (Some d) = names_mode (mode_body_by l (home l d) d.item)
+mode_named_of l (Some d) = names_mode (mode_body_by l (defining_module l d) d.item)
 
 abbrev pub mode_named : Linked → ℕ → Option ℕ
 mode_named l k = mode_named_of l (slice_get l.modes k)

@@ -1,5 +1,5 @@
 ghost use Rattle.std.specs.Prelude.{◌≡◌, map, Some, IfOk};
-ghost use Rattle.mc_term_data.specs.Plain.{plain_term, tms};
+ghost use Rattle.mc_term_data.specs.Plain.{plain_term, term_list};
 ghost use Rattle.mc_accepted.specs.InstRules.{bound_over};
 ghost use Rattle.mc_names.specs.Linked.{plain_named, plain_names};
 ghost use Rattle.mc_names.specs.Parameters.{parameters_of};
@@ -12,7 +12,7 @@ use crate::inst::Inst;
 use crate::written::{inst_of_term, insts_listed};
 use mc_base::{Memory, Row};
 use mc_decl_syntax::Decl;
-use mc_names::{Named, Names, home, parameters_of};
+use mc_names::{Named, Names, defining_module, parameters_of};
 use mc_term_data::Term;
 use std::alloc::Global;
 
@@ -39,7 +39,7 @@ fn inst_body(alloc: Global, names: &Names, named: &Named) -> Result<Inst, Memory
     ensures { IfOk result
         (λ i. plain_inst i ≡ inst_body_of (plain_names names.now) (Some (plain_named named.now))) }
 {
-    let own = home(names, named);
+    let own = defining_module(names, named);
     match &named.decl {
         Decl::SameInst(head, body) => same_inst(alloc, names, own, head, body),
         Decl::BoundInst(head, symbols) => bound_inst(alloc, names, own, head, symbols.as_slice()),
@@ -84,9 +84,9 @@ pub fn bound_inst(
     ensures { IfOk result
         (λ i.
         plain_inst i
-        ≡ bound_over (functors (tms (map plain_term symbols.now)))
+        ≡ bound_over (functors (term_list (map plain_term symbols.now)))
         (all_listed (plain_names names.now) own (parameters_of (plain_term head.now))
-        (tms (map plain_term symbols.now)))) }
+        (term_list (map plain_term symbols.now)))) }
 {
     let variables = parameters_of(alloc, head)?;
     let insts = insts_listed(alloc, names, own, variables.as_slice(), symbols)?;

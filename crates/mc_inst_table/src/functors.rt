@@ -1,5 +1,5 @@
 ghost use Rattle.std.specs.Prelude.{◌≡◌, ◌∷◌, [], map, IfOk};
-ghost use Rattle.mc_term_data.specs.Plain.{plain_term, tms};
+ghost use Rattle.mc_term_data.specs.Plain.{plain_term, term_list};
 ghost use Rattle.mc_names.specs.Definitions.{symbol_name};
 ghost use Rattle.mc_inst_table.specs.Plain.{plain_functor};
 ghost use Rattle.mc_inst_table.specs.Written.{functor, functors, listed_functors};
@@ -18,7 +18,7 @@ use std::alloc::Global;
 #[tactic(auto, using(crate::proofs::Listing::functors_more))]
 pub fn functors(alloc: Global, terms: &[Term]) -> Result<Row<Functor>, Memory>
     ensures { IfOk result
-        (λ all. map plain_functor all ≡ functors (tms (map plain_term terms.now))) }
+        (λ all. map plain_functor all ≡ functors (term_list (map plain_term terms.now))) }
 {
     let mut all = Vec::new(alloc);
     for term in terms {

@@ -1,6 +1,6 @@
 ghost use Rattle.std.specs.Prelude.{◌≡◌, [], map, codes, IfOk};
 ghost use Rattle.std.specs.Option.{option_map};
-ghost use Rattle.mc_term_data.specs.Plain.{plain_term, tms};
+ghost use Rattle.mc_term_data.specs.Plain.{plain_term, term_list};
 ghost use Rattle.mc_term_data.specs.Shapes.{operands};
 ghost use Rattle.mc_decl_syntax.specs.Plain.{plain_item};
 ghost use Rattle.mc_accepted.specs.InstRules.{no_insts, inst_then};
@@ -139,7 +139,7 @@ fn arguments(alloc: Global, names: &Names, own: u32, terms: &[Term]) -> Result<V
     ensures { IfOk result
         (λ insts.
         plain_insts insts.items
-        ≡ insts_of_arguments (plain_names names.now) own (tms (map plain_term terms.now))) }
+        ≡ insts_of_arguments (plain_names names.now) own (term_list (map plain_term terms.now))) }
 {
     let mut insts = Vec::new(alloc);
     for term in terms {
@@ -192,7 +192,7 @@ fn modes(alloc: Global, names: &Names, own: u32, terms: &[Term]) -> Result<Vec<I
     ensures { IfOk result
         (λ insts.
         plain_insts insts.items
-        ≡ insts_of_modes (plain_names names.now) own (tms (map plain_term terms.now))) }
+        ≡ insts_of_modes (plain_names names.now) own (term_list (map plain_term terms.now))) }
 {
     let mut insts = Vec::new(alloc);
     for term in terms {

@@ -9,7 +9,7 @@ use crate::modes::mode_of_term;
 use mc_base::{Memory, Row};
 use mc_components::{components, reaches_itself};
 use mc_decl_syntax::Decl;
-use mc_names::{Named, Names, home, parameters_of};
+use mc_names::{Named, Names, defining_module, parameters_of};
 use std::alloc::Global;
 
 /// The mode definitions of a program, by their numbers: to which other one each leads, and the components of that graph.
@@ -78,7 +78,13 @@ fn mode_named(alloc: Global, names: &Names, named: &Named) -> Result<Option<u32>
         return Ok(None);
     };
     let variables = parameters_of(alloc, head)?;
-    match mode_of_term(alloc, names, home(names, named), variables.as_slice(), mode)? {
+    match mode_of_term(
+        alloc,
+        names,
+        defining_module(names, named),
+        variables.as_slice(),
+        mode,
+    )? {
         Mode::Defined(number, _) => Ok(Some(number)),
         Mode::FromTo(_, _) => Ok(None),
     }

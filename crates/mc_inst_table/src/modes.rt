@@ -1,6 +1,6 @@
 ghost use Rattle.std.specs.Prelude.{◌≡◌, length, map, None, IfOk};
 ghost use Rattle.std.specs.Option.{option_map};
-ghost use Rattle.mc_term_data.specs.Plain.{plain_term, tms};
+ghost use Rattle.mc_term_data.specs.Plain.{plain_term, term_list};
 ghost use Rattle.mc_term_data.specs.Names.{count, found};
 ghost use Rattle.mc_accepted.specs.InstRules.{no_insts};
 ghost use Rattle.mc_names.specs.Linked.{plain_names};
@@ -82,7 +82,7 @@ fn mode_over(
         (λ m.
         plain_mode m
         ≡ mode_over (plain_names names.now) own variables.now name.now
-        (tms (map plain_term arguments.now))) }
+        (term_list (map plain_term arguments.now))) }
 {
     let builtin = builtin(name.as_slice(), arguments.len());
     match builtin {
@@ -107,7 +107,7 @@ fn user_mode(
         (λ m.
         plain_mode m
         ≡ user_mode (plain_names names.now) own variables.now name.now
-        (tms (map plain_term arguments.now))) }
+        (term_list (map plain_term arguments.now))) }
 {
     let over = over_one(alloc, names, own, variables, name, arguments.as_slice())?;
     match over {
@@ -134,9 +134,9 @@ fn defined_over(
         plain_mode m
         ≡ defined_mode
         (meaning (plain_names names.now) own (plain_names names.now).modes name.now
-        (count (tms (map plain_term arguments.now))))
+        (count (term_list (map plain_term arguments.now))))
         (written_insts (plain_names names.now) own variables.now
-        (tms (map plain_term arguments.now)))) }
+        (term_list (map plain_term arguments.now)))) }
 {
     let number = meaning(alloc, names, own, &names.modes, name, arguments.len())?;
     let insts = insts_of_terms(alloc, names, own, variables, arguments.as_slice())?;
@@ -157,7 +157,7 @@ fn over_one(
         (λ m.
         option_map plain_mode m
         ≡ over_one name.now
-        (written_insts (plain_names names.now) own variables.now (tms (map plain_term arguments.now)))) }
+        (written_insts (plain_names names.now) own variables.now (term_list (map plain_term arguments.now)))) }
 {
     if arguments.len() != 1 {
         return Ok(None);

@@ -1,5 +1,5 @@
 ghost use Rattle.std.specs.Prelude.{◌≡◌, length, map, codes, IfOk};
-ghost use Rattle.mc_term_data.specs.Plain.{plain_term, tms, more_terms, no_term};
+ghost use Rattle.mc_term_data.specs.Plain.{plain_term, term_list, more_terms, no_term};
 ghost use Rattle.mc_term_data.specs.Names.{found};
 ghost use Rattle.mc_term_data.specs.Shapes.{is_the_word};
 ghost use Rattle.mc_accepted.specs.InstRules.{defined, no_insts, inst_then};
@@ -62,7 +62,7 @@ fn inst_over(
         (λ i.
         plain_inst i
         ≡ inst_over (plain_names names.now) own variables.now name.now
-        (is_the_word (codes "bound") name.now) (tms (map plain_term arguments.now))) }
+        (is_the_word (codes "bound") name.now) (term_list (map plain_term arguments.now))) }
 {
     let count = arguments.len();
     if count == 1 {
@@ -112,7 +112,7 @@ fn written(
     ensures { IfOk result
         (λ insts.
         plain_insts insts.items
-        ≡ written_insts (plain_names names.now) own variables.now (tms (map plain_term terms.now))) }
+        ≡ written_insts (plain_names names.now) own variables.now (term_list (map plain_term terms.now))) }
 {
     let mut insts = Vec::new(alloc);
     for term in terms {
@@ -165,7 +165,7 @@ fn all_listed(
     ensures { IfOk result
         (λ insts.
         plain_insts insts.items
-        ≡ all_listed (plain_names names.now) own variables.now (tms (map plain_term terms.now))) }
+        ≡ all_listed (plain_names names.now) own variables.now (term_list (map plain_term terms.now))) }
 {
     let mut insts = Vec::new(alloc);
     for term in terms {
@@ -190,7 +190,7 @@ pub fn insts_of_terms(
     ensures { IfOk result
         (λ insts.
         plain_insts insts
-        ≡ written_insts (plain_names names.now) own variables.now (tms (map plain_term terms.now))) }
+        ≡ written_insts (plain_names names.now) own variables.now (term_list (map plain_term terms.now))) }
 {
     let insts = written(alloc, names, own, variables, terms)?;
     Row::of(insts)
@@ -211,7 +211,7 @@ pub fn insts_listed(
     ensures { IfOk result
         (λ insts.
         plain_insts insts
-        ≡ all_listed (plain_names names.now) own variables.now (tms (map plain_term terms.now))) }
+        ≡ all_listed (plain_names names.now) own variables.now (term_list (map plain_term terms.now))) }
 {
     let insts = all_listed(alloc, names, own, variables, terms)?;
     Row::of(insts)

@@ -7,17 +7,17 @@ use Rattle.std.proofs.lemmas.Slice.Eq.{bytes_eq-Decides}
 use Rattle.std.proofs.lemmas.List.{get_or-map, length-map, get_or_append_left, get_or-append-add}
 use Rattle.std.proofs.lemmas.List.Folds.{list_any_at}
 use Rattle.std.proofs.lemmas.Option.{get_or_from_slice_get}
-use Rattle.mc_insts.specs.declared.functors.Named.{Named}
-use Rattle.mc_insts.specs.contracts.functors.NamedPartialEq.TheImpl as NamedEq
+use Rattle.mc_insts.specs.declared.functors.NameArity.{NameArity}
+use Rattle.mc_insts.specs.contracts.functors.NameArityPartialEq.TheImpl as NamedEq
 use Rattle.mc_insts.specs.code.Functors.{Functor, functor_named}
 use Rattle.mc_insts.specs.code.Walks.{functor_at, no_functor}
 use Rattle.mc_insts.specs.code.Shown.{Distinct}
 use Rattle.mc_insts.proofs.Found.{by_order}
 
-abbrev pub functor_of : Named → Functor
+abbrev pub functor_of : NameArity → Functor
 functor_of n = functor_named n.name.items n.arity
 
-abbrev same : Named → Named → Bool
+abbrev same : NameArity → NameArity → Bool
 same = NamedEq.eq-value.it
 
 and_left : (a b : Bool) → (a && b) ≡ true → a ≡ true
@@ -36,29 +36,29 @@ functors : (f g : List ℕ) (a b : ℕ) → f ≡ g → a ≡ b → functor_name
 functors f g a b p q = ap (λ x. functor_named x a) p ∙ ap (λ x. functor_named g x) q
 
 -- keys that are found equal are one functor
-same_functor : (x y : Named) → same x y ≡ true → functor_of x ≡ functor_of y
+same_functor : (x y : NameArity) → same x y ≡ true → functor_of x ≡ functor_of y
 same_functor x y h =
     functors x.name.items y.name.items x.arity y.arity
     ((bytes_eq-Decides x.name.items y.name.items).0 (and_left (bytes_eq x.name.items y.name.items) (nat_eq x.arity y.arity) h))
     (eqb-true x.arity y.arity (and_right (bytes_eq x.name.items y.name.items) (nat_eq x.arity y.arity) h))
 
-same_again : (x y : Named) → x.name.items ≡ y.name.items → x.arity ≡ y.arity → same x y ≡ true
+same_again : (x y : NameArity) → x.name.items ≡ y.name.items → x.arity ≡ y.arity → same x y ≡ true
 same_again x y p q = both (bytes_eq x.name.items y.name.items) (nat_eq x.arity y.arity) ((bytes_eq-Decides x.name.items y.name.items).1 p) (eq-eqb x.arity y.arity q)
 
-within : (xs : List Named) (i : ℕ) (x : Named) → slice_get xs i ≡ Some x → i < length xs
+within : (xs : List NameArity) (i : ℕ) (x : NameArity) → slice_get xs i ≡ Some x → i < length xs
 within [] i x h = cc
 within (y ∷ ys) zero x h = omega arith
 within (y ∷ ys) (suc i) x h = let w = within ys i x h in omega arith
 
 -- the functor of a key that is stored
-pub stored : (keys : List Named) (f : ℕ) (value : Named) → (k : Named) × (slice_get keys f ≡ Some k) × (same value k ≡ true) → functor_at (map functor_of keys) f ≡ functor_of value
+pub stored : (keys : List NameArity) (f : ℕ) (value : NameArity) → (k : NameArity) × (slice_get keys f ≡ Some k) × (same value k ≡ true) → functor_at (map functor_of keys) f ≡ functor_of value
 stored keys f value h =
     let at : get_or keys f h.0 ≡ h.0 = get_or_from_slice_get keys f h.0 h.0 h.1 in
     let lt : f < length keys = within keys f h.0 h.1 in
     get_or-map functor_of keys f h.0 no_functor lt ∙ ap functor_of at ∙ sym (same_functor value h.0 h.2)
 
 -- one more key keeps functors distinct where no key is equal to it
-pushed : (keys : List Named) (value : Named) → list_any (same value) keys ≡ false → Distinct (map functor_of keys) → Distinct (map functor_of (keys ++ value ∷ []))
+pushed : (keys : List NameArity) (value : NameArity) → list_any (same value) keys ≡ false → Distinct (map functor_of keys) → Distinct (map functor_of (keys ++ value ∷ []))
 pushed keys value new d f g v w p q =
     let n = length keys in
     let fs = map functor_of (keys ++ value ∷ []) in
@@ -87,12 +87,12 @@ pushed keys value new d f g v w p q =
     (λ b. absurd (omega arith)))
     (λ a. absurd (omega arith))
 
-pub kept_distinct : (b : Bool) (keys : List Named) (value : Named) → list_any (same value) keys ≡ b → Distinct (map functor_of keys) → Distinct (map functor_of (if b then keys else keys ++ value ∷ []))
+pub kept_distinct : (b : Bool) (keys : List NameArity) (value : NameArity) → list_any (same value) keys ≡ b → Distinct (map functor_of keys) → Distinct (map functor_of (if b then keys else keys ++ value ∷ []))
 kept_distinct true keys value e d = d
 kept_distinct false keys value e d = pushed keys value e d
 
 -- a number that is new is that of the key that was put in
-last_of : (b : Bool) (keys : List Named) (value : Named) (f : ℕ) (k : Named) → list_any (same value) keys ≡ b → slice_get (if b then keys else keys ++ value ∷ []) f ≡ Some k → same value k ≡ true
+last_of : (b : Bool) (keys : List NameArity) (value : NameArity) (f : ℕ) (k : NameArity) → list_any (same value) keys ≡ b → slice_get (if b then keys else keys ++ value ∷ []) f ≡ Some k → same value k ≡ true
     → (n : ℕ) → length (map functor_of keys) ≤ n → n < length (map functor_of (if b then keys else keys ++ value ∷ [])) → n ≡ f
 last_of true keys value f k e at eq n low high = absurd (omega arith)
 last_of false keys value f k e at eq n low high =
@@ -109,7 +109,7 @@ last_of false keys value f k e at eq n low high =
     (λ a. omega arith)
     (λ a. absurd (omega arith))
 
-pub last_is : (keys new : List Named) (value : Named) (f : ℕ) → new ≡ (if list_any (same value) keys then keys else keys ++ value ∷ []) → (k : Named) × (slice_get new f ≡ Some k) × (same value k ≡ true)
+pub last_is : (keys new : List NameArity) (value : NameArity) (f : ℕ) → new ≡ (if list_any (same value) keys then keys else keys ++ value ∷ []) → (k : NameArity) × (slice_get new f ≡ Some k) × (same value k ≡ true)
     → (n : ℕ) → length (map functor_of keys) ≤ n → n < length (map functor_of new) → n ≡ f
 last_is keys new value f is s n low high =
-    last_of (list_any (same value) keys) keys value f s.0 refl (subst (λ (ks : List Named). slice_get ks f ≡ Some s.0) is s.1) s.2 n low (subst (λ (ks : List Named). n < length (map functor_of ks)) is high)
+    last_of (list_any (same value) keys) keys value f s.0 refl (subst (λ (ks : List NameArity). slice_get ks f ≡ Some s.0) is s.1) s.2 n low (subst (λ (ks : List NameArity). n < length (map functor_of ks)) is high)

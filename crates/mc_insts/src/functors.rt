@@ -10,7 +10,7 @@ use std::marker::Model;
 
 /// A name with a number of arguments.
 #[derive(Debug, PartialEq, Eq, Hash, Drop)]
-struct Named {
+struct NameArity {
     name: Vec<u8>,
     arity: u32,
 }
@@ -19,7 +19,7 @@ struct Named {
 /// A look-up takes the time of one hash.
 #[derive(Drop)]
 pub struct Functors {
-    named: IndexSet<Named>,
+    named: IndexSet<NameArity>,
 }
 
 impl Model for Functors {
@@ -76,7 +76,7 @@ impl Functors {
             return Err(Memory);
         }
         let name = Vec::from_slice(alloc, name.bytes())?;
-        let (f, _) = self.named.insert_full(Named { name, arity })?;
+        let (f, _) = self.named.insert_full(NameArity { name, arity })?;
         Ok(f as u32)
     }
 }

@@ -2,3 +2,4 @@ mod Done
 mod Unique
 mod NoGoal
 mod OneGoal
+pub mod Shapes

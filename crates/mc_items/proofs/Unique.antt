@@ -21,7 +21,7 @@ use Rattle.mc_terms.specs.Lexemes.{lexemes}
 use Rattle.mc_terms.specs.Answers.{AreItemTokens, AreNoTerm, ItemReads, IsOver, BeginsOn, place_of, item_line, token_line, IsRefused, StandsAt}
 use Rattle.mc_decl_syntax.specs.declared.entry.Entry.{Entry}
 use Rattle.mc_decl_syntax.specs.declared.entry.ItemsFault.TheVariants as F
-use Rattle.mc_items.specs.Verdicts.{PlainVerdict, breaks, judged, unread}
+use Rattle.mc_items.specs.Verdicts.{PlainVerdict, breaks, classify, unread}
 use Rattle.mc_items.specs.Files.{IsItem, IsUnread, Items, over, item, broken_in, IsWhole, IsFaulty, IsTooLong, IsRefusal}
 use Rattle.mc_items.specs.Laws.{AtMostOneList}
 
@@ -138,7 +138,7 @@ module _ (at_most_one : AtMostOne) (text : List ℕ) (from : ℕ) where
   pub one_item : (v w : PlainVerdict) (line row next stop : ℕ) → IsItem text from v line next → IsItem text from w row stop → (v ≡ w) × (line ≡ row) × (next ≡ stop)
   one_item v w line row next stop (inl a) (inl b) =
       let same = same_tree a.tree b.tree next stop a.reads b.reads in
-      (a.is ∙ ap (λ t. judged (term t)) same.0 ∙ sym b.is, a.begins ∙ sym b.begins, same.1)
+      (a.is ∙ ap (λ t. classify (term t)) same.0 ∙ sym b.is, a.begins ∙ sym b.begins, same.1)
   one_item v w line row next stop (inl a) (inr b) = absurd (read_not_refused a.tree next a.reads a.held a.shallow b.kind row stop (not_memory b) b.refused)
   one_item v w line row next stop (inr a) (inl b) = absurd (read_not_refused b.tree stop b.reads b.held b.shallow a.kind line next (not_memory a) a.refused)
   one_item v w line row next stop (inr a) (inr b) =

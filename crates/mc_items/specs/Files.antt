@@ -12,7 +12,7 @@ use Rattle.mc_decl_syntax.specs.declared.entry.Entry.{Entry}
 use Rattle.mc_decl_syntax.specs.declared.entry.ItemsFault.{ItemsFault}
 use Rattle.mc_decl_syntax.specs.declared.entry.ItemsFault.TheVariants as I
 use Rattle.mc_decl_syntax.specs.Entries.{plain_entry}
-use Rattle.mc_items.specs.Verdicts.{PlainVerdict, kept, breaks, judged, unread, rule_of}
+use Rattle.mc_items.specs.Verdicts.{PlainVerdict, kept, breaks, classify, unread, rule_of}
 use Rattle.mc_items.specs.Words as W
 
 -- the greatest length of one file's text, in bytes: 4 MiB
@@ -26,7 +26,7 @@ pub record IsRead (text : List ℕ) (from : ℕ) (verdict : PlainVerdict) (line 
   pub reads : ItemReads text from tree next
   pub held : too_large tree ≡ None
   pub shallow : depth tree ≤ 256
-  pub is : verdict ≡ judged (term tree)
+  pub is : verdict ≡ classify (term tree)
   pub begins : line ≡ item_line text from
 
 -- The item from a place on doesn't read as a term, and this is the rule that it breaks; the line is

@@ -4,3 +4,7 @@ pub mod Files
 pub mod Queries
 pub mod Laws
 pub mod code
+pub mod Roles
+pub mod Declarations
+pub mod Reasons
+pub mod UnsupportedWords

@@ -9,8 +9,8 @@ use Rattle.mc_source.specs.declared.rule.Rule.TheVariants as R
 use Rattle.mc_source.specs.Rules.{Fault}
 use Rattle.mc_term_parser.specs.Tree.{Tree, depth, too_large, term}
 use Rattle.mc_terms.specs.Answers.{IsOver, ItemReads, item_line}
-use Rattle.mc_unsupported.specs.declared.reason.LeftOut.{LeftOut}
-use Rattle.mc_unsupported.specs.Reasons.{goal_left_out}
+use Rattle.mc_items.specs.declared.reason.LeftOut.{LeftOut}
+use Rattle.mc_items.specs.Reasons.{goal_left_out}
 use Rattle.mc_clause_syntax.specs.Clauses.{is_query}
 use Rattle.mc_clause_syntax.specs.Limits.{too_many_arguments, too_many_variables}
 use Rattle.mc_decl_syntax.specs.declared.entry.ItemsFault.{ItemsFault}

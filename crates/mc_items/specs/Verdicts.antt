@@ -8,9 +8,9 @@ use Rattle.mc_source.specs.Rules.{Fault}
 use Rattle.mc_tokens.specs.declared.token.FaultKind.TheVariants as F
 use Rattle.mc_terms.specs.declared.fault.ReadKind.{ReadKind}
 use Rattle.mc_terms.specs.declared.fault.ReadKind.TheVariants as K
-use Rattle.mc_unsupported.specs.declared.reason.LeftOut.{LeftOut}
-use Rattle.mc_unsupported.specs.Reasons.{item_left_out}
-use Rattle.mc_unsupported.specs.Words.{of_token}
+use Rattle.mc_items.specs.declared.reason.LeftOut.{LeftOut}
+use Rattle.mc_items.specs.Reasons.{item_left_out}
+use Rattle.mc_items.specs.UnsupportedWords.{of_token}
 use Rattle.mc_clause_syntax.specs.Clauses.{is_clause}
 use Rattle.mc_clause_syntax.specs.Limits.{too_many_arguments, too_many_variables}
 use Rattle.mc_decl_syntax.specs.Plain.{PlainDecl, Clause}
@@ -53,8 +53,8 @@ unless_left_out t None = form_verdict t (declared_part t)
 
 -- What an item is that is read as a term: what is left out comes first, then the form, then the
 -- limits.
-abbrev pub judged : PlainTerm → PlainVerdict
-judged t = unless_left_out t (item_left_out t)
+abbrev pub classify : PlainTerm → PlainVerdict
+classify t = unless_left_out t (item_left_out t)
 
 -- The rule that an item breaks which isn't read, with what is said of it, by the reader's fault and
 -- the byte at its place. Want of memory breaks none.

@@ -1,7 +1,7 @@
 -- What the program says of a broken rule of the phase that reads (this project's profile).
 use Rattle.std.specs.Prelude.{ℕ, List, ◌++◌, codes}
-use Rattle.mc_unsupported.specs.declared.reason.LeftOut.{LeftOut}
-use Rattle.mc_unsupported.specs.Words.{words}
+use Rattle.mc_items.specs.declared.reason.LeftOut.{LeftOut}
+use Rattle.mc_items.specs.UnsupportedWords.{words}
 
 abbrev pub bad_character : List ℕ
 bad_character = codes "bad character"

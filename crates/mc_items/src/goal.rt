@@ -2,12 +2,12 @@ ghost use Rattle.std.specs.Prelude.{◌≡◌, IfOk, Some};
 ghost use Rattle.mc_term_data.specs.Plain.{plain_term};
 ghost use Rattle.mc_items.specs.Queries as Q;
 
+use crate::goal_left_out;
 use crate::messages::left_out;
 use mc_base::{Memory, Text};
 use mc_clause_syntax::{clause_has_too_many_arguments, has_too_many_variables, is_query};
 use mc_source::rule::Rule;
 use mc_term_data::Term;
-use mc_unsupported::goal_left_out;
 use std::alloc::Global;
 
 fn broken_rule(alloc: Global, rule: Rule, words: &[u8]) -> Result<Option<(Rule, Text)>, Memory>

@@ -7,6 +7,7 @@ ghost use Rattle.mc_decl_syntax.specs.Terms as T;
 ghost use Rattle.mc_decl_syntax.specs.Plain.{plain_item};
 ghost use Rattle.mc_items.specs.code.VerdictViews.{plain_verdict};
 
+use crate::item_left_out;
 use crate::messages::left_out;
 use mc_base::{Memory, Text};
 use mc_clause_syntax::{
@@ -16,7 +17,6 @@ use mc_clause_syntax::{
 use mc_decl_syntax::{Decl, declaration, declared_part, is_declaration};
 use mc_source::rule::Rule;
 use mc_term_data::Term;
-use mc_unsupported::item_left_out;
 use std::alloc::Global;
 
 /// What an item is.
@@ -92,8 +92,8 @@ fn form_judged(alloc: Global, term: Term) -> Result<Verdict, Memory>
 }
 
 // What an item is, by its term.
-pub fn judged(alloc: Global, term: Term) -> Result<Verdict, Memory>
-    ensures { IfOk result (λ v. plain_verdict v ≡ V.judged (plain_term term)) }
+pub fn classify(alloc: Global, term: Term) -> Result<Verdict, Memory>
+    ensures { IfOk result (λ v. plain_verdict v ≡ V.classify (plain_term term)) }
 {
     match item_left_out(&term) {
         Some(form) => Ok(Verdict::Breaks(Rule::X1, left_out(alloc, form)?)),

@@ -2,11 +2,11 @@ ghost use Rattle.std.specs.Prelude.{◌≡◌, slice_index_or, IfOk, Some};
 ghost use Rattle.mc_items.specs.Words as W;
 ghost use Rattle.mc_items.specs.Verdicts.{unread};
 
+use crate::LeftOut;
 use mc_base::{Memory, Text};
 use mc_source::rule::Rule;
 use mc_terms::{ItemFault, ReadKind};
 use mc_tokens::FaultKind;
-use mc_unsupported::LeftOut;
 use std::alloc::Global;
 
 // What is said of a form that is left out.

@@ -4,7 +4,7 @@ ghost use Rattle.mc_terms.specs.Answers.{IsOver, IsRefused, IsOnward, StandsAt};
 ghost use Rattle.mc_items.specs.Files.{IsItem, IsUnread};
 ghost use Rattle.mc_items.specs.code.VerdictViews.{plain_verdict};
 
-use crate::judged::{Verdict, judged};
+use crate::judged::{Verdict, classify};
 use crate::messages::fault_rule;
 use mc_base::Memory;
 use mc_terms::{ItemFault, Position, read_next};
@@ -64,7 +64,7 @@ pub fn next_item(alloc: Global, walk: &mut Walk, from: Position) -> Result<Optio
     match read_next(alloc, walk, from) {
         Ok(None) => Ok(None),
         Ok(Some(item)) => Ok(Some(Next {
-            verdict: judged(alloc, item.term)?,
+            verdict: classify(alloc, item.term)?,
             line: item.line,
             end: item.end,
         })),

@@ -7,17 +7,17 @@ use Rattle.mc_model.specs.Scheduled.{Scheduled, Node, Nodes, no_nodes, node_then
 use Rattle.mc_model.specs.PlainGoals.{plain_node}
 use Rattle.mc_model.specs.declared.sched.GoalNode.{GoalNode}
 use Rattle.mc_accepted.specs.Arranged.{Point, alone}
-use Rattle.mc_accepted.specs.Chosen.{Chosen, of_nodes}
+use Rattle.mc_accepted.specs.NodeOracle.{NodeOracle, of_nodes}
 use Rattle.mc_accepted.specs.FreshTests.{TestsAlike, AlikeIn, AllAlike}
 use Rattle.mc_procs.specs.Named.{NumbersBelow}
 use Rattle.mc_procs.specs.Procedures.{PlainProcs}
-use Rattle.mc_mode_points.specs.States.{point_of, LeadsBack}
-use Rattle.mc_mode_points.specs.Agreeing.{TypedAs}
-use Rattle.mc_mode_points.specs.Answers.{FreshAlike, end_of}
-use Rattle.mc_mode_points.specs.declared.state.State.{State}
-use Rattle.mc_mode_points.specs.declared.part.Part.{Part}
-use Rattle.mc_mode_points.specs.declared.fault.Failed.{Failed}
-use Rattle.mc_mode_points.proofs.Found.{type-kept}
+use Rattle.mc_mode_state.specs.States.{point_of, TrailRestores}
+use Rattle.mc_mode_state.specs.Agreeing.{TypedAs}
+use Rattle.mc_mode_state.specs.Answers.{FreshAlike, end_of}
+use Rattle.mc_mode_state.specs.declared.state.State.{State}
+use Rattle.mc_mode_state.specs.declared.part.Part.{Part}
+use Rattle.mc_mode_state.specs.declared.fault.Failed.{Failed}
+use Rattle.mc_mode_state.proofs.Found.{type-kept}
 use Rattle.mc_modes.specs.code.Parts.{IsOne, AloneSince, MergedAs, ChosenAs}
 use Rattle.mc_modes.specs.code.Alike.{NodeAlike}
 
@@ -50,13 +50,13 @@ settled-alike g t u tried (Ok p) e k a =
     subst (λ (v : State). FreshAlike g v p) (sym k) b
 settled-alike g t u tried (Err x) e k a = tt
 
-pub alone-alike : (T : ℕ → TypeTerm) (next : ℕ) (C : Chosen) (n : ℕ) (b : Point ℕ) (o : Option (Point ℕ)) (gs : Nodes) → AllAlike T next gs → TestsAlike T next (alone (of_nodes C) n b o gs)
+pub alone-alike : (T : ℕ → TypeTerm) (next : ℕ) (C : NodeOracle) (n : ℕ) (b : Point ℕ) (o : Option (Point ℕ)) (gs : Nodes) → AllAlike T next gs → TestsAlike T next (alone (of_nodes C) n b o gs)
 alone-alike T next C n b o no_nodes w = tt
 alone-alike T next C n b o (node_then g no_nodes) w = w.0
 alone-alike T next C n b o (node_then g (node_then h gs)) w = w
 
 -- A part's goals as one. Whatever functions look for nodes, its tests are the same, so here are some.
-pub none_chosen : Chosen
+pub none_chosen : NodeOracle
 none_chosen = record {
   is_dead = λ i. false;
   over = λ s is. None;
@@ -66,9 +66,9 @@ none_chosen = record {
   fits = λ i j t. false;
 }
 
-pub node-alone : (g : Flat_goal) (s t u : State) (log : ℕ) (p : Part) (node : GoalNode) → Keeps t u → LeadsBack s t → length s.log.items ≡ log → AloneSince log t p node → FreshAlike g t p
+pub node-alone : (g : Flat_goal) (s t u : State) (trail : ℕ) (p : Part) (node : GoalNode) → Keeps t u → TrailRestores s t → length s.trail.items ≡ trail → AloneSince trail t p node → FreshAlike g t p
     → NodeAlike (variables_of g) u node
-node-alone g s t u log p node k l m e a T next h w =
+node-alone g s t u trail p node k l m e a T next h w =
     subst (TestsAlike T next) (sym (e s l m none_chosen))
     (alone-alike T next none_chosen (length t.insts.items) (point_of s.insts.items) (end_of p.reachable t) (nodes (map plain_node p.goals.items)) (a T next (k T h) w))
 

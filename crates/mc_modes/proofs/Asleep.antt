@@ -14,9 +14,9 @@ use Rattle.mc_model.specs.Scheduled.{Scheduled, Nodes, Conj, Disj, Exists}
 use Rattle.mc_model.specs.Stream.{is_bound}
 use Rattle.mc_accepted.specs.Ordered.{Mode, is_state, modes_of, times_in}
 use Rattle.mc_accepted.specs.Arranged.{Operations, Declared, waits, negated_binds, branches_differ, lacks, alone, count_flat, Point, Arranged, runs, breaks, Waiting, Picked, takes, none_runs, Branches, variables_of_waiting, picked, pick, behind, goes_on, and_branches, each_branch, wrapped, stuck, in_turn, wait, atom, same, made, usable, better, best, called, call_of, branched, conditional, negation, trial, trials}
-use Rattle.mc_accepted.specs.Chosen.{Chosen, of_nodes}
-use Rattle.mc_mode_points.specs.States.{point_of}
-use Rattle.mc_mode_points.specs.declared.state.State.{State}
+use Rattle.mc_accepted.specs.NodeOracle.{NodeOracle, of_nodes}
+use Rattle.mc_mode_state.specs.States.{point_of}
+use Rattle.mc_mode_state.specs.declared.state.State.{State}
 use Rattle.mc_modes.specs.code.Waiting.{nothing}
 use Rattle.mc_modes.specs.code.Sleeping as S
 use Rattle.mc_modes.specs.code.Sleeping.{Waits, Free, input_is_free, free_beside, free_now, kept_beside, was_found, changed_by, changed_by_each, making_is_mild, call_sleeps, atom_sleeps, may_be_mild, Asleep}
@@ -65,7 +65,7 @@ waits-behind : (gs : Nodes) (r : Arranged ℕ) → Waits r → Waits (behind gs 
 waits-behind gs (runs hs o n zs) w = absurd w
 waits-behind gs (breaks f) w = w
 
-module _ (C : Chosen) (P : Source) (declared : ℕ → List Declared) (T : ℕ → TypeTerm) (first : ℕ) where
+module _ (C : NodeOracle) (P : Source) (declared : ℕ → List Declared) (T : ℕ → TypeTerm) (first : ℕ) where
   abbrev Op : Operations ℕ
   Op = of_nodes C
 

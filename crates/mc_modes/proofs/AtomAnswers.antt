@@ -6,12 +6,12 @@ use Rattle.mc_model.specs.declared.inst.Sig.{Sig}
 use Rattle.mc_procs.specs.Named.{NumbersBelow}
 use Rattle.mc_procs.specs.Procedures.{PlainProcs, source_of}
 use Rattle.mc_program.specs.Values.{Val}
-use Rattle.mc_mode_points.specs.Answers.{Outcome, tried, Ran, Answers}
-use Rattle.mc_mode_points.specs.declared.state.State.{State}
-use Rattle.mc_mode_points.specs.declared.part.Part.{Part}
-use Rattle.mc_mode_points.specs.declared.fault.Failed.{Failed}
+use Rattle.mc_mode_state.specs.Answers.{Outcome, tried, Ran, Answers}
+use Rattle.mc_mode_state.specs.declared.state.State.{State}
+use Rattle.mc_mode_state.specs.declared.part.Part.{Part}
+use Rattle.mc_mode_state.specs.declared.fault.Failed.{Failed}
 use Rattle.mc_modes.specs.Signatures.{declared_in}
-use Rattle.mc_modes.specs.Tries.{Told, trying, tells_outside, Does, Goes}
+use Rattle.mc_modes.specs.Tries.{OutsideKnown, attempt_of, tells_outside, TryPost, AttemptPost}
 use Rattle.mc_modes.specs.code.Waiting.{tells_around}
 use Rattle.mc_modes.proofs.Locally.{trial-same, trial-made, trial-call}
 use Rattle.mc_modes.proofs.Ways.{atom-does, goes}
@@ -20,42 +20,42 @@ answers-fresh : (a : Outcome) (q r : PlainProcs) (s t : State) (res : Result Par
 answers-fresh a q r s t res d p e = let b : Ran a q r s t p = subst (λ x. Answers a q r s t x) e d in b.fresh
 
 -- whatever is told of what occurs outside, if these are the clause's own variables
-abbrev Own : Told → Flat_goal → Type 0
+abbrev Own : OutsideKnown → Flat_goal → Type 0
 Own told g = (first : ℕ) (O : List ℕ) → told first O → NumbersBelow first (F.variables_of g)
 
 module _ (sigs : List Sig) (q r : PlainProcs) (s t : State) (res : Result Part Failed) where
   abbrev Told_of : Flat_goal → Type 0
   Told_of g = (O : List ℕ) → Answers (tried (declared_in sigs) g O q s) q r s t res
 
-  abbrev Does_as : Told → Flat_goal → Type 0
-  Does_as told g = Does told (trying sigs g q s) q r s t res
+  abbrev Does_as : OutsideKnown → Flat_goal → Type 0
+  Does_as told g = TryPost told (attempt_of sigs g q s) q r s t res
 
-  same-does : (told : Told) (x y : ℕ) → Own told (F.Same x y) → Told_of (F.Same x y) → Does_as told (F.Same x y)
+  same-does : (told : OutsideKnown) (x y : ℕ) → Own told (F.Same x y) → Told_of (F.Same x y) → Does_as told (F.Same x y)
   same-does told x y own d =
       atom-does sigs told (F.Same x y) q r s t res own (λ C T U first h O n b w. trial-same C (source_of q) (declared_in sigs) T U first h x y O n b w)
       (answers-fresh (tried (declared_in sigs) (F.Same x y) [] q s) q r s t res (d [])) d
 
-  made-does : (told : Told) (x f : ℕ) (ys : List ℕ) → Own told (F.Made x f ys) → Told_of (F.Made x f ys) → Does_as told (F.Made x f ys)
+  made-does : (told : OutsideKnown) (x f : ℕ) (ys : List ℕ) → Own told (F.Made x f ys) → Told_of (F.Made x f ys) → Does_as told (F.Made x f ys)
   made-does told x f ys own d =
       atom-does sigs told (F.Made x f ys) q r s t res own (λ C T U first h O n b w. trial-made C (source_of q) (declared_in sigs) T U first h x f ys O n b w)
       (answers-fresh (tried (declared_in sigs) (F.Made x f ys) [] q s) q r s t res (d [])) d
 
-  constant-does : (told : Told) (x : ℕ) (v : Val) → Own told (F.Is x v) → Told_of (F.Is x v) → Does_as told (F.Is x v)
+  constant-does : (told : OutsideKnown) (x : ℕ) (v : Val) → Own told (F.Is x v) → Told_of (F.Is x v) → Does_as told (F.Is x v)
   constant-does told x v own d =
       atom-does sigs told (F.Is x v) q r s t res own (λ C T U first h O n b w. refl)
       (answers-fresh (tried (declared_in sigs) (F.Is x v) [] q s) q r s t res (d [])) d
 
-  call-does : (told : Told) (p : ℕ) (xs : List ℕ) → Own told (F.Call p xs) → Told_of (F.Call p xs) → Does_as told (F.Call p xs)
+  call-does : (told : OutsideKnown) (p : ℕ) (xs : List ℕ) → Own told (F.Call p xs) → Told_of (F.Call p xs) → Does_as told (F.Call p xs)
   call-does told p xs own d =
       atom-does sigs told (F.Call p xs) q r s t res own (λ C T U first h O n b w. trial-call C (source_of q) (declared_in sigs) T U first h p xs O n b w)
       (answers-fresh (tried (declared_in sigs) (F.Call p xs) [] q s) q r s t res (d [])) d
 
   -- alone
   abbrev Goes_as : Flat_goal → Type 0
-  Goes_as g = Goes (tells_outside (F.variables_of g) s) (trying sigs g q s) q r s t res
+  Goes_as g = AttemptPost (tells_outside (F.variables_of g) s) (attempt_of sigs g q s) q r s t res
 
   alone-goes : (g : Flat_goal) → Does_as (tells_outside (F.variables_of g) s) g → Goes_as g
-  alone-goes g d = goes (tells_outside (F.variables_of g) s) (trying sigs g q s) q r s t res d
+  alone-goes g d = goes (tells_outside (F.variables_of g) s) (attempt_of sigs g q s) q r s t res d
 
   pub same-goes : (x y : ℕ) → Told_of (F.Same x y) → Goes_as (F.Same x y)
   same-goes x y d = alone-goes (F.Same x y) (same-does (tells_outside (x ∷ y ∷ []) s) x y (λ first O k. k.1) d)

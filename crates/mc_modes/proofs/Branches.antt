@@ -6,7 +6,7 @@ use Rattle.mc_accepted.specs.Arranged.{Point, with_end}
 use Rattle.mc_insts.specs.Graphs.{count_of}
 use Rattle.mc_procs.specs.Named.{NumbersBelow}
 use Rattle.mc_procs.specs.Procedures.{PlainProcs}
-use Rattle.mc_mode_points.specs.Merged.{rows_at, RowsFit}
+use Rattle.mc_mode_state.specs.Merged.{rows_at, RowsFit}
 use Rattle.mc_modes.specs.code.Parts.{Ends}
 use Rattle.mc_modes.proofs.Counts.{below-first, below-second, below-more}
 

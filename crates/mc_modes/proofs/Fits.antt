@@ -9,10 +9,10 @@ use Rattle.mc_model.specs.declared.inst.Sig.{Sig}
 use Rattle.mc_insts.specs.Graphs.{count_of}
 use Rattle.mc_procs.specs.Named.{NumbersBelow}
 use Rattle.mc_procs.specs.Procedures.{PlainProcs}
-use Rattle.mc_mode_points.specs.Agreeing.{Moved}
-use Rattle.mc_mode_points.specs.Modes.{ModesFit}
-use Rattle.mc_mode_points.specs.declared.state.State.{State}
-use Rattle.mc_mode_points.proofs.PickedModes.{mode-fits-later}
+use Rattle.mc_mode_state.specs.Agreeing.{StateExtends}
+use Rattle.mc_mode_state.specs.Modes.{ModesFit}
+use Rattle.mc_mode_state.specs.declared.state.State.{State}
+use Rattle.mc_mode_state.proofs.PickedModes.{mode-fits-later}
 use Rattle.mc_modes.specs.Signatures.{modes_at, SigsFit}
 use Rattle.mc_modes.specs.Fitting.{Known, AllKnown, GoalFits, GoalsFit}
 use Rattle.mc_modes.specs.code.Waiting.{variables_of_each}
@@ -25,13 +25,13 @@ modes-later n m (d ∷ ds) h w = (mode-fits-later n m d h w.0, modes-later n m d
 pub sigs-later : (n m : ℕ) (sigs : List Sig) → n ≤ m → SigsFit n sigs → SigsFit m sigs
 sigs-later n m sigs h w = λ p. modes-later n m (modes_at sigs p) h (w p)
 
-pub sigs-moved : (q r : PlainProcs) (s t : State) (sigs : List Sig) → Moved q r s t → SigsFit (count_of q.insts) sigs → SigsFit (count_of r.insts) sigs
+pub sigs-moved : (q r : PlainProcs) (s t : State) (sigs : List Sig) → StateExtends q r s t → SigsFit (count_of q.insts) sigs → SigsFit (count_of r.insts) sigs
 sigs-moved q r s t sigs m w = sigs-later (count_of q.insts) (count_of r.insts) sigs m.nodes.grown.more w
 
-pub same-program : (q r : PlainProcs) (s t : State) → Moved q r s t → r.program ≡ q.program
+pub same-program : (q r : PlainProcs) (s t : State) → StateExtends q r s t → r.program ≡ q.program
 same-program q r s t m = ap (λ (z : PlainProcs). z.program) m.nodes.others
 
-pub goal-later : (q r : PlainProcs) (s t : State) (g : Flat_goal) → length s.insts.items ≤ length t.insts.items → Moved q r s t → GoalFits q s g → GoalFits r t g
+pub goal-later : (q r : PlainProcs) (s t : State) (g : Flat_goal) → length s.insts.items ≤ length t.insts.items → StateExtends q r s t → GoalFits q s g → GoalFits r t g
 goal-later q r s t g h m f = record {
   variables = below-more (length s.insts.items) (length t.insts.items) (variables_of g) h f.variables;
   known = subst (λ (P : Program). Known P g) (sym (same-program q r s t m)) f.known;

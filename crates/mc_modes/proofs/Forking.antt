@@ -13,15 +13,15 @@ use Rattle.mc_accepted.specs.FreshTests.{AllAlike}
 use Rattle.mc_insts.specs.Graphs.{count_of}
 use Rattle.mc_procs.specs.Named.{NumbersBelow}
 use Rattle.mc_procs.specs.Procedures.{PlainProcs}
-use Rattle.mc_mode_points.specs.States.{point_of}
-use Rattle.mc_mode_points.specs.Agreeing.{Stands, Stepped, TypedAs}
-use Rattle.mc_mode_points.specs.Answers.{FreshAlike}
-use Rattle.mc_mode_points.specs.Merged.{rows_at, RowsFit}
-use Rattle.mc_mode_points.specs.declared.state.State.{State}
-use Rattle.mc_mode_points.specs.declared.part.Part.{Part}
-use Rattle.mc_mode_points.specs.declared.fault.Failed.{Failed}
-use Rattle.mc_mode_points.proofs.Steps.{stepped-refl, stepped-trans}
-use Rattle.mc_modes.specs.Tries.{trying, tells_outside, Goes}
+use Rattle.mc_mode_state.specs.States.{point_of}
+use Rattle.mc_mode_state.specs.Agreeing.{StateInvariant, LaterByTrail, TypedAs}
+use Rattle.mc_mode_state.specs.Answers.{FreshAlike}
+use Rattle.mc_mode_state.specs.Merged.{rows_at, RowsFit}
+use Rattle.mc_mode_state.specs.declared.state.State.{State}
+use Rattle.mc_mode_state.specs.declared.part.Part.{Part}
+use Rattle.mc_mode_state.specs.declared.fault.Failed.{Failed}
+use Rattle.mc_mode_state.proofs.Steps.{stepped-refl, stepped-trans}
+use Rattle.mc_modes.specs.Tries.{attempt_of, tells_outside, AttemptPost}
 use Rattle.mc_modes.specs.code.Alike.{NodeAlike}
 use Rattle.mc_modes.specs.code.Parts.{trying_beside, IsBranch, DoesBranch, MergedAs}
 use Rattle.mc_modes.proofs.Alike.{keeps-taken, more-alike, merged-alike}
@@ -32,7 +32,7 @@ use Rattle.mc_modes.proofs.Merging.{BranchesSoFar, branched-on, disjunction-goes
 use Rattle.mc_modes.proofs.Turns.{done-more}
 
 pub record Forked (sigs : List Sig) (gs rest : List Flat) (seen : List ℕ) (branches : List GoalNode) (ends : List (List ℕ)) (q p : PlainProcs) (s u : State) : Type 0 where
-  pub stepped : Stepped q p s u
+  pub stepped : LaterByTrail q p s u
   pub point : point_of u.insts.items ≡ point_of s.insts.items
   pub reached : List (Point ℕ)
   pub rows : ends ≡ rows_at seen reached
@@ -42,7 +42,7 @@ pub record Forked (sigs : List Sig) (gs rest : List Flat) (seen : List ℕ) (bra
       → AllAlike T next (nodes (map plain_node branches))
   pub so : BranchesSoFar sigs (variables_of_all (flats (map plain_flat gs))) (map plain_flat gs) (map plain_flat rest) (nodes (map plain_node branches)) reached q p s u
 
-pub forked-begins : (sigs : List Sig) (gs : List Flat) (seen : List ℕ) (q : PlainProcs) (s : State) → Stands q s → Forked sigs gs gs seen [] [] q q s s
+pub forked-begins : (sigs : List Sig) (gs : List Flat) (seen : List ℕ) (q : PlainProcs) (s : State) → StateInvariant q s → Forked sigs gs gs seen [] [] q q s s
 forked-begins sigs gs seen q s st = record {
   stepped = stepped-refl q s st;
   point = refl;
@@ -81,7 +81,7 @@ module _ (sigs : List Sig) (gs : List Flat) (x : Flat) (left : List Flat) (seen 
   -- it has no order
   pub forked-fails : (r : PlainProcs) (t : State) (fs : List (List ℕ)) (e : Failed)
       → DoesBranch (tells_outside (variables_of (plain_flat x)) u) (trying_beside [] sigs (plain_flat x) p u) seen p r u t es fs (Err e)
-      → Goes (tells_outside own s) (trying sigs (F.Or (flats all)) q s) q r s t (Err e)
+      → AttemptPost (tells_outside own s) (attempt_of sigs (F.Or (flats all)) q s) q r s t (Err e)
   forked-fails r t fs e d =
       failed-disjunct sigs all (map plain_flat left) (plain_flat x) (nodes (map plain_node branches)) i.reached q p r s u t seen es fs e below i.stepped.moved.stands i.stepped i.point i.so d
 
@@ -90,7 +90,7 @@ module _ (sigs : List Sig) (gs : List Flat) (seen : List ℕ) (branches : List G
     (i : Forked sigs gs [] seen branches rows q r s t) (p : PlainProcs) (v : State) (res : Result Part Failed)
     (d : MergedAs (Disj (nodes (map plain_node branches))) (variables_of_all (flats (map plain_flat gs))) seen rows r p t v res) where
   pub forked-goes : OnOk res (length v.insts.items ≡ length t.insts.items)
-      → Goes (tells_outside (variables_of_all (flats (map plain_flat gs))) s) (trying sigs (F.Or (flats (map plain_flat gs))) q s) q p s v res
+      → AttemptPost (tells_outside (variables_of_all (flats (map plain_flat gs))) s) (attempt_of sigs (F.Or (flats (map plain_flat gs))) q s) q p s v res
   forked-goes count =
       disjunction-goes sigs (map plain_flat gs) q r s t branches i.reached seen rows p v res i.stepped.moved.stands i.stepped i.point i.rows count i.so d
 

@@ -13,8 +13,8 @@ use Rattle.mc_accepted.specs.Arranged.{Declared}
 use Rattle.mc_model.specs.Stream.{is_bound}
 use Rattle.mc_accepted.specs.Ordered.{Mode, zipped, times_in}
 use Rattle.mc_procs.specs.Named.{NumbersBelow}
-use Rattle.mc_mode_points.specs.States.{point_of}
-use Rattle.mc_mode_points.specs.declared.state.State.{State}
+use Rattle.mc_mode_state.specs.States.{point_of}
+use Rattle.mc_mode_state.specs.declared.state.State.{State}
 use Rattle.mc_modes.specs.code.Sleeping.{Free, input_is_free, free_beside, free_now, kept_beside, call_sleeps, call_returns}
 use Rattle.mc_modes.proofs.Counts.{is-in-times}
 

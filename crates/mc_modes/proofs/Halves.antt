@@ -12,16 +12,16 @@ use Rattle.mc_accepted.specs.FreshTests.{TestsAlike}
 use Rattle.mc_insts.specs.Graphs.{count_of}
 use Rattle.mc_procs.specs.Named.{NumbersBelow}
 use Rattle.mc_procs.specs.Procedures.{PlainProcs}
-use Rattle.mc_mode_points.specs.States.{is_outside}
-use Rattle.mc_mode_points.specs.Agreeing.{TypedAs}
-use Rattle.mc_mode_points.specs.Answers.{FreshAlike}
-use Rattle.mc_mode_points.specs.Merged.{RowsFit}
-use Rattle.mc_mode_points.specs.declared.state.State.{State}
-use Rattle.mc_mode_points.specs.declared.part.Part.{Part}
-use Rattle.mc_mode_points.specs.declared.fault.Failed.{Failed}
-use Rattle.mc_mode_points.proofs.EndColumns.{ascending-below}
+use Rattle.mc_mode_state.specs.States.{is_outside}
+use Rattle.mc_mode_state.specs.Agreeing.{TypedAs}
+use Rattle.mc_mode_state.specs.Answers.{FreshAlike}
+use Rattle.mc_mode_state.specs.Merged.{RowsFit}
+use Rattle.mc_mode_state.specs.declared.state.State.{State}
+use Rattle.mc_mode_state.specs.declared.part.Part.{Part}
+use Rattle.mc_mode_state.specs.declared.fault.Failed.{Failed}
+use Rattle.mc_mode_state.proofs.EndColumns.{ascending-below}
 use Rattle.mc_modes.specs.Fitting.{GoalFits}
-use Rattle.mc_modes.specs.Tries.{Told, Try, trying, tells_outside, Does, Goes}
+use Rattle.mc_modes.specs.Tries.{OutsideKnown, Attempt, attempt_of, tells_outside, TryPost, AttemptPost}
 use Rattle.mc_modes.specs.code.Alike.{NodeAlike}
 use Rattle.mc_modes.specs.code.Parts.{trying_beside, DoesTest, IsBranch, IsBegun, ChosenAs}
 use Rattle.mc_modes.specs.declared.ending.Begun.{Begun}
@@ -69,7 +69,7 @@ begun-alike g h u t v c n k l a b T next y w =
     (a T next (k T (l T y)) (below-first next (variables_of g) (variables_of h) w), b T next (l T y) (below-second next (variables_of g) (variables_of h) w))
 
 module _ (vs : List ℕ) (g h k : Flat_goal) (sigs : List Sig) (q : PlainProcs) (s : State) (seen : List ℕ) (r : PlainProcs) (t : State) (fs : List (List ℕ)) (b : Begun)
-    (d : IsBegun vs g h sigs q s seen r t [] fs b) (told : Told) (a : Try) (p : PlainProcs) (u : State) (rows : List (List ℕ)) (node : GoalNode)
+    (d : IsBegun vs g h sigs q s seen r t [] fs b) (told : OutsideKnown) (a : Attempt) (p : PlainProcs) (u : State) (rows : List (List ℕ)) (node : GoalNode)
     (e : IsBranch told a seen r p t u fs rows node) where
   -- the insts at the ends fit
   pub chosen-rows : RowsFit (length seen) (count_of p.insts) rows
@@ -103,17 +103,17 @@ ite-alike vs g h k t u v b node own seen rows q r res a n keeps d =
         joined (x ∷ xs) u = (u.0, joined xs u.1)
 
 -- a condition that has no order, beside the same variables
-pub failed-beside : (told : Told) (us vs : List ℕ) (sigs : List Sig) (g : Flat_goal) (xs : List ℕ) (q r : PlainProcs) (s t : State) (e : Failed) → us ≡ vs
-    → Does told (trying_beside us sigs g q s) q r s t (Err e) → DoesTest told (trying_beside vs sigs g q s) xs q r s t (Err e)
+pub failed-beside : (told : OutsideKnown) (us vs : List ℕ) (sigs : List Sig) (g : Flat_goal) (xs : List ℕ) (q r : PlainProcs) (s t : State) (e : Failed) → us ≡ vs
+    → TryPost told (trying_beside us sigs g q s) q r s t (Err e) → DoesTest told (trying_beside vs sigs g q s) xs q r s t (Err e)
 failed-beside told us vs sigs g xs q r s t e i d =
-    failed-test told (trying_beside vs sigs g q s) xs q r s t e (subst (λ (ws : List ℕ). Does told (trying_beside ws sigs g q s) q r s t (Err e)) i d)
+    failed-test told (trying_beside vs sigs g q s) xs q r s t e (subst (λ (ws : List ℕ). TryPost told (trying_beside ws sigs g q s) q r s t (Err e)) i d)
 
 -- a quantified goal
 pub quantified-fits : (q : PlainProcs) (s : State) (vs : List ℕ) (g : Flat_goal) → GoalFits q s (F.Exists vs g) → GoalFits q s g
 quantified-fits q s vs g f = record { variables = below-second (length s.insts.items) vs (variables_of g) f.variables; known = f.known }
 
 pub goes-quantified : (sigs : List Sig) (vs : List ℕ) (g : Flat_goal) (q r : PlainProcs) (s t : State) (res : Result Part Failed)
-    → Goes (tells_outside (variables_of g) s) (trying sigs (F.Exists vs g) q s) q r s t res → Goes (tells_outside (variables_of (F.Exists vs g)) s) (trying sigs (F.Exists vs g) q s) q r s t res
+    → AttemptPost (tells_outside (variables_of g) s) (attempt_of sigs (F.Exists vs g) q s) q r s t res → AttemptPost (tells_outside (variables_of (F.Exists vs g)) s) (attempt_of sigs (F.Exists vs g) q s) q r s t res
 goes-quantified sigs vs g q r s t res d =
-    goes-told (tells_outside (variables_of g) s) (tells_outside (variables_of (F.Exists vs g)) s) (trying sigs (F.Exists vs g) q s) q r s t res
+    goes-told (tells_outside (variables_of g) s) (tells_outside (variables_of (F.Exists vs g)) s) (attempt_of sigs (F.Exists vs g) q s) q r s t res
     (λ first O w. (w.0, below-second first vs (variables_of g) w.1, w.2)) d

@@ -31,6 +31,12 @@ pub mod MadeProcedures
 pub mod Refusals
 pub mod MildGoals
 pub mod Asleep
-pub mod Sleepers
+pub mod DelayedGoals
 pub mod WaitingPlaces
 pub mod Occurring
+pub mod Ids
+pub mod Grows
+pub mod OneMode
+pub mod SoFarMore
+pub mod OneStep
+pub mod Listing

@@ -10,7 +10,7 @@ use Rattle.mc_model.specs.Lists.{is_in}
 use Rattle.mc_model.specs.Stream.{is_bound}
 use Rattle.mc_model.specs.Scheduled.{Scheduled, Nodes, node_then, Assign, Test, Call}
 use Rattle.mc_accepted.specs.Arranged.{Point, Declared, Arranged, Branches, runs, breaks, lacks, all_run, one_breaks, with_inst, one, unless, branches_differ, negated_binds, wait, same, made, call_of, called, applied, applied_with, usable, best, better, implied_in, after_call, input_after, fresh_at, tests_at, test_nodes, changing, applying, built, take, atom, trial, is_there, or_free, merges, merged, those_in, differs, branched}
-use Rattle.mc_accepted.specs.Chosen.{Chosen, of_nodes, other_node}
+use Rattle.mc_accepted.specs.NodeOracle.{NodeOracle, of_nodes, other_node}
 use Rattle.mc_accepted.specs.Least.{least}
 use Rattle.mc_accepted.specs.Ordered.{Mode, is_state, times_in, implied_places, modes_of, builtin_most}
 use Rattle.mc_source.specs.Determinism.{is_zero}
@@ -90,7 +90,7 @@ fresh-inputs n k m is (d ∷ ms) (x ∷ xs) w f =
     at rest true e = (λ g. absurd (cc (sym (f 0 (ap (λ j. is_in j is) (let e : k + 0 ≡ k = omega arith in e) ∙ e)) ∙ g)), rest (suc m))
     at rest false e = (λ g. w.0, rest m)
 
-module _ (C : Chosen) (P : Source) (declared : ℕ → List Declared) (T U : ℕ → TypeTerm) (first : ℕ) (h : (x : ℕ) → x < first → T x ≡ U x) where
+module _ (C : NodeOracle) (P : Source) (declared : ℕ → List Declared) (T U : ℕ → TypeTerm) (first : ℕ) (h : (x : ℕ) → x < first → T x ≡ U x) where
   same-locally : (x y n : ℕ) (b : Point ℕ) → x < first → y < first → same (of_nodes C) P declared T x y n b ≡ same (of_nodes C) P declared U x y n b
   same-locally x y n b k l = ap₂ chosen (h x k) (h y l)
     where

@@ -10,8 +10,8 @@ use Rattle.mc_model.specs.declared.sched.Proc.{Proc}
 use Rattle.mc_accepted.specs.Arranged.{in_order}
 use Rattle.mc_accepted.specs.FreshTests.{TestsAlike}
 use Rattle.mc_procs.specs.Procedures.{PlainProcs}
-use Rattle.mc_mode_points.specs.Modes.{ModeFits, ModesFit}
-use Rattle.mc_mode_points.specs.Nodes.{type_in}
+use Rattle.mc_mode_state.specs.Modes.{ModeFits, ModesFit}
+use Rattle.mc_mode_state.specs.Nodes.{type_in}
 use Rattle.mc_modes.specs.Signatures.{modes_at, mode_in, no_mode, SigsFit}
 use Rattle.mc_modes.specs.Arrangements.{Becomes, Numbers, Arranges}
 use Rattle.mc_modes.specs.Schedules.{IsScheduled}

@@ -12,9 +12,9 @@ use Rattle.mc_model.specs.Scheduled.{Scheduled, Call}
 use Rattle.mc_model.specs.Stream.{is_bound}
 use Rattle.mc_accepted.specs.Ordered.{Mode, is_state, modes_of, builtin_most}
 use Rattle.mc_accepted.specs.Arranged.{Operations, Declared, waits, Point, with_inst, Arranged, runs, breaks, fresh_at, one, atom, assigned, same, built, made, constant, input_after, after_call, after, usable, implied_in, better, best, called, applying, applied_with, call_of}
-use Rattle.mc_accepted.specs.Chosen.{Chosen, of_nodes}
-use Rattle.mc_mode_points.specs.States.{point_of}
-use Rattle.mc_mode_points.specs.declared.state.State.{State}
+use Rattle.mc_accepted.specs.NodeOracle.{NodeOracle, of_nodes}
+use Rattle.mc_mode_state.specs.States.{point_of}
+use Rattle.mc_mode_state.specs.declared.state.State.{State}
 use Rattle.mc_modes.specs.code.Sleeping.{OfWaiting, Waits, Free, call_returns}
 
 -- the kept variables are as they are at a state
@@ -50,7 +50,7 @@ cond-off : (t : Bool) (b c : Point ℕ) (x : ℕ) → c x ≡ b x → cond t b c
 cond-off true b c x e = refl
 cond-off false b c x e = e
 
-module _ (C : Chosen) (P : Source) (declared : ℕ → List Declared) (T : ℕ → TypeTerm) (s : State) (kept : Free) (first : ℕ) where
+module _ (C : NodeOracle) (P : Source) (declared : ℕ → List Declared) (T : ℕ → TypeTerm) (s : State) (kept : Free) (first : ℕ) where
   abbrev Op : Operations ℕ
   Op = of_nodes C
 

@@ -5,18 +5,18 @@ use Rattle.mc_model.specs.Flat.{flats, variables_of, variables_of_all}
 use Rattle.mc_model.specs.PlainGoals.{plain_flat}
 use Rattle.mc_model.specs.declared.flat.Flat.{Flat}
 use Rattle.mc_procs.specs.Named.{NumbersBelow}
-use Rattle.mc_mode_points.specs.declared.state.State.{State}
+use Rattle.mc_mode_state.specs.declared.state.State.{State}
 use Rattle.mc_modes.specs.code.Frames.{Frame, Entered, Left}
 use Rattle.mc_modes.specs.code.Waiting.{Counted}
 use Rattle.mc_modes.proofs.Counts.{times-append}
 
 frame-refl : (s : State) → Frame s s
-frame-refl s = record { insts = refl; log = refl; types = refl; nodes = refl; len = refl }
+frame-refl s = record { insts = refl; trail = refl; types = refl; nodes = refl; len = refl }
 
 frame-trans : (s t u : State) → Frame s t → Frame t u → Frame s u
 frame-trans s t u f g = record {
   insts = g.insts ∙ f.insts;
-  log = g.log ∙ f.log;
+  trail = g.trail ∙ f.trail;
   types = g.types ∙ f.types;
   nodes = g.nodes ∙ f.nodes;
   len = g.len ∙ f.len;

@@ -7,37 +7,37 @@ use Rattle.mc_model.specs.Scheduled.{nodes}
 use Rattle.mc_model.specs.PlainGoals.{plain_node}
 use Rattle.mc_model.specs.declared.inst.Sig.{Sig}
 use Rattle.mc_accepted.specs.Arranged.{Arranged, runs, breaks, Waiting, with_fresh, pick, picked, trial}
-use Rattle.mc_accepted.specs.Chosen.{Chosen, of_nodes}
+use Rattle.mc_accepted.specs.NodeOracle.{NodeOracle, of_nodes}
 use Rattle.mc_accepted.specs.Ordered.{times_in}
 use Rattle.mc_procs.specs.Procedures.{PlainProcs, source_of}
-use Rattle.mc_mode_points.specs.States.{point_of, SameState}
-use Rattle.mc_mode_points.specs.Agreeing.{Stands, Moved}
-use Rattle.mc_mode_points.specs.Answers.{plain_fault, end_of}
-use Rattle.mc_mode_points.specs.declared.state.State.{State}
-use Rattle.mc_mode_points.specs.declared.part.Part.{Part}
-use Rattle.mc_mode_points.specs.declared.fault.ModeFault.{ModeFault}
-use Rattle.mc_mode_points.proofs.Steps.{stepped-trans}
+use Rattle.mc_mode_state.specs.States.{point_of, SameState}
+use Rattle.mc_mode_state.specs.Agreeing.{StateInvariant, StateExtends}
+use Rattle.mc_mode_state.specs.Answers.{plain_fault, end_of}
+use Rattle.mc_mode_state.specs.declared.state.State.{State}
+use Rattle.mc_mode_state.specs.declared.part.Part.{Part}
+use Rattle.mc_mode_state.specs.declared.fault.ModeFault.{ModeFault}
+use Rattle.mc_mode_state.proofs.Steps.{stepped-trans}
 use Rattle.mc_modes.specs.Signatures.{declared_in}
-use Rattle.mc_modes.specs.Tries.{Suits, trying, Runs, Breaks}
+use Rattle.mc_modes.specs.Tries.{AgreesOnClause, attempt_of, Succeeds, FailsUnchanged}
 use Rattle.mc_modes.specs.code.Waiting.{nothing, variables_of_each, tells_around, Counted, all_waiting, waiting_at, picking, noted, IsReady, NoneIsReady}
 use Rattle.mc_modes.specs.code.Sleeping.{Waits}
 use Rattle.mc_modes.proofs.Counts.{around-one, below-at, times-at}
 use Rattle.mc_modes.proofs.Picks.{scanned, scanned-on, scanned-waits, scanned-takes, scanned-none, pick-at}
 use Rattle.mc_modes.proofs.Ways.{suits-before, stepped-same}
 
-pub same-source : (q r : PlainProcs) (s t : State) → Moved q r s t → source_of r ≡ source_of q
+pub same-source : (q r : PlainProcs) (s t : State) → StateExtends q r s t → source_of r ≡ source_of q
 same-source q r s t m = ap source_of m.nodes.others
 
 -- What is known of a pass: what was found first, and what is found from a place on.
 abbrev pub FoundSoFar : List Sig → List Flat_goal → (k : ℕ) → Option ModeFault → (q r : PlainProcs) → (s t : State) → Type 0
 FoundSoFar sigs gs k found q r s t =
-    (first : ℕ) (O : List ℕ) (C : Chosen) (T : ℕ → TypeTerm)
-    → tells_around (variables_of_each gs) s first O → Suits first r t C T
+    (first : ℕ) (O : List ℕ) (C : NodeOracle) (T : ℕ → TypeTerm)
+    → tells_around (variables_of_each gs) s first O → AgreesOnClause first r t C T
     → let W = all_waiting (of_nodes C) (source_of q) (declared_in sigs) T gs in
     scanned found (pick (take k W) (drop k W) O (length s.insts.items) (point_of s.insts.items))
     ≡ picking sigs gs q s O C T
 
-module _ (sigs : List Sig) (gs : List Flat_goal) (k : ℕ) (h : k < length gs) (q p : PlainProcs) (s u : State) (same : SameState s u) (m : Moved q p s u)
+module _ (sigs : List Sig) (gs : List Flat_goal) (k : ℕ) (h : k < length gs) (q p : PlainProcs) (s u : State) (same : SameState s u) (m : StateExtends q p s u)
     (counted : Counted (variables_of_each gs) s) where
   abbrev g : Flat_goal
   g = get_or gs k nothing
@@ -59,8 +59,8 @@ module _ (sigs : List Sig) (gs : List Flat_goal) (k : ℕ) (h : k < length gs) (
       not-left n x = not (nat_eq (n - times_in x (variables_of_each gs)) 0)
 
   -- the goal, tried beside the others
-  tried-one : (first : ℕ) (O : List ℕ) (C : Chosen) (T : ℕ → TypeTerm) (x : Arranged ℕ) → tells_around (variables_of_each gs) s first O
-      → ((P : List ℕ) → tells_around (variables_of g) u first P → trying sigs g p u P C T ≡ x)
+  tried-one : (first : ℕ) (O : List ℕ) (C : NodeOracle) (T : ℕ → TypeTerm) (x : Arranged ℕ) → tells_around (variables_of_each gs) s first O
+      → ((P : List ℕ) → tells_around (variables_of g) u first P → attempt_of sigs g p u P C T ≡ x)
       → trial (of_nodes C) (source_of q) (declared_in sigs) T g (O ++ others) (length s.insts.items) (point_of s.insts.items) ≡ x
   tried-one first O C T x w f =
       ap (λ P. trial (of_nodes C) P (declared_in sigs) T g (O ++ others) (length s.insts.items) (point_of s.insts.items)) (sym (same-source q p s u m))
@@ -68,8 +68,8 @@ module _ (sigs : List Sig) (gs : List Flat_goal) (k : ℕ) (h : k < length gs) (
       ∙ f (O ++ others) (tells-one first O w))
 
   -- it doesn't run
-  pub passed-on : (found : Option ModeFault) (r : PlainProcs) (t : State) (f : ModeFault) → Stands p u → FoundSoFar sigs gs k found q p s u
-      → Breaks (tells_around (variables_of g) u) (trying sigs g p u) p r u t f → FoundSoFar sigs gs (k + 1) (noted found f) q r s t
+  pub passed-on : (found : Option ModeFault) (r : PlainProcs) (t : State) (f : ModeFault) → StateInvariant p u → FoundSoFar sigs gs k found q p s u
+      → FailsUnchanged (tells_around (variables_of g) u) (attempt_of sigs g p u) p r u t f → FoundSoFar sigs gs (k + 1) (noted found f) q r s t
   passed-on found r t f st so d = λ first O C T w v.
       let W = all_waiting (of_nodes C) (source_of q) (declared_in sigs) T gs in
       let n = length s.insts.items in
@@ -82,7 +82,7 @@ module _ (sigs : List Sig) (gs : List Flat_goal) (k : ℕ) (h : k < length gs) (
 
   -- it waits, whatever occurs outside it
   pub passed-asleep : (found : Option ModeFault) → FoundSoFar sigs gs k found q p s u
-      → ((first : ℕ) (C : Chosen) (T : ℕ → TypeTerm) (O : List ℕ) → Suits first p u C T → Waits (trial (of_nodes C) (source_of p) (declared_in sigs) T g O (length u.insts.items) (point_of u.insts.items)))
+      → ((first : ℕ) (C : NodeOracle) (T : ℕ → TypeTerm) (O : List ℕ) → AgreesOnClause first p u C T → Waits (trial (of_nodes C) (source_of p) (declared_in sigs) T g O (length u.insts.items) (point_of u.insts.items)))
       → FoundSoFar sigs gs (k + 1) found q p s u
   passed-asleep found so asleep = λ first O C T w v.
       let W = all_waiting (of_nodes C) (source_of q) (declared_in sigs) T gs in
@@ -96,8 +96,8 @@ module _ (sigs : List Sig) (gs : List Flat_goal) (k : ℕ) (h : k < length gs) (
       ∙ (ap (scanned found) (sym (pick-at (of_nodes C) (source_of q) (declared_in sigs) T gs k O n b h)) ∙ so first O C T w v)
 
   -- it runs
-  pub passed-by : (found : Option ModeFault) (r : PlainProcs) (t : State) (part : Part) → Stands q s → Stands p u → FoundSoFar sigs gs k found q p s u
-      → Runs (tells_around (variables_of g) u) (trying sigs g p u) p r u t part → IsReady sigs gs q r s t k part
+  pub passed-by : (found : Option ModeFault) (r : PlainProcs) (t : State) (part : Part) → StateInvariant q s → StateInvariant p u → FoundSoFar sigs gs k found q p s u
+      → Succeeds (tells_around (variables_of g) u) (attempt_of sigs g p u) p r u t part → IsReady sigs gs q r s t k part
   passed-by found r t part sq st so d = record {
     place = h;
     outcome = λ first O C T w v.
@@ -116,7 +116,7 @@ module _ (sigs : List Sig) (gs : List Flat_goal) (k : ℕ) (h : k < length gs) (
 
 -- no goal is left to be tried
 pub passed-all : (sigs : List Sig) (gs : List Flat_goal) (k : ℕ) (found : Option ModeFault) (q r : PlainProcs) (s t : State) → length gs ≤ k
-    → FoundSoFar sigs gs k found q r s t → SameState s t → Moved q r s t → NoneIsReady sigs gs q r s t found
+    → FoundSoFar sigs gs k found q r s t → SameState s t → StateExtends q r s t → NoneIsReady sigs gs q r s t found
 passed-all sigs gs k found q r s t h so same m = record {
   outcome = λ first O C T w v.
       let W = all_waiting (of_nodes C) (source_of q) (declared_in sigs) T gs in
@@ -127,7 +127,7 @@ passed-all sigs gs k found q r s t h so same m = record {
   moved = m;
 }
   where
-    past : (hs : List Flat_goal) (j : ℕ) → length hs ≤ j → (C : Chosen) (T : ℕ → TypeTerm) → drop j (all_waiting (of_nodes C) (source_of q) (declared_in sigs) T hs) ≡ []
+    past : (hs : List Flat_goal) (j : ℕ) → length hs ≤ j → (C : NodeOracle) (T : ℕ → TypeTerm) → drop j (all_waiting (of_nodes C) (source_of q) (declared_in sigs) T hs) ≡ []
     past [] zero l C T = refl
     past [] (suc j) l C T = refl
     past (f ∷ hs) zero l C T = absurd (omega arith)

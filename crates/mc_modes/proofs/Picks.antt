@@ -6,10 +6,10 @@ use Rattle.mc_program.specs.Programs.{TypeTerm, Source}
 use Rattle.mc_model.specs.Flat.{Flat_goal, variables_of}
 use Rattle.mc_model.specs.Scheduled.{Nodes}
 use Rattle.mc_accepted.specs.Arranged.{Operations, Point, Declared, waits, negated_binds, branches_differ, lacks, Arranged, runs, breaks, Waiting, Picked, takes, none_runs, or_first, picked, pick, variables_of_waiting, trial}
-use Rattle.mc_mode_points.specs.Answers.{plain_fault}
-use Rattle.mc_mode_points.specs.declared.fault.ModeFault.{ModeFault}
-use Rattle.mc_mode_points.specs.declared.fault.ModeFault.TheVariants as F
-use Rattle.mc_mode_points.proofs.Numbers.{cons_at}
+use Rattle.mc_mode_state.specs.Answers.{plain_fault}
+use Rattle.mc_mode_state.specs.declared.fault.ModeFault.{ModeFault}
+use Rattle.mc_mode_state.specs.declared.fault.ModeFault.TheVariants as F
+use Rattle.mc_mode_state.proofs.Numbers.{cons_at}
 use Rattle.mc_modes.specs.code.Waiting.{nothing, variables_of_each, waiting_at, all_waiting, noted, plain_found}
 use Rattle.mc_modes.specs.code.Sleeping.{Waits}
 

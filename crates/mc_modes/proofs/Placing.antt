@@ -11,13 +11,13 @@ use Rattle.mc_model.specs.PlainGoals.{plain_flat}
 use Rattle.mc_model.specs.declared.flat.Flat.{Flat}
 use Rattle.mc_model.specs.declared.inst.Sig.{Sig}
 use Rattle.mc_accepted.specs.Arranged.{Operations, Point, Declared, Fault, Arranged, runs, breaks, Waiting, Picked, takes, none_runs, behind, goes_on, in_turn, pick, stuck}
-use Rattle.mc_accepted.specs.Chosen.{of_nodes}
+use Rattle.mc_accepted.specs.NodeOracle.{of_nodes}
 use Rattle.mc_accepted.specs.Ordered.{times_in}
 use Rattle.mc_procs.specs.Named.{NumbersBelow}
 use Rattle.mc_procs.specs.Procedures.{PlainProcs, source_of}
-use Rattle.mc_mode_points.specs.States.{point_of, SameState}
-use Rattle.mc_mode_points.specs.Agreeing.{Moved}
-use Rattle.mc_mode_points.specs.declared.state.State.{State}
+use Rattle.mc_mode_state.specs.States.{point_of, SameState}
+use Rattle.mc_mode_state.specs.Agreeing.{StateExtends}
+use Rattle.mc_mode_state.specs.declared.state.State.{State}
 use Rattle.mc_modes.specs.Signatures.{declared_in}
 use Rattle.mc_modes.specs.Fitting.{AllKnown, GoalFits, GoalsFit}
 use Rattle.mc_modes.specs.code.Waiting.{nothing, goals_at, variables_of_each, Counted, all_waiting}
@@ -73,7 +73,7 @@ each-from gs ks k d w h =
     ∙ ap (λ js. variables_of_each (goals_at gs js)) (sym (drop_more ks k 0 h))
 
 -- it fits
-pub placed-fits : (q p : PlainProcs) (s u : State) (gs : List Flat) (ks : List ℕ) (k : ℕ) (d : Flat) → NumbersBelow (length gs) ks → k < length ks → SameState s u → Moved q p s u
+pub placed-fits : (q p : PlainProcs) (s u : State) (gs : List Flat) (ks : List ℕ) (k : ℕ) (d : Flat) → NumbersBelow (length gs) ks → k < length ks → SameState s u → StateExtends q p s u
     → GoalsFit q s (flats (map plain_flat gs)) → GoalFits p u (plain_flat (get_or gs (get_or ks k 0) d))
 placed-fits q p s u gs ks k d w h same m f =
     let l = place-below (length gs) ks k w h in
@@ -119,7 +119,7 @@ tally-begin gs waiting s e = record {
       omega (arith, h);
 }
 
-pub goals-later : (q r : PlainProcs) (s t : State) (gs : Flat_goals) → length s.insts.items ≤ length t.insts.items → Moved q r s t → GoalsFit q s gs → GoalsFit r t gs
+pub goals-later : (q r : PlainProcs) (s t : State) (gs : Flat_goals) → length s.insts.items ≤ length t.insts.items → StateExtends q r s t → GoalsFit q s gs → GoalsFit r t gs
 goals-later q r s t gs h m f = record {
   variables = below-more (length s.insts.items) (length t.insts.items) (variables_of_all gs) h f.variables;
   known = subst (λ (P : Program). AllKnown P gs) (sym (same-program q r s t m)) f.known;

@@ -16,14 +16,14 @@ use Rattle.mc_accepted.specs.FreshTests.{AllAlike}
 use Rattle.mc_accepted.specs.Ordered.{times_in}
 use Rattle.mc_procs.specs.Named.{NumbersBelow}
 use Rattle.mc_procs.specs.Procedures.{PlainProcs}
-use Rattle.mc_mode_points.specs.States.{point_of}
-use Rattle.mc_mode_points.specs.Agreeing.{Stands, TypedAs}
-use Rattle.mc_mode_points.specs.Answers.{FreshAlike}
-use Rattle.mc_mode_points.specs.declared.state.State.{State}
-use Rattle.mc_mode_points.specs.declared.part.Part.{Part}
-use Rattle.mc_mode_points.specs.declared.fault.ModeFault.{ModeFault}
-use Rattle.mc_mode_points.proofs.Steps.{stepped-refl}
-use Rattle.mc_modes.specs.Tries.{Runs, Fails}
+use Rattle.mc_mode_state.specs.States.{point_of}
+use Rattle.mc_mode_state.specs.Agreeing.{StateInvariant, TypedAs}
+use Rattle.mc_mode_state.specs.Answers.{FreshAlike}
+use Rattle.mc_mode_state.specs.declared.state.State.{State}
+use Rattle.mc_mode_state.specs.declared.part.Part.{Part}
+use Rattle.mc_mode_state.specs.declared.fault.ModeFault.{ModeFault}
+use Rattle.mc_mode_state.proofs.Steps.{stepped-refl}
+use Rattle.mc_modes.specs.Tries.{Succeeds, FailsWithTrail}
 use Rattle.mc_modes.specs.code.Frames.{Entered, Left}
 use Rattle.mc_modes.specs.code.Waiting.{nothing, goals_at, variables_of_each, tells_around, Counted, turns, IsReady, NoneIsReady, IsStuck}
 use Rattle.mc_modes.proofs.Alike.{keeps-taken, keeps-same, more-alike}
@@ -51,7 +51,7 @@ pub record Turned (sigs : List Sig) (gs : List Flat) (ks : List ℕ) (reachable 
       → AllAlike T next (nodes (map plain_node done))
   pub so : TurnsSoFar sigs (map plain_flat gs) ran reachable (nodes (map plain_node done)) (goals_at gs ks) q p s u
 
-pub turned-begins : (sigs : List Sig) (gs : List Flat) (ks : List ℕ) (q : PlainProcs) (s : State) → ks ≡ from 0 (length gs) → Stands q s → Turned sigs gs ks true [] [] q q s s
+pub turned-begins : (sigs : List Sig) (gs : List Flat) (ks : List ℕ) (q : PlainProcs) (s : State) → ks ≡ from 0 (length gs) → StateInvariant q s → Turned sigs gs ks true [] [] q q s s
 turned-begins sigs gs ks q s e st = record {
   onward = onward-step q q s s (stepped-refl q s st);
   fresh_below = tt;
@@ -133,14 +133,14 @@ module _ (sigs : List Sig) (gs : List Flat) (ks : List ℕ) (done : List GoalNod
 
   -- none runs
   pub turned-breaks : (r : PlainProcs) (t w : State) (found : Option ModeFault) (f : ModeFault) → Counted (variables_of_all (flats all)) s → 0 < length ks → NoneIsReady sigs waiting p r u t found
-      → IsStuck (point_of t.insts.items) waiting found f → Left fresh t w → Fails (tells_around (variables_of_all (flats all)) s) (turns sigs all q s) q r s w f
+      → IsStuck (point_of t.insts.items) waiting found f → Left fresh t w → FailsWithTrail (tells_around (variables_of_all (flats all)) s) (turns sigs all q s) q r s w f
   turned-breaks r t w found f counted some d is l =
       turns-break sigs all i.ran fresh (nodes (map plain_node done)) waiting q p r s u t w found f i.onward i.tally i.onward.moved.stands counted among i.so (omega (arith, some, goals-long gs ks)) d is l
 
 -- all ran, or the point is unreachable
 pub turned-runs : (sigs : List Sig) (gs : List Flat) (ks : List ℕ) (reachable : Bool) (done : List GoalNode) (fresh : List ℕ) (q p : PlainProcs) (s u w : State) (part : Part)
     → Turned sigs gs ks reachable done fresh q p s u → Left fresh u w → part.goals.items ≡ done → part.reachable ≡ reachable → part.freshened.items ≡ [] → (reachable ≡ true → ks ≡ [])
-    → Runs (tells_around (variables_of_all (flats (map plain_flat gs))) s) (turns sigs (map plain_flat gs) q s) q p s w part
+    → Succeeds (tells_around (variables_of_all (flats (map plain_flat gs))) s) (turns sigs (map plain_flat gs) q s) q p s w part
 turned-runs sigs gs ks reachable done fresh q p s u w part i l g e z last =
     turns-run sigs (map plain_flat gs) i.ran fresh done (goals_at gs ks) q p s u i.onward i.tally w part reachable l g e z (λ h. ap (goals_at gs) (last h)) i.so
 

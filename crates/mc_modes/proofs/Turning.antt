@@ -9,18 +9,18 @@ use Rattle.mc_model.specs.declared.flat.Flat.{Flat}
 use Rattle.mc_model.specs.declared.inst.Sig.{Sig}
 use Rattle.mc_model.specs.declared.sched.GoalNode.{GoalNode}
 use Rattle.mc_accepted.specs.Arranged.{Point, breaks, runs, Arranged, with_fresh, nodes_before, Picked, takes, pick}
-use Rattle.mc_accepted.specs.Chosen.{Chosen, of_nodes}
+use Rattle.mc_accepted.specs.NodeOracle.{NodeOracle, of_nodes}
 use Rattle.mc_accepted.specs.Ordered.{times_in}
 use Rattle.mc_procs.specs.Named.{NumbersBelow}
 use Rattle.mc_procs.specs.Procedures.{PlainProcs, source_of}
-use Rattle.mc_mode_points.specs.States.{point_of}
-use Rattle.mc_mode_points.specs.Agreeing.{Stands, Moved, Stepped}
-use Rattle.mc_mode_points.specs.Answers.{plain_fault, end_of}
-use Rattle.mc_mode_points.specs.declared.state.State.{State}
-use Rattle.mc_mode_points.specs.declared.part.Part.{Part}
-use Rattle.mc_mode_points.specs.declared.fault.ModeFault.{ModeFault}
+use Rattle.mc_mode_state.specs.States.{point_of}
+use Rattle.mc_mode_state.specs.Agreeing.{StateInvariant, StateExtends, LaterByTrail}
+use Rattle.mc_mode_state.specs.Answers.{plain_fault, end_of}
+use Rattle.mc_mode_state.specs.declared.state.State.{State}
+use Rattle.mc_mode_state.specs.declared.part.Part.{Part}
+use Rattle.mc_mode_state.specs.declared.fault.ModeFault.{ModeFault}
 use Rattle.mc_modes.specs.Signatures.{declared_in}
-use Rattle.mc_modes.specs.Tries.{Suits, Told, Runs, Fails}
+use Rattle.mc_modes.specs.Tries.{AgreesOnClause, OutsideKnown, Succeeds, FailsWithTrail}
 use Rattle.mc_modes.specs.code.Waiting.{nothing, variables_of_each, goals_at, tells_around, Counted, all_waiting, picking, turns, IsStuck, IsReady, NoneIsReady}
 use Rattle.mc_modes.proofs.Counts.{around-left, below-first, below-second, below-both, times-append, times-at}
 use Rattle.mc_modes.specs.code.Frames.{Entered, Left}
@@ -32,8 +32,8 @@ use Rattle.mc_modes.proofs.Ways.{suits-before, count-same, point-same, stepped-s
 -- What is known of goals in turn: these are done, and what is left to do gives the whole.
 abbrev pub TurnsSoFar : List Sig → (all : List Flat_goal) → (ran : List ℕ) → (reachable : Bool) → (done : Nodes) → (waiting : List Flat_goal) → (q r : PlainProcs) → (s t : State) → Type 0
 TurnsSoFar sigs all ran reachable done waiting q r s t =
-    (first : ℕ) (O : List ℕ) (C : Chosen) (T : ℕ → TypeTerm)
-    → tells_around (variables_of_all (flats all)) s first O → Suits first r t C T
+    (first : ℕ) (O : List ℕ) (C : NodeOracle) (T : ℕ → TypeTerm)
+    → tells_around (variables_of_all (flats all)) s first O → AgreesOnClause first r t C T
     → unfinished reachable done
     (turn (of_nodes C) (source_of q) (declared_in sigs) T waiting (O ++ ran) (length t.insts.items) (point_of t.insts.items))
     (length t.insts.items)
@@ -62,7 +62,7 @@ end-if true t = refl
 end-if false t = refl
 
 module _ (sigs : List Sig) (all : List Flat_goal) (ran fresh : List ℕ) (done : Nodes) (waiting : List Flat_goal) (q p : PlainProcs) (s u : State)
-    (more : length s.insts.items ≤ length u.insts.items) (m : Moved q p s u) (st : Stands p u)
+    (more : length s.insts.items ≤ length u.insts.items) (m : StateExtends q p s u) (st : StateInvariant p u)
     (tally : Tally all ran fresh waiting s u) (counted : Counted (variables_of_all (flats all)) s)
     (among : (n : ℕ) → NumbersBelow n (variables_of_all (flats all)) → NumbersBelow n (variables_of_each waiting))
     (so : TurnsSoFar sigs all ran true done waiting q p s u) where
@@ -74,7 +74,7 @@ module _ (sigs : List Sig) (all : List Flat_goal) (ran fresh : List ℕ) (done :
   )
 
   -- what a pass finds, over the procedures at the beginning
-  found-is : (O : List ℕ) (C : Chosen) (T : ℕ → TypeTerm) → picking sigs waiting q u O C T ≡ picking sigs waiting p u O C T
+  found-is : (O : List ℕ) (C : NodeOracle) (T : ℕ → TypeTerm) → picking sigs waiting q u O C T ≡ picking sigs waiting p u O C T
   found-is O C T = ap (λ P. picked-over P) (sym (same-source q p s u m))
     where
       picked-over : Source → Picked ℕ
@@ -85,7 +85,7 @@ module _ (sigs : List Sig) (all : List Flat_goal) (ran fresh : List ℕ) (done :
       → TurnsSoFar sigs all (ran ++ with_fresh (variables_of (get_or waiting k nothing)) part.freshened.items) part.reachable after (remove waiting k) q r s v
   turn-on r t v k part after d e f = λ first O C T w z.
       let vs = with_fresh (variables_of (get_or waiting k nothing)) part.freshened.items in
-      let back : Suits first r t C T = suits-out first r t v C T e.frame.types e.frame.nodes z in
+      let back : AgreesOnClause first r t C T = suits-out first r t v C T e.frame.types e.frame.nodes z in
       let found = found-is (O ++ ran) C T ∙ (d.outcome first (O ++ ran) C T (tells-left first O w) back ∙ ap₂ (takes-to C T) (same-source q p s u m) (end-if part.reachable t)) in
       ap (λ n. unfinished part.reachable after (turn (of_nodes C) (source_of q) (declared_in sigs) T (remove waiting k) (O ++ (ran ++ vs)) n (point_of v.insts.items)) n) (count-same t v e.frame)
       ∙ (ap (λ b. unfinished part.reachable after (turn (of_nodes C) (source_of q) (declared_in sigs) T (remove waiting k) (O ++ (ran ++ vs)) (length t.insts.items) b) (length t.insts.items)) (point-same t v e.frame)
@@ -93,13 +93,13 @@ module _ (sigs : List Sig) (all : List Flat_goal) (ran fresh : List ℕ) (done :
       ∙ (turned (of_nodes C) (source_of q) (declared_in sigs) T waiting k (O ++ ran) vs (length u.insts.items) (length t.insts.items) (point_of u.insts.items) part.reachable (point_of t.insts.items) done (nodes (map plain_node part.goals.items)) after d.place found f
       ∙ so first O C T w (suits-before first C p r u t T st d.stepped.moved back))))
     where
-      takes-to : Chosen → (ℕ → TypeTerm) → Source → Option (Point ℕ) → Picked ℕ
+      takes-to : NodeOracle → (ℕ → TypeTerm) → Source → Option (Point ℕ) → Picked ℕ
       takes-to C T P o =
           takes (with_fresh (variables_of (get_or waiting k nothing)) part.freshened.items)
           (all_waiting (of_nodes C) P (declared_in sigs) T (remove waiting k)) (nodes (map plain_node part.goals.items)) o (length t.insts.items)
 
   -- none is left
-  pub turn-ended : waiting ≡ [] → (first : ℕ) (O : List ℕ) (C : Chosen) (T : ℕ → TypeTerm) → tells_around (variables_of_all (flats all)) s first O → Suits first p u C T
+  pub turn-ended : waiting ≡ [] → (first : ℕ) (O : List ℕ) (C : NodeOracle) (T : ℕ → TypeTerm) → tells_around (variables_of_all (flats all)) s first O → AgreesOnClause first p u C T
       → turns sigs all q s O C T ≡ runs done (Some (point_of u.insts.items)) (length u.insts.items) []
   turn-ended none first O C T w z =
       sym (so first O C T w z) ∙ turned-all (of_nodes C) (source_of q) (declared_in sigs) T waiting (O ++ ran) (length u.insts.items) (point_of u.insts.items) done none
@@ -107,7 +107,7 @@ module _ (sigs : List Sig) (all : List Flat_goal) (ran fresh : List ℕ) (done :
   -- none runs
   pub turn-breaks : (r : PlainProcs) (t : State) (found : Option ModeFault) (f : ModeFault) → 0 < length waiting → NoneIsReady sigs waiting p r u t found
       → IsStuck (point_of u.insts.items) waiting found f
-      → (first : ℕ) (O : List ℕ) (C : Chosen) (T : ℕ → TypeTerm) → tells_around (variables_of_all (flats all)) s first O → Suits first r t C T
+      → (first : ℕ) (O : List ℕ) (C : NodeOracle) (T : ℕ → TypeTerm) → tells_around (variables_of_all (flats all)) s first O → AgreesOnClause first r t C T
       → turns sigs all q s O C T ≡ breaks (plain_fault f)
   turn-breaks r t (Some g) f some d is first O C T w z =
       sym (so first O C T w (suits-before first C p r u t T st d.moved z))
@@ -133,21 +133,21 @@ tally-on all ran fresh waiting s u t v k zs h y same e = record {
 -- the end of goals in turn
 module _ (sigs : List Sig) (all : List Flat_goal) (ran fresh : List ℕ) (done : List GoalNode) (waiting : List Flat_goal) (q p : PlainProcs) (s u : State)
     (on : Onward q p s u) (tally : Tally all ran fresh waiting s u) where
-  abbrev around : Told
+  abbrev around : OutsideKnown
   around = tells_around (variables_of_all (flats all)) s
 
   same-outside : (w : State) → Left fresh u w → (x : ℕ) → get_or w.outside.items x 0 ≡ get_or s.outside.items x 0
   same-outside w l x = omega (arith, l.counts x, tally.counts x)
 
-  step-left : (w : State) → Left fresh u w → Stepped q p s w
+  step-left : (w : State) → Left fresh u w → LaterByTrail q p s w
   step-left w l =
-      subst (Stepped q p s) (sym (frame-is u w l.frame))
+      subst (LaterByTrail q p s) (sym (frame-is u w l.frame))
       (stepped-onward q p s (with_outside u w.outside) (same-outside w l) (onward-out q p s u w.outside l.frame.len on))
 
   -- all goals ran, or the point after the last is unreachable
   pub turns-run : (w : State) (part : Part) (reachable : Bool) → Left fresh u w → part.goals.items ≡ done → part.reachable ≡ reachable → part.freshened.items ≡ []
       → (reachable ≡ true → waiting ≡ []) → TurnsSoFar sigs all ran reachable (nodes (map plain_node done)) waiting q p s u
-      → Runs around (turns sigs all q s) q p s w part
+      → Succeeds around (turns sigs all q s) q p s w part
   turns-run w part reachable l g e z last so = record {
     outcome = λ first O C T k v.
         at first O C T reachable refl last so k (suits-out first p u w C T l.frame.types l.frame.nodes v)
@@ -158,25 +158,25 @@ module _ (sigs : List Sig) (all : List Flat_goal) (ran fresh : List ℕ) (done :
     stepped = step-left w l;
   }
     where
-      at : (first : ℕ) (O : List ℕ) (C : Chosen) (T : ℕ → TypeTerm) (t : Bool) → reachable ≡ t → (t ≡ true → waiting ≡ []) → TurnsSoFar sigs all ran t (nodes (map plain_node done)) waiting q p s u
-          → around first O → Suits first p u C T → turns sigs all q s O C T ≡ runs (nodes (map plain_node done)) (end_of t u) (length u.insts.items) []
+      at : (first : ℕ) (O : List ℕ) (C : NodeOracle) (T : ℕ → TypeTerm) (t : Bool) → reachable ≡ t → (t ≡ true → waiting ≡ []) → TurnsSoFar sigs all ran t (nodes (map plain_node done)) waiting q p s u
+          → around first O → AgreesOnClause first p u C T → turns sigs all q s O C T ≡ runs (nodes (map plain_node done)) (end_of t u) (length u.insts.items) []
       at first O C T true f h so k v =
           sym (so first O C T k v) ∙ turned-all (of_nodes C) (source_of q) (declared_in sigs) T waiting (O ++ ran) (length u.insts.items) (point_of u.insts.items) (nodes (map plain_node done)) (h refl)
       at first O C T false f h so k v = sym (so first O C T k v)
 
 -- none of the waiting goals runs
 pub turns-break : (sigs : List Sig) (all : List Flat_goal) (ran fresh : List ℕ) (done : Nodes) (waiting : List Flat_goal) (q p r : PlainProcs) (s u t w : State) (found : Option ModeFault) (f : ModeFault)
-    → Onward q p s u → Tally all ran fresh waiting s u → Stands p u → Counted (variables_of_all (flats all)) s
+    → Onward q p s u → Tally all ran fresh waiting s u → StateInvariant p u → Counted (variables_of_all (flats all)) s
     → ((n : ℕ) → NumbersBelow n (variables_of_all (flats all)) → NumbersBelow n (variables_of_each waiting))
     → TurnsSoFar sigs all ran true done waiting q p s u → 0 < length waiting → NoneIsReady sigs waiting p r u t found
     → IsStuck (point_of t.insts.items) waiting found f → Left fresh t w
-    → Fails (tells_around (variables_of_all (flats all)) s) (turns sigs all q s) q r s w f
+    → FailsWithTrail (tells_around (variables_of_all (flats all)) s) (turns sigs all q s) q r s w f
 turns-break sigs all ran fresh done waiting q p r s u t w found f on tally st counted among so some d is l = record {
   outcome = λ first O C T k v.
       turn-breaks sigs all ran fresh done waiting q p s u on.more on.moved st tally counted among so r t found f some d
       (subst (λ (b : Point ℕ). IsStuck b waiting found f) d.same.point is) first O C T k (suits-out first r t w C T l.frame.types l.frame.nodes v);
   stepped =
-      subst (Stepped q r s) (sym (frame-is t w l.frame))
+      subst (LaterByTrail q r s) (sym (frame-is t w l.frame))
       (stepped-onward q r s (with_outside t w.outside) (λ x. omega (arith, l.counts x, d.same.outside x, tally.counts x))
       (onward-out q r s t w.outside l.frame.len (onward-trans q p r s u t on (onward-step p r u t (stepped-same p r u t d.same d.moved)))));
 }

@@ -7,16 +7,16 @@ use Rattle.mc_model.specs.Flat.{Flat_goal}
 use Rattle.mc_model.specs.PlainGoals.{plain_node}
 use Rattle.mc_model.specs.declared.inst.Sig.{Sig}
 use Rattle.mc_accepted.specs.Arranged.{Arranged, runs, breaks, Verdict, in_order, faulty, unmet, entry, trial, arrange}
-use Rattle.mc_accepted.specs.Chosen.{Chosen, of_nodes}
+use Rattle.mc_accepted.specs.NodeOracle.{NodeOracle, of_nodes}
 use Rattle.mc_accepted.specs.FreshTests.{TestsAlike}
 use Rattle.mc_insts.specs.Growing.{Grown}
 use Rattle.mc_procs.specs.Procedures.{PlainProcs, source_of, with_insts}
-use Rattle.mc_mode_points.specs.Nodes.{type_in}
-use Rattle.mc_mode_points.specs.Agreeing.{Stands, OnlyGrown}
-use Rattle.mc_mode_points.specs.Answers.{plain_fault}
-use Rattle.mc_mode_points.specs.declared.state.State.{State}
+use Rattle.mc_mode_state.specs.Nodes.{type_in}
+use Rattle.mc_mode_state.specs.Agreeing.{StateInvariant, OnlyGrown}
+use Rattle.mc_mode_state.specs.Answers.{plain_fault}
+use Rattle.mc_mode_state.specs.declared.state.State.{State}
 use Rattle.mc_modes.specs.Signatures.{declared_in}
-use Rattle.mc_modes.specs.Tries.{Suits}
+use Rattle.mc_modes.specs.Tries.{AgreesOnClause}
 use Rattle.mc_modes.specs.declared.arranging.Arrangement.{Arrangement}
 use Rattle.mc_modes.specs.declared.arranging.Refusal.{Refusal}
 use Rattle.mc_modes.specs.declared.arranging.Refusal.TheVariants as R
@@ -26,10 +26,10 @@ use Rattle.mc_modes.specs.declared.arranging.Refusal.TheVariants as R
 -- graph may have more nodes, and the nodes that were found are there.
 pub record Becomes (sigs : List Sig) (types : List Ty) (head first last : List ℕ) (g : Flat_goal) (q r : PlainProcs) (end : State) (v : Verdict) : Type 0 where
   pub verdict :
-      (C : Chosen) (T : ℕ → TypeTerm) → Suits (length types) r end C T
+      (C : NodeOracle) (T : ℕ → TypeTerm) → AgreesOnClause (length types) r end C T
       → arrange (of_nodes C) (source_of q) (declared_in sigs) T (length types) head first last g ≡ v
   pub kept : take (length types) end.types.items ≡ types
-  pub stands : Stands r end
+  pub stands : StateInvariant r end
   pub others : r ≡ with_insts q r.insts
   pub grown : Grown (source_of q) q.insts r.insts
 
@@ -43,7 +43,7 @@ abbrev pub Numbers :
     List Sig → List Ty → (head first : List ℕ) → Flat_goal → (q r : PlainProcs) → (end : State)
     → (count : ℕ) → Type 0
 Numbers sigs types head first g q r end count =
-    (C : Chosen) (T : ℕ → TypeTerm) → Suits (length types) r end C T
+    (C : NodeOracle) (T : ℕ → TypeTerm) → AgreesOnClause (length types) r end C T
     → NumbersTo count
     (trial (of_nodes C) (source_of q) (declared_in sigs) T g head (length types)
     (entry (of_nodes C) (source_of q) (declared_in sigs) T head first))

@@ -7,7 +7,7 @@ use Rattle.mc_model.specs.Flat as F
 use Rattle.mc_model.specs.Flat.{Flat_goal, Flat_goals, no_flat, flat_then, variables_of, variables_of_all}
 use Rattle.mc_procs.specs.Named.{NumbersBelow}
 use Rattle.mc_procs.specs.Procedures.{PlainProcs}
-use Rattle.mc_mode_points.specs.declared.state.State.{State}
+use Rattle.mc_mode_state.specs.declared.state.State.{State}
 
 -- its constructors and predicates are there
 abbrev mutual

@@ -4,3 +4,7 @@ pub mod Tries
 pub mod Arrangements
 pub mod Schedules
 pub mod code
+pub mod Numbering
+pub mod NormalGoals
+pub mod ModeFaults
+pub mod Outcomes

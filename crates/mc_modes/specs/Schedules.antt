@@ -13,8 +13,8 @@ use Rattle.mc_accepted.specs.Arranged.{in_order}
 use Rattle.mc_accepted.specs.FreshTests.{TestsAlike}
 use Rattle.mc_procs.specs.Named.{NumbersBelow}
 use Rattle.mc_procs.specs.Procedures.{PlainProcs}
-use Rattle.mc_mode_points.specs.Nodes.{type_in}
-use Rattle.mc_mode_points.specs.declared.state.State.{State}
+use Rattle.mc_mode_state.specs.Nodes.{type_in}
+use Rattle.mc_mode_state.specs.declared.state.State.{State}
 use Rattle.mc_modes.specs.Signatures.{mode_in}
 use Rattle.mc_modes.specs.Fitting.{Known}
 use Rattle.mc_modes.specs.Arrangements.{Becomes, Numbers, Arranges}

@@ -4,7 +4,7 @@ use Rattle.std.specs.Prelude.{ℕ, List, [], map, get_or, None}
 use Rattle.mc_model.specs.declared.inst.Sig.{Sig}
 use Rattle.mc_model.specs.declared.inst.ModeDecl.{ModeDecl}
 use Rattle.mc_accepted.specs.Arranged.{Declared}
-use Rattle.mc_mode_points.specs.Modes.{declared_mode, ModesFit}
+use Rattle.mc_mode_state.specs.Modes.{declared_mode, ModesFit}
 
 -- the modes of a predicate, by its number; one that has no signature has none
 abbrev pub modes_at : List Sig → (predicate : ℕ) → List ModeDecl

@@ -12,18 +12,18 @@ use Rattle.mc_model.specs.Scheduled.{nodes}
 use Rattle.mc_model.specs.PlainGoals.{plain_node}
 use Rattle.mc_model.specs.declared.inst.Sig.{Sig}
 use Rattle.mc_accepted.specs.Arranged.{runs, breaks}
-use Rattle.mc_accepted.specs.Chosen.{Chosen}
+use Rattle.mc_accepted.specs.NodeOracle.{NodeOracle}
 use Rattle.mc_procs.specs.Named.{NumbersBelow}
 use Rattle.mc_procs.specs.Procedures.{PlainProcs}
-use Rattle.mc_mode_points.specs.Nodes.{type_in}
-use Rattle.mc_mode_points.specs.States.{is_outside, SameState}
-use Rattle.mc_mode_points.specs.Agreeing.{Agrees, Moved, Stepped}
-use Rattle.mc_mode_points.specs.Answers.{plain_fault, Outcome, tried, end_of}
-use Rattle.mc_mode_points.specs.declared.state.State.{State}
-use Rattle.mc_mode_points.specs.declared.part.Part.{Part}
-use Rattle.mc_mode_points.specs.declared.fault.ModeFault.{ModeFault}
-use Rattle.mc_mode_points.specs.declared.fault.Failed.{Failed}
-use Rattle.mc_mode_points.specs.declared.fault.Failed.TheVariants as E
+use Rattle.mc_mode_state.specs.Nodes.{type_in}
+use Rattle.mc_mode_state.specs.States.{is_outside, SameState}
+use Rattle.mc_mode_state.specs.Agreeing.{OracleAgrees, StateExtends, LaterByTrail}
+use Rattle.mc_mode_state.specs.Answers.{plain_fault, Outcome, tried, end_of}
+use Rattle.mc_mode_state.specs.declared.state.State.{State}
+use Rattle.mc_mode_state.specs.declared.part.Part.{Part}
+use Rattle.mc_mode_state.specs.declared.fault.ModeFault.{ModeFault}
+use Rattle.mc_mode_state.specs.declared.fault.Failed.{Failed}
+use Rattle.mc_mode_state.specs.declared.fault.Failed.TheVariants as E
 use Rattle.mc_modes.specs.Signatures.{declared_in}
 
 -- these types of the first variables, and those that the others have now
@@ -32,50 +32,52 @@ with_types first s T = λ x. if nat_lt x first then T x else type_in s.types.ite
 
 -- The functions agree with what is there, the types of the clause's own variables are these, and
 -- nothing is asked of fresh ones.
-pub record Suits (first : ℕ) (q : PlainProcs) (s : State) (C : Chosen) (T : ℕ → TypeTerm) : Type 0 where
-  pub agrees : Agrees q s C (with_types first s T)
+pub record AgreesOnClause (first : ℕ) (q : PlainProcs) (s : State) (C : NodeOracle) (T : ℕ → TypeTerm) : Type 0 where
+  pub agrees : OracleAgrees q s C (with_types first s T)
 
 -- what a goal does when it is tried, by what occurs outside it
-abbrev pub Try : Type 0
-Try = (outside : List ℕ) → Outcome
+abbrev pub Attempt : Type 0
+Attempt = (outside : List ℕ) → Outcome
 
-abbrev pub trying : List Sig → Flat_goal → PlainProcs → State → Try
-trying sigs g q s = λ O. tried (declared_in sigs) g O q s
+abbrev pub attempt_of : List Sig → Flat_goal → PlainProcs → State → Attempt
+attempt_of sigs g q s = λ O. tried (declared_in sigs) g O q s
 
 -- how many variables are the clause's own, and what occurs outside
-abbrev pub Told : Type 1
-Told = (first : ℕ) → (outside : List ℕ) → Type 0
+abbrev pub OutsideKnown : Type 1
+OutsideKnown = (first : ℕ) → (outside : List ℕ) → Type 0
 
 -- these variables are the clause's own, and the list tells what occurs outside
-abbrev pub tells_outside : List ℕ → State → Told
+abbrev pub tells_outside : List ℕ → State → OutsideKnown
 tells_outside vs s first O =
     (first ≤ length s.insts.items)
     × NumbersBelow first vs
     × ((x : ℕ) → is_in x O ≡ is_outside s.outside.items x)
 
 -- It runs so, and leaves this state, whatever comes later.
-pub record Runs (told : Told) (a : Try) (q r : PlainProcs) (s t : State) (p : Part) : Type 0 where
+pub record Succeeds (told : OutsideKnown) (a : Attempt) (q r : PlainProcs) (s t : State)
+    (p : Part) : Type 0 where
   pub outcome :
-      (first : ℕ) (O : List ℕ) (C : Chosen) (T : ℕ → TypeTerm) → told first O
-      → Suits first r t C T
+      (first : ℕ) (O : List ℕ) (C : NodeOracle) (T : ℕ → TypeTerm) → told first O
+      → AgreesOnClause first r t C T
       → a O C T
       ≡ runs (nodes (map plain_node p.goals.items)) (end_of p.reachable t) (length t.insts.items)
       p.freshened.items
   pub fresh : NumbersBelow (length t.insts.items) p.freshened.items
-  pub stepped : Stepped q r s t
+  pub stepped : LaterByTrail q r s t
 
 -- It breaks this rule, whatever comes later, and the state is the same.
-pub record Breaks (told : Told) (a : Try) (q r : PlainProcs) (s t : State) (f : ModeFault) : Type 0 where
+pub record FailsUnchanged (told : OutsideKnown) (a : Attempt) (q r : PlainProcs) (s t : State) (f : ModeFault) : Type 0 where
   pub outcome :
-      (first : ℕ) (O : List ℕ) (C : Chosen) (T : ℕ → TypeTerm) → told first O
-      → Suits first r t C T → a O C T ≡ breaks (plain_fault f)
+      (first : ℕ) (O : List ℕ) (C : NodeOracle) (T : ℕ → TypeTerm) → told first O
+      → AgreesOnClause first r t C T → a O C T ≡ breaks (plain_fault f)
   pub same : SameState s t
-  pub moved : Moved q r s t
+  pub moved : StateExtends q r s t
 
-abbrev pub Does : Told → Try → (q r : PlainProcs) → (s t : State) → Result Part Failed → Type 0
-Does told a q r s t (Ok p) = Runs told a q r s t p
-Does told a q r s t (Err (E.Fault f)) = Breaks told a q r s t f
-Does told a q r s t (Err E.Memory) = Unit {0}
+abbrev pub TryPost : OutsideKnown → Attempt → (q r : PlainProcs) → (s t : State)
+    → Result Part Failed → Type 0
+TryPost told a q r s t (Ok p) = Succeeds told a q r s t p
+TryPost told a q r s t (Err (E.Fault f)) = FailsUnchanged told a q r s t f
+TryPost told a q r s t (Err E.Memory) = Unit {0}
 
 -- what holds where a rule is broken
 abbrev pub OnFault : {A : Type 0} → Result A Failed → Type 0 → Type 0
@@ -83,14 +85,15 @@ OnFault (Ok p) X = Unit {0}
 OnFault (Err (E.Fault f)) X = X
 OnFault (Err E.Memory) X = Unit {0}
 
--- It breaks this rule, whatever comes later; the log leads back.
-pub record Fails (told : Told) (a : Try) (q r : PlainProcs) (s t : State) (f : ModeFault) : Type 0 where
+-- It breaks this rule, whatever comes later; the trail leads back.
+pub record FailsWithTrail (told : OutsideKnown) (a : Attempt) (q r : PlainProcs) (s t : State) (f : ModeFault) : Type 0 where
   pub outcome :
-      (first : ℕ) (O : List ℕ) (C : Chosen) (T : ℕ → TypeTerm) → told first O
-      → Suits first r t C T → a O C T ≡ breaks (plain_fault f)
-  pub stepped : Stepped q r s t
+      (first : ℕ) (O : List ℕ) (C : NodeOracle) (T : ℕ → TypeTerm) → told first O
+      → AgreesOnClause first r t C T → a O C T ≡ breaks (plain_fault f)
+  pub stepped : LaterByTrail q r s t
 
-abbrev pub Goes : Told → Try → (q r : PlainProcs) → (s t : State) → Result Part Failed → Type 0
-Goes told a q r s t (Ok p) = Runs told a q r s t p
-Goes told a q r s t (Err (E.Fault f)) = Fails told a q r s t f
-Goes told a q r s t (Err E.Memory) = Unit {0}
+abbrev pub AttemptPost : OutsideKnown → Attempt → (q r : PlainProcs) → (s t : State)
+    → Result Part Failed → Type 0
+AttemptPost told a q r s t (Ok p) = Succeeds told a q r s t p
+AttemptPost told a q r s t (Err (E.Fault f)) = FailsWithTrail told a q r s t f
+AttemptPost told a q r s t (Err E.Memory) = Unit {0}

@@ -5,3 +5,4 @@ pub mod Alike
 pub mod Judging
 pub mod Making
 pub mod Frames
+pub mod Steps

@@ -5,14 +5,14 @@ ghost use Rattle.mc_insts.specs.Graphs.{count_of};
 ghost use Rattle.mc_procs.specs.Named.{NumbersBelow};
 ghost use Rattle.mc_modes.specs.Signatures.{SigsFit};
 ghost use Rattle.mc_modes.specs.Fitting.{Known};
-ghost use Rattle.mc_mode_points.specs.Agreeing.{Stands, OnlyGrown};
+ghost use Rattle.mc_mode_state.specs.Agreeing.{StateInvariant, OnlyGrown};
 ghost use Rattle.mc_modes.specs.Arrangements.{Arranges};
 ghost use Rattle.mc_modes.specs.code.Judging.{IsBeginning, IsUnmet, Judges, JudgesGoal};
 
 use crate::ending::as_one;
 use crate::order::try_goal;
 use mc_base::{Memory, Row};
-use mc_mode_points::{Failed, ModeFault, Nodes, Part, State};
+use mc_mode_state::{Failed, ModeFault, Nodes, Part, State};
 use mc_model::flat::Flat;
 use mc_model::inst::{InstId, Sig};
 use mc_model::sched::GoalNode;
@@ -73,7 +73,7 @@ pub fn arrange(
     let mut state = beginning(alloc, procs, types, head, first)?;
     let mark = state.mark();
     match try_goal(alloc, procs, sigs, &mut state, body) {
-        Ok(part) => ended(alloc, procs, state, head, last, part, mark.log),
+        Ok(part) => ended(alloc, procs, state, head, last, part, mark.trail),
         Err(Failed::Fault(fault)) => Err(Refusal::Fault(fault)),
         Err(Failed::Memory) => Err(Refusal::Memory),
     }
@@ -105,15 +105,15 @@ fn ended(
     head: &Row<u32>,
     last: &Row<InstId>,
     part: Part,
-    log: usize,
+    trail: usize,
 ) -> Result<Arrangement, Refusal>
-    requires stands { Stands procs.old state }
+    requires stands { StateInvariant procs.old state }
     requires head { NumbersBelow (length state.insts.items) head.now }
     requires last { NumbersBelow (count_of procs.old.insts) last.now }
     requires lasts { length last.now ≡ length head.now }
-    ensures { Judges head.now last.now part log procs.old procs.new state result }
+    ensures { Judges head.now last.now part trail procs.old procs.new state result }
 {
-    match judged(alloc, procs, &state, head, last, part, log) {
+    match judged(alloc, procs, &state, head, last, part, trail) {
         Ok(body) => Ok(Arrangement {
             body,
             types: types_in(state),
@@ -137,25 +137,25 @@ fn judged(
     head: &Row<u32>,
     last: &Row<InstId>,
     part: Part,
-    log: usize,
+    trail: usize,
 ) -> Result<GoalNode, Refusal>
-    requires stands { Stands procs.old state.now }
+    requires stands { StateInvariant procs.old state.now }
     requires head { NumbersBelow (length state.now.insts.items) head.now }
     requires last { NumbersBelow (count_of procs.old.insts) last.now }
     requires lasts { length last.now ≡ length head.now }
-    ensures { JudgesGoal head.now last.now part log procs.old procs.new state.now result }
+    ensures { JudgesGoal head.now last.now part trail procs.old procs.new state.now result }
 {
     match unmet(alloc, procs, state, head, last, part.reachable)? {
         Some(place) => Err(Refusal::Unmet(place)),
         None => {
-            let body = as_one(alloc, state, part, log)?;
+            let body = as_one(alloc, state, part, trail)?;
             Ok(body)
         }
     }
 }
 
 /// The place of the first argument whose final inst isn't met at this point, where it is reachable.
-#[tactic(auto, using(mc_mode_points::proofs::Growths::refused_here, mc_mode_points::proofs::Growths::refused_by, mc_mode_points::proofs::Growths::refused_stepped, crate::proofs::Refusals::refused_moved, mc_mode_points::proofs::Growths::refused_after, crate::proofs::Refusals::refused_moved_after, crate::proofs::Refusals::refused_after_two))]
+#[tactic(auto, using(mc_mode_state::proofs::Growths::refused_here, mc_mode_state::proofs::Growths::refused_by, mc_mode_state::proofs::Growths::refused_stepped, crate::proofs::Refusals::refused_moved, mc_mode_state::proofs::Growths::refused_after, crate::proofs::Refusals::refused_moved_after, crate::proofs::Refusals::refused_after_two))]
 fn unmet(
     alloc: Global,
     procs: &mut Procs,
@@ -164,7 +164,7 @@ fn unmet(
     last: &Row<InstId>,
     reachable: bool,
 ) -> Result<Option<u32>, Memory>
-    requires stands { Stands procs.old state.now }
+    requires stands { StateInvariant procs.old state.now }
     requires head { NumbersBelow (length state.now.insts.items) head.now }
     requires last { NumbersBelow (count_of procs.old.insts) last.now }
     requires lasts { length last.now ≡ length head.now }

@@ -2,11 +2,11 @@ ghost use Rattle.std.specs.Prelude.{◌≡◌, ◌<◌, ℕ, List, length, IfOk,
 ghost use Rattle.mc_model.specs.Flat.{Call};
 ghost use Rattle.mc_insts.specs.Graphs.{count_of};
 ghost use Rattle.mc_procs.specs.Named.{NumbersBelow};
-ghost use Rattle.mc_mode_points.specs.Agreeing.{Stands, OnlyGrown};
-ghost use Rattle.mc_mode_points.specs.Answers.{tried, Answers, FreshAlike};
+ghost use Rattle.mc_mode_state.specs.Agreeing.{StateInvariant, OnlyGrown};
+ghost use Rattle.mc_mode_state.specs.Answers.{tried, Answers, FreshAlike};
 ghost use Rattle.mc_modes.specs.Signatures.{modes_at, declared_in, SigsFit};
 
-use mc_mode_points::{Failed, Part, State};
+use mc_mode_state::{Failed, Part, State};
 use mc_model::inst::{ModeDecl, Sig};
 use mc_procs::Procs;
 use std::alloc::Global;
@@ -24,7 +24,7 @@ pub fn modes_at(sigs: &[Sig], pred: u32) -> &[ModeDecl]
 }
 
 /// A call: of a builtin, or of a predicate in one of its modes.
-#[tactic(auto, using(mc_mode_points::proofs::Growths::refused_here, mc_mode_points::proofs::Growths::refused_by, mc_mode_points::proofs::Growths::refused_stepped, crate::proofs::Refusals::refused_moved, mc_mode_points::proofs::Growths::refused_after, crate::proofs::Refusals::refused_moved_after, crate::proofs::Refusals::refused_after_two))]
+#[tactic(auto, using(mc_mode_state::proofs::Growths::refused_here, mc_mode_state::proofs::Growths::refused_by, mc_mode_state::proofs::Growths::refused_stepped, crate::proofs::Refusals::refused_moved, mc_mode_state::proofs::Growths::refused_after, crate::proofs::Refusals::refused_moved_after, crate::proofs::Refusals::refused_after_two))]
 pub fn call(
     alloc: Global,
     procs: &mut Procs,
@@ -33,7 +33,7 @@ pub fn call(
     pred: u32,
     xs: &[u32],
 ) -> Result<Part, Failed>
-    requires stands { Stands procs.old state.old }
+    requires stands { StateInvariant procs.old state.old }
     requires sigs { SigsFit (count_of procs.old.insts) sigs.now }
     requires variables { NumbersBelow (length state.old.insts.items) xs.now }
     requires pred { pred < length procs.old.program.preds }

@@ -4,18 +4,18 @@ ghost use Rattle.mc_model.specs.Scheduled.{nodes, no_nodes, Conj, Ite, Not, Exis
 ghost use Rattle.mc_model.specs.PlainGoals.{plain_node, plain_sched};
 ghost use Rattle.mc_model.specs.Stream.{is_bound};
 ghost use Rattle.mc_accepted.specs.Arranged.{Point, Declared, ascending, binds};
-ghost use Rattle.mc_accepted.specs.Chosen.{Chosen, of_nodes};
+ghost use Rattle.mc_accepted.specs.NodeOracle.{NodeOracle, of_nodes};
 ghost use Rattle.mc_accepted.specs.Unmarked.{unmarked};
 ghost use Rattle.mc_insts.specs.Graphs.{count_of};
 ghost use Rattle.mc_procs.specs.Named.{NumbersBelow};
-ghost use Rattle.mc_mode_points.specs.States.{point_of, is_outside, LogWithin};
-ghost use Rattle.mc_mode_points.specs.Agreeing.{Stands, OnlyGrown};
-ghost use Rattle.mc_mode_points.specs.Answers.{end_of};
-ghost use Rattle.mc_mode_points.specs.Merged.{RowsFit};
+ghost use Rattle.mc_mode_state.specs.States.{point_of, is_outside, TrailWithin};
+ghost use Rattle.mc_mode_state.specs.Agreeing.{StateInvariant, OnlyGrown};
+ghost use Rattle.mc_mode_state.specs.Answers.{end_of};
+ghost use Rattle.mc_mode_state.specs.Merged.{RowsFit};
 ghost use Rattle.mc_modes.specs.code.Parts.{OneSince, AloneSince, MergedAs, ChosenAs};
 
 use mc_base::{Copied, Memory, Row};
-use mc_mode_points::{Failed, ModeFault, Part, State, unmarked};
+use mc_mode_state::{Failed, ModeFault, Part, State, unmarked};
 use mc_model::inst::InstId;
 use mc_model::sched::{GoalNode, Sched};
 use mc_procs::Procs;
@@ -37,17 +37,17 @@ pub struct Begun {
     pub then_part: GoalNode,
 }
 
-/// A part's goals as one goal, with what it changed since the log had this length.
-pub fn as_one(alloc: Global, state: &State, part: Part, log: usize) -> Result<GoalNode, Memory>
-    requires { LogWithin (length state.now.insts.items) state.now.log.items }
-    ensures { IfOk result (AloneSince log state.now part) }
+/// A part's goals as one goal, with what it changed since the trail had this length.
+pub fn as_one(alloc: Global, state: &State, part: Part, trail: usize) -> Result<GoalNode, Memory>
+    requires { TrailWithin (length state.now.insts.items) state.now.trail.items }
+    ensures { IfOk result (AloneSince trail state.now part) }
 {
     let Part {
         goals,
         reachable,
         freshened: _,
     } = part;
-    state.alone(alloc, goals, log, reachable)
+    state.alone(alloc, goals, trail, reachable)
 }
 
 /// A branch's goals as one, and the insts of the variables that occur outside at its end, where it is reachable.
@@ -56,18 +56,18 @@ pub fn ended(
     state: &State,
     seen: &Row<u32>,
     part: Part,
-    log: usize,
+    trail: usize,
     ends: &mut Vec<Row<InstId>>,
 ) -> Result<GoalNode, Memory>
     requires seen { NumbersBelow (length state.now.insts.items) seen.now }
-    requires log { LogWithin (length state.now.insts.items) state.now.log.items }
-    ensures goal { IfOk result (AloneSince log state.now part) }
+    requires trail { TrailWithin (length state.now.insts.items) state.now.trail.items }
+    ensures goal { IfOk result (AloneSince trail state.now part) }
     ensures ends { OnOk result (ends.new.items ≡ (if part.reachable
         then ends.old.items ++ map (point_of state.now.insts.items) seen.now ∷ []
         else ends.old.items)) }
 {
     note_end(alloc, state, seen, part.reachable, ends)?;
-    as_one(alloc, state, part, log)
+    as_one(alloc, state, part, trail)
 }
 
 /// Notes the insts of variables at the end of a branch, where it is reachable.
@@ -103,16 +103,16 @@ pub fn condition_of(
     alloc: Global,
     state: &State,
     part: Part,
-    log: usize,
+    trail: usize,
     bound: Option<u32>,
 ) -> Result<Condition, Memory>
-    requires { LogWithin (length state.now.insts.items) state.now.log.items }
-    ensures goal { IfOk result (λ c. AloneSince log state.now part c.goal) }
+    requires { TrailWithin (length state.now.insts.items) state.now.trail.items }
+    ensures goal { IfOk result (λ c. AloneSince trail state.now part c.goal) }
     ensures reachable { IfOk result (λ c. c.reachable ≡ part.reachable) }
     ensures bound { IfOk result (λ c. c.bound ≡ bound) }
 {
     let reachable = part.reachable;
-    let goal = as_one(alloc, state, part, log)?;
+    let goal = as_one(alloc, state, part, trail)?;
     Ok(Condition {
         goal,
         reachable,
@@ -124,7 +124,7 @@ pub fn condition_of(
 pub fn first_bound(state: &State, vars: &Row<u32>, reachable: bool) -> Option<u32>
     requires { NumbersBelow (length state.now.insts.items) vars.now }
     ensures { (b : Point ℕ) (xs : List ℕ) → vars.now ≡ ascending (λ x. not (is_bound (b x))) xs
-        → (C : Chosen) (P : Source) (declared : ℕ → List Declared) (T : ℕ → TypeTerm)
+        → (C : NodeOracle) (P : Source) (declared : ℕ → List Declared) (T : ℕ → TypeTerm)
         → binds (of_nodes C) P declared T xs b (end_of reachable state.now) ≡ result }
 {
     if reachable {
@@ -135,7 +135,7 @@ pub fn first_bound(state: &State, vars: &Row<u32>, reachable: bool) -> Option<u3
 }
 
 /// A goal whose branches all run, at the insts before them: the ends are merged.
-#[tactic(auto, using(mc_mode_points::proofs::Growths::refused_here, mc_mode_points::proofs::Growths::refused_by, mc_mode_points::proofs::Growths::refused_stepped, crate::proofs::Refusals::refused_moved, mc_mode_points::proofs::Growths::refused_after, crate::proofs::Refusals::refused_moved_after, crate::proofs::Refusals::refused_after_two))]
+#[tactic(auto, using(mc_mode_state::proofs::Growths::refused_here, mc_mode_state::proofs::Growths::refused_by, mc_mode_state::proofs::Growths::refused_stepped, crate::proofs::Refusals::refused_moved, mc_mode_state::proofs::Growths::refused_after, crate::proofs::Refusals::refused_moved_after, crate::proofs::Refusals::refused_after_two))]
 pub fn merged(
     alloc: Global,
     procs: &mut Procs,
@@ -145,7 +145,7 @@ pub fn merged(
     ends: &[Row<InstId>],
     goal: Sched,
 ) -> Result<Part, Failed>
-    requires stands { Stands procs.old state.old }
+    requires stands { StateInvariant procs.old state.old }
     requires own { NumbersBelow (length state.old.insts.items) own.now }
     requires seen { seen.now ≡ ascending (is_outside state.old.outside.items) own.now }
     requires rows { RowsFit (length seen.now) (count_of procs.old.insts) ends.now }
@@ -157,7 +157,7 @@ pub fn merged(
     let mark = state.mark();
     match state.join(alloc, procs, own, seen, ends) {
         Ok(reachable) => {
-            let part = state.one(alloc, goal, mark.log, reachable)?;
+            let part = state.one(alloc, goal, mark.trail, reachable)?;
             Ok(part)
         }
         Err(failed) => Err(failed),
@@ -165,7 +165,7 @@ pub fn merged(
 }
 
 /// An if-then-else whose parts all run, at the insts before it.
-#[tactic(auto, using(mc_mode_points::proofs::Growths::refused_here, mc_mode_points::proofs::Growths::refused_by, mc_mode_points::proofs::Growths::refused_stepped, crate::proofs::Refusals::refused_moved, mc_mode_points::proofs::Growths::refused_after, crate::proofs::Refusals::refused_moved_after, crate::proofs::Refusals::refused_after_two))]
+#[tactic(auto, using(mc_mode_state::proofs::Growths::refused_here, mc_mode_state::proofs::Growths::refused_by, mc_mode_state::proofs::Growths::refused_stepped, crate::proofs::Refusals::refused_moved, mc_mode_state::proofs::Growths::refused_after, crate::proofs::Refusals::refused_moved_after, crate::proofs::Refusals::refused_after_two))]
 pub fn chosen(
     alloc: Global,
     procs: &mut Procs,
@@ -177,7 +177,7 @@ pub fn chosen(
     else_part: GoalNode,
     ends: &[Row<InstId>],
 ) -> Result<Part, Failed>
-    requires stands { Stands procs.old state.old }
+    requires stands { StateInvariant procs.old state.old }
     requires own { NumbersBelow (length state.old.insts.items) own.now }
     requires seen { seen.now ≡ ascending (is_outside state.old.outside.items) own.now }
     requires rows { RowsFit (length seen.now) (count_of procs.old.insts) ends.now }
@@ -256,27 +256,27 @@ fn choice_with(
     Ok(Sched::Ite(vars, condition, then_part, else_part))
 }
 
-/// The negation of a goal, back at the point before it, where the log had this length.
-pub fn negated(alloc: Global, state: &State, goal: GoalNode, log: usize) -> Result<Part, Memory>
-    requires { LogWithin (length state.now.insts.items) state.now.log.items }
-    ensures goal { IfOk result (OneSince log state.now true (Not (plain_node goal))) }
+/// The negation of a goal, back at the point before it, where the trail had this length.
+pub fn negated(alloc: Global, state: &State, goal: GoalNode, trail: usize) -> Result<Part, Memory>
+    requires { TrailWithin (length state.now.insts.items) state.now.trail.items }
+    ensures goal { IfOk result (OneSince trail state.now true (Not (plain_node goal))) }
     ensures reachable { IfOk result (λ whole. whole.reachable ≡ true) }
 {
     let goal = Box::new(alloc, goal)?;
-    state.one(alloc, Sched::Not(goal), log, true)
+    state.one(alloc, Sched::Not(goal), trail, true)
 }
 
-/// A goal with variables quantified around it, with what it changed since the log had this length.
+/// A goal with variables quantified around it, with what it changed since the trail had this length.
 pub fn quantified_over(
     alloc: Global,
     state: &State,
     vars: &Row<u32>,
     goal: GoalNode,
-    log: usize,
+    trail: usize,
     reachable: bool,
 ) -> Result<Part, Memory>
-    requires { LogWithin (length state.now.insts.items) state.now.log.items }
-    ensures goal { IfOk result (OneSince log state.now reachable
+    requires { TrailWithin (length state.now.insts.items) state.now.trail.items }
+    ensures goal { IfOk result (OneSince trail state.now reachable
         (Exists vars.now (plain_node goal))) }
     ensures reachable { IfOk result (λ whole. whole.reachable ≡ reachable) }
 {
@@ -284,7 +284,7 @@ pub fn quantified_over(
     state.one(
         alloc,
         Sched::Some(vars.copied(alloc)?, goal),
-        log,
+        trail,
         reachable,
     )
 }

@@ -6,13 +6,13 @@ ghost use Rattle.mc_model.specs.Stream.{is_bound};
 ghost use Rattle.mc_accepted.specs.Ordered.{modes_of, out_mode};
 ghost use Rattle.mc_procs.specs.Named.{NumbersBelow};
 ghost use Rattle.mc_procs.specs.Procedures.{source_of};
-ghost use Rattle.mc_mode_points.specs.Modes.{declared_mode, never_answers};
+ghost use Rattle.mc_mode_state.specs.Modes.{declared_mode, never_answers};
 ghost use Rattle.mc_modes.specs.Fitting.{Known};
 ghost use Rattle.mc_modes.specs.Signatures.{declared_in};
 ghost use Rattle.mc_modes.specs.code.Sleeping.{call_sleeps, call_returns, may_be_mild, input_is_free, free_beside, free_now};
 
 use crate::atoms::modes_at;
-use mc_mode_points::{State, has};
+use mc_mode_state::{State, has};
 use mc_model::flat::Flat;
 use mc_model::inst::{InstId, ModeDecl, Sig};
 use mc_procs::Procs;

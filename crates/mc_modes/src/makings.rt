@@ -5,14 +5,14 @@ ghost use Rattle.mc_model.specs.Flat.{flats, variables_of, variables_of_all};
 ghost use Rattle.mc_model.specs.PlainGoals.{plain_flat};
 ghost use Rattle.mc_accepted.specs.Ordered.{times_in};
 ghost use Rattle.mc_procs.specs.Named.{NumbersBelow};
-ghost use Rattle.mc_mode_points.specs.States.{point_of};
+ghost use Rattle.mc_mode_state.specs.States.{point_of};
 ghost use Rattle.mc_modes.specs.code.Waiting.{nothing};
 ghost use Rattle.mc_modes.specs.code.Sleeping.{changed_by, changed_by_each, making_is_mild, kept_beside, was_found, free_now};
 
 use crate::inputs::{is_free, one_is_free};
 use crate::variables::push_variables;
 use mc_base::Memory;
-use mc_mode_points::{State, has};
+use mc_mode_state::{State, has};
 use mc_model::flat::Flat;
 use std::alloc::Global;
 

@@ -1,4 +1,4 @@
-#![tactic(auto, using(mc_mode_points::proofs::Growths::refused_here, mc_mode_points::proofs::Growths::refused_by, mc_mode_points::proofs::Growths::refused_stepped, crate::proofs::Refusals::refused_moved, mc_mode_points::proofs::Growths::refused_after, crate::proofs::Refusals::refused_moved_after, crate::proofs::Refusals::refused_after_two))]
+#![tactic(auto, using(mc_mode_state::proofs::Growths::refused_here, mc_mode_state::proofs::Growths::refused_by, mc_mode_state::proofs::Growths::refused_stepped, crate::proofs::Refusals::refused_moved, mc_mode_state::proofs::Growths::refused_after, crate::proofs::Refusals::refused_moved_after, crate::proofs::Refusals::refused_after_two))]
 
 ghost use Rattle.std.specs.Prelude.{◌≡◌, ◌<◌, ◌^◌, ◌++◌, ℕ, List, [], length, map, Some, None, IfOk, if◌then◌else◌, OnErr};
 ghost use Rattle.mc_program.specs.Programs.{Source};
@@ -6,16 +6,16 @@ ghost use Rattle.mc_model.specs.Flat.{Flat_goal, flats, variables_of, variables_
 ghost use Rattle.mc_model.specs.Lists.{without};
 ghost use Rattle.mc_model.specs.PlainGoals.{plain_flat};
 ghost use Rattle.mc_accepted.specs.Arranged.{each_branch, trial, trials};
-ghost use Rattle.mc_accepted.specs.Chosen.{of_nodes};
+ghost use Rattle.mc_accepted.specs.NodeOracle.{of_nodes};
 ghost use Rattle.mc_insts.specs.Graphs.{count_of};
 ghost use Rattle.mc_procs.specs.Named.{NumbersBelow};
 ghost use Rattle.mc_procs.specs.Procedures.{source_of};
-ghost use Rattle.mc_mode_points.specs.States.{point_of, mark_of, LogWithin, Even, SameState};
-ghost use Rattle.mc_mode_points.specs.Agreeing.{Stands, Moved, Stepped, OnlyGrown};
-ghost use Rattle.mc_mode_points.specs.Answers.{FreshAlike};
+ghost use Rattle.mc_mode_state.specs.States.{point_of, snapshot_of, TrailWithin, SameLengths, SameState};
+ghost use Rattle.mc_mode_state.specs.Agreeing.{StateInvariant, StateExtends, LaterByTrail, OnlyGrown};
+ghost use Rattle.mc_mode_state.specs.Answers.{FreshAlike};
 ghost use Rattle.mc_modes.specs.Signatures.{SigsFit, declared_in};
 ghost use Rattle.mc_modes.specs.Fitting.{GoalFits, GoalsFit};
-ghost use Rattle.mc_modes.specs.Tries.{trying, tells_outside, Does, Goes};
+ghost use Rattle.mc_modes.specs.Tries.{attempt_of, tells_outside, TryPost, AttemptPost};
 ghost use Rattle.mc_modes.specs.code.Waiting.{goals_at, variables_of_each, tells_around, Counted, turns, Finds};
 ghost use Rattle.mc_modes.specs.code.Parts.{trying_beside, then_try, DoesBranch, DoesTest, DoesTestAndThen};
 ghost use Rattle.mc_modes.specs.code.Alike.{NodeAlike, FoundAlike, BegunAlike};
@@ -33,7 +33,7 @@ use crate::variables::{
 };
 use crate::waiting::{Found, conjunction_of, goal_at, note, settled, stuck, taken};
 use mc_base::{Memory, Row};
-use mc_mode_points::{Failed, ModeFault, Part, State};
+use mc_mode_state::{Failed, ModeFault, Part, State};
 use mc_model::flat::Flat;
 use mc_model::inst::{InstId, Sig};
 use mc_model::sched::{GoalNode, Sched};
@@ -49,11 +49,11 @@ pub fn try_goal(
     state: &mut State,
     goal: &Flat,
 ) -> Result<Part, Failed>
-    requires stands { Stands procs.old state.old }
+    requires stands { StateInvariant procs.old state.old }
     requires sigs { SigsFit (count_of procs.old.insts) sigs.now }
     requires fits { GoalFits procs.old state.old (plain_flat goal.now) }
-    ensures does { Does (tells_outside (variables_of (plain_flat goal.now)) state.old)
-        (trying sigs.now (plain_flat goal.now) procs.old state.old) procs.old procs.new state.old
+    ensures does { TryPost (tells_outside (variables_of (plain_flat goal.now)) state.old)
+        (attempt_of sigs.now (plain_flat goal.now) procs.old state.old) procs.old procs.new state.old
         state.new result }
     ensures alike { IfOk result (FreshAlike (plain_flat goal.now) state.new) }
     ensures kept { OnErr result (OnlyGrown procs.old procs.new) }
@@ -72,11 +72,11 @@ fn attempt(
     state: &mut State,
     goal: &Flat,
 ) -> Result<Part, Failed>
-    requires stands { Stands procs.old state.old }
+    requires stands { StateInvariant procs.old state.old }
     requires sigs { SigsFit (count_of procs.old.insts) sigs.now }
     requires fits { GoalFits procs.old state.old (plain_flat goal.now) }
-    ensures does { Goes (tells_outside (variables_of (plain_flat goal.now)) state.old)
-        (trying sigs.now (plain_flat goal.now) procs.old state.old) procs.old procs.new state.old
+    ensures does { AttemptPost (tells_outside (variables_of (plain_flat goal.now)) state.old)
+        (attempt_of sigs.now (plain_flat goal.now) procs.old state.old) procs.old procs.new state.old
         state.new result }
     ensures alike { IfOk result (FreshAlike (plain_flat goal.now) state.new) }
     ensures kept { OnErr result (OnlyGrown procs.old procs.new) }
@@ -84,7 +84,7 @@ fn attempt(
     match goal {
         Flat::True => {
             let mark = state.mark();
-            let part = state.one(alloc, Sched::Conj(Row::new(alloc)), mark.log, true)?;
+            let part = state.one(alloc, Sched::Conj(Row::new(alloc)), mark.trail, true)?;
             Ok(part)
         }
         Flat::Conj(goals) => conjunction(alloc, procs, sigs, state, goals.as_slice()),
@@ -110,12 +110,12 @@ fn conjunction(
     state: &mut State,
     goals: &[Flat],
 ) -> Result<Part, Failed>
-    requires stands { Stands procs.old state.old }
+    requires stands { StateInvariant procs.old state.old }
     requires sigs { SigsFit (count_of procs.old.insts) sigs.now }
     requires fits { GoalsFit procs.old state.old (flats (map plain_flat goals.now)) }
     requires few { length goals.now < 2 ^ 32 }
-    ensures does { Goes (tells_outside (variables_of_all (flats (map plain_flat goals.now))) state.old)
-        (trying sigs.now (And (flats (map plain_flat goals.now))) procs.old state.old) procs.old
+    ensures does { AttemptPost (tells_outside (variables_of_all (flats (map plain_flat goals.now))) state.old)
+        (attempt_of sigs.now (And (flats (map plain_flat goals.now))) procs.old state.old) procs.old
         procs.new state.old state.new result }
     ensures alike { IfOk result (FreshAlike (And (flats (map plain_flat goals.now))) state.new) }
     ensures kept { OnErr result (OnlyGrown procs.old procs.new) }
@@ -125,7 +125,7 @@ fn conjunction(
     match in_turn(alloc, procs, sigs, state, goals) {
         Ok(part) => {
             leave_goals(alloc, state, goals)?;
-            let part = conjunction_of(alloc, state, part, mark.log)?;
+            let part = conjunction_of(alloc, state, part, mark.trail)?;
             Ok(part)
         }
         Err(Failed::Fault(fault)) => {
@@ -146,12 +146,12 @@ fn in_turn(
     state: &mut State,
     goals: &[Flat],
 ) -> Result<Part, Failed>
-    requires stands { Stands procs.old state.old }
+    requires stands { StateInvariant procs.old state.old }
     requires sigs { SigsFit (count_of procs.old.insts) sigs.now }
     requires fits { GoalsFit procs.old state.old (flats (map plain_flat goals.now)) }
     requires counted { Counted (variables_of_all (flats (map plain_flat goals.now))) state.old }
     requires few { length goals.now < 2 ^ 32 }
-    ensures does { Goes (tells_around (variables_of_all (flats (map plain_flat goals.now))) state.old)
+    ensures does { AttemptPost (tells_around (variables_of_all (flats (map plain_flat goals.now))) state.old)
         (turns sigs.now (map plain_flat goals.now) procs.old state.old) procs.old procs.new
         state.old state.new result }
     ensures alike { IfOk result (FreshAlike (And (flats (map plain_flat goals.now))) state.new) }
@@ -192,7 +192,7 @@ fn first_ready(
     goals: &[Flat],
     waiting: &Places,
 ) -> Result<Found, Memory>
-    requires stands { Stands procs.old state.old }
+    requires stands { StateInvariant procs.old state.old }
     requires sigs { SigsFit (count_of procs.old.insts) sigs.now }
     requires fits { GoalsFit procs.old state.old (flats (map plain_flat goals.now)) }
     requires waiting { NumbersBelow (length goals.now) waiting.now }
@@ -225,12 +225,12 @@ fn try_among(
     state: &mut State,
     goal: &Flat,
 ) -> Result<Part, Failed>
-    requires stands { Stands procs.old state.old }
+    requires stands { StateInvariant procs.old state.old }
     requires sigs { SigsFit (count_of procs.old.insts) sigs.now }
     requires fits { GoalFits procs.old state.old (plain_flat goal.now) }
     requires counted { Counted (variables_of (plain_flat goal.now)) state.old }
-    ensures does { Does (tells_around (variables_of (plain_flat goal.now)) state.old)
-        (trying sigs.now (plain_flat goal.now) procs.old state.old) procs.old procs.new state.old
+    ensures does { TryPost (tells_around (variables_of (plain_flat goal.now)) state.old)
+        (attempt_of sigs.now (plain_flat goal.now) procs.old state.old) procs.old procs.new state.old
         state.new result }
     ensures alike { IfOk result (FreshAlike (plain_flat goal.now) state.new) }
     ensures kept { OnErr result (OnlyGrown procs.old procs.new) }
@@ -253,12 +253,12 @@ fn compound_among(
     state: &mut State,
     goal: &Flat,
 ) -> Result<Part, Failed>
-    requires stands { Stands procs.old state.old }
+    requires stands { StateInvariant procs.old state.old }
     requires sigs { SigsFit (count_of procs.old.insts) sigs.now }
     requires fits { GoalFits procs.old state.old (plain_flat goal.now) }
     requires counted { Counted (variables_of (plain_flat goal.now)) state.old }
-    ensures does { Does (tells_around (variables_of (plain_flat goal.now)) state.old)
-        (trying sigs.now (plain_flat goal.now) procs.old state.old) procs.old procs.new state.old
+    ensures does { TryPost (tells_around (variables_of (plain_flat goal.now)) state.old)
+        (attempt_of sigs.now (plain_flat goal.now) procs.old state.old) procs.old procs.new state.old
         state.new result }
     ensures alike { IfOk result (FreshAlike (plain_flat goal.now) state.new) }
     ensures kept { OnErr result (OnlyGrown procs.old procs.new) }
@@ -288,11 +288,11 @@ fn beside(
     vars: &[u32],
     goal: &Flat,
 ) -> Result<Part, Failed>
-    requires stands { Stands procs.old state.old }
+    requires stands { StateInvariant procs.old state.old }
     requires sigs { SigsFit (count_of procs.old.insts) sigs.now }
     requires fits { GoalFits procs.old state.old (plain_flat goal.now) }
     requires variables { NumbersBelow (length state.old.insts.items) vars.now }
-    ensures does { Does (tells_outside (variables_of (plain_flat goal.now)) state.old)
+    ensures does { TryPost (tells_outside (variables_of (plain_flat goal.now)) state.old)
         (trying_beside vars.now sigs.now (plain_flat goal.now) procs.old state.old) procs.old
         procs.new state.old state.new result }
     ensures alike { IfOk result (FreshAlike (plain_flat goal.now) state.new) }
@@ -322,11 +322,11 @@ fn quantified(
     vars: &Row<u32>,
     goal: &Flat,
 ) -> Result<Part, Failed>
-    requires stands { Stands procs.old state.old }
+    requires stands { StateInvariant procs.old state.old }
     requires sigs { SigsFit (count_of procs.old.insts) sigs.now }
     requires fits { GoalFits procs.old state.old (Exists vars.now (plain_flat goal.now)) }
-    ensures does { Goes (tells_outside (variables_of (plain_flat goal.now)) state.old)
-        (trying sigs.now (Exists vars.now (plain_flat goal.now)) procs.old state.old) procs.old
+    ensures does { AttemptPost (tells_outside (variables_of (plain_flat goal.now)) state.old)
+        (attempt_of sigs.now (Exists vars.now (plain_flat goal.now)) procs.old state.old) procs.old
         procs.new state.old state.new result }
     ensures alike { IfOk result (FreshAlike (Exists vars.now (plain_flat goal.now)) state.new) }
     ensures kept { OnErr result (OnlyGrown procs.old procs.new) }
@@ -335,8 +335,8 @@ fn quantified(
     match try_goal(alloc, procs, sigs, state, goal) {
         Ok(part) => {
             let reachable = part.reachable;
-            let goal = as_one(alloc, state, part, mark.log)?;
-            let part = quantified_over(alloc, state, vars, goal, mark.log, reachable)?;
+            let goal = as_one(alloc, state, part, mark.trail)?;
+            let part = quantified_over(alloc, state, vars, goal, mark.trail, reachable)?;
             Ok(part)
         }
         Err(failed) => Err(failed),
@@ -352,11 +352,11 @@ fn negation(
     state: &mut State,
     goal: &Flat,
 ) -> Result<Part, Failed>
-    requires stands { Stands procs.old state.old }
+    requires stands { StateInvariant procs.old state.old }
     requires sigs { SigsFit (count_of procs.old.insts) sigs.now }
     requires fits { GoalFits procs.old state.old (plain_flat goal.now) }
-    ensures does { Goes (tells_outside (variables_of (plain_flat goal.now)) state.old)
-        (trying sigs.now (Not (plain_flat goal.now)) procs.old state.old) procs.old procs.new
+    ensures does { AttemptPost (tells_outside (variables_of (plain_flat goal.now)) state.old)
+        (attempt_of sigs.now (Not (plain_flat goal.now)) procs.old state.old) procs.old procs.new
         state.old state.new result }
     ensures alike { IfOk result (FreshAlike (Not (plain_flat goal.now)) state.new) }
     ensures kept { OnErr result (OnlyGrown procs.old procs.new) }
@@ -368,9 +368,9 @@ fn negation(
         Ok(part) => match first_bound(state, &free, part.reachable) {
             Some(x) => Err(Failed::Fault(ModeFault::NegatedBinds(x))),
             None => {
-                let goal = as_one(alloc, state, part, mark.log)?;
-                state.back(mark.log);
-                let part = negated(alloc, state, goal, mark.log)?;
+                let goal = as_one(alloc, state, part, mark.trail)?;
+                state.back(mark.trail);
+                let part = negated(alloc, state, goal, mark.trail)?;
                 Ok(part)
             }
         },
@@ -390,7 +390,7 @@ fn branch(
     goal: &Flat,
     ends: &mut Vec<Row<InstId>>,
 ) -> Result<GoalNode, Failed>
-    requires stands { Stands procs.old state.old }
+    requires stands { StateInvariant procs.old state.old }
     requires sigs { SigsFit (count_of procs.old.insts) sigs.now }
     requires fits { GoalFits procs.old state.old (plain_flat goal.now) }
     requires variables { NumbersBelow (length state.old.insts.items) vars.now }
@@ -404,8 +404,8 @@ fn branch(
     let mark = state.mark();
     match beside(alloc, procs, sigs, state, vars, goal) {
         Ok(part) => {
-            let goal = ended(alloc, state, seen, part, mark.log, ends)?;
-            state.back(mark.log);
+            let goal = ended(alloc, state, seen, part, mark.trail, ends)?;
+            state.back(mark.trail);
             Ok(goal)
         }
         Err(failed) => Err(failed),
@@ -421,11 +421,11 @@ fn disjunction(
     state: &mut State,
     goals: &[Flat],
 ) -> Result<Part, Failed>
-    requires stands { Stands procs.old state.old }
+    requires stands { StateInvariant procs.old state.old }
     requires sigs { SigsFit (count_of procs.old.insts) sigs.now }
     requires fits { GoalsFit procs.old state.old (flats (map plain_flat goals.now)) }
-    ensures does { Goes (tells_outside (variables_of_all (flats (map plain_flat goals.now))) state.old)
-        (trying sigs.now (Or (flats (map plain_flat goals.now))) procs.old state.old) procs.old
+    ensures does { AttemptPost (tells_outside (variables_of_all (flats (map plain_flat goals.now))) state.old)
+        (attempt_of sigs.now (Or (flats (map plain_flat goals.now))) procs.old state.old) procs.old
         procs.new state.old state.new result }
     ensures alike { IfOk result (FreshAlike (Or (flats (map plain_flat goals.now))) state.new) }
     ensures kept { OnErr result (OnlyGrown procs.old procs.new) }
@@ -455,7 +455,7 @@ fn test(
     condition: &Flat,
     then_part: &Flat,
 ) -> Result<Condition, Failed>
-    requires stands { Stands procs.old state.old }
+    requires stands { StateInvariant procs.old state.old }
     requires sigs { SigsFit (count_of procs.old.insts) sigs.now }
     requires condition { GoalFits procs.old state.old (plain_flat condition.now) }
     requires then_part { GoalFits procs.old state.old (plain_flat then_part.now) }
@@ -474,7 +474,7 @@ fn test(
     match beside(alloc, procs, sigs, state, &others, condition) {
         Ok(part) => {
             let bound = first_bound(state, &free, part.reachable);
-            let condition = condition_of(alloc, state, part, mark.log, bound)?;
+            let condition = condition_of(alloc, state, part, mark.trail, bound)?;
             Ok(condition)
         }
         Err(failed) => Err(failed),
@@ -494,7 +494,7 @@ fn then_branch(
     then_part: &Flat,
     ends: &mut Vec<Row<InstId>>,
 ) -> Result<GoalNode, Failed>
-    requires stands { Stands procs.old state.old }
+    requires stands { StateInvariant procs.old state.old }
     requires sigs { SigsFit (count_of procs.old.insts) sigs.now }
     requires condition { GoalFits procs.old state.old (plain_flat condition.now) }
     requires then_part { GoalFits procs.old state.old (plain_flat then_part.now) }
@@ -526,7 +526,7 @@ fn test_and_then(
     then_part: &Flat,
     ends: &mut Vec<Row<InstId>>,
 ) -> Result<Begun, Failed>
-    requires stands { Stands procs.old state.old }
+    requires stands { StateInvariant procs.old state.old }
     requires sigs { SigsFit (count_of procs.old.insts) sigs.now }
     requires condition { GoalFits procs.old state.old (plain_flat condition.now) }
     requires then_part { GoalFits procs.old state.old (plain_flat then_part.now) }
@@ -551,7 +551,7 @@ fn test_and_then(
         alloc, procs, sigs, state, seen, reachable, condition, then_part, ends,
     ) {
         Ok(then_goal) => {
-            state.back(mark.log);
+            state.back(mark.trail);
             Ok(Begun {
                 condition: goal,
                 bound,
@@ -574,14 +574,14 @@ fn if_then_else(
     then_part: &Flat,
     else_part: &Flat,
 ) -> Result<Part, Failed>
-    requires stands { Stands procs.old state.old }
+    requires stands { StateInvariant procs.old state.old }
     requires sigs { SigsFit (count_of procs.old.insts) sigs.now }
     requires fits { GoalFits procs.old state.old (If vars.now (plain_flat condition.now)
         (plain_flat then_part.now) (plain_flat else_part.now)) }
     ensures does { let goal = If vars.now (plain_flat condition.now) (plain_flat then_part.now)
         (plain_flat else_part.now) in
-        Goes (tells_outside (variables_of goal) state.old)
-        (trying sigs.now goal procs.old state.old) procs.old procs.new state.old state.new result }
+        AttemptPost (tells_outside (variables_of goal) state.old)
+        (attempt_of sigs.now goal procs.old state.old) procs.old procs.new state.old state.new result }
     ensures alike { IfOk result (FreshAlike (If vars.now (plain_flat condition.now) (plain_flat then_part.now) (plain_flat else_part.now)) state.new) }
     ensures kept { OnErr result (OnlyGrown procs.old procs.new) }
 {

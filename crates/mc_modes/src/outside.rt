@@ -8,7 +8,7 @@ ghost use Rattle.mc_modes.specs.code.Waiting.{Counted};
 
 use crate::variables::variables_of;
 use mc_base::Memory;
-use mc_mode_points::State;
+use mc_mode_state::State;
 use mc_model::flat::Flat;
 use std::alloc::Global;
 

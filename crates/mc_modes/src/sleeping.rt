@@ -12,7 +12,7 @@ ghost use Rattle.mc_modes.specs.code.Sleeping.{Asleep, may_be_mild, changed_by_e
 use crate::inputs::{call_sleeps, is_free, may_be_mild, one_is_free};
 use crate::makings::{changed_beside, is_one_too_many, makings_are_mild};
 use mc_base::{Memory, Row};
-use mc_mode_points::State;
+use mc_mode_state::State;
 use mc_model::flat::Flat;
 use mc_model::inst::Sig;
 use mc_procs::Procs;

@@ -4,7 +4,7 @@ ghost use Rattle.mc_model.specs.Lists.{without};
 ghost use Rattle.mc_model.specs.PlainGoals.{plain_flat};
 
 use mc_base::{Memory, Row};
-use mc_mode_points::has;
+use mc_mode_state::has;
 use mc_model::flat::Flat;
 use std::alloc::Global;
 

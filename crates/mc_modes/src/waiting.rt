@@ -3,8 +3,8 @@ ghost use Rattle.mc_model.specs.Scheduled.{nodes, Conj};
 ghost use Rattle.mc_model.specs.PlainGoals.{plain_node};
 ghost use Rattle.mc_accepted.specs.Ordered.{times_in};
 ghost use Rattle.mc_procs.specs.Named.{NumbersBelow};
-ghost use Rattle.mc_mode_points.specs.States.{point_of, mark_of, LogWithin, SameState, Later, Even};
-ghost use Rattle.mc_mode_points.specs.declared.state.State.{State};
+ghost use Rattle.mc_mode_state.specs.States.{point_of, snapshot_of, TrailWithin, SameState, Later, SameLengths};
+ghost use Rattle.mc_mode_state.specs.declared.state.State.{State};
 ghost use Rattle.mc_modes.specs.Tries.{OnFault};
 ghost use Rattle.mc_modes.specs.code.Frames.{Entered};
 ghost use Rattle.mc_modes.specs.code.Parts.{OneSince};
@@ -13,7 +13,7 @@ ghost use Rattle.mc_modes.specs.code.Waiting.{goals_at, variables_of_each, noted
 use crate::places::Places;
 use crate::variables::push_variables;
 use mc_base::{Memory, Row};
-use mc_mode_points::{Failed, Mark, ModeFault, Part, State};
+use mc_mode_state::{Failed, ModeFault, Part, Snapshot, State};
 use mc_model::flat::Flat;
 use mc_model::sched::{GoalNode, Sched};
 use std::alloc::Global;
@@ -83,10 +83,15 @@ pub fn stuck(
     }
 }
 
-/// A conjunction's goals as one goal, with what it changed since the log had this length.
-pub fn conjunction_of(alloc: Global, state: &State, part: Part, log: usize) -> Result<Part, Memory>
-    requires { LogWithin (length state.now.insts.items) state.now.log.items }
-    ensures goals { IfOk result (OneSince log state.now part.reachable
+/// A conjunction's goals as one goal, with what it changed since the trail had this length.
+pub fn conjunction_of(
+    alloc: Global,
+    state: &State,
+    part: Part,
+    trail: usize,
+) -> Result<Part, Memory>
+    requires { TrailWithin (length state.now.insts.items) state.now.trail.items }
+    ensures goals { IfOk result (OneSince trail state.now part.reachable
         (Conj (nodes (map plain_node part.goals.items)))) }
     ensures reachable { IfOk result (λ whole. whole.reachable ≡ part.reachable) }
 {
@@ -95,7 +100,7 @@ pub fn conjunction_of(alloc: Global, state: &State, part: Part, log: usize) -> R
         reachable,
         freshened: _,
     } = part;
-    state.one(alloc, Sched::Conj(Row::of(goals)?), log, reachable)
+    state.one(alloc, Sched::Conj(Row::of(goals)?), trail, reachable)
 }
 
 /// Fresh variables occur outside too, and are noted.
@@ -137,13 +142,17 @@ pub fn taken(
 }
 
 /// Goes back to a moment where a rule is broken.
-pub fn settled(state: &mut State, mark: Mark, tried: Result<Part, Failed>) -> Result<Part, Failed>
-    requires { OnFault tried (LogWithin (length state.old.insts.items) state.old.log.items
-        × Even state.old) }
+pub fn settled(
+    state: &mut State,
+    mark: Snapshot,
+    tried: Result<Part, Failed>,
+) -> Result<Part, Failed>
+    requires { OnFault tried (TrailWithin (length state.old.insts.items) state.old.trail.items
+        × SameLengths state.old) }
     ensures same { result ≡ tried }
     ensures kept { OnOk result (state.new ≡ state.old) }
-    ensures undone { OnFault result ((s : State) → Later s state.old → Even s
-        → mark ≡ mark_of s → SameState s state.new) }
+    ensures undone { OnFault result ((s : State) → Later s state.old → SameLengths s
+        → mark ≡ snapshot_of s → SameState s state.new) }
     ensures nodes { OnFault result (state.new.nodes ≡ state.old.nodes) }
 {
     match tried {

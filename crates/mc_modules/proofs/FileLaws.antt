@@ -4,9 +4,9 @@ use Rattle.mc_decl_syntax.specs.Plain.{PlainDecl, AbstractType, UnionType, SameT
 use Rattle.mc_names.specs.declared.definition.Kind.TheVariants as K
 use Rattle.mc_names.specs.Plain.{definition}
 use Rattle.mc_names.specs.Definitions.{head_name}
-use Rattle.mc_linking.proofs.Tables.{has-set, is_member_set}
-use Rattle.mc_linking.specs.Files.{PlainItemInFile, definitions_of, shown_of}
-use Rattle.mc_linking.specs.Kept.{table}
+use Rattle.mc_modules.proofs.Tables.{has-set, is_member_set}
+use Rattle.mc_modules.specs.Files.{PlainItemInFile, definitions_of, shown_of}
+use Rattle.mc_modules.specs.Kept.{table}
 use Rattle.mc_modules.specs.Linked.{types_by, types_in}
 use Rattle.mc_modules.specs.code.Passes.{types_with, types_pass}
 

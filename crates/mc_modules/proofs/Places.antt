@@ -4,8 +4,8 @@ use Rattle.std.proofs.lemmas.List.{length-map, get_or-map}
 use Rattle.mc_decl_syntax.specs.declared.entry.Entry.{Entry}
 use Rattle.mc_decl_syntax.specs.Entries.{plain_entry, File, plain_files}
 use Rattle.mc_names.specs.declared.names.Named.{Named}
-use Rattle.mc_linking.specs.Files.{items_in_file, definitions_of}
-use Rattle.mc_linking.specs.Visible.{file_at}
+use Rattle.mc_modules.specs.Files.{items_in_file, definitions_of}
+use Rattle.mc_modules.specs.Visible.{file_at}
 use Rattle.mc_names.specs.Linked.{Defined, plain_named}
 use Rattle.mc_modules.specs.Linked.{each, numbered, before, symbols_of, preds_of, declared_from, scope, scopes_from}
 

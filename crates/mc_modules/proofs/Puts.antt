@@ -2,7 +2,7 @@
 use Rattle.std.proofs.Common.{◌≡◌, ℕ, ◌+◌, ◌<◌, List, [], ◌∷◌, ◌++◌, length, get_or, drop, refl, ap, sym, ◌∙◌, drop-cons, add-one, append_assoc}
 use Rattle.mc_names.specs.Plain.{PlainDefinition}
 use Rattle.mc_defs_uses.specs.Sets.{put_all}
-use Rattle.mc_linking.proofs.Tables.{put_all-append}
+use Rattle.mc_modules.proofs.Tables.{put_all-append}
 
 -- what is left of a list at a place is the element there and what is left behind it
 pub drop_item : {A : Type 0} (xs : List A) (i : ℕ) (x : A) → i < length xs → x ≡ get_or xs i x → drop i xs ≡ x ∷ drop (i + 1) xs

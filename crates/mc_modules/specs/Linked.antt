@@ -12,8 +12,8 @@ use Rattle.mc_source.specs.declared.name.Candidate.{Candidate}
 use Rattle.mc_source.specs.declared.name.Candidate.TheVariants as C
 use Rattle.mc_names.specs.declared.names.Scope.{Scope}
 use Rattle.mc_decl_syntax.specs.Entries.{File}
-use Rattle.mc_linking.specs.Files.{PlainItemInFile, items_in_file, module_name, definitions_of, shown_of, is_shown, has}
-use Rattle.mc_linking.specs.Visible.{unqualified, seen, file_at}
+use Rattle.mc_modules.specs.Files.{PlainItemInFile, items_in_file, module_name, definitions_of, shown_of, is_shown, has}
+use Rattle.mc_modules.specs.Visible.{unqualified, seen, file_at}
 use Rattle.mc_names.specs.Linked.{Defined, Linked}
 
 -- a file's name; a file that is no module has none

@@ -1,15 +1,15 @@
 ghost use Rattle.std.specs.Prelude.{◌≡◌, ◌++◌, ◌∷◌, ◌<◌, [], length, map, IfOk, OnOk};
 ghost use Rattle.mc_decl_syntax.specs.Entries.{plain_files};
-ghost use Rattle.mc_linking.specs.Visible.{file_at};
+ghost use Rattle.mc_modules.specs.Visible.{file_at};
 ghost use Rattle.mc_modules.specs.Linked.{types_of, symbols_of, preds_of, insts_of, modes_defined};
 ghost use Rattle.mc_names.specs.Linked.{plain_named};
 ghost use Rattle.mc_modules.specs.code.Passes.{AreParts};
 
-use crate::column::Column;
+use crate::Linking;
+use crate::by_module::ByModule;
 use crate::part::part_of;
 use mc_base::{Memory, Row};
-use mc_linking::Linking;
-use mc_names::{Named, Sorts, nothing};
+use mc_names::{Named, PerKind, nothing};
 use std::alloc::Global;
 
 // Puts what a file has behind what the others have.
@@ -17,7 +17,7 @@ fn put_part(
     alloc: Global,
     linking: &Linking,
     own: u32,
-    parts: &mut Sorts<Vec<Row<Named>>>,
+    parts: &mut PerKind<Vec<Row<Named>>>,
 ) -> Result<(), Memory>
     requires { own < length linking.now }
     ensures types { OnOk result
@@ -41,7 +41,7 @@ fn put_part(
         ≡ map (map plain_named) parts.old.modes.items
         ++ modes_defined (file_at (plain_files linking.now) own) ∷ []) }
 {
-    let Sorts {
+    let PerKind {
         types,
         symbols,
         preds,
@@ -57,7 +57,7 @@ fn put_part(
 }
 
 // What each file has of each sort.
-fn parts(alloc: Global, linking: &Linking) -> Result<Sorts<Vec<Row<Named>>>, Memory>
+fn parts(alloc: Global, linking: &Linking) -> Result<PerKind<Vec<Row<Named>>>, Memory>
     ensures { IfOk result
         (λ c.
         AreParts (plain_files linking.now) c.types.items c.symbols.items c.preds.items
@@ -71,24 +71,24 @@ fn parts(alloc: Global, linking: &Linking) -> Result<Sorts<Vec<Row<Named>>>, Mem
 }
 
 /// What each file has of each sort, with the numbers.
-pub fn columns(alloc: Global, linking: &Linking) -> Result<Sorts<Column>, Memory>
+pub fn columns(alloc: Global, linking: &Linking) -> Result<PerKind<ByModule>, Memory>
     ensures { IfOk result
         (λ c.
         AreParts (plain_files linking.now) c.types.has.items c.symbols.has.items
         c.preds.has.items c.insts.has.items c.modes.has.items) }
 {
-    let Sorts {
+    let PerKind {
         types,
         symbols,
         preds,
         insts,
         modes,
     } = parts(alloc, linking)?;
-    Ok(Sorts {
-        types: Column::of(alloc, types)?,
-        symbols: Column::of(alloc, symbols)?,
-        preds: Column::of(alloc, preds)?,
-        insts: Column::of(alloc, insts)?,
-        modes: Column::of(alloc, modes)?,
+    Ok(PerKind {
+        types: ByModule::of(alloc, types)?,
+        symbols: ByModule::of(alloc, symbols)?,
+        preds: ByModule::of(alloc, preds)?,
+        insts: ByModule::of(alloc, insts)?,
+        modes: ByModule::of(alloc, modes)?,
     })
 }

@@ -1,17 +1,17 @@
 ghost use Rattle.std.specs.Prelude.{◌≡◌, [], IfOk, IfErr};
 ghost use Rattle.mc_decl_syntax.specs.Entries.{plain_files};
-ghost use Rattle.mc_linking.specs.Faults.{link_faults};
+ghost use Rattle.mc_modules.specs.Faults.{link_faults};
 ghost use Rattle.mc_modules.specs.Linked.{linked};
 ghost use Rattle.mc_names.specs.Linked.{plain_names};
 ghost use Rattle.mc_modules.specs.Refused.{IsRefusedLink};
 
+use crate::Linking;
 use crate::columns::columns;
 use crate::numbered::declared;
 use crate::scopes::scopes;
 use mc_base::{Memory, Row};
 use mc_decl_syntax::{Entry, ItemsFault};
-use mc_linking::Linking;
-use mc_names::{Names, Sorts};
+use mc_names::{Names, PerKind};
 use std::alloc::Global;
 
 /// The names of a program, whatever rules it breaks.
@@ -21,7 +21,7 @@ pub fn program_names(alloc: Global, linking: &Linking) -> Result<Names, Memory>
     let columns = columns(alloc, linking)?;
     let declared = declared(alloc, linking, &columns)?;
     let scopes = scopes(alloc, linking, &columns)?;
-    let named = Sorts {
+    let named = PerKind {
         types: columns.types.flat(alloc)?,
         symbols: columns.symbols.flat(alloc)?,
         preds: columns.preds.flat(alloc)?,

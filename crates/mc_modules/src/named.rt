@@ -1,15 +1,15 @@
 ghost use Rattle.std.specs.Prelude.{◌≡◌, ◌∷◌, ◌++◌, [], map, IfOk, OnOk};
-ghost use Rattle.mc_term_data.specs.Plain.{plain_term, tms};
+ghost use Rattle.mc_term_data.specs.Plain.{plain_term, term_list};
 ghost use Rattle.mc_decl_syntax.specs.Plain.{plain_item};
 ghost use Rattle.mc_names.specs.Plain.{plain_name_arity};
 ghost use Rattle.mc_names.specs.Definitions.{definitions};
-ghost use Rattle.mc_linking.specs.Kept.{plain_item_in_file};
+ghost use Rattle.mc_modules.specs.Kept.{plain_item_in_file};
 ghost use Rattle.mc_modules.specs.Linked.{defined, bare_head, constructors, symbols_by, of_kind};
 ghost use Rattle.mc_names.specs.Linked.{plain_named};
 
+use crate::ItemInFile;
 use mc_base::{Copied, Memory, Row, Text};
 use mc_decl_syntax::Decl;
-use mc_linking::ItemInFile;
 use mc_names::{NameArity, Named, symbol_name};
 use mc_source::name::Name;
 use mc_term_data::{Node, Term};
@@ -130,7 +130,7 @@ fn put_constructors(
         (map plain_named symbols.new.items
         ≡ map plain_named symbols.old.items
         ++ constructors «module».now (plain_item_in_file item.now) (plain_term head.now)
-        (tms (map plain_term terms.now))) }
+        (term_list (map plain_term terms.now))) }
 {
     for term in terms {
         symbols.push(constructor(alloc, module, item, head, term)?)?;
@@ -150,7 +150,7 @@ fn constructor(
         (λ n.
         plain_named n ∷ []
         ≡ constructors «module».now (plain_item_in_file item.now) (plain_term head.now)
-        (tms (plain_term term.now ∷ []))) }
+        (term_list (plain_term term.now ∷ []))) }
 {
     let alone = Row::one(alloc, term.copied(alloc)?)?;
     let union = Decl::UnionType(bare_head(alloc, head)?, Box::new(alloc, alone)?);

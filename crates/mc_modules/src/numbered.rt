@@ -1,15 +1,15 @@
 ghost use Rattle.std.specs.Prelude.{◌≡◌, ◌+◌, ◌++◌, List, [], map, length, IfOk, OnOk};
 ghost use Rattle.mc_names.specs.Plain.{PlainDefinition, plain_definition};
-ghost use Rattle.mc_linking.specs.Files.{definitions_of};
+ghost use Rattle.mc_modules.specs.Files.{definitions_of};
 ghost use Rattle.mc_decl_syntax.specs.Entries.{plain_files};
-ghost use Rattle.mc_linking.specs.Kept.{plain_item_in_file};
+ghost use Rattle.mc_modules.specs.Kept.{plain_item_in_file};
 ghost use Rattle.mc_modules.specs.Linked.{as_numbered, next_con, next_pred, numbered, declared_from};
 ghost use Rattle.mc_modules.specs.code.Passes.{AreParts};
 
-use crate::column::Column;
+use crate::by_module::ByModule;
+use crate::{ItemInFile, Linking};
 use mc_base::{Memory, Row};
-use mc_linking::{ItemInFile, Linking};
-use mc_names::{Definition, Kind, Sorts};
+use mc_names::{Definition, Kind, PerKind};
 use mc_source::name::Candidate;
 use std::alloc::Global;
 
@@ -91,7 +91,7 @@ fn numbered_in(
 pub fn declared(
     alloc: Global,
     linking: &Linking,
-    columns: &Sorts<Column>,
+    columns: &PerKind<ByModule>,
 ) -> Result<Row<Row<Candidate>>, Memory>
     requires { AreParts (plain_files linking.now) columns.now.types.has.items
         columns.now.symbols.has.items columns.now.preds.has.items columns.now.insts.has.items

@@ -2,17 +2,17 @@ ghost use Rattle.std.specs.Prelude.{◌≡◌, ◌++◌, ◌<◌, map, length, I
 ghost use Rattle.mc_decl_syntax.specs.Plain.{plain_item};
 ghost use Rattle.mc_names.specs.Definitions.{definitions};
 ghost use Rattle.mc_decl_syntax.specs.Entries.{plain_entry, plain_files};
-ghost use Rattle.mc_linking.specs.Visible.{file_at};
-ghost use Rattle.mc_linking.specs.Kept.{plain_item_in_file};
+ghost use Rattle.mc_modules.specs.Visible.{file_at};
+ghost use Rattle.mc_modules.specs.Kept.{plain_item_in_file};
 ghost use Rattle.mc_modules.specs.Linked.{symbols_by, of_kind, is_pred, is_inst, is_mode, types_of, symbols_of, preds_of, insts_of, modes_defined, symbols_in, sorted_in, name_of};
 ghost use Rattle.mc_names.specs.Linked.{plain_named};
 ghost use Rattle.mc_modules.specs.code.Passes.{types_with, types_pass};
 
 use crate::named::{put_sorted, put_symbols, put_whole};
+use crate::{ItemInFile, Linking, Table, module_name};
 use mc_base::{Memory, Row, Text};
 use mc_decl_syntax::{Decl, Entry};
-use mc_linking::{ItemInFile, Linking, Table, module_name};
-use mc_names::{Definition, Kind, NameArity, Named, Sorts, head_name, joined, nothing, rows};
+use mc_names::{Definition, Kind, NameArity, Named, PerKind, head_name, joined, nothing, rows};
 use std::alloc::Global;
 
 /// The name of the module that a file is, or none.
@@ -84,7 +84,7 @@ fn put_item<'a>(
     module: &Text,
     table: &Table<'a>,
     item: &ItemInFile<'a>,
-    part: &mut Sorts<Vec<Named>>,
+    part: &mut PerKind<Vec<Named>>,
 ) -> Result<(), Memory>
     ensures types { OnOk result
         (map plain_named part.new.types.items
@@ -129,7 +129,7 @@ fn part_with<'a>(
     module: &Text,
     table: &Table<'a>,
     items: &[ItemInFile<'a>],
-) -> Result<Sorts<Row<Named>>, Memory>
+) -> Result<PerKind<Row<Named>>, Memory>
     ensures types { IfOk result
         (λ p.
         map plain_named p.types
@@ -160,7 +160,7 @@ fn part_with<'a>(
 
 /// What a file has of each sort, in order.
 #[tactic(auto, using(crate::proofs::FileLaws::types_are))]
-pub fn part_of(alloc: Global, linking: &Linking, own: u32) -> Result<Sorts<Row<Named>>, Memory>
+pub fn part_of(alloc: Global, linking: &Linking, own: u32) -> Result<PerKind<Row<Named>>, Memory>
     requires { own < length linking.now }
     ensures types { IfOk result
         (λ p. map plain_named p.types ≡ types_of (file_at (plain_files linking.now) own)) }

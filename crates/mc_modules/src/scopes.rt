@@ -4,11 +4,11 @@ ghost use Rattle.mc_names.specs.Linked.{plain_named};
 ghost use Rattle.mc_modules.specs.Linked.{scope, scopes_from};
 ghost use Rattle.mc_modules.specs.code.Passes.{AreParts, scope_over};
 
-use crate::column::Column;
+use crate::by_module::ByModule;
 use crate::part::name_of;
+use crate::{Linking, Visibility};
 use mc_base::{Copied, Memory, Row, Text};
-use mc_linking::{Linking, Visibility};
-use mc_names::{Scope, Sorts};
+use mc_names::{PerKind, Scope};
 use std::alloc::Global;
 
 // What a module of this name sees.
@@ -17,7 +17,7 @@ fn scope(
     name: Text,
     own: u32,
     visibility: &Visibility,
-    columns: &Sorts<Column>,
+    columns: &PerKind<ByModule>,
 ) -> Result<Scope, Memory>
     ensures { IfOk result
         (λ s.
@@ -46,7 +46,7 @@ fn scope_of(
     alloc: Global,
     linking: &Linking,
     own: u32,
-    columns: &Sorts<Column>,
+    columns: &PerKind<ByModule>,
 ) -> Result<Scope, Memory>
     requires own { own < length linking.now }
     requires columns { AreParts (plain_files linking.now) columns.now.types.has.items
@@ -62,7 +62,7 @@ fn scope_of(
 pub fn scopes(
     alloc: Global,
     linking: &Linking,
-    columns: &Sorts<Column>,
+    columns: &PerKind<ByModule>,
 ) -> Result<Row<Scope>, Memory>
     requires { AreParts (plain_files linking.now) columns.now.types.has.items
         columns.now.symbols.has.items columns.now.preds.has.items columns.now.insts.has.items

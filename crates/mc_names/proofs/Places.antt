@@ -5,11 +5,11 @@ use Rattle.std.specs.Str.{bytes_eq}
 use Rattle.std.proofs.lemmas.List.{at_drop_more}
 use Rattle.std.proofs.lemmas.Slice.Eq.{bytes_eq-Decides}
 use Rattle.mc_term_data.specs.Names.{count}
-use Rattle.mc_term_data.specs.Plain.{tms, plain_term}
+use Rattle.mc_term_data.specs.Plain.{term_list, plain_term}
 use Rattle.mc_term_data.specs.declared.term.Term.{Term}
 use Rattle.mc_names.specs.Parameters.{place_of}
 
-pub count_is_length : (ts : List Term) → count (tms (map plain_term ts)) ≡ length ts
+pub count_is_length : (ts : List Term) → count (term_list (map plain_term ts)) ≡ length ts
 count_is_length [] = refl
 count_is_length (t ∷ ts) = let e = count_is_length ts in omega arith
 

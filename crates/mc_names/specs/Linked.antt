@@ -58,5 +58,5 @@ module_from k w [] = k
 module_from k w (s ∷ ss) = if bytes_eq s.«module» w then k else module_from (k + 1) w ss
 
 -- the number of the module in which a type is defined
-abbrev pub home : Linked → Defined → ℕ
-home l d = module_from 0 d.name.«module» l.scopes
+abbrev pub defining_module : Linked → Defined → ℕ
+defining_module l d = module_from 0 d.name.«module» l.scopes

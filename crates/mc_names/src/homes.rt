@@ -1,11 +1,11 @@
 ghost use Rattle.std.specs.Prelude.{◌≡◌, ◌<◌, ◌^◌, length};
-ghost use Rattle.mc_names.specs.Linked.{plain_named, plain_names, module_from, home};
+ghost use Rattle.mc_names.specs.Linked.{plain_named, plain_names, module_from, defining_module};
 
 use crate::names::{Named, Names, Scope};
 
 /// The number of the module in which a type is defined.
-pub fn home(names: &Names, named: &Named) -> u32
-    ensures { result ≡ home (plain_names names.now) (plain_named named.now) }
+pub fn defining_module(names: &Names, named: &Named) -> u32
+    ensures { result ≡ defining_module (plain_names names.now) (plain_named named.now) }
 {
     module_named(names.scopes.as_slice(), named.name.module.bytes())
 }

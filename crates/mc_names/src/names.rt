@@ -2,7 +2,7 @@ ghost use Rattle.std.specs.Prelude.{◌≡◌, [], slice_index_or, IfOk};
 ghost use Rattle.mc_names.specs.code.Index.{called, numbers_called, IsIndex, IsNumberIndex};
 
 use crate::index::{Index, indices, numbers_by_name};
-use crate::sorts::Sorts;
+use crate::per_kind::PerKind;
 use mc_base::{Memory, Row, Text};
 use mc_decl_syntax::Decl;
 use mc_source::name::{Candidate, Name};
@@ -62,7 +62,7 @@ impl Names {
     /// The names that these are, with an index of those that each module has, and one of the types.
     pub fn indexed(
         alloc: Global,
-        named: Sorts<Row<Named>>,
+        named: PerKind<Row<Named>>,
         scopes: Row<Scope>,
         declared: Row<Row<Candidate>>,
     ) -> Result<Names, Memory>
@@ -74,7 +74,7 @@ impl Names {
         ensures scopes { IfOk result (λ n. n.scopes ≡ scopes) }
         ensures declared { IfOk result (λ n. n.declared ≡ declared) }
     {
-        let Sorts {
+        let PerKind {
             types,
             symbols,
             preds,

@@ -1,5 +1,5 @@
 ghost use Rattle.std.specs.Prelude.{◌≡◌, map, IfOk};
-ghost use Rattle.mc_term_data.specs.Plain.{plain_term, tms};
+ghost use Rattle.mc_term_data.specs.Plain.{plain_term, term_list};
 ghost use Rattle.mc_term_data.specs.Shapes.{variable};
 ghost use Rattle.mc_names.specs.Parameters.{name_of, variable_names, parameters_of, place_of};
 
@@ -23,7 +23,7 @@ pub fn parameters_of(alloc: Global, head: &Term) -> Result<Row<Text>, Memory>
 
 // The names of variables; what is no variable has the empty name.
 fn variable_names(alloc: Global, terms: &[Term]) -> Result<Row<Text>, Memory>
-    ensures { IfOk result (λ names. names ≡ variable_names (tms (map plain_term terms.now))) }
+    ensures { IfOk result (λ names. names ≡ variable_names (term_list (map plain_term terms.now))) }
 {
     let mut names = Vec::new(alloc);
     for term in terms {

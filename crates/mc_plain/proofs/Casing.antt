@@ -13,7 +13,7 @@ use Rattle.mc_model.specs.Stream.{Bindings}
 use Rattle.mc_flat_code.specs.Ticked.{Ticked}
 use Rattle.mc_flat_code.specs.Running.{instr_at, part_of, fits_label, label_of, constant_label, fitting, branch_items, case_items, IsCode}
 use Rattle.mc_flat_code.specs.declared.code.Instr.TheVariants as I
-use Rattle.mc_flat_code.specs.declared.code.Part.{Part}
+use Rattle.mc_flat_code.specs.declared.code.Span.{Span}
 use Rattle.mc_flat_code.specs.declared.code.Key.TheVariants as K
 use Rattle.mc_flat_code.specs.declared.code.Branch.{Branch}
 use Rattle.mc_flat_code.specs.declared.code.Code.{Code}
@@ -103,7 +103,7 @@ module _ (outcome : Builtin → List Val → Outcome) (f : FlatProgram) (run : �
 
 module _ (outcome : Builtin → List Val → Outcome) (f : FlatProgram) (o : IsCode f.code) (head last : List ℕ) (M : Machine) (w : Whole M) (pc : ℕ) (n : M.now ≡ at pc) where
   -- a switch is one step
-  pub case_moved : (x : ℕ) (bs : Part) (other : ℕ) → instr_at f.code pc ≡ Some (I.Case x bs other) → Moved outcome f head last M (record M { now = case_now f.code other (part_of f.code.branches.items bs) (M.bindings x) })
+  pub case_moved : (x : ℕ) (bs : Span) (other : ℕ) → instr_at f.code pc ≡ Some (I.Case x bs other) → Moved outcome f head last M (record M { now = case_now f.code other (part_of f.code.branches.items bs) (M.bindings x) })
   case_moved x bs other q =
       alone_moved outcome f o head last M w pc n (I.Case x bs other) q (case_now f.code other (part_of f.code.branches.items bs) (M.bindings x)) M.bindings
       (case_going f.code other (part_of f.code.branches.items bs) (M.bindings x))

@@ -8,25 +8,25 @@ use Rattle.mc_model.specs.Stream.{Bindings}
 use Rattle.mc_flat_code.specs.Ticked as T
 use Rattle.mc_flat_code.specs.Ticked.{Ticked, follow}
 use Rattle.mc_flat_code.specs.declared.code.FlatProgram.{FlatProgram}
-use Rattle.mc_frames.specs.Atoms.{went_items}
-use Rattle.mc_frames.specs.declared.went.Went.{Went}
-use Rattle.mc_frames.specs.declared.went.Went.TheVariants as W
+use Rattle.mc_plain.specs.Atoms.{went_items}
+use Rattle.mc_plain.specs.declared.results.AtomResult.{AtomResult}
+use Rattle.mc_plain.specs.declared.results.AtomResult.TheVariants as W
 use Rattle.mc_plain.specs.code.Machine.{Machine, stopped, said, is_ended}
 use Rattle.mc_plain.specs.code.Atoms.{Acted, ActedAfter, now_of}
 use Rattle.mc_plain.proofs.TickedLaws.{append_end}
 
-pub going : (w : Went) (next : ℕ) → is_ended (now_of w next) ≡ false
+pub going : (w : AtomResult) (next : ℕ) → is_ended (now_of w next) ≡ false
 going W.On next = refl
 going W.Fails next = refl
 going W.Stuck next = refl
 
 module _ (outcome : Builtin → List Val → Outcome) (f : FlatProgram) (go : ℕ → Bindings → Ticked Bindings) where
-  pub went_said : (items : Items Bindings) (w : Went) (next : ℕ) (e : Bindings) → items ≡ went_items w e → follow items (go next) ≡ said outcome f go (now_of w next) e
+  pub went_said : (items : Items Bindings) (w : AtomResult) (next : ℕ) (e : Bindings) → items ≡ went_items w e → follow items (go next) ≡ said outcome f go (now_of w next) e
   went_said items W.On next e x = ap (λ l. follow l (go next)) x ∙ append_end (go next e)
   went_said items W.Fails next e x = ap (λ l. follow l (go next)) x
   went_said items W.Stuck next e x = ap (λ l. follow l (go next)) x
 
-pub acted : (items : Items Bindings) (w : Went) (next : ℕ) (old new : Machine) → items ≡ went_items w new.bindings → new.now ≡ now_of w next → new ≡ record old { bindings = new.bindings; now = new.now } → Acted items next old new
+pub acted : (items : Items Bindings) (w : AtomResult) (next : ℕ) (old new : Machine) → items ≡ went_items w new.bindings → new.now ≡ now_of w next → new ≡ record old { bindings = new.bindings; now = new.now } → Acted items next old new
 acted items w next old new x n k =
     record {
       kept = k;
@@ -44,7 +44,7 @@ threw items x next old new e n k =
     }
 
 -- an atom that writes a text and then goes on
-pub wrote : (text : List ℕ) (items : Items Bindings) (w : Went) (next : ℕ) (old new : Machine) → items ≡ Wrote text (went_items w new.bindings) → new.now ≡ now_of w next → new ≡ record old { bindings = new.bindings; now = new.now } → ActedAfter (T.Wrote text) items next old new
+pub wrote : (text : List ℕ) (items : Items Bindings) (w : AtomResult) (next : ℕ) (old new : Machine) → items ≡ Wrote text (went_items w new.bindings) → new.now ≡ now_of w next → new ≡ record old { bindings = new.bindings; now = new.now } → ActedAfter (T.Wrote text) items next old new
 wrote text items w next old new e n k =
     record {
       kept = k;
@@ -53,7 +53,7 @@ wrote text items w next old new e n k =
     }
 
 -- an atom that reads and then goes on, or throws
-pub read_went : (from : ℕ) (items : Items Bindings) (w : Went) (next : ℕ) (old new : Machine) → items ≡ Read from (went_items w new.bindings) → new.now ≡ now_of w next → new ≡ record old { bindings = new.bindings; now = new.now } → ActedAfter (T.Read from) items next old new
+pub read_went : (from : ℕ) (items : Items Bindings) (w : AtomResult) (next : ℕ) (old new : Machine) → items ≡ Read from (went_items w new.bindings) → new.now ≡ now_of w next → new ≡ record old { bindings = new.bindings; now = new.now } → ActedAfter (T.Read from) items next old new
 read_went from items w next old new e n k =
     record {
       kept = k;

@@ -3,16 +3,16 @@ use Rattle.std.proofs.Common.{◌≡◌, ◌∙◌, ℕ, Option, refl, ap, List,
 use Rattle.mc_program.specs.declared.program.Program.{Program}
 use Rattle.mc_values.specs.declared.heap.Heap.{Heap}
 use Rattle.mc_values.specs.Heap.{Extends}
-use Rattle.mc_frames.specs.Frames.{bindings}
-use Rattle.mc_frames.specs.Values.{AreHeld}
-use Rattle.mc_frames.proofs.Growth.{bindings_grow, are_held_grow, live_from_held}
+use Rattle.mc_plain.specs.Frames.{bindings}
+use Rattle.mc_plain.specs.Values.{AreHeld}
+use Rattle.mc_plain.proofs.Growth.{bindings_grow, are_held_grow, live_from_held}
 use Rattle.mc_plain.specs.code.Machine as M
 use Rattle.mc_plain.specs.code.Views.{plain_around, plain_now, segment_in, point_in, machine}
 use Rattle.mc_plain.specs.code.Held.{PointHeld, SegmentsHeld, PointsHeld, AllHeld}
 use Rattle.mc_plain.specs.declared.state.Segment.{Segment}
 use Rattle.mc_plain.specs.declared.state.Point.{Point}
 use Rattle.mc_plain.specs.declared.state.Point.TheVariants as P
-use Rattle.mc_plain.specs.declared.state.Now.{Now}
+use Rattle.mc_plain.specs.declared.state.NextAction.{NextAction}
 use Rattle.mc_plain.specs.declared.state.Control.{Control}
 
 module _ (program : Program) (h k : Heap) (grows : Extends h k) where
@@ -48,14 +48,14 @@ module _ (program : Program) (h k : Heap) (grows : Extends h k) where
   points_stay (p ∷ ps) x = (point_stays p x.0, points_stay ps x.1)
 
   -- variables and what is done next change alone
-  pub atom_kept : (c : Control) (frame : Vec (Option ℕ) Global) (now : Now) → AllHeld program h c → machine k (record c { frame = frame; now = now }) ≡ record (machine h c) { bindings = bindings k frame.items; now = plain_now now }
+  pub atom_kept : (c : Control) (frame : Vec (Option ℕ) Global) (now : NextAction) → AllHeld program h c → machine k (record c { frame = frame; now = now }) ≡ record (machine h c) { bindings = bindings k frame.items; now = plain_now now }
   atom_kept c frame now x =
       λ i. record (machine k (record c { frame = frame; now = now })) {
         points = reverse (points_grow c.points.items x.points i);
         segments = reverse (segments_grow c.segments.items x.segments i);
       }
 
-  pub atom_held : (c : Control) (frame : Vec (Option ℕ) Global) (now : Now) → AllHeld program h c → AreHeld program k frame.items → AllHeld program k (record c { frame = frame; now = now })
+  pub atom_held : (c : Control) (frame : Vec (Option ℕ) Global) (now : NextAction) → AllHeld program h c → AreHeld program k frame.items → AllHeld program k (record c { frame = frame; now = now })
   atom_held c frame now x held =
       record { frame = held; segments = segments_stay c.segments.items x.segments; points = points_stay c.points.items x.points }
 

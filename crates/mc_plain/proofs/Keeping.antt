@@ -2,7 +2,7 @@
 use Rattle.std.proofs.Common.{◌≡◌, ℕ, zero, suc, sym, subst, List, [], ◌∷◌, ◌++◌, take}
 use Rattle.mc_program.specs.declared.program.Program.{Program}
 use Rattle.mc_values.specs.declared.heap.Heap.{Heap}
-use Rattle.mc_frames.specs.Values.{AreHeld}
+use Rattle.mc_plain.specs.Values.{AreHeld}
 use Rattle.mc_plain.specs.code.Held.{PointHeld, SegmentsHeld, PointsHeld}
 use Rattle.mc_plain.specs.declared.state.Segment.{Segment}
 use Rattle.mc_plain.specs.declared.state.Point.{Point}

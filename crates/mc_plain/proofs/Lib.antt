@@ -1,3 +1,12 @@
+pub mod Acting
+pub mod Binding
+pub mod FramesCalling
+pub mod Giving
+pub mod Growth
+pub mod Making
+pub mod SameValues
+pub mod Unifying
+pub mod ReadingLemmas
 pub mod TickedLaws
 pub mod Moves
 pub mod Steps

@@ -8,7 +8,7 @@ use Rattle.mc_program.specs.declared.value.Value.{Value}
 use Rattle.mc_program.specs.declared.program.Program.{Program}
 use Rattle.mc_values.specs.declared.heap.Heap.{Heap}
 use Rattle.mc_values.specs.Heap.{IsLive, Extends, StandsFor, value_at, values_at}
-use Rattle.mc_frames.specs.Values.{IsConstant, IsProper, IsValue}
+use Rattle.mc_plain.specs.Values.{IsConstant, IsProper, IsValue}
 use Rattle.mc_program.specs.Values.{int, char, str, con, state}
 
 pub next_of : {A : Type 0} (xs : List A) (n : ℕ) (x : A) → n < length xs → get_or xs n x ≡ x → take (n + 1) xs ≡ take n xs ++ x ∷ []

@@ -4,7 +4,7 @@ use Rattle.mc_program.specs.Values.{Val, plain_value}
 use Rattle.mc_program.specs.declared.value.Value.{Value}
 use Rattle.mc_program.specs.declared.program.Program.{Program}
 use Rattle.mc_model.specs.Worlds.{library_of}
-use Rattle.mc_frames.specs.Values.{IsConstant, IsProper}
+use Rattle.mc_plain.specs.Values.{IsConstant, IsProper}
 use Rattle.mc_flat_code.specs.Running.{instr_at, value_at}
 use Rattle.mc_flat_code.specs.Mentions.{Mention, of_symbol, of_constant, of_builtin, CodeMentions}
 use Rattle.mc_flat_code.specs.declared.code.Instr.{Instr}

@@ -11,11 +11,11 @@ use Rattle.mc_flat_code.specs.Ticked.{Ticked, End, Stuck, Stopped, Answer, Calle
 use Rattle.mc_flat_code.specs.Running.{instr_at, variables_at, body_at, list_of, body_list, call_list, IsCode}
 use Rattle.mc_flat_code.specs.declared.code.Instr.{Instr}
 use Rattle.mc_flat_code.specs.declared.code.Instr.TheVariants as I
-use Rattle.mc_flat_code.specs.declared.code.Part.{Part}
+use Rattle.mc_flat_code.specs.declared.code.Span.{Span}
 use Rattle.mc_flat_code.specs.declared.code.Body.{Body}
 use Rattle.mc_flat_code.specs.declared.code.FlatProgram.{FlatProgram}
 use Rattle.mc_flat_code.proofs.Places.{at_goal}
-use Rattle.mc_plain.specs.code.Machine.{Around, condition, answered, negated, pruned, called, Segment, Point, resume, held, Now, at, failing, ended, stuck, stopped, cut, go, back, answers, resumed, close, said, outputs, left_of, Ordered, is_ended}
+use Rattle.mc_plain.specs.code.Machine.{Continuation, condition, answered, negated, pruned, called, Segment, Point, resume, held, NextAction, at, failing, ended, stuck, stopped, cut, go, back, answers, resumed, close, said, outputs, left_of, Ordered, is_ended}
 use Rattle.mc_plain.proofs.TickedLaws.{append_end, append_append, bind_one_bind}
 
 pub leb_above : (n m : ℕ) → m < n → leb n m ≡ false
@@ -44,7 +44,7 @@ module _ (outcome : Builtin → List Val → Outcome) (f : FlatProgram) where
   abbrev Run : Type 0
   Run = Ticked Bindings
 
-  tick_answers : (m h : ℕ) (k : Around) (e : Bindings) (xs : Run) → answers outcome f m h k e (Tick xs) ≡ Tick (answers outcome f m h k e xs)
+  tick_answers : (m h : ℕ) (k : Continuation) (e : Bindings) (xs : Run) → answers outcome f m h k e (Tick xs) ≡ Tick (answers outcome f m h k e xs)
   tick_answers m h (condition t o) e xs = refl
   tick_answers m h (answered t) e xs = refl
   tick_answers m h (negated t) e xs = refl
@@ -57,7 +57,7 @@ module _ (outcome : Builtin → List Val → Outcome) (f : FlatProgram) where
       ap (λ l. close outcome f es ss s.below (append l (resumed outcome f es s.level s.height s.below hi))) (tick_answers s.level s.height s.around s.bindings xs)
       ∙ tick_close es ss s.below _
 
-  wrote_answers : (m h : ℕ) (k : Around) (e : Bindings) (t : List ℕ) (xs : Run) → answers outcome f m h k e (Wrote t xs) ≡ Wrote t (answers outcome f m h k e xs)
+  wrote_answers : (m h : ℕ) (k : Continuation) (e : Bindings) (t : List ℕ) (xs : Run) → answers outcome f m h k e (Wrote t xs) ≡ Wrote t (answers outcome f m h k e xs)
   wrote_answers m h (condition t o) e v xs = refl
   wrote_answers m h (answered t) e v xs = refl
   wrote_answers m h (negated t) e v xs = refl
@@ -70,7 +70,7 @@ module _ (outcome : Builtin → List Val → Outcome) (f : FlatProgram) where
       ap (λ l. close outcome f es ss s.below (append l (resumed outcome f es s.level s.height s.below hi))) (wrote_answers s.level s.height s.around s.bindings t xs)
       ∙ wrote_close es ss s.below t _
 
-  read_answers : (m h : ℕ) (k : Around) (e : Bindings) (n : ℕ) (xs : Run) → answers outcome f m h k e (Read n xs) ≡ Read n (answers outcome f m h k e xs)
+  read_answers : (m h : ℕ) (k : Continuation) (e : Bindings) (n : ℕ) (xs : Run) → answers outcome f m h k e (Read n xs) ≡ Read n (answers outcome f m h k e xs)
   read_answers m h (condition t o) e v xs = refl
   read_answers m h (answered t) e v xs = refl
   read_answers m h (negated t) e v xs = refl
@@ -83,7 +83,7 @@ module _ (outcome : Builtin → List Val → Outcome) (f : FlatProgram) where
       ap (λ l. close outcome f es ss s.below (append l (resumed outcome f es s.level s.height s.below hi))) (read_answers s.level s.height s.around s.bindings n xs)
       ∙ read_close es ss s.below n _
 
-  called_answers : (m h : ℕ) (k : Around) (e : Bindings) (c : Made_call) (xs : Run) → answers outcome f m h k e (Called c xs) ≡ Called c (answers outcome f m h k e xs)
+  called_answers : (m h : ℕ) (k : Continuation) (e : Bindings) (c : Made_call) (xs : Run) → answers outcome f m h k e (Called c xs) ≡ Called c (answers outcome f m h k e xs)
   called_answers m h (condition t o) e c xs = refl
   called_answers m h (answered t) e c xs = refl
   called_answers m h (negated t) e c xs = refl
@@ -96,7 +96,7 @@ module _ (outcome : Builtin → List Val → Outcome) (f : FlatProgram) where
       ap (λ l. close outcome f es ss s.below (append l (resumed outcome f es s.level s.height s.below hi))) (called_answers s.level s.height s.around s.bindings c xs)
       ∙ called_close es ss s.below c _
 
-  stuck_answers : (m h : ℕ) (k : Around) (e : Bindings) → answers outcome f m h k e Stuck ≡ Stuck
+  stuck_answers : (m h : ℕ) (k : Continuation) (e : Bindings) → answers outcome f m h k e Stuck ≡ Stuck
   stuck_answers m h (condition t o) e = refl
   stuck_answers m h (answered t) e = refl
   stuck_answers m h (negated t) e = refl
@@ -109,7 +109,7 @@ module _ (outcome : Builtin → List Val → Outcome) (f : FlatProgram) where
       ap (λ l. close outcome f es ss s.below (append l (resumed outcome f es s.level s.height s.below hi))) (stuck_answers s.level s.height s.around s.bindings)
       ∙ stuck_close es ss s.below
 
-  stopped_answers : (m h : ℕ) (k : Around) (e : Bindings) (w : Halt) → answers outcome f m h k e (Stopped w) ≡ Stopped w
+  stopped_answers : (m h : ℕ) (k : Continuation) (e : Bindings) (w : Halt) → answers outcome f m h k e (Stopped w) ≡ Stopped w
   stopped_answers m h (condition t o) e w = refl
   stopped_answers m h (answered t) e w = refl
   stopped_answers m h (negated t) e w = refl
@@ -145,7 +145,7 @@ module _ (outcome : Builtin → List Val → Outcome) (f : FlatProgram) where
   resumed_point pc e es m h lo p =
       cond_false _ _ _ (leb_above (suc (length es)) (length es) (omega arith)) ∙ cond_false _ _ _ (ltb_not (length es) lo p)
 
-  pub resumed_held : (k : Around) (e : Bindings) (m2 h2 b : ℕ) (es : List Point) (m h lo : ℕ) → lo ≤ b → b ≤ length es → resumed outcome f (held k e m2 h2 b ∷ es) m h lo (suc (length es)) ≡ append (answers outcome f m h k e (resumed outcome f es m2 h2 b (length es))) (resumed outcome f es m h lo b)
+  pub resumed_held : (k : Continuation) (e : Bindings) (m2 h2 b : ℕ) (es : List Point) (m h lo : ℕ) → lo ≤ b → b ≤ length es → resumed outcome f (held k e m2 h2 b ∷ es) m h lo (suc (length es)) ≡ append (answers outcome f m h k e (resumed outcome f es m2 h2 b (length es))) (resumed outcome f es m h lo b)
   resumed_held k e m2 h2 b es m h lo p q =
       cond_false _ _ _ (leb_above (suc (length es)) (length es) (omega arith)) ∙ cond_false _ _ _ (ltb_not (length es) lo (omega arith))
       ∙ (λ i. cond (le-leb lo b p i && le-leb b (length es) q i) (append (answers outcome f m h k e (resumed outcome f es m2 h2 b (length es))) (resumed outcome f es m h lo b)) Stuck)
@@ -158,7 +158,7 @@ module _ (outcome : Builtin → List Val → Outcome) (f : FlatProgram) where
       ∙ ap (λ r. close outcome f es ss s.below (append (answers outcome f s.level s.height s.around s.bindings l) r)) (resumed_over xs es s.level s.height s.below hi p)
 
   module _ (head last : List ℕ) where
-    abbrev left : (b : ℕ) → List Point → List Segment → (lo m h : ℕ) → Bindings → Now → Ticked (List (Option Val))
+    abbrev left : (b : ℕ) → List Point → List Segment → (lo m h : ℕ) → Bindings → NextAction → Ticked (List (Option Val))
     left = left_of outcome f head last
 
     -- what a run's items leave, seen from outside with a budget
@@ -172,7 +172,7 @@ module _ (outcome : Builtin → List Val → Outcome) (f : FlatProgram) where
         ∙ ap (λ l. seen b l) (tick_close es ss lo _)
 
     -- what is said next, in all that is around it
-    said_left : (b : ℕ) (es : List Point) (ss : List Segment) (lo m h : ℕ) (e : Bindings) (now : Now) → is_ended now ≡ false → seen b (close outcome f es ss lo (append (said outcome f (go outcome f m h) now e) (resumed outcome f es m h lo (length es)))) ≡ left b es ss lo m h e now
+    said_left : (b : ℕ) (es : List Point) (ss : List Segment) (lo m h : ℕ) (e : Bindings) (now : NextAction) → is_ended now ≡ false → seen b (close outcome f es ss lo (append (said outcome f (go outcome f m h) now e) (resumed outcome f es m h lo (length es)))) ≡ left b es ss lo m h e now
     said_left b es ss lo m h e (at pc) q = refl
     said_left b es ss lo m h e failing q = refl
     said_left b es ss lo m h e ended q = absurd (cc)
@@ -186,21 +186,21 @@ module _ (outcome : Builtin → List Val → Outcome) (f : FlatProgram) where
       abbrev rest : Run
       rest = resumed outcome f es m h lo (length es)
 
-      pub atom_left : (now : Now) (e2 : Bindings) → is_ended now ≡ false → items ≡ said outcome f (go outcome f m h) now e2 → left b es ss lo m h e (at pc) ≡ Tick (left b es ss lo m h e2 now)
+      pub atom_left : (now : NextAction) (e2 : Bindings) → is_ended now ≡ false → items ≡ said outcome f (go outcome f m h) now e2 → left b es ss lo m h e (at pc) ≡ Tick (left b es ss lo m h e2 now)
       atom_left now e2 ne d =
           at_left b es ss lo m h e pc i o q
           ∙ ap (λ l. Tick (seen b (close outcome f es ss lo (append l rest)))) d
           ∙ ap (λ l. Tick l) (said_left b es ss lo m h e2 now ne)
 
       -- an atom that writes, or reads, first
-      pub wrote_left : (t : List ℕ) (now : Now) (e2 : Bindings) → is_ended now ≡ false → items ≡ Wrote t (said outcome f (go outcome f m h) now e2) → left b es ss lo m h e (at pc) ≡ Tick (Wrote t (left b es ss lo m h e2 now))
+      pub wrote_left : (t : List ℕ) (now : NextAction) (e2 : Bindings) → is_ended now ≡ false → items ≡ Wrote t (said outcome f (go outcome f m h) now e2) → left b es ss lo m h e (at pc) ≡ Tick (Wrote t (left b es ss lo m h e2 now))
       wrote_left t now e2 ne d =
           at_left b es ss lo m h e pc i o q
           ∙ ap (λ l. Tick (seen b (close outcome f es ss lo (append l rest)))) d
           ∙ ap (λ l. Tick (seen b l)) (wrote_close es ss lo t _)
           ∙ ap (λ l. Tick (Wrote t l)) (said_left b es ss lo m h e2 now ne)
 
-      pub read_left : (n : ℕ) (now : Now) (e2 : Bindings) → is_ended now ≡ false → items ≡ Read n (said outcome f (go outcome f m h) now e2) → left b es ss lo m h e (at pc) ≡ Tick (Read n (left b es ss lo m h e2 now))
+      pub read_left : (n : ℕ) (now : NextAction) (e2 : Bindings) → is_ended now ≡ false → items ≡ Read n (said outcome f (go outcome f m h) now e2) → left b es ss lo m h e (at pc) ≡ Tick (Read n (left b es ss lo m h e2 now))
       read_left n now e2 ne d =
           at_left b es ss lo m h e pc i o q
           ∙ ap (λ l. Tick (seen b (close outcome f es ss lo (append l rest)))) d
@@ -215,7 +215,7 @@ module _ (outcome : Builtin → List Val → Outcome) (f : FlatProgram) where
           ∙ ap (λ j. Tick (seen b (close outcome f es ss lo (append (go outcome f m h l e) j)))) (sym (resumed_point r e es m h lo p))
           ∙ ap (λ j. Tick (seen b j)) (sym (close_over (resume r e ∷ []) es ss lo _ u p))
 
-      pub apart_left : (g : ℕ) (k : Around) → items ≡ answers outcome f m h k e (go outcome f m h g e) → left b es ss lo m h e (at pc) ≡ Tick (left b es (record { around = k; bindings = e; level = m; height = h; below = lo } ∷ ss) (length es) m h e (at g))
+      pub apart_left : (g : ℕ) (k : Continuation) → items ≡ answers outcome f m h k e (go outcome f m h g e) → left b es ss lo m h e (at pc) ≡ Tick (left b es (record { around = k; bindings = e; level = m; height = h; below = lo } ∷ ss) (length es) m h e (at g))
       apart_left g k d =
           at_left b es ss lo m h e pc i o q
           ∙ ap (λ j. Tick (seen b (close outcome f es ss lo (append j rest)))) d
@@ -223,7 +223,7 @@ module _ (outcome : Builtin → List Val → Outcome) (f : FlatProgram) where
           ∙ ap (λ j. Tick (seen b (close outcome f es ss lo (append (answers outcome f m h k e (append (go outcome f m h g e) j)) rest)))) (sym (resumed_none es m h (length es) (length es) (omega arith)))
 
       -- a call, that enters its body at the height k
-      module _ (p : ℕ) (xs : Part) (is_last : Bool) (next : ℕ) (d : i ≡ I.Call p xs is_last next) where
+      module _ (p : ℕ) (xs : Span) (is_last : Bool) (next : ℕ) (d : i ≡ I.Call p xs is_last next) where
         abbrev args : List ℕ
         args = variables_at f.code xs
 
@@ -308,7 +308,7 @@ module _ (outcome : Builtin → List Val → Outcome) (f : FlatProgram) where
           in_segment : left b es ss lo m h e (at pc) ≡ Tick (seen b (close outcome f es st s.below (append (answers outcome f s.level s.height s.around s.bindings (Answer e rest)) (resumed outcome f es s.level s.height s.below lo))))
           in_segment = answer_at ∙ ap (λ l. Tick (seen b (close outcome f es l lo (Answer e rest)))) z
 
-          module _ (k : Around) (e0 : Bindings) (now : Now) (e2 : Bindings) (ne : is_ended now ≡ false) (gives : (xs : Run) → answers outcome f s.level s.height s.around s.bindings (Answer e xs) ≡ append (said outcome f (go outcome f s.level s.height) now e2) (answers outcome f s.level s.height k e0 xs)) where
+          module _ (k : Continuation) (e0 : Bindings) (now : NextAction) (e2 : Bindings) (ne : is_ended now ≡ false) (gives : (xs : Run) → answers outcome f s.level s.height s.around s.bindings (Answer e xs) ≡ append (said outcome f (go outcome f s.level s.height) now e2) (answers outcome f s.level s.height k e0 xs)) where
             pub held_left : lo ≤ length es → s.below ≤ lo → Ordered st s.below → left b es ss lo m h e (at pc) ≡ Tick (left b (held k e0 m h lo ∷ es) st s.below s.level s.height e2 now)
             held_left x y u =
                 let r : Run = resumed outcome f es s.level s.height s.below lo in
@@ -331,7 +331,7 @@ module _ (outcome : Builtin → List Val → Outcome) (f : FlatProgram) where
                 ∙ ap (λ l. Tick l) (said_left b es st s.below s.level s.height e2 now ne)
 
           -- the resume points of what is run are given up
-          pub cut_left : (xs et : List Point) (now : Now) → es ≡ xs ++ et → lo ≡ length et → is_ended now ≡ false → s.below ≤ lo → Ordered st s.below → ((l : Run) → answers outcome f s.level s.height s.around s.bindings (Answer e l) ≡ said outcome f (go outcome f s.level s.height) now e) → left b es ss lo m h e (at pc) ≡ Tick (left b et st s.below s.level s.height e now)
+          pub cut_left : (xs et : List Point) (now : NextAction) → es ≡ xs ++ et → lo ≡ length et → is_ended now ≡ false → s.below ≤ lo → Ordered st s.below → ((l : Run) → answers outcome f s.level s.height s.around s.bindings (Answer e l) ≡ said outcome f (go outcome f s.level s.height) now e) → left b es ss lo m h e (at pc) ≡ Tick (left b et st s.below s.level s.height e now)
           cut_left xs et now x y ne v u gives =
               in_segment
               ∙ ap (λ l. Tick (seen b (close outcome f es st s.below (append l (resumed outcome f es s.level s.height s.below lo))))) (gives rest)
@@ -348,7 +348,7 @@ module _ (outcome : Builtin → List Val → Outcome) (f : FlatProgram) where
           ap (λ l. seen b (close outcome f (resume pc g ∷ es) ss lo l)) (resumed_point pc g es m h lo x)
           ∙ ap (λ l. seen b l) (close_over (resume pc g ∷ []) es ss lo _ u x)
 
-      pub again_left : (k : Around) (g : Bindings) (m2 h2 b2 : ℕ) → lo ≤ b2 → b2 ≤ length es → Ordered ss lo → left b (held k g m2 h2 b2 ∷ es) ss lo m h e failing ≡ left b es (record { around = k; bindings = g; level = m; height = h; below = lo } ∷ ss) b2 m2 h2 e failing
+      pub again_left : (k : Continuation) (g : Bindings) (m2 h2 b2 : ℕ) → lo ≤ b2 → b2 ≤ length es → Ordered ss lo → left b (held k g m2 h2 b2 ∷ es) ss lo m h e failing ≡ left b es (record { around = k; bindings = g; level = m; height = h; below = lo } ∷ ss) b2 m2 h2 e failing
       again_left k g m2 h2 b2 x y u =
           ap (λ l. seen b (close outcome f (held k g m2 h2 b2 ∷ es) ss lo l)) (resumed_held k g m2 h2 b2 es m h lo x y)
           ∙ ap (λ l. seen b l) (close_over (held k g m2 h2 b2 ∷ []) es ss lo _ u (omega arith))
@@ -356,7 +356,7 @@ module _ (outcome : Builtin → List Val → Outcome) (f : FlatProgram) where
       pub end_left : ss ≡ [] → length es ≤ lo → left b es ss lo m h e failing ≡ End
       end_left z x = (λ j. seen b (close outcome f es (z j) lo (resumed_none es m h lo (length es) x j)))
 
-      pub leave_left : (s : Segment) (st : List Segment) (now : Now) → ss ≡ s ∷ st → lo ≡ length es → is_ended now ≡ false → answers outcome f s.level s.height s.around s.bindings End ≡ said outcome f (go outcome f s.level s.height) now s.bindings → left b es ss lo m h e failing ≡ left b es st s.below s.level s.height s.bindings now
+      pub leave_left : (s : Segment) (st : List Segment) (now : NextAction) → ss ≡ s ∷ st → lo ≡ length es → is_ended now ≡ false → answers outcome f s.level s.height s.around s.bindings End ≡ said outcome f (go outcome f s.level s.height) now s.bindings → left b es ss lo m h e failing ≡ left b es st s.below s.level s.height s.bindings now
       leave_left s st now z x ne gives =
           (λ j. seen b (close outcome f es (z j) lo (resumed_none es m h lo (length es) (omega arith) j)))
           ∙ ap (λ l. seen b (close outcome f es st s.below (append l (resumed outcome f es s.level s.height s.below lo)))) gives

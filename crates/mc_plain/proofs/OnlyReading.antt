@@ -13,7 +13,7 @@ use Rattle.mc_model.specs.EventList.{End, Stuck, Stopped, Answer, Wrote, Read, t
 use Rattle.mc_model.specs.Outcomes.{Outcome, fails, gives, throws, writes, reads, reads_and_throws}
 use Rattle.mc_model.specs.Builtins.{Library, outcome, on_int, on_char, on_str, on_state, on_any, at_end, on_two_ints, gives_int, gives_str, gives_char, succeeds_if, divided, int_floor, int_mod, fits_64, parsed_int, char_list, char_of_code, is_scalar, write_at}
 use Rattle.mc_model.specs.Stream.{Bindings, unify, outcome_items, apply_items}
-use Rattle.mc_frames.specs.Atoms.{ReadsFrom}
+use Rattle.mc_plain.specs.Atoms.{ReadsFrom}
 
 -- the outcome is not a reading
 abbrev Unread : Outcome → Type 0

@@ -13,32 +13,32 @@ use Rattle.mc_model.specs.Scheduled.{Procedure}
 use Rattle.mc_model.specs.Stream.{Bindings, nothing_bound, ready, enter}
 use Rattle.mc_model.specs.declared.run.Limits.{Limits}
 use Rattle.mc_builtins.specs.Answers.{known}
-use Rattle.mc_frames.specs.Values.{IsValue, IsHeld}
+use Rattle.mc_plain.specs.Values.{IsValue, IsHeld}
 use Rattle.mc_flat_code.specs.Ticked.{events}
 use Rattle.mc_flat_code.specs.Running.{variables_at, body_at, IsCode}
 use Rattle.mc_flat_code.specs.Standing.{StandsForAll}
 use Rattle.mc_flat_code.specs.declared.code.Body.{Body}
-use Rattle.mc_plain.specs.code.Machine.{Machine, Now, Whole, left}
+use Rattle.mc_plain.specs.code.Machine.{Machine, NextAction, Whole, left}
 use Rattle.mc_plain.specs.Names.{NamesAll}
 use Rattle.mc_plain.specs.Rest.{Rest, rest_of, IsFine, IsGood, GivesIf, FollowsIf}
 use Rattle.mc_model.specs.declared.run.Step.{Step}
 use Rattle.mc_plain.specs.Runs.{StandsForQuery, query_rest, main_rest}
 use Rattle.mc_plain.specs.code.Beginnings.{first_machine, called_machine, first_now}
-use Rattle.mc_plain.specs.code.Work.{IsSetting, HasConstants, rest_in, machine_of}
-use Rattle.mc_plain.specs.declared.state.Setting.{Setting}
-use Rattle.mc_plain.specs.declared.state.Work.{Work}
+use Rattle.mc_plain.specs.code.RunState.{IsRunContext, HasConstants, rest_in, machine_of}
+use Rattle.mc_plain.specs.declared.state.RunContext.{RunContext}
+use Rattle.mc_plain.specs.declared.state.RunState.{RunState}
 use Rattle.mc_plain.proofs.Beginning.{query_begins, main_begins}
 use Rattle.mc_plain.proofs.Looking.{constant_value}
 
-pub first_whole : (M : Machine) (n h m : ℕ) (e : Bindings) (now : Now) → M ≡ first_machine n h m e now → Whole M
+pub first_whole : (M : Machine) (n h m : ℕ) (e : Bindings) (now : NextAction) → M ≡ first_machine n h m e now → Whole M
 first_whole M n h m e now x = subst Whole (sym x) (record { base = omega arith; ordered = tt })
 
-called_whole_at : (n h : ℕ) (e : Bindings) (now : Now) → Whole (called_machine n h e now)
+called_whole_at : (n h : ℕ) (e : Bindings) (now : NextAction) → Whole (called_machine n h e now)
 called_whole_at n zero e now = record { base = omega arith; ordered = tt }
 called_whole_at zero (suc h) e now = record { base = omega arith; ordered = tt }
 called_whole_at (suc n) (suc h) e now = record { base = omega arith; ordered = tt }
 
-pub called_whole : (M : Machine) (n h : ℕ) (e : Bindings) (now : Now) → M ≡ called_machine n h e now → Whole M
+pub called_whole : (M : Machine) (n h : ℕ) (e : Bindings) (now : NextAction) → M ≡ called_machine n h e now → Whole M
 called_whole M n h e now x = subst Whole (sym x) (called_whole_at n h e now)
 
 module _ (P : Program) (h : Heap) where
@@ -53,8 +53,8 @@ module _ (P : Program) (h : Heap) where
       })
       (held_at rs vs (ap (drop 1) e) (All-tail (IsLive h) r rs live) (All-tail (λ x. IsValue P (plain_value x)) v vs are))
 
-module _ (t : Setting) (P : Program) (same : t.library.program.now ≡ P) (knows : known t.library ≡ library_of P) (o : IsCode t.flat.code) (names : NamesAll P t.flat.code) where
-  pub is_setting : IsSetting t
+module _ (t : RunContext) (P : Program) (same : t.library.program.now ≡ P) (knows : known t.library ≡ library_of P) (o : IsCode t.flat.code) (names : NamesAll P t.flat.code) where
+  pub is_setting : IsRunContext t
   is_setting =
       record {
         code = o;
@@ -69,11 +69,11 @@ module _ (t : Setting) (P : Program) (same : t.library.program.now ≡ P) (knows
         held = subst (λ p. All (IsHeld p h) t.constants.items) (sym same) (held_at P h t.constants.items t.flat.code.values.items e live (λ k v lt. constant_value P (plain_value (get_or t.flat.code.values.items k v)) (names.constants k v lt) (names.proper k v lt)));
       }
 
-  by_library : (w : Work) (input : List ℕ) → rest_in t w input ≡ rest_of (events (left (outcome (library_of P) input) t.flat (variables_at t.flat.code t.head) (variables_at t.flat.code t.last) (machine_of t w)))
+  by_library : (w : RunState) (input : List ℕ) → rest_in t w input ≡ rest_of (events (left (outcome (library_of P) input) t.flat (variables_at t.flat.code t.head) (variables_at t.flat.code t.last) (machine_of t w)))
   by_library w input =
       ap (λ k. rest_of (events (left (outcome k input) t.flat (variables_at t.flat.code t.head) (variables_at t.flat.code t.last) (machine_of t w)))) knows
 
-  module _ (w : Work) (limits : Limits) (procs : ℕ → Procedure) where
+  module _ (w : RunState) (limits : Limits) (procs : ℕ → Procedure) where
     pub query_asked : (body : Body) → t.head ≡ body.head → t.last ≡ body.last → (q : Procedure) → StandsForQuery (record { program = t.flat; query = body }) procs q → (r : Bool) → r ≡ ready (variables_at t.flat.code body.first) (map nothing_bound (variables_at t.flat.code body.head)) → machine_of t w ≡ first_machine limits.budget limits.depth (suc limits.budget) nothing_bound (first_now body.entry r) → (input : List ℕ) → rest_in t w input ≡ query_rest P limits procs q input
     query_asked body x y q s r is_ready m input =
         by_library w input

@@ -9,9 +9,9 @@ use Rattle.mc_flat_code.specs.Ticked.{Ticked, End, Stopped, Answer, Called, Wrot
 use Rattle.mc_flat_code.specs.Running.{instr_at, variables_at, body_at, list_of, call_list, IsCode}
 use Rattle.mc_flat_code.specs.declared.code.Instr.{Instr}
 use Rattle.mc_flat_code.specs.declared.code.Instr.TheVariants as I
-use Rattle.mc_flat_code.specs.declared.code.Part.{Part}
+use Rattle.mc_flat_code.specs.declared.code.Span.{Span}
 use Rattle.mc_flat_code.specs.declared.code.FlatProgram.{FlatProgram}
-use Rattle.mc_plain.specs.code.Machine.{Around, condition, answered, negated, pruned, called, Segment, Point, resume, held, Now, at, failing, stuck, stopped, shown, ticks, go, answers, said, left_of, Ordered, is_ended, after, GoesApart, Machine, Whole, left, Moved, Holding}
+use Rattle.mc_plain.specs.code.Machine.{Continuation, condition, answered, negated, pruned, called, Segment, Point, resume, held, NextAction, at, failing, stuck, stopped, shown, ticks, go, answers, said, left_of, Ordered, is_ended, after, GoesApart, Machine, Whole, left, Moved, Holding}
 use Rattle.mc_plain.proofs.TickedLaws.{append_end}
 use Rattle.mc_plain.proofs.Moves as V
 
@@ -38,25 +38,25 @@ module _ (outcome : Builtin → List Val → Outcome) (f : FlatProgram) (o : IsC
   moved_same M N x y w = record { whole = w; shows = ap shown x; costs = omega (arith, ap ticks x) }
 
   module _ (M : Machine) (w : Whole M) where
-    pub at_now : (n : Now) → M.now ≡ n → rest M ≡ left_of outcome f head last M.budget M.points M.segments M.base M.level M.height M.bindings n
+    pub at_now : (n : NextAction) → M.now ≡ n → rest M ≡ left_of outcome f head last M.budget M.points M.segments M.base M.level M.height M.bindings n
     at_now n e = ap (λ k. left_of outcome f head last M.budget M.points M.segments M.base M.level M.height M.bindings k) e
 
     module _ (pc : ℕ) (n : M.now ≡ at pc) (i : Instr) (q : instr_at f.code pc ≡ Some i) where
       abbrev items : Ticked Bindings
       items = list_of outcome f.code (call_list outcome f M.level) M.height (go outcome f M.level M.height) i M.bindings
 
-      pub alone_moved : (now : Now) (e2 : Bindings) → is_ended now ≡ false → items ≡ said outcome f (go outcome f M.level M.height) now e2 → Moved outcome f head last M (record M { bindings = e2; now = now })
+      pub alone_moved : (now : NextAction) (e2 : Bindings) → is_ended now ≡ false → items ≡ said outcome f (go outcome f M.level M.height) now e2 → Moved outcome f head last M (record M { bindings = e2; now = now })
       alone_moved now e2 ne d =
           moved_tick M (record M { bindings = e2; now = now })
           (at_now (at pc) n ∙ V.atom_left outcome f head last o M.budget M.points M.segments M.base M.level M.height M.bindings pc i q now e2 ne d)
           (omega arith) (record { base = w.base; ordered = w.ordered })
 
       -- an atom that writes, or reads, first
-      pub wrote_shown : (t : List ℕ) (now : Now) (e2 : Bindings) → is_ended now ≡ false → items ≡ Wrote t (said outcome f (go outcome f M.level M.height) now e2) → shown (rest M) ≡ Wrote t (shown (rest (record M { bindings = e2; now = now })))
+      pub wrote_shown : (t : List ℕ) (now : NextAction) (e2 : Bindings) → is_ended now ≡ false → items ≡ Wrote t (said outcome f (go outcome f M.level M.height) now e2) → shown (rest M) ≡ Wrote t (shown (rest (record M { bindings = e2; now = now })))
       wrote_shown t now e2 ne d =
           ap shown (at_now (at pc) n ∙ V.wrote_left outcome f head last o M.budget M.points M.segments M.base M.level M.height M.bindings pc i q t now e2 ne d)
 
-      pub read_shown : (k : ℕ) (now : Now) (e2 : Bindings) → is_ended now ≡ false → items ≡ Read k (said outcome f (go outcome f M.level M.height) now e2) → shown (rest M) ≡ Read k (shown (rest (record M { bindings = e2; now = now })))
+      pub read_shown : (k : ℕ) (now : NextAction) (e2 : Bindings) → is_ended now ≡ false → items ≡ Read k (said outcome f (go outcome f M.level M.height) now e2) → shown (rest M) ≡ Read k (shown (rest (record M { bindings = e2; now = now })))
       read_shown k now e2 ne d =
           ap shown (at_now (at pc) n ∙ V.read_left outcome f head last o M.budget M.points M.segments M.base M.level M.height M.bindings pc i q k now e2 ne d)
 
@@ -67,20 +67,20 @@ module _ (outcome : Builtin → List Val → Outcome) (f : FlatProgram) (o : IsC
           (omega arith)
           (let b : M.base ≤ length M.points = w.base in record { base = omega arith; ordered = w.ordered })
 
-      apart_items : (g : ℕ) (k : Around) → GoesApart i g k → items ≡ answers outcome f M.level M.height k M.bindings (go outcome f M.level M.height g M.bindings)
+      apart_items : (g : ℕ) (k : Continuation) → GoesApart i g k → items ≡ answers outcome f M.level M.height k M.bindings (go outcome f M.level M.height g M.bindings)
       apart_items g (condition t u) x = ap (λ j. list_of outcome f.code (call_list outcome f M.level) M.height (go outcome f M.level M.height) j M.bindings) x
       apart_items g (answered t) x = absurd x
       apart_items g (negated next) x = ap (λ j. list_of outcome f.code (call_list outcome f M.level) M.height (go outcome f M.level M.height) j M.bindings) x
       apart_items g (pruned next) x = ap (λ j. list_of outcome f.code (call_list outcome f M.level) M.height (go outcome f M.level M.height) j M.bindings) x
       apart_items g (called c) x = absurd x
 
-      pub apart_moved : (g : ℕ) (k : Around) → GoesApart i g k → Moved outcome f head last M (record M { segments = record { around = k; bindings = M.bindings; level = M.level; height = M.height; below = M.base } ∷ M.segments; base = length M.points; now = at g })
+      pub apart_moved : (g : ℕ) (k : Continuation) → GoesApart i g k → Moved outcome f head last M (record M { segments = record { around = k; bindings = M.bindings; level = M.level; height = M.height; below = M.base } ∷ M.segments; base = length M.points; now = at g })
       apart_moved g k x =
           moved_tick M (record M { segments = record { around = k; bindings = M.bindings; level = M.level; height = M.height; below = M.base } ∷ M.segments; base = length M.points; now = at g })
           (at_now (at pc) n ∙ V.apart_left outcome f head last o M.budget M.points M.segments M.base M.level M.height M.bindings pc i q g k (apart_items g k x))
           (omega arith) (record { base = omega arith; ordered = (w.base, w.ordered) })
 
-      module _ (p : ℕ) (xs : Part) (is_last : Bool) (next : ℕ) (d : i ≡ I.Call p xs is_last next) where
+      module _ (p : ℕ) (xs : Span) (is_last : Bool) (next : ℕ) (d : i ≡ I.Call p xs is_last next) where
         abbrev vs : List (Option Val)
         vs = map M.bindings (variables_at f.code xs)
 
@@ -123,10 +123,10 @@ module _ (outcome : Builtin → List Val → Outcome) (f : FlatProgram) (o : IsC
         order : (s.below ≤ M.base) × Ordered st s.below
         order = subst (λ l. Ordered l M.base) z w.ordered
 
-        abbrev outside : List Point → Bindings → Now → Machine
+        abbrev outside : List Point → Bindings → NextAction → Machine
         outside pts e now = record { budget = M.budget; points = pts; segments = st; base = s.below; level = s.level; height = s.height; bindings = e; now = now }
 
-        module _ (k : Around) (e0 : Bindings) (now : Now) (e2 : Bindings) (ne : is_ended now ≡ false) (gives : (xs : Ticked Bindings) → answers outcome f s.level s.height s.around s.bindings (Answer M.bindings xs) ≡ append (said outcome f (go outcome f s.level s.height) now e2) (answers outcome f s.level s.height k e0 xs)) (ends : answers outcome f s.level s.height k e0 End ≡ End) where
+        module _ (k : Continuation) (e0 : Bindings) (now : NextAction) (e2 : Bindings) (ne : is_ended now ≡ false) (gives : (xs : Ticked Bindings) → answers outcome f s.level s.height s.around s.bindings (Answer M.bindings xs) ≡ append (said outcome f (go outcome f s.level s.height) now e2) (answers outcome f s.level s.height k e0 xs)) (ends : answers outcome f s.level s.height k e0 End ≡ End) where
           kept_some : M.base < length M.points → Moved outcome f head last M (outside (held k e0 M.level M.height M.base ∷ M.points) e2 now)
           kept_some x =
               let sl : length M.segments ≡ suc (length st) = ap length z in
@@ -154,7 +154,7 @@ module _ (outcome : Builtin → List Val → Outcome) (f : FlatProgram) (o : IsC
               ]
 
         -- resume points that are given up
-        pub cut_moved : (xs pts : List Point) (now : Now) → M.points ≡ xs ++ pts → M.base ≡ length pts → is_ended now ≡ false → ((l : Ticked Bindings) → answers outcome f s.level s.height s.around s.bindings (Answer M.bindings l) ≡ said outcome f (go outcome f s.level s.height) now M.bindings) → Moved outcome f head last M (outside pts M.bindings now)
+        pub cut_moved : (xs pts : List Point) (now : NextAction) → M.points ≡ xs ++ pts → M.base ≡ length pts → is_ended now ≡ false → ((l : Ticked Bindings) → answers outcome f s.level s.height s.around s.bindings (Answer M.bindings l) ≡ said outcome f (go outcome f s.level s.height) now M.bindings) → Moved outcome f head last M (outside pts M.bindings now)
         cut_moved xs pts now x y ne gives =
             let sl : length M.segments ≡ suc (length st) = ap length z in
             let pl : length M.points ≡ length xs + length pts = ap length x ∙ length-append xs pts in
@@ -174,7 +174,7 @@ module _ (outcome : Builtin → List Val → Outcome) (f : FlatProgram) (o : IsC
           ∙ V.point_left outcome f head last M.budget pts M.segments M.base M.level M.height M.bindings pc e b w.ordered)
           (omega arith) (record { base = b; ordered = w.ordered })
 
-      pub again_moved : (k : Around) (e : Bindings) (m h lo : ℕ) (pts : List Point) → M.points ≡ held k e m h lo ∷ pts → M.base ≤ lo → lo ≤ length pts → Moved outcome f head last M (record M { points = pts; segments = record { around = k; bindings = e; level = M.level; height = M.height; below = M.base } ∷ M.segments; base = lo; level = m; height = h })
+      pub again_moved : (k : Continuation) (e : Bindings) (m h lo : ℕ) (pts : List Point) → M.points ≡ held k e m h lo ∷ pts → M.base ≤ lo → lo ≤ length pts → Moved outcome f head last M (record M { points = pts; segments = record { around = k; bindings = e; level = M.level; height = M.height; below = M.base } ∷ M.segments; base = lo; level = m; height = h })
       again_moved k e m h lo pts x b c =
           let pl : length M.points ≡ suc (length pts) = ap length x in
           moved_same M (record M { points = pts; segments = record { around = k; bindings = e; level = M.level; height = M.height; below = M.base } ∷ M.segments; base = lo; level = m; height = h })
@@ -183,14 +183,14 @@ module _ (outcome : Builtin → List Val → Outcome) (f : FlatProgram) (o : IsC
           ∙ ap (λ l. left_of outcome f head last M.budget pts (record { around = k; bindings = e; level = M.level; height = M.height; below = M.base } ∷ M.segments) lo m h M.bindings l) (sym n))
           (omega arith) (record { base = c; ordered = (b, w.ordered) })
 
-      after_going : (k : Around) → is_ended (after k) ≡ false
+      after_going : (k : Continuation) → is_ended (after k) ≡ false
       after_going (condition t u) = refl
       after_going (answered t) = refl
       after_going (negated next) = refl
       after_going (pruned next) = refl
       after_going (called pc) = refl
 
-      after_said : (m h : ℕ) (k : Around) (e : Bindings) → answers outcome f m h k e End ≡ said outcome f (go outcome f m h) (after k) e
+      after_said : (m h : ℕ) (k : Continuation) (e : Bindings) → answers outcome f m h k e End ≡ said outcome f (go outcome f m h) (after k) e
       after_said m h (condition t u) e = refl
       after_said m h (answered t) e = refl
       after_said m h (negated next) e = append_end (go outcome f m h next e)

@@ -9,7 +9,7 @@ use Rattle.mc_flat_code.specs.Ticked.{End, Stuck, Tick, append}
 use Rattle.mc_flat_code.specs.Running.{instr_at, list_at, list_to, call_list, IsCode}
 use Rattle.mc_flat_code.specs.declared.code.Instr.{Instr}
 use Rattle.mc_flat_code.specs.declared.code.FlatProgram.{FlatProgram}
-use Rattle.mc_plain.specs.code.Machine.{Around, Segment, Point, resume, held, at, failing, stuck, resumed, close, Machine, Whole, left, left_of, Moved, went_back, went_out}
+use Rattle.mc_plain.specs.code.Machine.{Continuation, Segment, Point, resume, held, at, failing, stuck, resumed, close, Machine, Whole, left, left_of, Moved, went_back, went_out}
 use Rattle.mc_plain.proofs.Moves as V
 use Rattle.mc_plain.proofs.Steps as S
 
@@ -41,7 +41,7 @@ module _ (outcome : Builtin → List Val → Outcome) (f : FlatProgram) (o : IsC
 
   module _ (n : M.now ≡ failing) where
     -- a goal that was run apart, whose resume points don't lie among those of what is around it
-    module _ (k : Around) (e : Bindings) (m h lo : ℕ) (pts : List Point) (x : M.points ≡ held k e m h lo ∷ pts) (b : M.base ≤ length pts) (bad : (leb M.base lo && leb lo (length pts)) ≡ false) where
+    module _ (k : Continuation) (e : Bindings) (m h lo : ℕ) (pts : List Point) (x : M.points ≡ held k e m h lo ∷ pts) (b : M.base ≤ length pts) (bad : (leb M.base lo && leb lo (length pts)) ≡ false) where
       lost_resumed : resumed outcome f (held k e m h lo ∷ pts) M.level M.height M.base (suc (length pts)) ≡ Stuck
       lost_resumed =
           V.cond_false _ _ _ (V.leb_above (suc (length pts)) (length pts) (omega arith))

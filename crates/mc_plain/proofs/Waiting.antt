@@ -5,10 +5,10 @@ use Rattle.mc_program.specs.declared.builtin.Builtin.{Builtin}
 use Rattle.mc_program.specs.declared.builtin.Builtin.TheVariants.{ReadLine}
 use Rattle.mc_model.specs.Worlds.{library_of}
 use Rattle.mc_model.specs.Stream.{apply_items, gather}
-use Rattle.mc_frames.specs.Values.{HasLists, ListsAreNamed}
-use Rattle.mc_frames.specs.Atoms.{ReadsFrom}
+use Rattle.mc_plain.specs.Values.{HasLists, ListsAreNamed}
+use Rattle.mc_plain.specs.Atoms.{ReadsFrom}
 use Rattle.mc_flat_code.specs.Running.{instr_at, variables_at}
-use Rattle.mc_flat_code.specs.declared.code.Part.{Part}
+use Rattle.mc_flat_code.specs.declared.code.Span.{Span}
 use Rattle.mc_flat_code.specs.declared.code.Instr.{Instr}
 use Rattle.mc_flat_code.specs.declared.code.Instr.TheVariants as I
 use Rattle.mc_model.specs.declared.run.Input.{Input}
@@ -21,14 +21,14 @@ use Rattle.mc_plain.specs.Rest.{Rest, GivesIf, FollowsIf, WantsLine, WantsIf, Is
 use Rattle.mc_plain.specs.code.Machine.{at}
 use Rattle.mc_plain.specs.code.Machine as M
 use Rattle.mc_plain.specs.code.Views.{plain_now}
-use Rattle.mc_plain.specs.code.Work.{IsSetting, IsWaiting, WaitsIf, meaning, machine_of, rest_in}
-use Rattle.mc_plain.specs.declared.state.Now.{Now}
-use Rattle.mc_plain.specs.declared.state.Now.TheVariants as N
-use Rattle.mc_plain.specs.declared.state.Setting.{Setting}
-use Rattle.mc_plain.specs.declared.state.Work.{Work}
+use Rattle.mc_plain.specs.code.RunState.{IsRunContext, IsWaiting, WaitsIf, meaning, machine_of, rest_in}
+use Rattle.mc_plain.specs.declared.state.NextAction.{NextAction}
+use Rattle.mc_plain.specs.declared.state.NextAction.TheVariants as N
+use Rattle.mc_plain.specs.declared.state.RunContext.{RunContext}
+use Rattle.mc_plain.specs.declared.state.RunState.{RunState}
 
 -- the goal at a place names what the program has
-module _ (t : Setting) (s : IsSetting t) (place : ℕ) where
+module _ (t : RunContext) (s : IsRunContext t) (place : ℕ) where
   abbrev count : ℕ
   count = length t.library.program.now.symbols
 
@@ -37,18 +37,18 @@ module _ (t : Setting) (s : IsSetting t) (place : ℕ) where
       subst (IsNamed count (library_of t.library.program.now)) (get_or_from_slice_get t.flat.code.instrs.items place i i e)
       (s.names.symbols place i (slice_get_within t.flat.code.instrs.items place i e))
 
-  pub made_named : (x f : ℕ) (ys : Part) (next : ℕ) → instr_at t.flat.code place ≡ Some (I.Made x f ys next) → f < length t.library.program.now.symbols
+  pub made_named : (x f : ℕ) (ys : Span) (next : ℕ) → instr_at t.flat.code place ≡ Some (I.Made x f ys next) → f < length t.library.program.now.symbols
   made_named x f ys next e = named_at (I.Made x f ys next) e
 
-  pub has_lists : (op : Builtin) (xs ys : Part) (next : ℕ) → instr_at t.flat.code place ≡ Some (I.Apply op xs ys next) → HasLists t.library op
+  pub has_lists : (op : Builtin) (xs ys : Span) (next : ℕ) → instr_at t.flat.code place ≡ Some (I.Apply op xs ys next) → HasLists t.library op
   has_lists op xs ys next e = subst (λ L. ListsAreNamed count L op) (sym s.knows) (named_at (I.Apply op xs ys next) e).0
 
 -- where it goes on at a place
-abbrev place_of : M.Now → ℕ
+abbrev place_of : M.NextAction → ℕ
 place_of (M.at place) = place
 place_of _ = 0
 
-pub goes_at : (now : Now) (place : ℕ) → plain_now now ≡ at place → now ≡ N.At place
+pub goes_at : (now : NextAction) (place : ℕ) → plain_now now ≡ at place → now ≡ N.At place
 goes_at (N.At p) place e = ap (λ k. N.At (place_of k)) e
 goes_at N.Failing place e = cc
 goes_at N.Ended place e = cc
@@ -56,16 +56,16 @@ goes_at N.Stuck place e = cc
 goes_at (N.Stopped w) place e = cc
 
 -- the parts of a goal that reads
-abbrev inputs_in : Option Instr → Part
+abbrev inputs_in : Option Instr → Span
 inputs_in (Some (I.Apply op xs ys next)) = xs
 inputs_in _ = record { start = 0; count = 0 }
 
-abbrev outputs_in : Option Instr → Part
+abbrev outputs_in : Option Instr → Span
 outputs_in (Some (I.Apply op xs ys next)) = ys
 outputs_in _ = record { start = 0; count = 0 }
 
 -- a run that wants a line, at the place where it goes on
-module _ (t : Setting) (w : Work) (from : ℕ) (a : IsWaiting t w from) where
+module _ (t : RunContext) (w : RunState) (from : ℕ) (a : IsWaiting t w from) where
   module _ (p : ℕ) (e : w.control.now ≡ N.At p) where
     same_place : a.place ≡ p
     same_place = ap (λ k. place_of (plain_now k)) (sym a.stands.now ∙ e)
@@ -73,11 +73,11 @@ module _ (t : Setting) (w : Work) (from : ℕ) (a : IsWaiting t w from) where
     pub reading_goal : (o : Option Instr) → instr_at t.flat.code p ≡ o → o ≡ Some (I.Apply ReadLine a.inputs a.outputs a.next)
     reading_goal o q = sym q ∙ ap (instr_at t.flat.code) (sym same_place) ∙ a.stands.goal_is
 
-    module _ (xs ys : Part) (next : ℕ) (q : instr_at t.flat.code p ≡ Some (I.Apply ReadLine xs ys next)) where
+    module _ (xs ys : Span) (next : ℕ) (q : instr_at t.flat.code p ≡ Some (I.Apply ReadLine xs ys next)) where
       pub reads_there : (input : List ℕ) → ReadsFrom from (apply_items (meaning t input ReadLine) (variables_at t.flat.code ys) (machine_of t w).bindings (gather (variables_at t.flat.code xs) (machine_of t w).bindings))
       reads_there input =
           let goal : Some (I.Apply ReadLine a.inputs a.outputs a.next) ≡ Some (I.Apply ReadLine xs ys next) = sym (reading_goal (Some (I.Apply ReadLine xs ys next)) q) in
-          subst (λ (k : Part × Part). ReadsFrom from (apply_items (meaning t input ReadLine) (variables_at t.flat.code k.1) (machine_of t w).bindings (gather (variables_at t.flat.code k.0) (machine_of t w).bindings))) (λ i. (inputs_in (goal i), outputs_in (goal i)))
+          subst (λ (k : Span × Span). ReadsFrom from (apply_items (meaning t input ReadLine) (variables_at t.flat.code k.1) (machine_of t w).bindings (gather (variables_at t.flat.code k.0) (machine_of t w).bindings))) (λ i. (inputs_in (goal i), outputs_in (goal i)))
           (a.reads input)
 
 -- a rest that begins with a wish for input
@@ -94,7 +94,7 @@ later_of (R.reads from later) = later
 later_of r = r
 
 -- a run that wants a line, and has gone on to what comes next
-module _ (t : Setting) (w : Work) (old : List ℕ → Rest) (wants : WantsLine (Some old)) where
+module _ (t : RunContext) (w : RunState) (old : List ℕ → Rest) (wants : WantsLine (Some old)) where
   wish : (r : Rest) → old [] ≡ r → IsWish r
   wish r e = subst IsWish (sym (wants.1 []).1 ∙ e) tt
 

@@ -6,9 +6,9 @@ use Rattle.mc_values.specs.declared.heap.Heap.{Heap}
 use Rattle.mc_values.specs.Heap.{Extends, value_at}
 use Rattle.std.specs.Prelude.{Vec}
 use Rattle.std.specs.Global.{Global}
-use Rattle.mc_frames.specs.Frames.{bindings}
-use Rattle.mc_frames.specs.Values.{IsHeld, AreHeld}
-use Rattle.mc_frames.proofs.Growth.{held_grows}
+use Rattle.mc_plain.specs.Frames.{bindings}
+use Rattle.mc_plain.specs.Values.{IsHeld, AreHeld}
+use Rattle.mc_plain.proofs.Growth.{held_grows}
 use Rattle.mc_program.specs.Values.{Val}
 use Rattle.mc_program.specs.declared.builtin.Builtin.{Builtin}
 use Rattle.mc_program.specs.declared.builtin.Builtin.TheVariants.{ReadLine}
@@ -20,25 +20,25 @@ use Rattle.mc_model.specs.Outcomes.{Outcome}
 use Rattle.mc_model.specs.Stream.{Bindings, leave, made_items, apply_items, gather}
 use Rattle.mc_flat_code.specs.Ticked.{Ticked, End, Stuck, Stopped, Answer, Called, Wrote, Read, Tick, append, events, follow}
 use Rattle.mc_flat_code.specs.Running.{instr_at, variables_at, part_of, list_of, call_list, IsCode, value_at as code_value}
-use Rattle.mc_flat_code.specs.declared.code.Part.{Part}
+use Rattle.mc_flat_code.specs.declared.code.Span.{Span}
 use Rattle.mc_flat_code.specs.declared.code.Instr.{Instr}
 use Rattle.mc_flat_code.specs.declared.code.Instr.TheVariants as I
 use Rattle.mc_flat_code.specs.declared.code.FlatProgram.{FlatProgram}
-use Rattle.mc_plain.specs.code.Machine.{Around, resume, resumed, close, at, stuck, shown, go, said, is_ended, left_of, Machine, Whole, left, Moved, GoesApart}
+use Rattle.mc_plain.specs.code.Machine.{Continuation, resume, resumed, close, at, stuck, shown, go, said, is_ended, left_of, Machine, Whole, left, Moved, GoesApart}
 use Rattle.mc_plain.specs.code.Views.{machine, segment_in, plain_now}
 use Rattle.mc_plain.specs.code.Held.{AllHeld}
 use Rattle.mc_plain.specs.Rest.{Rest, rest_of, plain_halt}
 use Rattle.mc_plain.specs.Rest as R
 use Rattle.mc_plain.specs.code.Atoms.{Acted, ActedAfter}
 use Rattle.mc_plain.specs.code.Cases.{case_now}
-use Rattle.mc_plain.specs.code.Work.{StepsIn, HasEnded, meaning, head_of, last_of, machine_of, left_in, rest_in, IsSetting, HasConstants, IsReady, Moves, IsAt, IsWaiting}
+use Rattle.mc_plain.specs.code.RunState.{StepsIn, HasEnded, meaning, head_of, last_of, machine_of, left_in, rest_in, IsRunContext, HasConstants, IsReady, Moves, IsAt, IsWaiting}
 use Rattle.mc_plain.specs.declared.state.Control.{Control}
-use Rattle.mc_plain.specs.declared.state.Now.{Now as TheNow}
-use Rattle.mc_plain.specs.declared.state.Now.TheVariants as N
+use Rattle.mc_plain.specs.declared.state.NextAction.{NextAction as TheNow}
+use Rattle.mc_plain.specs.declared.state.NextAction.TheVariants as N
 use Rattle.mc_model.specs.declared.run.Stop.{Stop}
-use Rattle.mc_plain.specs.declared.state.Setting.{Setting}
-use Rattle.mc_plain.specs.declared.state.Work.{Work}
-use Rattle.mc_frames.specs.Atoms.{ReadsFrom}
+use Rattle.mc_plain.specs.declared.state.RunContext.{RunContext}
+use Rattle.mc_plain.specs.declared.state.RunState.{RunState}
+use Rattle.mc_plain.specs.Atoms.{ReadsFrom}
 use Rattle.mc_plain.proofs.Moves as V
 use Rattle.mc_plain.proofs.Steps as S
 use Rattle.mc_plain.proofs.Looking.{values_stay, live_stay}
@@ -67,7 +67,7 @@ acted_moved outcome f o head last M N w pc n i q items next x a =
     subst (Moved outcome f head last M) (sym a.kept)
     (S.alone_moved outcome f o head last M w pc n i q N.now N.bindings a.going (x ∙ a.says outcome f (go outcome f M.level M.height)))
 
-module _ (t : Setting) (w : Work) where
+module _ (t : RunContext) (w : RunState) where
   abbrev MovedTo : Machine → Type 0
   MovedTo N = (input : List ℕ) → Moved (meaning t input) t.flat (head_of t) (last_of t) (machine_of t w) N
 
@@ -80,7 +80,7 @@ module _ (t : Setting) (w : Work) where
         moved = moved;
       }
 
-  pub steps_to : (c : Control) → StepsIn w.heap t.flat w.control c → IsSetting t → IsReady t w → AllHeld t.library.program.now w.heap c → Moves t w (record w { control = c })
+  pub steps_to : (c : Control) → StepsIn w.heap t.flat w.control c → IsRunContext t → IsReady t w → AllHeld t.library.program.now w.heap c → Moves t w (record w { control = c })
   steps_to c s set r held =
       moves_to c (machine w.heap c) refl r (λ input. s (meaning t input) (head_of t) (last_of t) set.code r.whole) held
 
@@ -107,14 +107,14 @@ module _ (t : Setting) (w : Work) where
         (λ input. S.either_moved (meaning t input) t.flat a.setting.code (head_of t) (last_of t) (machine_of t w) a.ready.whole place here goal a.goal_is l r d)
         held
 
-    pub apart_moves : (c : Control) (g : ℕ) (k : Around) → GoesApart goal g k → machine w.heap c ≡ record (machine_of t w) { segments = record { around = k; bindings = (machine_of t w).bindings; level = (machine_of t w).level; height = (machine_of t w).height; below = (machine_of t w).base } ∷ (machine_of t w).segments; base = length (machine_of t w).points; now = at g } → AllHeld t.library.program.now w.heap c → Moves t w (record w { control = c })
+    pub apart_moves : (c : Control) (g : ℕ) (k : Continuation) → GoesApart goal g k → machine w.heap c ≡ record (machine_of t w) { segments = record { around = k; bindings = (machine_of t w).bindings; level = (machine_of t w).level; height = (machine_of t w).height; below = (machine_of t w).base } ∷ (machine_of t w).segments; base = length (machine_of t w).points; now = at g } → AllHeld t.library.program.now w.heap c → Moves t w (record w { control = c })
     apart_moves c g k d e held =
         moves_to c _ e a.ready
         (λ input. S.apart_moved (meaning t input) t.flat a.setting.code (head_of t) (last_of t) (machine_of t w) a.ready.whole place here goal a.goal_is g k d)
         held
 
   -- a place without a goal
-  pub absent_moves : (place : ℕ) → IsSetting t → IsReady t w → w.control.now ≡ N.At place → instr_at t.flat.code place ≡ None → Moves t w (record w { control = record w.control { now = N.Stuck } })
+  pub absent_moves : (place : ℕ) → IsRunContext t → IsReady t w → w.control.now ≡ N.At place → instr_at t.flat.code place ≡ None → Moves t w (record w { control = record w.control { now = N.Stuck } })
   absent_moves place set r n q =
       moves_to (record w.control { now = N.Stuck }) (record (machine_of t w) { now = stuck }) refl r
       (λ input. absent_moved (meaning t input) t.flat set.code (head_of t) (last_of t) (machine_of t w) r.whole place (ap plain_now n) q)
@@ -149,7 +149,7 @@ module _ (t : Setting) (w : Work) where
   -- the run's own answer
   pub answer_gives : (place : ℕ) (a : IsAt t w place I.Done) (frame : Vec (Option ℕ) Global) (vs : List Val) → w.control.segments.items ≡ [] → bindings w.heap frame.items ≡ (machine_of t w).bindings → AreHeld t.library.program.now w.heap frame.items → vs ≡ bound_values (leave (head_of t) (last_of t) (bindings w.heap frame.items)) → IsReady t (record w { control = record w.control { frame = frame; now = N.Failing } }) × ((input : List ℕ) → rest_in t w input ≡ R.answered vs (rest_in t (record w { control = record w.control { frame = frame; now = N.Failing } }) input))
   answer_gives place a frame vs none same held v =
-      let later : Work = record w { control = record w.control { frame = frame; now = N.Failing } } in (
+      let later : RunState = record w { control = record w.control { frame = frame; now = N.Failing } } in (
         record {
           held = record { frame = held; segments = a.ready.held.segments; points = a.ready.held.points };
           constants = a.ready.constants;
@@ -164,7 +164,7 @@ module _ (t : Setting) (w : Work) where
       )
 
 -- Refs of constants stay those while the heap grows
-module _ (t : Setting) (h k : Heap) (grows : Extends h k) where
+module _ (t : RunContext) (h k : Heap) (grows : Extends h k) where
   pub constants_stay : HasConstants t h → HasConstants t k
   constants_stay c =
       record {
@@ -175,7 +175,7 @@ module _ (t : Setting) (h k : Heap) (grows : Extends h k) where
         held = λ x d lt. held_grows h k grows t.library.program.now (get_or t.constants.items x d) (c.held x d lt);
       }
 
-module _ (t : Setting) (h : Heap) (c : HasConstants t h) (k : ℕ) where
+module _ (t : RunContext) (h : Heap) (c : HasConstants t h) (k : ℕ) where
   pub constant_at : (o : Option ℕ) → slice_get t.constants.items k ≡ o → code_value t.flat.code k ≡ option_map (value_at h) o
   constant_at o e =
       ap (λ l. slice_get l k) (sym c.refs.values) ∙ slice_get-map (value_at h) t.constants.items k ∙ ap (option_map (value_at h)) e
@@ -186,7 +186,7 @@ module _ (t : Setting) (h : Heap) (c : HasConstants t h) (k : ℕ) where
       (c.held k r (slice_get_within t.constants.items k r e))
 
 -- a variable meets a constructor, and the heap may grow
-pub made_moves : (t : Setting) (w v : Work) (place x f : ℕ) (ys : Part) (next : ℕ) (a : IsAt t w place (I.Made x f ys next)) → Extends w.heap v.heap → Acted (made_items x f (variables_at t.flat.code ys) (machine_of t w).bindings ((machine_of t w).bindings x)) next (machine_of t w) (machine_of t v) → AllHeld t.library.program.now v.heap v.control → Moves t w v
+pub made_moves : (t : RunContext) (w v : RunState) (place x f : ℕ) (ys : Span) (next : ℕ) (a : IsAt t w place (I.Made x f ys next)) → Extends w.heap v.heap → Acted (made_items x f (variables_at t.flat.code ys) (machine_of t w).bindings ((machine_of t w).bindings x)) next (machine_of t w) (machine_of t v) → AllHeld t.library.program.now v.heap v.control → Moves t w v
 made_moves t w v place x f ys next a grows acted held =
     let moved : (input : List ℕ) → Moved (meaning t input) t.flat (head_of t) (last_of t) (machine_of t w) (machine_of t v) = λ input.
     acted_moved (meaning t input) t.flat a.setting.code (head_of t) (last_of t) (machine_of t w) (machine_of t v) a.ready.whole place (ap plain_now a.now) (I.Made x f ys next) a.goal_is (made_items x f (variables_at t.flat.code ys) (machine_of t w).bindings ((machine_of t w).bindings x)) next refl acted in
@@ -196,14 +196,14 @@ made_moves t w v place x f ys next a grows acted held =
     }
 
 -- a switch
-pub case_moves : (t : Setting) (w : Work) (place x : ℕ) (bs : Part) (other : ℕ) (a : IsAt t w place (I.Case x bs other)) (c : Control) → machine w.heap c ≡ record (machine_of t w) { now = case_now t.flat.code other (part_of t.flat.code.branches.items bs) ((machine_of t w).bindings x) } → c ≡ record w.control { now = c.now } → Moves t w (record w { control = c })
+pub case_moves : (t : RunContext) (w : RunState) (place x : ℕ) (bs : Span) (other : ℕ) (a : IsAt t w place (I.Case x bs other)) (c : Control) → machine w.heap c ≡ record (machine_of t w) { now = case_now t.flat.code other (part_of t.flat.code.branches.items bs) ((machine_of t w).bindings x) } → c ≡ record w.control { now = c.now } → Moves t w (record w { control = c })
 case_moves t w place x bs other a c e k =
     moves_to t w c _ e a.ready
     (λ input. case_moved (meaning t input) t.flat a.setting.code (head_of t) (last_of t) (machine_of t w) a.ready.whole place (ap plain_now a.now) x bs other a.goal_is)
     (subst (AllHeld t.library.program.now w.heap) (sym k) (record { frame = a.ready.held.frame; segments = a.ready.held.segments; points = a.ready.held.points }))
 
 -- a builtin, over each input
-module _ (t : Setting) (w v : Work) (place : ℕ) (op : Builtin) (xs ys : Part) (next : ℕ) (a : IsAt t w place (I.Apply op xs ys next)) (grows : Extends w.heap v.heap) (held : AllHeld t.library.program.now v.heap v.control) where
+module _ (t : RunContext) (w v : RunState) (place : ℕ) (op : Builtin) (xs ys : Span) (next : ℕ) (a : IsAt t w place (I.Apply op xs ys next)) (grows : Extends w.heap v.heap) (held : AllHeld t.library.program.now v.heap v.control) where
   abbrev list : List ℕ → Items Bindings
   list input = apply_items (meaning t input op) (variables_at t.flat.code ys) (machine_of t w).bindings (gather (variables_at t.flat.code xs) (machine_of t w).bindings)
 

@@ -1,3 +1,6 @@
+pub mod Atoms
+pub mod Frames
+pub mod Values
 pub mod code
 pub mod Names
 pub mod Mentioned

@@ -4,7 +4,7 @@ use Rattle.std.specs.Prelude.{◌<◌, List, length}
 use Rattle.mc_program.specs.declared.program.Program.{Program}
 use Rattle.mc_model.specs.Scheduled.{Procedure}
 use Rattle.mc_model.specs.Worlds.{library_of}
-use Rattle.mc_frames.specs.Values.{IsConstant, IsProper, ListsAreNamed, ResultsAreNamed}
+use Rattle.mc_plain.specs.Values.{IsConstant, IsProper, ListsAreNamed, ResultsAreNamed}
 use Rattle.mc_flat_code.specs.Mentions.{Mention, of_symbol, of_constant, of_builtin, CodeMentions, BodiesMention}
 use Rattle.mc_flat_code.specs.declared.code.Code.{Code}
 use Rattle.mc_plain.specs.Names.{NamesAll}

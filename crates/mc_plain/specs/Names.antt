@@ -4,7 +4,7 @@ use Rattle.mc_program.specs.Values.{plain_value}
 use Rattle.mc_program.specs.declared.program.Program.{Program}
 use Rattle.mc_model.specs.Builtins.{Library}
 use Rattle.mc_model.specs.Worlds.{library_of}
-use Rattle.mc_frames.specs.Values.{IsConstant, IsProper, ListsAreNamed, ResultsAreNamed}
+use Rattle.mc_plain.specs.Values.{IsConstant, IsProper, ListsAreNamed, ResultsAreNamed}
 use Rattle.mc_flat_code.specs.declared.code.Instr.{Instr}
 use Rattle.mc_flat_code.specs.declared.code.Instr.TheVariants as I
 use Rattle.mc_flat_code.specs.declared.code.Code.{Code}

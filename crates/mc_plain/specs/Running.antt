@@ -1,7 +1,7 @@
 -- A run that is under way, as callers see it.
 use Rattle.std.specs.Prelude.{◌≡◌, ℕ, List, Option, Some, None, false, if◌then◌else◌}
 use Rattle.mc_plain.specs.Rest.{Rest}
-use Rattle.mc_plain.specs.code.Work.{rest_in, IsRunning}
+use Rattle.mc_plain.specs.code.RunState.{rest_in, IsRunning}
 use Rattle.mc_plain.specs.declared.plain.Plain.{Plain}
 
 -- what is left of a run over each input, or nothing that is known once memory was wanting

@@ -1,3 +1,4 @@
+pub mod Steps
 pub mod Atoms
 pub mod Beginnings
 pub mod Cases
@@ -5,4 +6,4 @@ pub mod Constants
 pub mod Held
 pub mod Machine
 pub mod Views
-pub mod Work
+pub mod RunState

@@ -5,20 +5,22 @@ ghost use Rattle.mc_model.specs.EventList.{of_option};
 ghost use Rattle.mc_model.specs.Stream.{meet as meet_of, same_items, made_items, apply_items, gather};
 ghost use Rattle.mc_model.specs.Builtins.{outcome};
 ghost use Rattle.mc_builtins.specs.Answers.{known};
-ghost use Rattle.mc_frames.specs.Frames.{bindings};
-ghost use Rattle.mc_frames.specs.Values.{HasLists, HasResults, IsHeld, AreLive};
+ghost use Rattle.mc_plain.specs.Frames.{bindings};
+ghost use Rattle.mc_plain.specs.Values.{HasLists, HasResults, IsHeld, AreLive};
 ghost use Rattle.mc_plain.specs.code.Held.{AllHeld};
 ghost use Rattle.mc_plain.specs.code.Views.{machine, plain_now};
 ghost use Rattle.mc_plain.specs.code.Atoms.{Acted as ActedSo, ActedAfter, Applied, now_of};
 ghost use Rattle.mc_flat_code.specs.Ticked.{Read};
-ghost use Rattle.mc_frames.specs.Atoms.{ReadsFrom};
+ghost use Rattle.mc_plain.specs.Atoms.{ReadsFrom};
 ghost use Rattle.mc_builtins.specs.Reading.{IsNext};
 
 use crate::control::{widen, widen_all};
-use crate::state::{Control, Now};
+use crate::state::{Control, NextAction};
+use crate::{
+    Application, AtomResult, BuiltinResult, ReadLineResult, applied, feed, made, met, same,
+};
 use mc_base::{Memory, Text};
 use mc_builtins::Library;
-use mc_frames::{Acted, Application, Fed, Went, applied, feed, made, met, same};
 use mc_model::builtin::Builtin;
 use mc_model::run::{Input, Stop};
 use mc_values::{Heap, Ref};
@@ -34,13 +36,13 @@ pub enum Shown {
 }
 
 /// What is done next after an atom.
-fn went_on(went: Went, next: u32) -> Now
+fn went_on(went: AtomResult, next: u32) -> NextAction
     ensures { plain_now result ≡ now_of went next }
 {
     match went {
-        Went::On => Now::At(next),
-        Went::Fails => Now::Failing,
-        Went::Stuck => Now::Stuck,
+        AtomResult::On => NextAction::At(next),
+        AtomResult::Fails => NextAction::Failing,
+        AtomResult::Stuck => NextAction::Stuck,
     }
 }
 
@@ -127,19 +129,19 @@ impl Control {
         widen_all(&mut self.frame, call.inputs)?;
         widen_all(&mut self.frame, call.outputs)?;
         match applied(alloc, call, heap, library, refs, &mut self.frame)? {
-            Acted::Went(went) => {
+            BuiltinResult::Went(went) => {
                 self.now = went_on(went, next);
                 Ok(Shown::Nothing)
             }
-            Acted::Throws(exception) => {
-                self.now = Now::Stopped(Stop::Throw(exception));
+            BuiltinResult::Throws(exception) => {
+                self.now = NextAction::Stopped(Stop::Throw(exception));
                 Ok(Shown::Nothing)
             }
-            Acted::Wrote(text, went) => {
+            BuiltinResult::Wrote(text, went) => {
                 self.now = went_on(went, next);
                 Ok(Shown::Wrote(text))
             }
-            Acted::Reads(from) => Ok(Shown::Wants(from)),
+            BuiltinResult::Reads(from) => Ok(Shown::Wants(from)),
         }
     }
 
@@ -177,12 +179,12 @@ impl Control {
         widen_all(&mut self.frame, outputs)?;
         let frame = &mut self.frame;
         match feed(alloc, inputs, outputs, line, heap, library, refs, frame)? {
-            Fed::Went(went) => {
+            ReadLineResult::Went(went) => {
                 self.now = went_on(went, next);
                 Ok(())
             }
-            Fed::Throws(exception) => {
-                self.now = Now::Stopped(Stop::Throw(exception));
+            ReadLineResult::Throws(exception) => {
+                self.now = NextAction::Stopped(Stop::Throw(exception));
                 Ok(())
             }
         }

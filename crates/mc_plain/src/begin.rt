@@ -3,15 +3,15 @@ ghost use Rattle.mc_program.specs.Values.{state, plain_value};
 ghost use Rattle.mc_program.specs.declared.program.Program.{Program};
 ghost use Rattle.mc_values.specs.Heap.{IsLive, values_at, Extends};
 ghost use Rattle.mc_values.specs.declared.heap.Heap.{Heap as TheHeap};
-ghost use Rattle.mc_frames.specs.Frames.{bindings, seen_at};
-ghost use Rattle.mc_frames.specs.Values.{IsConstant, AreHeld};
+ghost use Rattle.mc_plain.specs.Frames.{bindings, seen_at};
+ghost use Rattle.mc_plain.specs.Values.{IsConstant, AreHeld};
 ghost use Rattle.mc_plain.specs.code.Held.{AllHeld};
 ghost use Rattle.mc_plain.specs.code.Views.{machine, plain_now};
 ghost use Rattle.mc_plain.specs.code.Beginnings.{first_machine, called_machine, first_now};
 
-use crate::state::{Control, Now};
+use crate::state::{Control, NextAction};
+use crate::{Frame, constant};
 use mc_base::{Memory, Text};
-use mc_frames::{Frame, constant};
 use mc_model::run::{Limits, Stop};
 use mc_program::value::Value;
 use mc_values::{Heap, Ref};
@@ -19,7 +19,13 @@ use std::alloc::Global;
 
 impl Control {
     /// A run that begins, with so many levels of calls.
-    pub fn begin(alloc: Global, frame: Frame, limits: Limits, level: u64, now: Now) -> Control
+    pub fn begin(
+        alloc: Global,
+        frame: Frame,
+        limits: Limits,
+        level: u64,
+        now: NextAction,
+    ) -> Control
         ensures begins { (h : TheHeap) → machine h result
             ≡ first_machine limits.budget limits.depth level (bindings h frame.items)
             (plain_now now) }
@@ -40,7 +46,7 @@ impl Control {
     }
 
     /// A run that begins with a call, and goes on so once it is made.
-    pub fn begin_call(alloc: Global, frame: Frame, limits: Limits, now: Now) -> Control
+    pub fn begin_call(alloc: Global, frame: Frame, limits: Limits, now: NextAction) -> Control
         ensures begins { (h : TheHeap) → machine h result
             ≡ called_machine limits.budget limits.depth (bindings h frame.items)
             (plain_now now) }
@@ -48,10 +54,10 @@ impl Control {
             → AllHeld P h result }
     {
         if limits.depth == 0 {
-            return Control::begin(alloc, frame, limits, 0, Now::Stopped(Stop::TooDeep));
+            return Control::begin(alloc, frame, limits, 0, NextAction::Stopped(Stop::TooDeep));
         }
         if limits.budget == 0 {
-            return Control::begin(alloc, frame, limits, 0, Now::Stopped(Stop::Budget));
+            return Control::begin(alloc, frame, limits, 0, NextAction::Stopped(Stop::Budget));
         }
         let inner = Limits {
             budget: limits.budget - 1,
@@ -62,10 +68,14 @@ impl Control {
 }
 
 /// Where a body begins whose inputs are there or not.
-pub fn first_now(entry: u32, is_ready: bool) -> Now
+pub fn first_now(entry: u32, is_ready: bool) -> NextAction
     ensures { plain_now result ≡ first_now entry is_ready }
 {
-    if is_ready { Now::At(entry) } else { Now::Stuck }
+    if is_ready {
+        NextAction::At(entry)
+    } else {
+        NextAction::Stuck
+    }
 }
 
 /// The variables of a caller that has io's first state, and one that is unbound.

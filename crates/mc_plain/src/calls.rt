@@ -7,19 +7,19 @@ ghost use Rattle.mc_program.specs.declared.program.Program.{Program};
 ghost use Rattle.mc_model.specs.Outcomes.{Outcome};
 ghost use Rattle.mc_flat_code.specs.Running.{instr_at};
 ghost use Rattle.mc_flat_code.specs.declared.code.FlatProgram.{FlatProgram as TheProgram};
-ghost use Rattle.mc_frames.specs.Frames.{bindings};
-ghost use Rattle.mc_frames.specs.Values.{AreLive, AreHeld};
+ghost use Rattle.mc_plain.specs.Frames.{bindings};
+ghost use Rattle.mc_plain.specs.Values.{AreLive, AreHeld};
 ghost use Rattle.mc_plain.specs.code.Machine.{go, back, said, is_ended};
 ghost use Rattle.mc_plain.specs.code.Views.{plain_now};
 ghost use Rattle.mc_plain.specs.code.Held.{AllHeld};
 ghost use Rattle.mc_plain.specs.declared.state.Segment.{Segment as TheSegment};
-ghost use Rattle.mc_plain.specs.code.Work.{Steps, StepsIn, HasEnded, IsAtAnswer};
+ghost use Rattle.mc_plain.specs.code.RunState.{Steps, StepsIn, HasEnded, IsAtAnswer};
 
 use crate::control::widen_all;
-use crate::state::{Around, Control, Now, Segment};
+use crate::state::{Continuation, Control, NextAction, Segment};
+use crate::{Frame, enter, ready, returned};
 use mc_base::Memory;
-use mc_flat_code::code::{FlatProgram, Instr, Part};
-use mc_frames::{Frame, enter, ready, returned};
+use mc_flat_code::code::{FlatProgram, Instr, Span};
 use mc_model::run::Stop;
 use mc_values::Heap;
 use std::alloc::Global;
@@ -72,10 +72,10 @@ impl Control {
         flat: &FlatProgram,
         place: u32,
         number: u32,
-        args: Part,
+        args: Span,
         is_last: bool,
     ) -> Result<(), Memory>
-        requires { self.old.now ≡ Now.At place }
+        requires { self.old.now ≡ NextAction.At place }
         ensures steps { OnOk result ((next : ℕ)
             → instr_at flat.now.code place ≡ Some (Instr.Call number args is_last next)
             → Steps flat.now self.old self.new) }
@@ -83,17 +83,17 @@ impl Control {
             → AllHeld P h self.old → AllHeld P h self.new) }
     {
         if is_too_deep(self.height, is_last) {
-            self.now = Now::Stopped(Stop::TooDeep);
+            self.now = NextAction::Stopped(Stop::TooDeep);
             return Ok(());
         }
         // Never so: the levels are more than what is left of the budget, since a call takes one of each and its end gives
         // back levels alone. The test is what lets `enter` take one.
         if self.level == 0 {
-            self.now = Now::Stopped(Stop::Budget);
+            self.now = NextAction::Stopped(Stop::Budget);
             return Ok(());
         }
         if self.budget == 0 {
-            self.now = Now::Stopped(Stop::Budget);
+            self.now = NextAction::Stopped(Stop::Budget);
             return Ok(());
         }
         let body = flat.body(number);
@@ -109,7 +109,7 @@ impl Control {
             self.enter(inner, body.entry, place, is_last)?;
             return Ok(());
         }
-        self.now = Now::Stuck;
+        self.now = NextAction::Stuck;
         Ok(())
     }
 
@@ -162,35 +162,51 @@ impl Control {
             below,
         } = segment;
         match around {
-            Around::Condition(next, _) => {
+            Continuation::Condition(next, _) => {
                 let none = Vec::new(alloc);
                 self.keep(
                     alloc,
-                    Around::Answered(next),
+                    Continuation::Answered(next),
                     &none,
                     level,
                     height,
                     below,
-                    Now::At(next),
+                    NextAction::At(next),
                 )?;
                 Ok(())
             }
-            Around::Answered(next) => {
+            Continuation::Answered(next) => {
                 let none = Vec::new(alloc);
-                self.keep(alloc, around, &none, level, height, below, Now::At(next))?;
+                self.keep(
+                    alloc,
+                    around,
+                    &none,
+                    level,
+                    height,
+                    below,
+                    NextAction::At(next),
+                )?;
                 Ok(())
             }
-            Around::Negated(_) => {
-                self.give_up(level, height, below, Now::Failing);
+            Continuation::Negated(_) => {
+                self.give_up(level, height, below, NextAction::Failing);
                 Ok(())
             }
-            Around::Pruned(next) => {
-                self.give_up(level, height, below, Now::At(next));
+            Continuation::Pruned(next) => {
+                self.give_up(level, height, below, NextAction::At(next));
                 Ok(())
             }
-            Around::Called(place) => {
+            Continuation::Called(place) => {
                 let mut outer = frame;
-                self.keep(alloc, around, &outer, level, height, below, Now::Failing)?;
+                self.keep(
+                    alloc,
+                    around,
+                    &outer,
+                    level,
+                    height,
+                    below,
+                    NextAction::Failing,
+                )?;
                 let now = came_back(heap, flat, place, &mut self.frame, &mut outer)?;
                 let done = replace(&mut self.frame, outer);
                 self.now = now;
@@ -202,11 +218,11 @@ impl Control {
 
     /// There is no more answer of what is run now. Answers whether the run goes on.
     pub fn fail(&mut self) -> Result<bool, Memory>
-        requires { self.old.now ≡ Now.Failing }
+        requires { self.old.now ≡ NextAction.Failing }
         ensures steps { IfOk result (λ goes_on. goes_on ≡ true
             → (f : TheProgram) → Steps f self.old self.new) }
         ensures ends { IfOk result (λ goes_on. goes_on ≡ false
-            → (self.new ≡ record self.old { now = Now.Ended })
+            → (self.new ≡ record self.old { now = NextAction.Ended })
             × ((f : TheProgram) → HasEnded f self.old)) }
         ensures held { OnOk result ((P : Program) (h : TheHeap)
             → AllHeld P h self.old → AllHeld P h self.new) }
@@ -216,7 +232,7 @@ impl Control {
             return Ok(true);
         }
         if self.segments.is_empty() {
-            self.now = Now::Ended;
+            self.now = NextAction::Ended;
             return Ok(false);
         }
         self.leave();
@@ -231,7 +247,7 @@ fn came_back(
     place: u32,
     callee: &mut Frame,
     caller: &mut Frame,
-) -> Result<Now, Memory>
+) -> Result<NextAction, Memory>
     requires callee { AreLive heap.now callee.old.items }
     requires caller { AreLive heap.now caller.old.items }
     ensures going { IfOk result (λ now. is_ended (plain_now now) ≡ false) }
@@ -254,11 +270,11 @@ fn came_back(
             widen_all(callee, head)?;
             let met = returned(heap, args, head, last, callee, caller)?;
             if met {
-                Ok(Now::At(next))
+                Ok(NextAction::At(next))
             } else {
-                Ok(Now::Failing)
+                Ok(NextAction::Failing)
             }
         }
-        _ => Ok(Now::Stuck),
+        _ => Ok(NextAction::Stuck),
     }
 }

@@ -2,18 +2,18 @@ ghost use Rattle.std.specs.Prelude.{◌≡◌, ◌↔◌, IsTrue, All, IfOk, IfS
 ghost use Rattle.mc_values.specs.Heap.{IsLive, value_at};
 ghost use Rattle.mc_values.specs.declared.heap.Heap.{Heap as TheHeap};
 ghost use Rattle.mc_values.specs.Parts.{symbol_of};
-ghost use Rattle.mc_frames.specs.Frames.{bindings};
-ghost use Rattle.mc_frames.specs.Values.{AreLive};
+ghost use Rattle.mc_plain.specs.Frames.{bindings};
+ghost use Rattle.mc_plain.specs.Values.{AreLive};
 ghost use Rattle.mc_flat_code.specs.Running.{part_of, fitting, fits_label, label_of};
 ghost use Rattle.mc_flat_code.specs.declared.code.Code.{Code as TheCode};
 ghost use Rattle.mc_plain.specs.code.Constants.{AreConstants};
 ghost use Rattle.mc_plain.specs.code.Views.{machine, plain_now};
 ghost use Rattle.mc_plain.specs.code.Cases.{case_now, only_of};
 
-use crate::state::{Control, Now};
+use crate::Frame;
+use crate::state::{Control, NextAction};
 use mc_base::Memory;
-use mc_flat_code::code::{Branch, Code, Key, Part};
-use mc_frames::Frame;
+use mc_flat_code::code::{Branch, Code, Key, Span};
 use mc_values::{Heap, Ref};
 
 impl Control {
@@ -25,7 +25,7 @@ impl Control {
         code: &Code,
         constants: &[Ref],
         variable: u32,
-        branches: Part,
+        branches: Span,
         other: u32,
     ) -> Result<(), Memory>
         requires frame { AreLive heap.now self.old.frame.items }
@@ -38,7 +38,7 @@ impl Control {
             }) }
     {
         self.now = match bound(&self.frame, variable) {
-            None => Now::At(other),
+            None => NextAction::At(other),
             Some(value) => chosen(heap, code, constants, value, code.branches(branches), other)?,
         };
         Ok(())
@@ -65,7 +65,7 @@ fn chosen(
     value: Ref,
     branches: &[Branch],
     other: u32,
-) -> Result<Now, Memory>
+) -> Result<NextAction, Memory>
     requires value { IsLive heap.now value }
     requires constants { AreConstants heap.now code.now constants.now }
     ensures { IfOk result (λ now. plain_now now
@@ -77,13 +77,13 @@ fn chosen(
         if fits(heap, constants, value, top, branch.key)? {
             match only {
                 None => only = Some(branch.place),
-                Some(_) => return Ok(Now::At(other)),
+                Some(_) => return Ok(NextAction::At(other)),
             }
         }
     }
     match only {
-        None => Ok(Now::Failing),
-        Some(place) => Ok(Now::At(place)),
+        None => Ok(NextAction::Failing),
+        Some(place) => Ok(NextAction::At(place)),
     }
 }
 

@@ -1,15 +1,15 @@
 ghost use Rattle.std.specs.Prelude.{◌≡◌, ◌<◌, ◌≤◌, ◌-◌, ◌∷◌, ◌++◌, List, IfOk, OnOk, All, length, take, if◌then◌else◌, false};
 ghost use Rattle.mc_values.specs.declared.heap.Heap.{Heap as TheHeap};
 ghost use Rattle.mc_program.specs.declared.program.Program.{Program};
-ghost use Rattle.mc_frames.specs.Frames.{bindings};
-ghost use Rattle.mc_frames.specs.Values.{AreLive, AreHeld};
+ghost use Rattle.mc_plain.specs.Frames.{bindings};
+ghost use Rattle.mc_plain.specs.Values.{AreLive, AreHeld};
 ghost use Rattle.mc_plain.specs.code.Held.{AllHeld, PointsHeld};
 ghost use Rattle.mc_plain.specs.code.Machine.{Point as PlainPoint, Holding, resume, held, at, called, went_back, went_out, after as after_of};
 ghost use Rattle.mc_plain.specs.code.Views.{machine, plain_around, plain_now};
 
-use crate::state::{Around, Control, Now, Point, Segment};
+use crate::Frame;
+use crate::state::{Continuation, Control, NextAction, Point, Segment};
 use mc_base::Memory;
-use mc_frames::Frame;
 use std::alloc::Global;
 use std::mem::replace;
 
@@ -33,12 +33,12 @@ impl Control {
     {
         let copy = copied(alloc, &self.frame)?;
         self.points.push(Point::Resume(second, copy))?;
-        self.now = Now::At(first);
+        self.now = NextAction::At(first);
         Ok(())
     }
 
     /// Runs a goal apart.
-    pub fn apart(&mut self, alloc: Global, goal: u32, around: Around) -> Result<(), Memory>
+    pub fn apart(&mut self, alloc: Global, goal: u32, around: Continuation) -> Result<(), Memory>
         ensures goes_on { OnOk result ((h : TheHeap) → machine h self.new
             ≡ record (machine h self.old) {
               segments = record {
@@ -63,7 +63,7 @@ impl Control {
             below: self.base,
         })?;
         self.base = self.points.len();
-        self.now = Now::At(goal);
+        self.now = NextAction::At(goal);
         Ok(())
     }
 
@@ -102,7 +102,7 @@ impl Control {
         let height = inner_height(self.height, is_last);
         let frame = replace(&mut self.frame, inner);
         self.segments.push(Segment {
-            around: Around::Called(place),
+            around: Continuation::Called(place),
             frame,
             level: self.level,
             height: self.height,
@@ -112,7 +112,7 @@ impl Control {
         self.level -= 1;
         self.budget -= 1;
         self.height = height;
-        self.now = Now::At(entry);
+        self.now = NextAction::At(entry);
         Ok(())
     }
 
@@ -127,11 +127,11 @@ impl Control {
             None => {}
             Some(Point::Resume(place, frame)) => {
                 self.frame = frame;
-                self.now = Now::At(place);
+                self.now = NextAction::At(place);
             }
             Some(Point::Held(around, frame, level, height, base)) => {
                 if base < self.base || self.points.len() < base {
-                    self.now = Now::Stuck;
+                    self.now = NextAction::Stuck;
                 } else {
                     self.segments.push(Segment {
                         around,
@@ -157,7 +157,7 @@ impl Control {
             → AllHeld P h self.old → AllHeld P h self.new }
     {
         match self.segments.pop() {
-            None => self.now = Now::Ended,
+            None => self.now = NextAction::Ended,
             Some(segment) => {
                 let Segment {
                     around,
@@ -179,12 +179,12 @@ impl Control {
     pub fn keep(
         &mut self,
         alloc: Global,
-        around: Around,
+        around: Continuation,
         frame: &Frame,
         level: u64,
         height: u32,
         below: usize,
-        next: Now,
+        next: NextAction,
     ) -> Result<(), Memory>
         ensures held { OnOk result ((h : TheHeap) → Holding (plain_around around)
             (bindings h frame.now.items) self.old.level self.old.height self.old.base
@@ -207,7 +207,7 @@ impl Control {
     }
 
     /// A goal that was run apart has an answer, and no other is asked of it: its resume points are given up.
-    pub fn give_up(&mut self, level: u64, height: u32, below: usize, next: Now)
+    pub fn give_up(&mut self, level: u64, height: u32, below: usize, next: NextAction)
         requires { self.old.base ≤ length self.old.points.items }
         ensures kept { (h : TheHeap) → self.old.base ≡ length (machine h self.new).points }
         ensures given_up { (h : TheHeap) → (given : List PlainPoint)
@@ -247,7 +247,7 @@ impl Control {
     fn hold(
         &mut self,
         alloc: Global,
-        around: Around,
+        around: Continuation,
         frame: &Frame,
         level: u64,
         height: u32,
@@ -285,15 +285,15 @@ fn inner_height(height: u32, is_last: bool) -> u32
 }
 
 /// Where it goes on after a goal that was run apart and has no more answer.
-fn after(around: Around) -> Now
+fn after(around: Continuation) -> NextAction
     ensures { plain_now result ≡ after_of (plain_around around) }
 {
     match around {
-        Around::Condition(_, other) => Now::At(other),
-        Around::Negated(next) => Now::At(next),
-        Around::Answered(_) => Now::Failing,
-        Around::Pruned(_) => Now::Failing,
-        Around::Called(_) => Now::Failing,
+        Continuation::Condition(_, other) => NextAction::At(other),
+        Continuation::Negated(next) => NextAction::At(next),
+        Continuation::Answered(_) => NextAction::Failing,
+        Continuation::Pruned(_) => NextAction::Failing,
+        Continuation::Called(_) => NextAction::Failing,
     }
 }
 

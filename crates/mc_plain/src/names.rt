@@ -1,7 +1,7 @@
 ghost use Rattle.std.specs.Prelude.{◌<◌, ◌↔◌, All, IsTrue};
 ghost use Rattle.mc_program.specs.Values.{plain_value};
 ghost use Rattle.mc_builtins.specs.Answers.{known};
-ghost use Rattle.mc_frames.specs.Values.{IsConstant, IsProper, ListsAreNamed, ResultsAreNamed};
+ghost use Rattle.mc_plain.specs.Values.{IsConstant, IsProper, ListsAreNamed, ResultsAreNamed};
 ghost use Rattle.mc_plain.specs.Names.{IsNamed, NamesAll};
 
 use mc_builtins::Library;

@@ -1,11 +1,11 @@
 use crate::begin::{constants_of, first_caller, first_now};
 use crate::calls::room;
-use crate::state::{Control, Setting, Work};
+use crate::state::{Control, RunContext, RunState};
+use crate::{enter, ready, unbound};
 use mc_base::Memory;
 use mc_builtins::Library;
 use mc_flat_code::FlatQuery;
 use mc_flat_code::code::FlatProgram;
-use mc_frames::{enter, ready, unbound};
 use mc_model::program::Program;
 use mc_model::run::{Input, Limits, Step};
 use mc_values::Heap;
@@ -15,8 +15,8 @@ use std::alloc::Global;
 #[derive(Drop)]
 pub struct Plain<'p> {
     alloc: Global,
-    setting: Setting<'p>,
-    work: Work,
+    setting: RunContext<'p>,
+    work: RunState,
     broken: bool,
 }
 
@@ -57,7 +57,7 @@ impl<'p> Plain<'p> {
         let now = first_now(query.entry, is_ready);
         let control = Control::begin(alloc, frame, limits, limits.budget as u64 + 1, now);
         let library = Library::of(program);
-        let setting = Setting {
+        let setting = RunContext {
             library,
             flat,
             constants,
@@ -68,7 +68,7 @@ impl<'p> Plain<'p> {
         Ok(Plain {
             alloc,
             setting,
-            work: Work {
+            work: RunState {
                 heap,
                 refs,
                 control,
@@ -104,7 +104,7 @@ impl<'p> Plain<'p> {
         let now = first_now(body.entry, is_ready);
         let control = Control::begin_call(alloc, frame, limits, now);
         let library = Library::of(program);
-        let setting = Setting {
+        let setting = RunContext {
             library,
             flat,
             constants,
@@ -115,7 +115,7 @@ impl<'p> Plain<'p> {
         Ok(Plain {
             alloc,
             setting,
-            work: Work {
+            work: RunState {
                 heap,
                 refs,
                 control,

@@ -1,24 +1,24 @@
 ghost use Rattle.std.specs.Prelude.{◌≡◌, ℕ, List, Some, OnOk, drop};
 ghost use Rattle.mc_model.specs.Stream.{apply_items, gather};
 ghost use Rattle.mc_builtins.specs.Reading.{IsNext};
-ghost use Rattle.mc_frames.specs.Values.{HasResults};
-ghost use Rattle.mc_frames.specs.Atoms.{ReadsFrom};
+ghost use Rattle.mc_plain.specs.Values.{HasResults};
+ghost use Rattle.mc_plain.specs.Atoms.{ReadsFrom};
 ghost use Rattle.mc_flat_code.specs.Running.{variables_at};
 ghost use Rattle.mc_plain.specs.Rest.{reads, WantsLine, IsFed};
-ghost use Rattle.mc_plain.specs.code.Work.{meaning, machine_of, rest_in, IsSetting, IsReady, IsAt, IsWaiting};
+ghost use Rattle.mc_plain.specs.code.RunState.{meaning, machine_of, rest_in, IsRunContext, IsReady, IsAt, IsWaiting};
 
-use crate::state::{Now, Setting, Work};
+use crate::state::{NextAction, RunContext, RunState};
 use mc_base::Memory;
-use mc_flat_code::code::{Instr, Part};
+use mc_flat_code::code::{Instr, Span};
 use mc_model::run::Input;
 use mc_program::builtin::Builtin;
 use std::alloc::Global;
 
-impl Work {
+impl RunState {
     /// Feeds a run that wants a line with what comes next in the input: what is left then is what follows its wish for
     /// it. First the run goes on to the goal that reads, unless it stands there.
-    pub fn feed(&mut self, alloc: Global, t: &Setting<'_>, line: &Input) -> Result<(), Memory>
-        requires setting { IsSetting t.now }
+    pub fn feed(&mut self, alloc: Global, t: &RunContext<'_>, line: &Input) -> Result<(), Memory>
+        requires setting { IsRunContext t.now }
         requires ready { IsReady t.now self.old }
         requires wants { WantsLine (Some (rest_in t.now self.old)) }
         ensures ready { OnOk result (IsReady t.now self.new) }
@@ -31,14 +31,14 @@ impl Work {
     }
 
     /// Feeds a run that stands at the goal that reads.
-    fn read_there(&mut self, alloc: Global, t: &Setting<'_>, line: &Input) -> Result<(), Memory>
+    fn read_there(&mut self, alloc: Global, t: &RunContext<'_>, line: &Input) -> Result<(), Memory>
         requires { (from : ℕ) × IsWaiting t.now self.old from }
         ensures ready { OnOk result (IsReady t.now self.new) }
         ensures fed { OnOk result
             (IsFed line.now (Some (rest_in t.now self.old)) (Some (rest_in t.now self.new))) }
     {
         match &self.control.now {
-            Now::At(place) => {
+            NextAction::At(place) => {
                 let place = *place;
                 match t.flat.code.goal(place) {
                     Some(Instr::Apply(Builtin::ReadLine, inputs, outputs, next)) => {
@@ -56,10 +56,10 @@ impl Work {
     fn read(
         &mut self,
         alloc: Global,
-        t: &Setting<'_>,
+        t: &RunContext<'_>,
         _place: u32,
-        inputs: Part,
-        outputs: Part,
+        inputs: Span,
+        outputs: Span,
         next: u32,
         line: &Input,
     ) -> Result<(), Memory>

@@ -1,12 +1,12 @@
+use crate::Frame;
 use mc_builtins::Library;
-use mc_flat_code::code::{FlatProgram, Part};
-use mc_frames::Frame;
+use mc_flat_code::code::{FlatProgram, Span};
 use mc_model::run::Stop;
 use mc_values::{Heap, Ref};
 
 /// What an answer of a goal that is run apart means for what is around it.
 #[derive(Clone, Copy)]
-pub enum Around {
+pub enum Continuation {
     /// A condition: the places after its answers, and where it has none.
     Condition(u32, u32),
     /// A condition that had an answer: the place after its answers.
@@ -22,7 +22,7 @@ pub enum Around {
 /// What is around a goal that is run apart: its variables, levels, height, and where its resume points begin.
 #[derive(Drop)]
 pub struct Segment {
-    pub around: Around,
+    pub around: Continuation,
     pub frame: Frame,
     pub level: u64,
     pub height: u32,
@@ -36,12 +36,12 @@ pub enum Point {
     Resume(u32, Frame),
     /// A goal that was run apart and has more resume points: what is around it, its own levels and height, and where its
     /// resume points begin.
-    Held(Around, Frame, u64, u32, usize),
+    Held(Continuation, Frame, u64, u32, usize),
 }
 
 /// What is done next.
 #[derive(Drop)]
-pub enum Now {
+pub enum NextAction {
     At(u32),
     Failing,
     Ended,
@@ -61,24 +61,24 @@ pub struct Control {
     pub level: u64,
     pub height: u32,
     pub budget: u32,
-    pub now: Now,
+    pub now: NextAction,
     pub spare: Vec<Frame>,
 }
 
 /// What stays as it is while a run goes on: the program, its code, Refs of the code's constants, and the head variables of
 /// the run with the insts that they have at an answer.
 #[derive(Drop)]
-pub struct Setting<'p> {
+pub struct RunContext<'p> {
     pub library: Library<'p>,
     pub flat: FlatProgram,
     pub constants: Vec<Ref>,
-    pub head: Part,
-    pub last: Part,
+    pub head: Span,
+    pub last: Span,
 }
 
 /// A run that is under way, with its heap. `refs` is room to work in.
 #[derive(Drop)]
-pub struct Work {
+pub struct RunState {
     pub heap: Heap,
     pub refs: Vec<Ref>,
     pub control: Control,

@@ -1,6 +1,6 @@
 ghost use Rattle.std.specs.Prelude.{◌≡◌, ◌+◌, ◌-◌, ◌<◌, ◌^◌, ℕ, List, length, take, IfOk, IfSome, IsTrue, ◌↔◌, ◌⊎◌};
 
-use crate::hung::hung;
+use crate::replaced_first::replace_first;
 use mc_base::{Copied, Memory, Row, Text};
 use std::alloc::Global;
 
@@ -33,7 +33,7 @@ impl Drop for Expr {
                     drop(args);
                     break 'down;
                 }
-                (part, left) = hung(args, Expr::Con(0, left));
+                (part, left) = replace_first(args, Expr::Con(0, left));
             }
         }
         drop(left);

@@ -5,8 +5,8 @@
 pub mod builtin;
 pub mod copy;
 pub mod expr;
-mod hung;
 pub mod program;
+mod replaced_first;
 pub mod same;
 pub mod ty;
 pub mod value;

@@ -1,6 +1,6 @@
 ghost use Rattle.std.specs.Prelude.{◌≡◌, ◌+◌, ◌-◌, ◌<◌, ◌^◌, ℕ, List, length, take, IfOk, IfSome, IsTrue, ◌↔◌};
 
-use crate::hung::hung;
+use crate::replaced_first::replace_first;
 use mc_base::{Memory, Row};
 use std::alloc::Global;
 
@@ -33,7 +33,7 @@ impl Drop for Ty {
                     drop(args);
                     break 'down;
                 }
-                (part, left) = hung(args, Ty::Union(0, left));
+                (part, left) = replace_first(args, Ty::Union(0, left));
             }
         }
         drop(left);

@@ -1,6 +1,6 @@
 ghost use Rattle.std.specs.Prelude.{◌≡◌, ℕ, List, IfSome};
 
-use crate::hung::hung;
+use crate::replaced_first::replace_first;
 use mc_base::{Row, Text};
 
 /// A value of a run. (Mercury Language Reference Manual, chapters Types and Semantics.)
@@ -35,7 +35,7 @@ impl Drop for Value {
                     drop(args);
                     break 'down;
                 }
-                (value, left) = hung(args, Value::Con(0, left));
+                (value, left) = replace_first(args, Value::Con(0, left));
             }
         }
         drop(left);

@@ -16,7 +16,7 @@ use Rattle.mc_insts.proofs.Growth.{extends_length, extends_get}
 use Rattle.mc_inst_table.specs.declared.inst.Functor.{Functor as Listed}
 use Rattle.mc_inst_table.specs.declared.inst.Inst.{Inst}
 use Rattle.mc_inst_table.specs.Plain.{plain_functor, plain_inst}
-use Rattle.mc_signatures.specs.declared.keys.Named.{Named}
+use Rattle.mc_signatures.specs.declared.keys.ListedFunctor.{ListedFunctor}
 use Rattle.mc_signatures.specs.declared.keys.InstKey.{InstKey}
 use Rattle.mc_signatures.specs.declared.rows.Step.{Step}
 use Rattle.mc_signatures.specs.declared.rows.Step.TheVariants as S
@@ -26,7 +26,7 @@ use Rattle.mc_signatures.proofs.Expanding.{below_later, terms_later, inst_on, bu
 use Rattle.mc_signatures.proofs.Meaning.{below_take, below_drop}
 
 -- CONSTRUCTORS, one behind another: what is chosen for those that are left makes all of them.
-abbrev pub Goes_on : List Named → (listed : List ℕ) → (done rest : ℕ) → List PlainChoice → Type 0
+abbrev pub Goes_on : List ListedFunctor → (listed : List ℕ) → (done rest : ℕ) → List PlainChoice → Type 0
 Goes_on named listed n rest cs =
     (ds : List PlainChoice) → Chosen (map functor_of (drop n named)) (drop rest listed) ds
     → Chosen (map functor_of named) listed (cs ++ ds)
@@ -34,18 +34,18 @@ Goes_on named listed n rest cs =
 map_push : (cs : List Choice) (c : Choice) → map plain_choice (cs ++ c ∷ []) ≡ map plain_choice cs ++ plain_choice c ∷ []
 map_push cs c = map-append plain_choice cs (c ∷ [])
 
-pub goes_on_first : (named : List Named) (listed : List ℕ) → Goes_on named listed 0 0 []
+pub goes_on_first : (named : List ListedFunctor) (listed : List ℕ) → Goes_on named listed 0 0 []
 goes_on_first named listed ds chosen = chosen
 
 pub goes_on_more :
-    (named : List Named) (listed : List ℕ) (n rest end : ℕ) (f : Named) (cs : List PlainChoice) (c : PlainChoice)
+    (named : List ListedFunctor) (listed : List ℕ) (n rest end : ℕ) (f : ListedFunctor) (cs : List PlainChoice) (c : PlainChoice)
     → n < length named → f ≡ get_or named n f → end ≡ rest + f.arity
     → length c.args ≡ f.arity → IsChoice (functor_of f) (take f.arity (drop rest listed)) c
     → Goes_on named listed n rest cs → Goes_on named listed (n + 1) end (cs ++ c ∷ [])
 goes_on_more named listed n rest end f cs c lt at is_end count is before ds chosen =
-    let split : drop n named ≡ get_or named n f ∷ drop (n + 1) named = at_drop_more (λ (us : List Named). us) named n f lt in
+    let split : drop n named ≡ get_or named n f ∷ drop (n + 1) named = at_drop_more (λ (us : List ListedFunctor). us) named n f lt in
     let front : map functor_of (drop n named) ≡ functor_of f ∷ map functor_of (drop (n + 1) named) =
-    ap (map functor_of) split ∙ ap (λ (u : Named). functor_of u ∷ map functor_of (drop (n + 1) named)) (sym at) in
+    ap (map functor_of) split ∙ ap (λ (u : ListedFunctor). functor_of u ∷ map functor_of (drop (n + 1) named)) (sym at) in
     let behind : drop f.arity (drop rest listed) ≡ drop end listed = drop-drop f.arity rest listed ∙ ap (λ k. drop k listed) (sym is_end) in
     let one : Chosen (functor_of f ∷ map functor_of (drop (n + 1) named)) (drop rest listed) (c ∷ ds) = (
       is.name,
@@ -59,7 +59,7 @@ goes_on_more named listed n rest end f cs c lt at is_end count is before ds chos
 
 -- one more constructor, with the insts between two places
 pub goes_on_step :
-    (named : List Named) (listed : List ℕ) (n rest end : ℕ) (f : Named) (cs all : List Choice) (c : Choice)
+    (named : List ListedFunctor) (listed : List ℕ) (n rest end : ℕ) (f : ListedFunctor) (cs all : List Choice) (c : Choice)
     → n < length named → f ≡ get_or named n f → end ≡ rest + f.arity → end ≤ length listed
     → IsChoice (functor_of f) (slice_range listed rest end) (plain_choice c) → all ≡ cs ++ c ∷ []
     → Goes_on named listed n rest (map plain_choice cs) → Goes_on named listed (n + 1) end (map plain_choice all)
@@ -84,12 +84,12 @@ none_behind [] = refl
 none_behind (c ∷ cs) = ap (λ ds. c ∷ ds) (none_behind cs)
 
 pub goes_on_last :
-    (named : List Named) (listed : List ℕ) (n rest : ℕ) (cs : List PlainChoice)
+    (named : List ListedFunctor) (listed : List ℕ) (n rest : ℕ) (cs : List PlainChoice)
     → length named ≤ n → length listed ≤ rest → Goes_on named listed n rest cs
     → Chosen (map functor_of named) listed cs
 goes_on_last named listed n rest cs all none goes =
     let here : Chosen (map functor_of (drop n named)) (drop rest listed) [] =
-    subst (λ (us : List Named). Chosen (map functor_of us) (drop rest listed) []) (sym (drop_past n named all))
+    subst (λ (us : List ListedFunctor). Chosen (map functor_of us) (drop rest listed) []) (sym (drop_past n named all))
     (subst (λ ks. Chosen [] ks []) (sym (drop_past rest listed none)) tt) in
     subst (Chosen (map functor_of named) listed) (none_behind cs) (goes [] here)
 
@@ -254,7 +254,7 @@ rows_fit body ts ds e k lt = row_fits body ts (term_at ts (4 + k)) (definition_a
 -- THE LOOPS over constructors
 
 pub named_more :
-    (ns : List Named) (n : Named) (fs : List Listed) (k : ℕ) (f : Listed)
+    (ns : List ListedFunctor) (n : ListedFunctor) (fs : List Listed) (k : ℕ) (f : Listed)
     → k < length fs → f ≡ get_or fs k f → functor_of n ≡ plain_functor f
     → map functor_of ns ≡ map plain_functor (take k fs)
     → map functor_of (ns ++ n ∷ []) ≡ map plain_functor (take (k + 1) fs)

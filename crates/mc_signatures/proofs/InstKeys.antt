@@ -9,10 +9,10 @@ use Rattle.std.proofs.lemmas.Slice.Eq.{bytes_eq-Decides}
 use Rattle.std.proofs.lemmas.List.{get_or-append-add}
 use Rattle.mc_accepted.specs.InstRules.{Functor, InstTerm, inst_node, defined, bound_over}
 use Rattle.mc_inst_table.specs.Plain.{inst_terms}
-use Rattle.mc_signatures.specs.declared.keys.Named.{Named}
+use Rattle.mc_signatures.specs.declared.keys.ListedFunctor.{ListedFunctor}
 use Rattle.mc_signatures.specs.declared.keys.InstKey.{InstKey}
 use Rattle.mc_signatures.specs.declared.keys.InstKey.TheVariants as K
-use Rattle.mc_signatures.specs.contracts.keys.NamedPartialEq.TheImpl as NamedEq
+use Rattle.mc_signatures.specs.contracts.keys.ListedFunctorPartialEq.TheImpl as NamedEq
 use Rattle.mc_signatures.specs.contracts.keys.InstKeyPartialEq.TheImpl as KeyEq
 use Rattle.mc_insts.specs.code.Lists.{Extends}
 use Rattle.mc_insts.proofs.Growth.{extends_same, extends_on, extends_length, extends_get}
@@ -35,13 +35,13 @@ functor f a = record { name = f; arity = a }
 functors : (f g : List ℕ) (a b : ℕ) → f ≡ g → a ≡ b → functor f a ≡ functor g b
 functors f g a b p q = ap (λ x. functor x a) p ∙ ap (λ x. functor g x) q
 
-same_functor : (x y : Named) → NamedEq.eq-value.it x y ≡ true → functor_of x ≡ functor_of y
+same_functor : (x y : ListedFunctor) → NamedEq.eq-value.it x y ≡ true → functor_of x ≡ functor_of y
 same_functor x y h =
     functors x.name.items y.name.items x.arity y.arity
     ((bytes_eq-Decides x.name.items y.name.items).0 (and_left (bytes_eq x.name.items y.name.items) (nat_eq x.arity y.arity) h))
     (eqb-true x.arity y.arity (and_right (bytes_eq x.name.items y.name.items) (nat_eq x.arity y.arity) h))
 
-same_functors : (xs ys : List Named) → pointwise NamedEq.eq-value.it xs ys ≡ true → map functor_of xs ≡ map functor_of ys
+same_functors : (xs ys : List ListedFunctor) → pointwise NamedEq.eq-value.it xs ys ≡ true → map functor_of xs ≡ map functor_of ys
 same_functors [] [] h = refl
 same_functors [] (y ∷ ys) h = cc
 same_functors (x ∷ xs) [] h = cc

@@ -1,3 +1,6 @@
+pub mod Behind
+pub mod Listed
+pub mod Named
 pub mod InstKeys
 pub mod Expanding
 pub mod Meaning

@@ -6,8 +6,8 @@ use Rattle.mc_program.specs.declared.builtin.Builtin.{Builtin}
 use Rattle.mc_model.specs.declared.inst.ModeDecl.{ModeDecl}
 use Rattle.mc_model.specs.declared.inst.Sig.{Sig}
 use Rattle.mc_inst_table.specs.Written.{ModeTerm}
-use Rattle.mc_declared_modes.specs.declared.written.WrittenMode.{WrittenMode}
-use Rattle.mc_declared_modes.specs.WrittenModes.{PlainMode, plain_written}
+use Rattle.mc_signatures.specs.declared.written.WrittenMode.{WrittenMode}
+use Rattle.mc_signatures.specs.WrittenModes.{PlainMode, plain_written}
 use Rattle.mc_signatures.specs.Signatures.{IsDeclared, number_or_none, next_number, next_behind, AreDeclared, AreSignatures}
 use Rattle.mc_signatures.specs.code.Numbering.{NumberedModes, all_behind, AreBefore}
 use Rattle.mc_signatures.proofs.Following.{taken_more, each_means_on}

@@ -9,7 +9,7 @@ use Rattle.mc_names.specs.Linked.{Linked}
 use Rattle.mc_insts.specs.Defining.{IsNode}
 use Rattle.mc_inst_table.specs.Written.{ModeTerm}
 use Rattle.mc_inst_table.specs.Rules.{inst_bodies}
-use Rattle.mc_declared_modes.specs.WrittenModes.{PlainMode}
+use Rattle.mc_signatures.specs.WrittenModes.{PlainMode}
 use Rattle.mc_signatures.specs.MeantModes.{MeansMode}
 use Rattle.mc_signatures.specs.Signatures.{EachMeans, IsDeclared, number_or_none, next_number, next_behind, AreDeclared, AreSignatures}
 use Rattle.mc_signatures.specs.code.Definitions.{GoesBetween}

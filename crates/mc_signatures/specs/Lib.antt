@@ -1,4 +1,5 @@
+pub mod WrittenModes
+pub mod code
 pub mod MeantInsts
 pub mod MeantModes
 pub mod Signatures
-pub mod code

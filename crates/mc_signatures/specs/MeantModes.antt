@@ -1,7 +1,7 @@
 -- What written modes mean: from which node to which, where definitions are followed. (The Mercury
 -- manual: Modes.)
 use Rattle.std.specs.Prelude.{◌≡◌, ℕ, slice_get, List, Option, Some, None}
-use Rattle.mc_names.specs.Linked.{Defined, Linked, home}
+use Rattle.mc_names.specs.Linked.{Defined, Linked, defining_module}
 use Rattle.mc_accepted.specs.InstRules.{PlainInstDef, InstTerm, InstTerms, over, each_over}
 use Rattle.mc_inst_table.specs.Written.{ModeTerm, from_to, defined_mode}
 use Rattle.mc_inst_table.specs.Rules.{inst_bodies, mode_body_by}
@@ -10,7 +10,7 @@ use Rattle.mc_signatures.specs.MeantInsts.{IsMeant}
 -- what the mode definitions stand for, over their parameters, each as its own module writes it
 abbrev pub mode_body_of : Linked → Option Defined → Option ModeTerm
 mode_body_of l None = None
-mode_body_of l (Some d) = mode_body_by l (home l d) d.item
+mode_body_of l (Some d) = mode_body_by l (defining_module l d) d.item
 
 abbrev pub mode_bodies : Linked → ℕ → Option ModeTerm
 mode_bodies l k = mode_body_of l (slice_get l.modes k)

@@ -9,7 +9,7 @@ use Rattle.mc_program.specs.PlainPrograms.{plain_pred, no_pred}
 use Rattle.mc_model.specs.declared.inst.ModeDecl.{ModeDecl}
 use Rattle.mc_model.specs.declared.inst.Sig.{Sig}
 use Rattle.mc_inst_table.specs.Written.{ModeTerm}
-use Rattle.mc_declared_modes.specs.WrittenModes.{PlainMode}
+use Rattle.mc_signatures.specs.WrittenModes.{PlainMode}
 
 -- THE NUMBERS of procedures: a mode of a builtin has none, and the number 0 stands there.
 

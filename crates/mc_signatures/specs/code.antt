@@ -1,3 +1,5 @@
+pub mod ByName
+pub mod Callables
 pub mod Keys
 pub mod Rows
 pub mod Definitions

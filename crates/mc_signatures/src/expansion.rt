@@ -5,7 +5,7 @@ ghost use Rattle.mc_inst_table.specs.Plain.{plain_functor, plain_inst};
 ghost use Rattle.mc_signatures.specs.declared.keys.InstKey.{InstKey};
 ghost use Rattle.mc_signatures.specs.code.Keys.{terms, terms_at, functor_of, AllBelow, IsInst, AreInsts, with_insts};
 
-use crate::keys::{InstKey, InstSet, Named};
+use crate::keys::{InstKey, InstSet, ListedFunctor};
 use mc_base::Memory;
 use mc_inst_table::{Functor, Inst};
 use std::alloc::Global;
@@ -96,14 +96,14 @@ fn builtin(node: u32) -> Result<u32, Memory>
 
 // Constructors as they stand in a key.
 #[tactic(auto, using(crate::proofs::Choosing::named_more))]
-fn named(alloc: Global, functors: &[Functor]) -> Result<Vec<Named>, Memory>
+fn named(alloc: Global, functors: &[Functor]) -> Result<Vec<ListedFunctor>, Memory>
     ensures { IfOk result
         (λ named. map functor_of named.items ≡ map plain_functor functors.now) }
 {
     let mut named = Vec::with_capacity(alloc, functors.len())?;
     for functor in functors {
         let name = Vec::from_slice(alloc, functor.name.bytes())?;
-        named.push(Named {
+        named.push(ListedFunctor {
             name,
             arity: functor.arity,
         })?;

@@ -9,7 +9,7 @@ use std::marker::Model;
 
 /// A constructor that an inst lists, by its name and its number of arguments.
 #[derive(Debug, PartialEq, Eq, Hash, Drop)]
-pub struct Named {
+pub struct ListedFunctor {
     pub name: Vec<u8>,
     pub arity: u32,
 }
@@ -20,7 +20,7 @@ pub enum InstKey {
     /// A definition, by its number, over insts.
     Defined(u32, Vec<u32>),
     /// Constructors that are listed, and the insts of the arguments of all of them, one behind another.
-    Listed(Vec<Named>, Vec<u32>),
+    Listed(Vec<ListedFunctor>, Vec<u32>),
 }
 
 /// Insts, each once, by their numbers: below 4 the builtin ones, behind them one for each key. The arguments of an inst

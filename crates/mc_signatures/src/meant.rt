@@ -12,7 +12,7 @@ use crate::keys::InstSet;
 use mc_base::{Memory, Row};
 use mc_decl_syntax::Decl;
 use mc_inst_table::{Inst, Mode, inst_bodies, mode_of_term};
-use mc_names::{Named, Names, home, parameters_of};
+use mc_names::{Named, Names, defining_module, parameters_of};
 use std::alloc::Global;
 
 /// The definitions of insts and modes of a program, by which written modes mean something.
@@ -139,6 +139,12 @@ fn mode_body(alloc: Global, names: &Names, named: &Named) -> Result<Option<Mode>
         return Ok(None);
     };
     let variables = parameters_of(alloc, head)?;
-    let mode = mode_of_term(alloc, names, home(names, named), variables.as_slice(), mode)?;
+    let mode = mode_of_term(
+        alloc,
+        names,
+        defining_module(names, named),
+        variables.as_slice(),
+        mode,
+    )?;
     Ok(Some(mode))
 }

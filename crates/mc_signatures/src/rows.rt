@@ -7,7 +7,7 @@ ghost use Rattle.mc_signatures.specs.code.Keys.{terms, term_at, functor_of};
 ghost use Rattle.mc_signatures.specs.code.Rows.{reference, Chosen, IsChoice, NoneSame, AreUnlisted, IsRow, IsExpanded, BodiesAre, StepIs};
 
 use crate::expansion::expanded;
-use crate::keys::{InstKey, InstSet, Named};
+use crate::keys::{InstKey, InstSet, ListedFunctor};
 use mc_base::{Memory, Row, Text};
 use mc_inst_table::Inst;
 use mc_insts::InstDef;
@@ -108,7 +108,7 @@ pub fn reference(number: u32) -> InstRef
 }
 
 // Constructors with the insts of their arguments, which stand one behind another.
-fn choices(alloc: Global, named: &[Named], listed: &[u32]) -> Result<Row<Choice>, Memory>
+fn choices(alloc: Global, named: &[ListedFunctor], listed: &[u32]) -> Result<Row<Choice>, Memory>
     ensures chosen { IfOk result
         (λ choices. Chosen (map functor_of named.now) listed.now (map plain_choice choices)) }
     ensures unlisted { IfOk result (λ choices. AreUnlisted (map plain_choice choices)) }
@@ -143,7 +143,7 @@ fn behind(start: usize, more: u32, length: usize) -> Result<usize, Memory>
 
 // A constructor over insts.
 #[tactic(auto, using(crate::proofs::Choosing::references_more))]
-fn choice(alloc: Global, functor: &Named, listed: &[u32]) -> Result<Choice, Memory>
+fn choice(alloc: Global, functor: &ListedFunctor, listed: &[u32]) -> Result<Choice, Memory>
     ensures { IfOk result (λ c. IsChoice (functor_of functor.now) listed.now (plain_choice c)) }
 {
     let name = Text::new(alloc, functor.name.as_slice())?;

@@ -1,6 +1,6 @@
 -- What a goal is as a branch and as a condition, by its form.
 use Rattle.std.proofs.Common.{◌≡◌, ℕ, ◌<◌, Bool, true, false, List, [], ◌∷◌, length, map, refl, arith}
-use Rattle.mc_term_data.specs.Plain.{PlainTerm, PlainTerms, at, no_term, more_terms, plain_term, tms}
+use Rattle.mc_term_data.specs.Plain.{PlainTerm, PlainTerms, at, no_term, more_terms, plain_term, term_list}
 use Rattle.mc_term_data.specs.declared.term.Term.{Term}
 use Rattle.mc_clause_syntax.specs.declared.goal_form.GoalForm.{GoalForm}
 use Rattle.mc_clause_syntax.specs.declared.goal_form.GoalForm.TheVariants as G
@@ -74,35 +74,35 @@ no_conditional_form G.Unification us w l ts gs h0 h1 h2 = refl
 no_conditional_form G.Disunification us w l ts gs h0 h1 h2 = refl
 no_conditional_form G.Call us w l ts gs h0 h1 h2 = refl
 
-pub short_arrow_branch : (us : List (List ℕ)) (w : List (List ℕ)) (l : ℕ) (ts : List Term) → length ts < 2 → (branch_of l (goal_by G.Arrow us w l (tms (map plain_term ts)) (goals_of (tms (map plain_term ts)))).part).writing ≡ (goal_by G.Arrow us w l (tms (map plain_term ts)) (goals_of (tms (map plain_term ts)))).branch.writing
+pub short_arrow_branch : (us : List (List ℕ)) (w : List (List ℕ)) (l : ℕ) (ts : List Term) → length ts < 2 → (branch_of l (goal_by G.Arrow us w l (term_list (map plain_term ts)) (goals_of (term_list (map plain_term ts)))).part).writing ≡ (goal_by G.Arrow us w l (term_list (map plain_term ts)) (goals_of (term_list (map plain_term ts)))).branch.writing
 short_arrow_branch us w l [] h = refl
 short_arrow_branch us w l (t ∷ []) h = refl
 short_arrow_branch us w l (t ∷ u ∷ ts) h = absurd (omega arith)
 
-pub short_arrow : (us : List (List ℕ)) (w : List (List ℕ)) (l : ℕ) (ts : List Term) → length ts < 2 → false ≡ (goal_by G.Arrow us w l (tms (map plain_term ts)) (goals_of (tms (map plain_term ts)))).is_conditional
+pub short_arrow : (us : List (List ℕ)) (w : List (List ℕ)) (l : ℕ) (ts : List Term) → length ts < 2 → false ≡ (goal_by G.Arrow us w l (term_list (map plain_term ts)) (goals_of (term_list (map plain_term ts)))).is_conditional
 short_arrow us w l [] h = refl
 short_arrow us w l (t ∷ []) h = refl
 short_arrow us w l (t ∷ u ∷ ts) h = absurd (omega arith)
 
-pub short_then_branch : (us : List (List ℕ)) (w : List (List ℕ)) (l : ℕ) (ts : List Term) → length ts < 2 → (branch_of l (goal_by G.Then us w l (tms (map plain_term ts)) (goals_of (tms (map plain_term ts)))).part).writing ≡ (goal_by G.Then us w l (tms (map plain_term ts)) (goals_of (tms (map plain_term ts)))).branch.writing
+pub short_then_branch : (us : List (List ℕ)) (w : List (List ℕ)) (l : ℕ) (ts : List Term) → length ts < 2 → (branch_of l (goal_by G.Then us w l (term_list (map plain_term ts)) (goals_of (term_list (map plain_term ts)))).part).writing ≡ (goal_by G.Then us w l (term_list (map plain_term ts)) (goals_of (term_list (map plain_term ts)))).branch.writing
 short_then_branch us w l [] h = refl
 short_then_branch us w l (t ∷ []) h = refl
 short_then_branch us w l (t ∷ u ∷ ts) h = absurd (omega arith)
 
-pub short_then : (us : List (List ℕ)) (w : List (List ℕ)) (l : ℕ) (ts : List Term) → length ts < 2 → false ≡ (goal_by G.Then us w l (tms (map plain_term ts)) (goals_of (tms (map plain_term ts)))).is_conditional
+pub short_then : (us : List (List ℕ)) (w : List (List ℕ)) (l : ℕ) (ts : List Term) → length ts < 2 → false ≡ (goal_by G.Then us w l (term_list (map plain_term ts)) (goals_of (term_list (map plain_term ts)))).is_conditional
 short_then us w l [] h = refl
 short_then us w l (t ∷ []) h = refl
 short_then us w l (t ∷ u ∷ ts) h = absurd (omega arith)
 
-pub short_if_branch : (us : List (List ℕ)) (w : List (List ℕ)) (l : ℕ) (ts : List Term) → length ts < 1 → (branch_of l (goal_by G.If us w l (tms (map plain_term ts)) (goals_of (tms (map plain_term ts)))).part).writing ≡ (goal_by G.If us w l (tms (map plain_term ts)) (goals_of (tms (map plain_term ts)))).branch.writing
+pub short_if_branch : (us : List (List ℕ)) (w : List (List ℕ)) (l : ℕ) (ts : List Term) → length ts < 1 → (branch_of l (goal_by G.If us w l (term_list (map plain_term ts)) (goals_of (term_list (map plain_term ts)))).part).writing ≡ (goal_by G.If us w l (term_list (map plain_term ts)) (goals_of (term_list (map plain_term ts)))).branch.writing
 short_if_branch us w l [] h = refl
 short_if_branch us w l (t ∷ ts) h = absurd (omega arith)
 
-pub short_if : (us : List (List ℕ)) (w : List (List ℕ)) (l : ℕ) (ts : List Term) → length ts < 1 → false ≡ (goal_by G.If us w l (tms (map plain_term ts)) (goals_of (tms (map plain_term ts)))).is_conditional
+pub short_if : (us : List (List ℕ)) (w : List (List ℕ)) (l : ℕ) (ts : List Term) → length ts < 1 → false ≡ (goal_by G.If us w l (term_list (map plain_term ts)) (goals_of (term_list (map plain_term ts)))).is_conditional
 short_if us w l [] h = refl
 short_if us w l (t ∷ ts) h = absurd (omega arith)
 
-pub short_condition : (us : List (List ℕ)) (w : List (List ℕ)) (l : ℕ) (ts : List Term) → length ts < 2 → unquantified (goal_by G.Existential us w l (tms (map plain_term ts)) (goals_of (tms (map plain_term ts)))).part ≡ (goal_by G.Existential us w l (tms (map plain_term ts)) (goals_of (tms (map plain_term ts)))).condition
+pub short_condition : (us : List (List ℕ)) (w : List (List ℕ)) (l : ℕ) (ts : List Term) → length ts < 2 → unquantified (goal_by G.Existential us w l (term_list (map plain_term ts)) (goals_of (term_list (map plain_term ts)))).part ≡ (goal_by G.Existential us w l (term_list (map plain_term ts)) (goals_of (term_list (map plain_term ts)))).condition
 short_condition us w l [] h = refl
 short_condition us w l (t ∷ []) h = refl
 short_condition us w l (t ∷ u ∷ ts) h = absurd (omega arith)

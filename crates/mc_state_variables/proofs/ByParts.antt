@@ -2,7 +2,7 @@
 use Rattle.std.proofs.Common.{◌≡◌, ℕ, ◌≤◌, ◌<◌, ◌+◌, Bool, true, List, [], ◌∷◌, length, map, drop, get_or, refl, ap, ap₂, sym, ◌∙◌, arith}
 use Rattle.std.proofs.lemmas.Grind.{common_steps}
 use denote.Param.Weighed.{most}
-use Rattle.mc_term_data.specs.Plain.{PlainTerm, PlainTerms, at, App, plain_term, tms}
+use Rattle.mc_term_data.specs.Plain.{PlainTerm, PlainTerms, at, App, plain_term, term_list}
 use Rattle.mc_term_data.specs.Names.{count}
 use Rattle.mc_term_data.specs.declared.term.Term.{Term, size-Term}
 use Rattle.mc_term_data.specs.declared.term.Node.{size-Node}
@@ -25,24 +25,24 @@ two_items (t ∷ []) a b h e f = absurd (omega arith)
 two_items (t ∷ u ∷ ts) a b h e f = ap₂ (λ x y. x ∷ y ∷ ts) (sym e) (sym f)
 
 -- what a name over parts is, in its form
-in_form : (t : Term) (w : List (List ℕ)) (xs : List Term) (f : GoalForm) → t.node ≡ N.App w xs → goal_form w (count (tms (map plain_term xs))) ≡ f
-    → goal_of (plain_term t) ≡ goal_by f (updated (at (App w (tms (map plain_term xs))) t.line)) w t.line (tms (map plain_term xs)) (goals_of (tms (map plain_term xs)))
+in_form : (t : Term) (w : List (List ℕ)) (xs : List Term) (f : GoalForm) → t.node ≡ N.App w xs → goal_form w (count (term_list (map plain_term xs))) ≡ f
+    → goal_of (plain_term t) ≡ goal_by f (updated (at (App w (term_list (map plain_term xs))) t.line)) w t.line (term_list (map plain_term xs)) (goals_of (term_list (map plain_term xs)))
 in_form t w xs f n e =
     ap goal_of (plain_app t w xs n)
-    ∙ ap (λ g. goal_by g (updated (at (App w (tms (map plain_term xs))) t.line)) w t.line (tms (map plain_term xs)) (goals_of (tms (map plain_term xs)))) e
+    ∙ ap (λ g. goal_by g (updated (at (App w (term_list (map plain_term xs))) t.line)) w t.line (term_list (map plain_term xs)) (goals_of (term_list (map plain_term xs)))) e
 
 -- a condition that has the form of a quantified one, with too few parts or with both
-pub short_is_whole : (t : Term) (w : List (List ℕ)) (xs : List Term) → t.node ≡ N.App w xs → goal_form w (count (tms (map plain_term xs))) ≡ G.Existential → length xs < 2
+pub short_is_whole : (t : Term) (w : List (List ℕ)) (xs : List Term) → t.node ≡ N.App w xs → goal_form w (count (term_list (map plain_term xs))) ≡ G.Existential → length xs < 2
     → unquantified (goal_of (plain_term t)).part ≡ (goal_of (plain_term t)).condition
 short_is_whole t w xs n e h =
     let is = in_form t w xs G.Existential n e in
-    ap (λ (g : Goal). unquantified g.part) is ∙ short_condition (updated (at (App w (tms (map plain_term xs))) t.line)) w t.line xs h ∙ ap (λ (g : Goal). g.condition) (sym is)
+    ap (λ (g : Goal). unquantified g.part) is ∙ short_condition (updated (at (App w (term_list (map plain_term xs))) t.line)) w t.line xs h ∙ ap (λ (g : Goal). g.condition) (sym is)
 
-pub both_are_quantified : (t : Term) (w : List (List ℕ)) (xs rest : List Term) (q g : Term) → t.node ≡ N.App w xs → goal_form w (count (tms (map plain_term xs))) ≡ G.Existential → xs ≡ q ∷ g ∷ rest
+pub both_are_quantified : (t : Term) (w : List (List ℕ)) (xs rest : List Term) (q g : Term) → t.node ≡ N.App w xs → goal_form w (count (term_list (map plain_term xs))) ≡ G.Existential → xs ≡ q ∷ g ∷ rest
     → quantified_condition t.line (plain_term q) (goal_of (plain_term g)).part ≡ (goal_of (plain_term t)).condition
 both_are_quantified t w xs rest q g n e h =
-    let us = updated (at (App w (tms (map plain_term xs))) t.line) in
-    ap (λ (ys : List Term). (goal_by G.Existential us w t.line (tms (map plain_term ys)) (goals_of (tms (map plain_term ys)))).condition) (sym h)
+    let us = updated (at (App w (term_list (map plain_term xs))) t.line) in
+    ap (λ (ys : List Term). (goal_by G.Existential us w t.line (term_list (map plain_term ys)) (goals_of (term_list (map plain_term ys)))).condition) (sym h)
     ∙ ap (λ (d : Goal). d.condition) (sym (in_form t w xs G.Existential n e))
 
 pub smaller_more : (b : Branch) (m n : ℕ) → m ≤ n → IsSmaller b m → IsSmaller b n

@@ -1,6 +1,6 @@
 -- A clause by its head and body, and a head by the goals behind it.
 use Rattle.std.proofs.Common.{◌≡◌, ℕ, ◌≤◌, List, [], ◌∷◌, ◌++◌, Some, None, length, refl, ap, sym, ◌∙◌, arith, codes, length-append}
-use Rattle.mc_term_data.specs.Plain.{PlainTerm, at, no_term, Conj, plain_term, tms}
+use Rattle.mc_term_data.specs.Plain.{PlainTerm, at, no_term, Conj, plain_term, term_list}
 use Rattle.mc_term_data.specs.declared.term.Term.{Term}
 use Rattle.mc_term_data.specs.Shapes.{operands}
 use Rattle.mc_clause_syntax.specs.States.{states_of}
@@ -20,11 +20,11 @@ pub clause_is_fact : (t : Term) (r : PlainTerm) → None ≡ operands (codes ":-
     → r ≡ numbered_clause (plain_term t)
 clause_is_fact t r o e = e ∙ ap (clause_of (plain_term t)) o
 
-pub many_goals : (l : ℕ) (h b : PlainTerm) (goals : List PlainTerm) → 2 ≤ length goals → b ≡ at (Conj (tms goals)) l → rule_of l h b ≡ fact_of l h (tms goals)
+pub many_goals : (l : ℕ) (h b : PlainTerm) (goals : List PlainTerm) → 2 ≤ length goals → b ≡ at (Conj (term_list goals)) l → rule_of l h b ≡ fact_of l h (term_list goals)
 many_goals l h b [] n e = absurd (omega arith)
 many_goals l h b (g ∷ []) n e = absurd (omega arith)
 many_goals l h b (g ∷ k ∷ goals) n e = ap (rule_of l h) e
 
-pub one_goal : (l : ℕ) (h g : PlainTerm) (goals left : List PlainTerm) → goals ≡ left ++ g ∷ [] → length goals ≤ 1 → rule_of l h g ≡ fact_of l h (tms goals)
-one_goal l h g goals [] e n = ap (λ gs. fact_of l h (tms gs)) (sym e)
+pub one_goal : (l : ℕ) (h g : PlainTerm) (goals left : List PlainTerm) → goals ≡ left ++ g ∷ [] → length goals ≤ 1 → rule_of l h g ≡ fact_of l h (term_list goals)
+one_goal l h g goals [] e n = ap (λ gs. fact_of l h (term_list gs)) (sym e)
 one_goal l h g goals (k ∷ left) e n = absurd (omega (arith, ap length e, length-append left (g ∷ [])))

@@ -2,7 +2,7 @@
 use Rattle.std.proofs.Common.{◌≡◌, ℕ, suc, List, [], ◌∷◌, ◌++◌, map, reverse, drop, length, ◌≤◌, ap, sym, refl, ◌∙◌, Result, Ok, Err, IfOk, append_assoc, Bor}
 use Rattle.std.proofs.lemmas.List.{append-nil, drop_all, map-append}
 use Rattle.std.proofs.lemmas.Grind.{reverse_onto}
-use Rattle.mc_term_data.specs.Plain.{PlainTerm, PlainTerms, no_term, more_terms, plain_term, tms}
+use Rattle.mc_term_data.specs.Plain.{PlainTerm, PlainTerms, no_term, more_terms, plain_term, term_list}
 use Rattle.mc_term_data.specs.declared.term.Term.{Term}
 use Rattle.mc_clause_syntax.specs.States.{names_of}
 use Rattle.mc_state_variables.specs.declared.held.Held.{Held}
@@ -40,16 +40,16 @@ terms-pushed (s ∷ ts) t = ap (λ us. plain_term s ∷ us) (terms-pushed ts t)
 pub terms-appended : (xs ys zs : List PlainTerm) → (xs ++ ys) ++ zs ≡ xs ++ (ys ++ zs)
 terms-appended = append_assoc
 
-pub terms-listed : (ts : PlainTerms) → tms (listed ts) ≡ ts
+pub terms-listed : (ts : PlainTerms) → term_list (listed ts) ≡ ts
 terms-listed no_term = refl
 terms-listed (more_terms t ts) = ap (λ us. more_terms t us) (terms-listed ts)
 
 -- terms that are these as a list
-pub terms_from_list : (ts : List PlainTerm) (us : PlainTerms) → ts ≡ listed us → tms ts ≡ us
-terms_from_list ts us e = ap tms e ∙ terms-listed us
+pub terms_from_list : (ts : List PlainTerm) (us : PlainTerms) → ts ≡ listed us → term_list ts ≡ us
+terms_from_list ts us e = ap term_list e ∙ terms-listed us
 
 -- a row of such terms
-pub row_from_list : {E : Type 0} (r : Result (List Term) E) (ts : List Term) (us : PlainTerms) → IfOk r (λ row. row ≡ ts) → map plain_term ts ≡ listed us → IfOk r (λ row. tms (map plain_term row) ≡ us)
+pub row_from_list : {E : Type 0} (r : Result (List Term) E) (ts : List Term) (us : PlainTerms) → IfOk r (λ row. row ≡ ts) → map plain_term ts ≡ listed us → IfOk r (λ row. term_list (map plain_term row) ≡ us)
 row_from_list (Ok row) ts us e f = terms_from_list (map plain_term row) us (ap (map plain_term) e ∙ f)
 row_from_list (Err x) ts us e f = tt
 
@@ -58,7 +58,7 @@ pub none_left : (xs : List PlainTerm) (i : ℕ) (ts : List Term) (f : List Term 
 none_left xs i ts f h e all =
     let end : drop i ts ≡ [] = drop_all i ts h in sym (append-nil xs) ∙ ap (λ ys. xs ++ ys) (sym e ∙ ap f (sym end)) ∙ all
 
-pub listed_terms : (ts : List PlainTerm) → listed (tms ts) ≡ ts
+pub listed_terms : (ts : List PlainTerm) → listed (term_list ts) ≡ ts
 listed_terms [] = refl
 listed_terms (t ∷ ts) = ap (λ us. t ∷ us) (listed_terms ts)
 

@@ -1,6 +1,6 @@
 -- Names over fewer parts than their forms have.
 use Rattle.std.proofs.Common.{◌≡◌, ℕ, ◌<◌, Bool, true, false, List, [], ◌∷◌, length, map, refl, arith}
-use Rattle.mc_term_data.specs.Plain.{PlainTerm, at, App, plain_term, tms}
+use Rattle.mc_term_data.specs.Plain.{PlainTerm, at, App, plain_term, term_list}
 use Rattle.mc_term_data.specs.declared.term.Term.{Term}
 use Rattle.mc_clause_syntax.specs.declared.goal_form.GoalForm.{GoalForm}
 use Rattle.mc_clause_syntax.specs.declared.goal_form.GoalForm.TheVariants as G
@@ -25,7 +25,7 @@ has_one _ = false
 
 -- such a name stays what it is
 pub short_of_two : (f : GoalForm) (w : List (List ℕ)) (l : ℕ) (ts : List Term) (hs : List Held) (n : ℕ) → has_two f ≡ true → length ts < 2
-    → written (at (App w (tms (map plain_term ts))) l) n ≡ written_goal f w l (tms (map plain_term ts)) hs n
+    → written (at (App w (term_list (map plain_term ts))) l) n ≡ written_goal f w l (term_list (map plain_term ts)) hs n
 short_of_two G.True w l ts hs n e h = cc
 short_of_two G.Fail w l ts hs n e h = cc
 short_of_two G.Conjunction w l ts hs n e h = cc
@@ -59,7 +59,7 @@ short_of_two G.Disunification w l ts hs n e h = cc
 short_of_two G.Call w l ts hs n e h = cc
 
 pub short_of_one : (f : GoalForm) (w : List (List ℕ)) (l : ℕ) (ts : List Term) (hs : List Held) (n : ℕ) → has_one f ≡ true → length ts < 1
-    → written (at (App w (tms (map plain_term ts))) l) n ≡ written_goal f w l (tms (map plain_term ts)) hs n
+    → written (at (App w (term_list (map plain_term ts))) l) n ≡ written_goal f w l (term_list (map plain_term ts)) hs n
 short_of_one G.True w l ts hs n e h = cc
 short_of_one G.Fail w l ts hs n e h = cc
 short_of_one G.Conjunction w l ts hs n e h = cc

@@ -2,7 +2,7 @@
 use Rattle.std.proofs.Common.{◌≡◌, ℕ, Bool, true, false, not, ◌&&◌, ◌≤◌, List, [], ◌∷◌, ◌++◌, Option, Some, None, length, map, refl, ap, ap₂, sym, ◌∙◌, arith}
 use Rattle.std.specs.Prelude.{◌↔◌, IsTrue, codes}
 use Rattle.mc_base.proofs.Booleans.{left_true, right_true}
-use Rattle.mc_term_data.specs.Plain.{PlainTerm, PlainTerms, at, no_term, more_terms, App, Items, Tailed, Conj, Disj, plain_term, tms}
+use Rattle.mc_term_data.specs.Plain.{PlainTerm, PlainTerms, at, no_term, more_terms, App, Items, Tailed, Conj, Disj, plain_term, term_list}
 use Rattle.mc_term_data.specs.declared.term.Term.{Term}
 use Rattle.mc_term_data.specs.Names.{found}
 use Rattle.mc_term_data.specs.Shapes.{operands}
@@ -21,7 +21,7 @@ nothing_named (Some f) = refl
 
 pub several_are_none :
     (w : List (List ℕ)) (ts : List Term)
-    → 2 ≤ length ts → true ≡ not (is_state w (tms (map plain_term ts)))
+    → 2 ≤ length ts → true ≡ not (is_state w (term_list (map plain_term ts)))
 several_are_none w [] h = absurd (omega arith)
 several_are_none w (t ∷ []) h = absurd (omega arith)
 several_are_none [] (t ∷ u ∷ ts) h = refl

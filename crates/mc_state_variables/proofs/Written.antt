@@ -2,7 +2,7 @@
 use Rattle.std.proofs.Common.{◌≡◌, ℕ, ◌≤◌, ◌<◌, Bool, true, false, List, [], ◌∷◌, ◌++◌, Option, Some, None, length, map, reverse, refl, ap, ap₂, sym, ◌∙◌, arith, codes, Result, Ok, Err, IfOk}
 use Rattle.std.proofs.lemmas.List.{append-nil}
 use Rattle.mc_base.specs.NameSets.{put_all}
-use Rattle.mc_term_data.specs.Plain.{PlainTerm, PlainTerms, at, no_term, more_terms, App, Conj, plain_term, tms}
+use Rattle.mc_term_data.specs.Plain.{PlainTerm, PlainTerms, at, no_term, more_terms, App, Conj, plain_term, term_list}
 use Rattle.mc_term_data.specs.declared.term.Term.{Term}
 use Rattle.std.specs.Option.{option_map}
 use Rattle.mc_clause_syntax.specs.States.{names_of, quantified, states_of}
@@ -31,13 +31,13 @@ stepwise_none (s ∷ ss) hs n = refl
 -- the goals of a conjunction, where none is left
 pub conjunction_is : (l : ℕ) (ts : PlainTerms) (xs : List PlainTerm) (ss : List Step) (hs behind : List Held) (n m : ℕ)
     → on_text (λ us. xs ++ listed us) (stepwise ss [] behind m) ≡ on_text listed (stepwise (steps_of ts) (goal_parts (goals_of ts)) hs n)
-    → written (at (Conj (tms xs)) l) m ≡ conjunction_of l (goals_of ts) hs n
+    → written (at (Conj (term_list xs)) l) m ≡ conjunction_of l (goals_of ts) hs n
 conjunction_is l ts xs ss hs behind n m e =
     let whole : Written PlainTerms = in_order (goal_parts (goals_of ts)) hs n in
     let all : written (xs ++ []) m ≡ on_text listed whole =
     ap (on_text (λ us. xs ++ listed us)) (sym (stepwise_none ss behind m)) ∙ e ∙ ap (on_text listed) (stepwise_is ts hs n) in
     let text : xs ≡ listed whole.text = sym (append-nil xs) ∙ ap (λ w. w.text) all in
-    let next : m ≡ whole.next = ap (λ w. w.next) all in ap₂ (λ us k. written (at (Conj us) l) k) (ap tms text ∙ terms-listed whole.text) next
+    let next : m ≡ whole.next = ap (λ w. w.next) all in ap₂ (λ us k. written (at (Conj us) l) k) (ap term_list text ∙ terms-listed whole.text) next
 
 pieces_none : (l : ℕ) (ws : List (List (List ℕ))) (xs : List (List ℕ)) (fresh : Bool) (hs : List Held) (n : ℕ) → pieces_of l ws xs fresh [] hs n ≡ written [] n
 pieces_none l [] xs fresh hs n = refl

@@ -1,5 +1,5 @@
 ghost use Rattle.std.specs.Prelude.{◌≡◌, ◌++◌, map, option_map, IfOk};
-ghost use Rattle.mc_term_data.specs.Plain.{PlainTerms, at, App, Tailed, plain_term, tms};
+ghost use Rattle.mc_term_data.specs.Plain.{PlainTerms, at, App, Tailed, plain_term, term_list};
 ghost use Rattle.mc_state_variables.specs.Numbered.{one_version, behind_before, term_of, terms_of};
 ghost use Rattle.mc_state_variables.specs.code.Helds.{plain_helds, listed, maybe_one};
 
@@ -60,7 +60,7 @@ pub fn atom(
     ensures { IfOk result
         (λ text.
         plain_term text
-        ≡ at (App name.now (terms_of (plain_helds held.now) (tms (map plain_term parts.now)))) line) }
+        ≡ at (App name.now (terms_of (plain_helds held.now) (term_list (map plain_term parts.now)))) line) }
 {
     let parts = terms_of(alloc, held, parts)?;
     let name = name.copied(alloc)?;
@@ -83,7 +83,7 @@ fn list_of(
         (λ out.
         plain_term out
         ≡ at
-        (Tailed (terms_of (plain_helds held.now) (tms (map plain_term elements.now))) (term_of (plain_helds held.now) (plain_term tail.now)))
+        (Tailed (terms_of (plain_helds held.now) (term_list (map plain_term elements.now))) (term_of (plain_helds held.now) (plain_term tail.now)))
         line) }
 {
     let elements = terms_of(alloc, held, elements)?;
@@ -111,7 +111,7 @@ fn boxed(alloc: Global, held: &[Held<'_>], term: &Term) -> Result<Box<Term>, Mem
 pub fn terms_of(alloc: Global, held: &[Held<'_>], terms: &[Term]) -> Result<Row<Term>, Memory>
     ensures { IfOk result
         (λ out.
-        tms (map plain_term out) ≡ terms_of (plain_helds held.now) (tms (map plain_term terms.now))) }
+        term_list (map plain_term out) ≡ terms_of (plain_helds held.now) (term_list (map plain_term terms.now))) }
 {
     let mut out = Vec::new(alloc);
     for term in terms {

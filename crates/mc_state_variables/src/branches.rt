@@ -1,6 +1,6 @@
 ghost use Rattle.std.specs.Prelude.{◌≡◌, ℕ, ◌+◌, List, map};
 ghost use denote.Param.Weighed.{most};
-ghost use Rattle.mc_term_data.specs.Plain.{plain_term, tms};
+ghost use Rattle.mc_term_data.specs.Plain.{plain_term, term_list};
 ghost use Rattle.mc_term_data.specs.declared.term.Term.{size-Term};
 ghost use Rattle.mc_state_variables.specs.Numbered.{goal_of, goals_of, goal_by};
 ghost use Rattle.mc_state_variables.specs.code.Branches.{branch_writing, is_conditional_by, IsSmaller};
@@ -39,11 +39,11 @@ pub fn branch_kind(goal: &Term) -> Branch<'_>
 #[tactic(auto, using(crate::proofs::ByForm::by_form))]
 fn kind_by(form: GoalForm, parts: &[Term]) -> Branch<'_>
     ensures same { (us w : List (List ℕ)) (l : ℕ)
-        → branch_writing l (goal_by form us w l (tms (map plain_term parts.now)) (goals_of (tms (map plain_term parts.now)))).part result
-        ≡ (goal_by form us w l (tms (map plain_term parts.now)) (goals_of (tms (map plain_term parts.now)))).branch.writing }
+        → branch_writing l (goal_by form us w l (term_list (map plain_term parts.now)) (goals_of (term_list (map plain_term parts.now)))).part result
+        ≡ (goal_by form us w l (term_list (map plain_term parts.now)) (goals_of (term_list (map plain_term parts.now)))).branch.writing }
     ensures conditional { (us w : List (List ℕ)) (l : ℕ)
         → is_conditional_by result
-        ≡ (goal_by form us w l (tms (map plain_term parts.now)) (goals_of (tms (map plain_term parts.now)))).is_conditional }
+        ≡ (goal_by form us w l (term_list (map plain_term parts.now)) (goals_of (term_list (map plain_term parts.now)))).is_conditional }
     ensures small { IsSmaller result (most size-Term parts.now + 1) }
 {
     match form {

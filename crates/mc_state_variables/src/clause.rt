@@ -1,5 +1,5 @@
 ghost use Rattle.std.specs.Prelude.{◌≡◌, [], map, IfOk};
-ghost use Rattle.mc_term_data.specs.Plain.{plain_term, tms};
+ghost use Rattle.mc_term_data.specs.Plain.{plain_term, term_list};
 ghost use Rattle.mc_state_variables.specs.Versions.{behind, distinct, closings};
 ghost use Rattle.mc_base.specs.NameSets.{put_all};
 ghost use Rattle.mc_clause_syntax.specs.States.{names_of, states_of};
@@ -135,7 +135,7 @@ fn all_closings(
 ) -> Result<Vec<Term>, Memory>
     ensures { IfOk result
         (λ goals.
-        tms (map plain_term goals.items)
+        term_list (map plain_term goals.items)
         ≡ closings (put_all [] (names_of names.now)) [] line (plain_helds held.now)) }
 {
     let wanted = name_set(alloc, names)?;
@@ -146,7 +146,7 @@ fn all_closings(
 // A head with these goals as its body; without goals it is a fact.
 fn with_body(alloc: Global, head: Term, mut goals: Vec<Term>, line: u32) -> Result<Term, Memory>
     ensures { IfOk result
-        (λ fact. plain_term fact ≡ fact_of line (plain_term head) (tms (map plain_term goals.items))) }
+        (λ fact. plain_term fact ≡ fact_of line (plain_term head) (term_list (map plain_term goals.items))) }
 {
     if goals.len() > 1 {
         let body = conjunction_term(goals, line)?;

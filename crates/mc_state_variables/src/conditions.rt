@@ -1,7 +1,7 @@
 ghost use Rattle.std.specs.Prelude.{◌≡◌, ◌≤◌, ◌++◌, [], map, IfOk};
 ghost use Rattle.std.specs.Option.{option_map};
 ghost use Rattle.mc_base.specs.NameSets.{put_all};
-ghost use Rattle.mc_term_data.specs.Plain.{plain_term, tms};
+ghost use Rattle.mc_term_data.specs.Plain.{plain_term, term_list};
 ghost use Rattle.mc_term_data.specs.declared.term.Term.{size-Term};
 ghost use Rattle.mc_clause_syntax.specs.States.{names_of};
 ghost use Rattle.mc_state_variables.specs.Updates.{leave_out, updated};
@@ -11,7 +11,7 @@ ghost use Rattle.mc_state_variables.specs.code.Helds.{plain_helds, listed};
 ghost use Rattle.mc_state_variables.specs.code.Conditions.{condition_by, condition_names, condition_of, IsTried};
 
 use crate::held::{Held, closings_behind};
-use crate::numbering::{Around, Numbering};
+use crate::numbering::{Numbering, ScopeChange};
 use crate::quantifiers::quantified;
 use crate::updates::{push_others, push_updated, updated};
 use mc_base::{Memory, NameSet};
@@ -120,7 +120,7 @@ pub struct Tried<'a> {
     /// what is in scope in it
     pub inside: Vec<Held<'a>>,
     /// the same as its goal is given it, and as it is behind that goal
-    pub around: Around<'a>,
+    pub around: ScopeChange<'a>,
 }
 
 impl Numbering {

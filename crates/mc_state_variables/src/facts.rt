@@ -1,5 +1,5 @@
 ghost use Rattle.std.specs.Prelude.{◌≡◌, ◌↔◌, IsTrue, not, ◌&&◌, [], None, codes, map};
-ghost use Rattle.mc_term_data.specs.Plain.{plain_term, tms};
+ghost use Rattle.mc_term_data.specs.Plain.{plain_term, term_list};
 ghost use Rattle.mc_term_data.specs.Shapes.{operands};
 ghost use Rattle.mc_clause_syntax.specs.StateVariables.{is_state};
 ghost use Rattle.mc_clause_syntax.specs.States.{states_of};
@@ -49,7 +49,7 @@ fn is_stateless(term: &Term) -> bool
 
 #[cycle(stateless)]
 fn are_stateless(terms: &[Term]) -> bool
-    ensures { result ≡ all_stateless (tms (map plain_term terms.now)) }
+    ensures { result ≡ all_stateless (term_list (map plain_term terms.now)) }
 {
     for term in terms {
         if !is_stateless(term) {
@@ -62,7 +62,7 @@ fn are_stateless(terms: &[Term]) -> bool
 // Whether a name over parts is no state variable. The parts are counted first, since most names have none or several.
 #[tactic(auto, using(crate::proofs::Stateless::several_are_none))]
 fn is_other(name: &[Text], parts: &[Term]) -> bool
-    ensures { result ≡ not (is_state name.now (tms (map plain_term parts.now))) }
+    ensures { result ≡ not (is_state name.now (term_list (map plain_term parts.now))) }
 {
     match parts {
         [_] => !is_state(name, parts),

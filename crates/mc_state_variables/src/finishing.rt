@@ -1,5 +1,5 @@
 ghost use Rattle.std.specs.Prelude.{◌≡◌, [], ◌∷◌, map, codes, IfOk};
-ghost use Rattle.mc_term_data.specs.Plain.{at, App, no_term, more_terms, plain_term, tms};
+ghost use Rattle.mc_term_data.specs.Plain.{at, App, no_term, more_terms, plain_term, term_list};
 ghost use Rattle.mc_state_variables.specs.Updates.{updated};
 ghost use Rattle.mc_state_variables.specs.Versions.{closings};
 ghost use Rattle.mc_state_variables.specs.Numbered.{quantifier};
@@ -22,7 +22,7 @@ pub fn closings_of_goal(
 ) -> Result<Vec<Term>, Memory>
     ensures { IfOk result
         (λ goals.
-        tms (map plain_term goals.items)
+        term_list (map plain_term goals.items)
         ≡ closings wanted.now (updated (plain_term goal.now)) goal.now.line (plain_helds held.now)) }
 {
     let updates = updated_set(alloc, goal)?;

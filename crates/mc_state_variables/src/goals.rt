@@ -1,5 +1,5 @@
 ghost use Rattle.std.specs.Prelude.{◌≡◌, [], ◌∷◌, List, true, map, codes, IfOk, OnOk};
-ghost use Rattle.mc_term_data.specs.Plain.{plain_term, tms};
+ghost use Rattle.mc_term_data.specs.Plain.{plain_term, term_list};
 ghost use Rattle.mc_state_variables.specs.Numbered.{Part, written, branch_of, goal_of, goals_of, conditional, conjunction_of, disjunction_of, quantified_goal, negated, implied, both_ways, applied, in_negation};
 ghost use Rattle.mc_state_variables.specs.code.Conditions.{written_goal, is_apart, test_of, then_of, arrow_of};
 ghost use Rattle.mc_state_variables.specs.code.Helds.{plain_helds};
@@ -11,7 +11,7 @@ use crate::branches::{Branch, branch_kind, is_conditional};
 use crate::conditions::{Tried, closings_of_then};
 use crate::finishing::{all_over, closings_of_goal, some_over};
 use crate::held::Held;
-use crate::numbering::{Around, Numbering};
+use crate::numbering::{Numbering, ScopeChange};
 use crate::pieces::{Opening, Piece, and_then, begins, disjunction_of};
 use crate::steps::{Conjuncts, wholes};
 use crate::terms::{both, conjunction_term, operator, over, over_one};
@@ -52,7 +52,7 @@ impl Numbering {
         ensures { IfOk result
             (λ text.
             written (plain_term text) self.new.next
-            ≡ written_goal form name.now line (tms (map plain_term parts.now)) (plain_helds held.now) self.old.next) }
+            ≡ written_goal form name.now line (term_list (map plain_term parts.now)) (plain_helds held.now) self.old.next) }
     {
         match form {
             GoalForm::Conjunction => self.conjunction(held, parts.as_slice(), line),
@@ -90,7 +90,7 @@ impl Numbering {
             (λ text.
             is_apart form ≡ true
             → written (plain_term text) self.new.next
-            ≡ written_goal form name.now line (tms (map plain_term parts.now)) (plain_helds held.now) self.old.next) }
+            ≡ written_goal form name.now line (term_list (map plain_term parts.now)) (plain_helds held.now) self.old.next) }
     {
         match form {
             GoalForm::Existential => match parts.as_slice() {
@@ -141,7 +141,7 @@ impl Numbering {
         ensures { IfOk result
             (λ text.
             written (plain_term text) self.new.next
-            ≡ conjunction_of line (goals_of (tms (map plain_term goals.now))) (plain_helds held.now) self.old.next) }
+            ≡ conjunction_of line (goals_of (term_list (map plain_term goals.now))) (plain_helds held.now) self.old.next) }
     {
         let mut written = Conjuncts::of(self.alloc, held, goals)?;
         for goal in goals {
@@ -194,7 +194,7 @@ impl Numbering {
         ensures { IfOk result
             (λ text.
             written (plain_term text) self.new.next
-            ≡ disjunction_of line (goals_of (tms (map plain_term goals.now))) (plain_helds held.now) self.old.next) }
+            ≡ disjunction_of line (goals_of (term_list (map plain_term goals.now))) (plain_helds held.now) self.old.next) }
     {
         let pieces = self.pieces(held, goals, line)?;
         let text = disjunction_of(self.alloc, pieces, line)?;
@@ -212,7 +212,7 @@ impl Numbering {
         ensures { IfOk result
             (λ pieces.
             written (map plain_piece pieces.items) self.new.next
-            ≡ pieces_of line (wholes_of (tms (map plain_term goals.now))) [] true (goals_of (tms (map plain_term goals.now))) (plain_helds held.now) self.old.next) }
+            ≡ pieces_of line (wholes_of (term_list (map plain_term goals.now))) [] true (goals_of (term_list (map plain_term goals.now))) (plain_helds held.now) self.old.next) }
     {
         let mut wholes = wholes(self.alloc, goals)?;
         let mut wanted = NameSet::new(self.alloc);
@@ -424,7 +424,7 @@ impl Numbering {
             written (plain_term text) self.new.next
             ≡ implied line (goal_of (plain_term premise.now)).part (goal_of (plain_term conclusion.now)).part (plain_helds held.now) self.old.next) }
     {
-        let Around { given, behind } = self.around_whole(held, premise)?;
+        let ScopeChange { given, behind } = self.around_whole(held, premise)?;
         let left = self.part(&given, premise)?;
         let right = self.whole(&behind, conclusion)?;
         operator(self.alloc, b"=>", left, right, line)

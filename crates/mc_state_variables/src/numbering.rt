@@ -23,7 +23,7 @@ pub struct Numbering {
 
 /// The state variables in scope as a goal is given them, and as they are behind it.
 #[derive(Drop)]
-pub struct Around<'a> {
+pub struct ScopeChange<'a> {
     pub given: Vec<Held<'a>>,
     pub behind: Vec<Held<'a>>,
 }
@@ -126,7 +126,7 @@ impl Numbering {
         updated: &NameSet<'_>,
         fresh_names: &NameSet<'_>,
         held: &[Held<'a>],
-    ) -> Result<Around<'a>, Memory>
+    ) -> Result<ScopeChange<'a>, Memory>
         ensures given { IfOk result
             (λ around.
             plain_helds around.given.items ≡ renewed fresh_names.now self.old.next (plain_helds held.now)) }
@@ -145,12 +145,16 @@ impl Numbering {
             given.push(Held { after, ..*state })?;
             behind.push(Held { before, ..*state })?;
         }
-        Ok(Around { given, behind })
+        Ok(ScopeChange { given, behind })
     }
 
     /// The same of a goal that ends with new versions of all that it updates.
     #[tactic(auto, using(crate::proofs::Sets::sets))]
-    pub fn around_whole<'a>(&mut self, held: &[Held<'a>], goal: &Term) -> Result<Around<'a>, Memory>
+    pub fn around_whole<'a>(
+        &mut self,
+        held: &[Held<'a>],
+        goal: &Term,
+    ) -> Result<ScopeChange<'a>, Memory>
         ensures given { IfOk result
             (λ around.
             plain_helds around.given.items

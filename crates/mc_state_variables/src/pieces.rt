@@ -1,6 +1,6 @@
 ghost use Rattle.std.specs.Prelude.{◌≡◌, ◌&&◌, ◌||◌, not, [], ◌∷◌, Some, None, map, reverse, IfOk, if◌then◌else◌};
 ghost use Rattle.std.specs.Option.{option_map};
-ghost use Rattle.mc_term_data.specs.Plain.{plain_term, tms, at, Disj, no_term};
+ghost use Rattle.mc_term_data.specs.Plain.{plain_term, term_list, at, Disj, no_term};
 ghost use Rattle.mc_state_variables.specs.Versions.{closings, and_then};
 ghost use Rattle.mc_state_variables.specs.code.Helds.{plain_helds};
 ghost use Rattle.mc_state_variables.specs.code.Pieces.{is_last, plain_piece, gather, gathered, alone, conjuncts};
@@ -39,7 +39,7 @@ impl<'a> Opening<'a> {
         ensures wanted { IfOk result (λ opening. opening.wanted ≡ (if begins then whole.entry else around.entry)) }
         ensures closings { IfOk result
             (λ opening.
-            option_map (λ goals. tms (map plain_term goals.items)) opening.closings
+            option_map (λ goals. term_list (map plain_term goals.items)) opening.closings
             ≡ (if begins then Some (closings around.entry whole.entry line (plain_helds held.now)) else None)) }
     {
         if begins {
@@ -84,7 +84,7 @@ pub fn disjunction_of(alloc: Global, pieces: Vec<Piece>, line: u32) -> Result<Te
 fn gathered(alloc: Global, mut pieces: Vec<Piece>, line: u32) -> Result<Vec<Term>, Memory>
     ensures { IfOk result
         (λ branches.
-        tms (map plain_term branches.items)
+        term_list (map plain_term branches.items)
         ≡ gathered line (map plain_piece pieces.items) no_term) }
 {
     // those so far, the last one first
@@ -105,9 +105,9 @@ fn gathered_with(
 ) -> Result<Vec<Term>, Memory>
     ensures { IfOk result
         (λ more.
-        tms (reverse (map plain_term more.items))
+        term_list (reverse (map plain_term more.items))
         ≡ gather line (plain_piece piece).opened (plain_term piece.text)
-        (tms (reverse (map plain_term branches.items)))) }
+        (term_list (reverse (map plain_term branches.items)))) }
 {
     let Piece { text, opened } = piece;
     branches.push(text)?;
@@ -127,7 +127,7 @@ fn grouped(
     ensures { IfOk result
         (λ group.
         map plain_term group.items
-        ≡ and_then (at (Disj (tms (reverse (map plain_term branches.items)))) line) (tms (map plain_term goals.items)) ∷ []) }
+        ≡ and_then (at (Disj (term_list (reverse (map plain_term branches.items)))) line) (term_list (map plain_term goals.items)) ∷ []) }
 {
     branches.reverse();
     let disjunction = disjunction_term(branches, line)?;
@@ -140,7 +140,7 @@ fn grouped(
 #[tactic(auto, using(crate::proofs::Lists::adding))]
 pub fn and_then(alloc: Global, goal: Term, mut goals: Vec<Term>) -> Result<Term, Memory>
     ensures { IfOk result
-        (λ whole. plain_term whole ≡ and_then (plain_term goal) (tms (map plain_term goals.items))) }
+        (λ whole. plain_term whole ≡ and_then (plain_term goal) (term_list (map plain_term goals.items))) }
 {
     if goals.is_empty() {
         return Ok(goal);

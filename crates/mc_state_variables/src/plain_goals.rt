@@ -1,5 +1,5 @@
 ghost use Rattle.std.specs.Prelude.{◌≡◌, map, IfOk, OnOk};
-ghost use Rattle.mc_term_data.specs.Plain.{at, App, plain_term, tms};
+ghost use Rattle.mc_term_data.specs.Plain.{at, App, plain_term, term_list};
 ghost use Rattle.mc_state_variables.specs.Versions.{renewed, renewed_behind};
 ghost use Rattle.mc_clause_syntax.specs.States.{states_in_all};
 ghost use Rattle.mc_state_variables.specs.Numbered.{terms_of};
@@ -7,7 +7,7 @@ ghost use Rattle.mc_state_variables.specs.code.Helds.{plain_helds};
 
 use crate::atoms::atom;
 use crate::held::Held;
-use crate::numbering::{Around, Numbering};
+use crate::numbering::{Numbering, ScopeChange};
 use mc_base::{Memory, Row, Text};
 use mc_clause_syntax::{StatesWanted, name_set, push_all_states};
 use mc_term_data::Term;
@@ -28,17 +28,17 @@ impl Numbering {
             ≡ at
             (App name.now
             (terms_of
-            (renewed (states_in_all StatesWanted.Updated (tms (map plain_term parts.now))) self.old.next (plain_helds held.now))
-            (tms (map plain_term parts.now))))
+            (renewed (states_in_all StatesWanted.Updated (term_list (map plain_term parts.now))) self.old.next (plain_helds held.now))
+            (term_list (map plain_term parts.now))))
             line) }
         ensures next { OnOk result
             (self.new.next
-            ≡ renewed_behind (states_in_all StatesWanted.Updated (tms (map plain_term parts.now))) self.old.next (plain_helds held.now)) }
+            ≡ renewed_behind (states_in_all StatesWanted.Updated (term_list (map plain_term parts.now))) self.old.next (plain_helds held.now)) }
     {
         let mut names = Vec::new(self.alloc);
         push_all_states(&mut names, StatesWanted::Updated, parts.as_slice())?;
         let updates = name_set(self.alloc, &names)?;
-        let Around { given, behind: _ } = self.around(&updates, &updates, held)?;
+        let ScopeChange { given, behind: _ } = self.around(&updates, &updates, held)?;
         atom(self.alloc, &given, name, parts.as_slice(), line)
     }
 }

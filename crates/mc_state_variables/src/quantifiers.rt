@@ -1,5 +1,5 @@
 ghost use Rattle.std.specs.Prelude.{◌≡◌, ◌++◌, [], ◌∷◌, map, IfOk, OnOk};
-ghost use Rattle.mc_term_data.specs.Plain.{PlainTerms, at, App, plain_term, no_term, more_terms, tms};
+ghost use Rattle.mc_term_data.specs.Plain.{PlainTerms, at, App, plain_term, no_term, more_terms, term_list};
 ghost use Rattle.mc_state_variables.specs.Numbered.{quantifier, named_versions};
 ghost use Rattle.mc_state_variables.specs.code.Helds.{plain_helds, listed};
 
@@ -64,8 +64,8 @@ fn named_versions(
 ) -> Result<Row<Term>, Memory>
     ensures { IfOk result
         (λ named.
-        tms (map plain_term named)
-        ≡ named_versions (plain_helds held.now) updates.now (tms (map plain_term elements.now))) }
+        term_list (map plain_term named)
+        ≡ named_versions (plain_helds held.now) updates.now (term_list (map plain_term elements.now))) }
 {
     let mut named = Vec::new(alloc);
     for element in elements {

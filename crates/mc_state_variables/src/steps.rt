@@ -1,6 +1,6 @@
 ghost use Rattle.std.specs.Prelude.{◌≡◌, [], map, ◌∷◌, ◌++◌, List, reverse, IfOk, OnOk};
 ghost use Rattle.mc_base.specs.NameSets.{put_all};
-ghost use Rattle.mc_term_data.specs.Plain.{plain_term, tms};
+ghost use Rattle.mc_term_data.specs.Plain.{plain_term, term_list};
 ghost use Rattle.mc_clause_syntax.specs.States.{names_of};
 ghost use Rattle.mc_state_variables.specs.Updates.{updated};
 ghost use Rattle.mc_state_variables.specs.code.Steps.{step_of, steps_of, stepwise, wholes_of};
@@ -9,7 +9,7 @@ ghost use Rattle.mc_state_variables.specs.code.Helds.{plain_helds};
 
 use crate::held::Held;
 use crate::names::{common, put_names, put_new_names};
-use crate::numbering::{Around, Numbering};
+use crate::numbering::{Numbering, ScopeChange};
 use crate::updates::updated;
 use mc_base::{Memory, NameSet};
 use mc_clause_syntax::name_set;
@@ -52,7 +52,7 @@ impl<'a> Conjuncts<'a> {
     /// None of these goals is written yet.
     pub fn of(alloc: Global, held: &[Held<'a>], goals: &'a [Term]) -> Result<Conjuncts<'a>, Memory>
         ensures steps { IfOk result
-            (λ made. made.steps.items ≡ reverse (steps_of (tms (map plain_term goals.now)))) }
+            (λ made. made.steps.items ≡ reverse (steps_of (term_list (map plain_term goals.now)))) }
         ensures current { IfOk result (λ made. made.current.items ≡ held.now) }
         ensures texts { IfOk result (λ made. made.texts.items ≡ []) }
     {
@@ -81,7 +81,11 @@ impl Numbering {
         let Some(step) = goals.steps.pop() else {
             return Err(Memory);
         };
-        let Around { given, behind } = self.around(&step.updated, &step.renewed, &goals.current)?;
+        let ScopeChange { given, behind } = self.around(
+            &step.updated,
+            &step.renewed,
+            &goals.current,
+        )?;
         goals.current = behind;
         Ok(given)
     }
@@ -91,7 +95,7 @@ impl Numbering {
 /// its version after the whole.
 pub fn steps_in_order<'a>(alloc: Global, goals: &'a [Term]) -> Result<Vec<Step<'a>>, Memory>
     ensures { IfOk result
-        (λ steps. steps.items ≡ reverse (steps_of (tms (map plain_term goals.now)))) }
+        (λ steps. steps.items ≡ reverse (steps_of (term_list (map plain_term goals.now)))) }
 {
     let mut steps = Vec::new(alloc);
     let mut seen = NameSet::new(alloc);
@@ -122,7 +126,7 @@ fn push_step<'a>(
 /// The names that each of these goals and those behind it update, the first goal's last.
 pub fn wholes<'a>(alloc: Global, goals: &'a [Term]) -> Result<Vec<NameSet<'a>>, Memory>
     ensures { IfOk result
-        (λ wholes. wholes.items ≡ reverse (wholes_of (tms (map plain_term goals.now)))) }
+        (λ wholes. wholes.items ≡ reverse (wholes_of (term_list (map plain_term goals.now)))) }
 {
     let mut wholes = Vec::new(alloc);
     let mut seen = NameSet::new(alloc);

@@ -1,5 +1,5 @@
 ghost use Rattle.std.specs.Prelude.{◌≡◌, [], ◌∷◌, map, IfOk};
-ghost use Rattle.mc_term_data.specs.Plain.{at, App, Conj, Disj, no_term, more_terms, plain_term, tms};
+ghost use Rattle.mc_term_data.specs.Plain.{at, App, Conj, Disj, no_term, more_terms, plain_term, term_list};
 
 use mc_base::{Copied, Memory, Row, Text};
 use mc_term_data::{Node, Term, copied_terms};
@@ -30,7 +30,7 @@ pub fn operator(
 /// A name over these parts, copied.
 pub fn over(alloc: Global, name: &Row<Text>, parts: &Row<Term>, line: u32) -> Result<Term, Memory>
     ensures { IfOk result
-        (λ term. plain_term term ≡ at (App name.now (tms (map plain_term parts.now))) line) }
+        (λ term. plain_term term ≡ at (App name.now (term_list (map plain_term parts.now))) line) }
 {
     Ok(Term {
         node: Node::App(name.copied(alloc)?, copied_terms(alloc, parts.as_slice())?),
@@ -68,7 +68,7 @@ pub fn both(alloc: Global, left: Term, right: Term, line: u32) -> Result<Term, M
 
 /// A conjunction of these goals.
 pub fn conjunction_term(goals: Vec<Term>, line: u32) -> Result<Term, Memory>
-    ensures { IfOk result (λ term. plain_term term ≡ at (Conj (tms (map plain_term goals.items))) line) }
+    ensures { IfOk result (λ term. plain_term term ≡ at (Conj (term_list (map plain_term goals.items))) line) }
 {
     Ok(Term {
         node: Node::Conj(Row::of(goals)?),
@@ -78,7 +78,7 @@ pub fn conjunction_term(goals: Vec<Term>, line: u32) -> Result<Term, Memory>
 
 /// A disjunction of these goals.
 pub fn disjunction_term(goals: Vec<Term>, line: u32) -> Result<Term, Memory>
-    ensures { IfOk result (λ term. plain_term term ≡ at (Disj (tms (map plain_term goals.items))) line) }
+    ensures { IfOk result (λ term. plain_term term ≡ at (Disj (term_list (map plain_term goals.items))) line) }
 {
     Ok(Term {
         node: Node::Disj(Row::of(goals)?),

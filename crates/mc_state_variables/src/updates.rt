@@ -1,6 +1,6 @@
 ghost use Rattle.std.specs.Prelude.{◌≡◌, ◌++◌, [], map, IfOk, OnOk};
 ghost use Rattle.mc_base.specs.NameSets.{put_all};
-ghost use Rattle.mc_term_data.specs.Plain.{plain_term, tms};
+ghost use Rattle.mc_term_data.specs.Plain.{plain_term, term_list};
 ghost use Rattle.mc_clause_syntax.specs.States.{names_of, quantified, condition_names};
 ghost use Rattle.mc_state_variables.specs.Updates.{leave_out, joined, updated_by, updated, updated_each};
 
@@ -62,7 +62,7 @@ fn push_by<'a>(
     ensures { OnOk result
         (names_of names.new.items
         ≡ names_of names.old.items
-        ++ updated_by form (tms (map plain_term parts.now)) (updated_each (tms (map plain_term parts.now)))) }
+        ++ updated_by form (term_list (map plain_term parts.now)) (updated_each (term_list (map plain_term parts.now)))) }
 {
     match form {
         GoalForm::Conjunction | GoalForm::Disjunction | GoalForm::Else | GoalForm::If => {
@@ -97,7 +97,7 @@ fn push_conditional<'a>(
         ≡ names_of names.old.items
         ++ (updated (plain_term condition.now)
         ++ leave_out (condition_names (plain_term condition.now))
-        (joined (updated_each (tms (map plain_term others.now)))))) }
+        (joined (updated_each (term_list (map plain_term others.now)))))) }
 {
     push_updated(alloc, names, condition)?;
     let mut inner = Vec::new(alloc);
@@ -120,7 +120,7 @@ fn push_quantified_goal<'a>(
         (names_of names.new.items
         ≡ names_of names.old.items
         ++ leave_out (quantified (plain_term list.now))
-        (joined (updated_each (tms (map plain_term goals.now))))) }
+        (joined (updated_each (term_list (map plain_term goals.now))))) }
 {
     let mut inner = Vec::new(alloc);
     push_each(alloc, &mut inner, goals)?;
@@ -134,7 +134,7 @@ fn push_quantified_goal<'a>(
 fn push_each<'a>(alloc: Global, names: &mut Vec<&'a [u8]>, goals: &'a [Term]) -> Result<(), Memory>
     ensures { OnOk result
         (names_of names.new.items
-        ≡ names_of names.old.items ++ joined (updated_each (tms (map plain_term goals.now)))) }
+        ≡ names_of names.old.items ++ joined (updated_each (term_list (map plain_term goals.now)))) }
 {
     for goal in goals {
         push_updated(alloc, names, goal)?;

@@ -27,10 +27,10 @@ use Rattle.mc_switch.specs.declared.groups.Group.{Group}
 use Rattle.mc_switch.specs.Types.{inst_in}
 use Rattle.mc_switch.specs.code.Grouping.{AroundFits, EndsSo, FormedEnds, IsGrouped, disjuncts_of, nodes_of, opened_first}
 use Rattle.mc_switch.specs.Kept.{Extends, OnlyGrew}
-use Rattle.mc_switch.specs.declared.around.Around.{Around}
+use Rattle.mc_switch.specs.declared.context.VariableContext.{VariableContext}
 use Rattle.mc_switch.specs.declared.formed.Formed.{Formed}
 use Rattle.mc_switch.specs.code.Ends.{KeepsEnd}
-use Rattle.mc_mode_points.specs.Tables.{Entry}
+use Rattle.mc_mode_state.specs.Tables.{Entry}
 use Rattle.mc_switch.specs.Openings.{plain_opening, plain_openings}
 use Rattle.mc_switch.specs.code.Choices.{MayBe, AreSame, IsChosenOf}
 use Rattle.mc_switch.specs.code.Groups.{label_of, labels_by, labelled, groups_of, plain_group, plain_groups}
@@ -105,15 +105,15 @@ out_again insts out more now last os x h e f g =
     ∙ set-get_or out x false
 
 -- what holds in each system that suits, with what was found, holds later too
-pub each_later : (q r : PlainProcs) (N M : List Entry) (at : Around) (out : List Bool) (times : ℕ) {A : Type 0} (make : Kept → (List Disjunct → Scheduled) → A) (answer : A) → OnlyGrew q r → Extends N M → EachTime q N at out times make answer → EachTime r M at out times make answer
+pub each_later : (q r : PlainProcs) (N M : List Entry) (at : VariableContext) (out : List Bool) (times : ℕ) {A : Type 0} (make : Kept → (List Disjunct → Scheduled) → A) (answer : A) → OnlyGrew q r → Extends N M → EachTime q N at out times make answer → EachTime r M at out times make answer
 each_later q r N M at out times make answer grew more h =
     λ S L xs suits later same. h S L xs (suits_before q r S grew suits) (λ x k is e. later x k is (more x k is e)) same
 
-pub chosen_later : (q r : PlainProcs) (at : Around) (out : List Bool) (os : List Opened) (o : Option ℕ) → OnlyGrew q r → IsChosenIn q at out os o → IsChosenIn r at out os o
+pub chosen_later : (q r : PlainProcs) (at : VariableContext) (out : List Bool) (os : List Opened) (o : Option ℕ) → OnlyGrew q r → IsChosenIn q at out os o → IsChosenIn r at out os o
 chosen_later q r at out os o grew h = λ S xs suits same. h S xs (suits_before q r S grew suits) same
 
 -- disjuncts that are a switch
-pub switch_is : (q : PlainProcs) (N : List Entry) (at : Around) (out more : List Bool) (times : ℕ) (os : List Opened) (x : ℕ) (gs : List (Label × List Opened)) (arms : List (Label × Node)) (s : Scheduled) → (times ≡ 0 → ⊥) → IsChosenIn q at out os (Some x) → MayBe at.before.now out os (Some x) → length out ≡ length at.before.now → more ≡ slice_set out x true → gs ≡ groups_of x os → AreArmsOf q N at more (times - 1) gs arms → s ≡ Switch x (arms_of arms) → IsGroupedOf q N at out times os s
+pub switch_is : (q : PlainProcs) (N : List Entry) (at : VariableContext) (out more : List Bool) (times : ℕ) (os : List Opened) (x : ℕ) (gs : List (Label × List Opened)) (arms : List (Label × Node)) (s : Scheduled) → (times ≡ 0 → ⊥) → IsChosenIn q at out os (Some x) → MayBe at.before.now out os (Some x) → length out ≡ length at.before.now → more ≡ slice_set out x true → gs ≡ groups_of x os → AreArmsOf q N at more (times - 1) gs arms → s ≡ Switch x (arms_of arms) → IsGroupedOf q N at out times os s
 switch_is q N at out more zero os x gs arms s n pick may many put split each is = absurd (n refl)
 switch_is q N at out more (suc k) os x gs arms s n pick may many put split each is =
     λ S M xs suits later same.
@@ -134,7 +134,7 @@ switch_is q N at out more (suc k) os x gs arms s n pick may many put split each 
     ∙ ap (on_chosen (λ ys. arm_of kept (grouped S T kept k b ys)) xs ds) (pick S xs suits same)
 
 -- disjuncts that are none
-pub disjunction_is : (q : PlainProcs) (N : List Entry) (at : Around) (out : List Bool) (times : ℕ) (os : List Opened) (s : Scheduled) → IsChosenIn q at out os None → s ≡ Disj (goals_of (map plain_opened os)) → IsGroupedOf q N at out times os s
+pub disjunction_is : (q : PlainProcs) (N : List Entry) (at : VariableContext) (out : List Bool) (times : ℕ) (os : List Opened) (s : Scheduled) → IsChosenIn q at out os None → s ≡ Disj (goals_of (map plain_opened os)) → IsGroupedOf q N at out times os s
 disjunction_is q N at out zero os s pick is = λ S M xs suits later same. is
 disjunction_is q N at out (suc k) os s pick is =
     λ S M xs suits later same.
@@ -143,12 +143,12 @@ disjunction_is q N at out (suc k) os s pick is =
     let kept = kept_in S M at in
     is ∙ ap (on_chosen (λ ys. arm_of kept (grouped S T kept k b ys)) xs (map plain_opened os)) (pick S xs suits same)
 
-pub no_more_times : (q : PlainProcs) (N : List Entry) (at : Around) (out : List Bool) (times : ℕ) (os : List Opened) (s : Scheduled) → times ≡ 0 → s ≡ Disj (goals_of (map plain_opened os)) → IsGroupedOf q N at out times os s
+pub no_more_times : (q : PlainProcs) (N : List Entry) (at : VariableContext) (out : List Bool) (times : ℕ) (os : List Opened) (s : Scheduled) → times ≡ 0 → s ≡ Disj (goals_of (map plain_opened os)) → IsGroupedOf q N at out times os s
 no_more_times q N at out zero os s e is = λ S M xs suits later same. is
 no_more_times q N at out (suc k) os s e is = absurd (omega arith)
 
 -- the variable that is chosen, in a system that suits
-pub chosen_in : (q : PlainProcs) (at : Around) (out : List Bool) (os : List Opened) (o : Option ℕ) → AroundFits q at → IsChosenOf q at.types.now at.before.now out os o → IsChosenIn q at out os o
+pub chosen_in : (q : PlainProcs) (at : VariableContext) (out : List Bool) (os : List Opened) (o : Option ℕ) → AroundFits q at → IsChosenOf q at.types.now at.before.now out os o → IsChosenIn q at out os o
 chosen_in q at out os o fits h =
     λ S xs suits same.
     h S.world.outcome xs (map plain_opened os) same (opens_self os)
@@ -198,7 +198,7 @@ several_is kept again (o ∷ []) n = absurd (n refl)
 several_is kept again (o ∷ (p ∷ os)) n = refl
 
 -- the arms so far, and one more
-pub one_more_arm : (q r : PlainProcs) (N M : List Entry) (at : Around) (out : List Bool) (times : ℕ) (gs : List Group) (g : Group) (before after : List Arm) (a : Arm) → OnlyGrew q r → Extends N M → AreArmsOf q N at out times (plain_groups gs) (map plain_arm before) → IsArmOf r M at out times (plain_group g) (plain_arm a) → after ≡ before ++ a ∷ [] → AreArmsOf r M at out times (plain_groups (gs ++ g ∷ [])) (map plain_arm after)
+pub one_more_arm : (q r : PlainProcs) (N M : List Entry) (at : VariableContext) (out : List Bool) (times : ℕ) (gs : List Group) (g : Group) (before after : List Arm) (a : Arm) → OnlyGrew q r → Extends N M → AreArmsOf q N at out times (plain_groups gs) (map plain_arm before) → IsArmOf r M at out times (plain_group g) (plain_arm a) → after ≡ before ++ a ∷ [] → AreArmsOf r M at out times (plain_groups (gs ++ g ∷ [])) (map plain_arm after)
 one_more_arm q r N M at out times gs g before after a grew more h k e =
     λ S L xs suits later same.
     let again = grouped S (type_in at.types.now) (kept_in S L at) times (inst_in at.before.now) xs in
@@ -220,7 +220,7 @@ abbrev later_ends : List (Bool × GoalNode) → List (Bool × GoalNode)
 later_ends [] = []
 later_ends (e ∷ es) = es
 
-pub ends_kept : (q : PlainProcs) (at : Around) (fs : List Formed) (os : List Opened) → AreKept fs os → All (FormedEnds q at.types.now at.before.now) fs → All (KeepsEnd q at) os
+pub ends_kept : (q : PlainProcs) (at : VariableContext) (fs : List Formed) (os : List Opened) → AreKept fs os → All (FormedEnds q at.types.now at.before.now) fs → All (KeepsEnd q at) os
 ends_kept q at fs [] e h = All-nil (KeepsEnd q at)
 ends_kept q at [] (o ∷ os) e h = cc
 ends_kept q at (f ∷ fs) (o ∷ os) e h =
@@ -285,7 +285,7 @@ goals_disjoined [] (m ∷ ms) e = absurd (omega (arith, e))
 goals_disjoined (n ∷ ns) [] e = absurd (omega (arith, e))
 goals_disjoined (n ∷ ns) (m ∷ ms) e = ap (node_then m) (goals_disjoined ns ms (omega (arith, e)))
 
-pub none_is : (q : PlainProcs) (N : List Entry) (at : Around) (ns : List GoalNode) (fs : List Formed) (s : Scheduled) → length fs ≡ length ns → opened_first (map plain_node ns) ≡ [] → s ≡ Disj (nodes (nodes_of fs)) → IsGrouped q N at (map plain_node ns) (nodes_of fs) s
+pub none_is : (q : PlainProcs) (N : List Entry) (at : VariableContext) (ns : List GoalNode) (fs : List Formed) (s : Scheduled) → length fs ≡ length ns → opened_first (map plain_node ns) ≡ [] → s ≡ Disj (nodes (nodes_of fs)) → IsGrouped q N at (map plain_node ns) (nodes_of fs) s
 none_is q N at ns fs s many none is =
     λ S M suits later.
     let ds = disjuncts_of (map plain_node ns) (nodes_of fs) in

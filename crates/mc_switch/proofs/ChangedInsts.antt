@@ -14,8 +14,8 @@ use Rattle.mc_insts.specs.Graphs.{count_of}
 use Rattle.mc_procs.specs.Procedures.{PlainProcs}
 use Rattle.mc_procs.specs.VariableTypes.{type_in}
 use Rattle.mc_procs.proofs.Views.{plain_node-open}
-use Rattle.mc_mode_points.specs.Tables.{Entry}
-use Rattle.mc_switch.specs.declared.around.Around.{Around}
+use Rattle.mc_mode_state.specs.Tables.{Entry}
+use Rattle.mc_switch.specs.declared.context.VariableContext.{VariableContext}
 use Rattle.mc_switch.specs.declared.disjunct.Opened.{Opened}
 use Rattle.mc_switch.specs.Types.{inst_in}
 use Rattle.mc_switch.specs.Kept.{Suits, changed_to, change_of, changes_of, merged_changes, kept_by}
@@ -26,7 +26,7 @@ pub after_is : (g : GoalNode) (b : Insts) (x : ℕ) → insts_after (plain_node 
 after_is g b x = ap (λ n. insts_after n b x) (plain_node-open g)
 
 -- the insts of a variable at the ends are those of what is kept of the disjuncts
-module _ (q : PlainProcs) (at : Around) (S : System) (suits : Suits q S) (x : ℕ) where
+module _ (q : PlainProcs) (at : VariableContext) (S : System) (suits : Suits q S) (x : ℕ) where
   abbrev b : Insts
   b = inst_in at.before.now
 
@@ -56,7 +56,7 @@ some_insts i x (o ∷ os) e = by_end o.never_ends e (some_insts i x os)
     by_end true e h = h e
     by_end false e h = omega arith
 
-pub insts_there : (q : PlainProcs) (at : Around) (x : ℕ) (os : List Opened) → All (KeepsEnd q at) os → (n : ℕ) → n < length (insts_at_ends (inst_in at.before.now x) x os) → get_or (insts_at_ends (inst_in at.before.now x) x os) n 0 < count_of q.insts
+pub insts_there : (q : PlainProcs) (at : VariableContext) (x : ℕ) (os : List Opened) → All (KeepsEnd q at) os → (n : ℕ) → n < length (insts_at_ends (inst_in at.before.now x) x os) → get_or (insts_at_ends (inst_in at.before.now x) x os) n 0 < count_of q.insts
 insts_there q at x [] h n lt = absurd (omega (arith, lt))
 insts_there q at x (o ∷ os) h n lt = by_end (λ m l. insts_there q at x os (All-tail (KeepsEnd q at) o os h) m l) o.never_ends n lt
   where
@@ -102,7 +102,7 @@ other_changes x i k true e n = differs x i k (nat_eq k i) refl n
 other_changes x i k false e n = cc
 
 -- nothing is changed where no end is reachable
-module _ (q : PlainProcs) (at : Around) (S : System) (suits : Suits q S) where
+module _ (q : PlainProcs) (at : VariableContext) (S : System) (suits : Suits q S) where
   abbrev ends_from : List Opened → List Insts
   ends_from os = ends S (type_in at.types.now) (inst_in at.before.now) (goals_of (map plain_opened os))
 

@@ -11,7 +11,7 @@ use Rattle.mc_accepted.specs.MergedArms.{never_ends, ends}
 use Rattle.mc_accepted.specs.Ordered.{Insts}
 use Rattle.mc_accepted.specs.Switched.{Disjunct, Kept, Opening, openings, openings_in, openings_all, is_equation, is_constant, goals_of, label_in, same_label, opens_with, is_told, others, and_label, labels_of, those, arm_of, arms_on, on_chosen, chosen, grouped, openings_of, formed, formed_in, formed_all, disjuncts}
 use Rattle.mc_procs.specs.Named.{Bounds, ChangesNamed, LabelNamed, Named, NamedIn, EachNamed, EachArmNamed}
-use Rattle.mc_mode_points.specs.Tables.{Entry, node_in}
+use Rattle.mc_mode_state.specs.Tables.{Entry, node_in}
 use Rattle.mc_switch.specs.Kept.{all_are, or_none, inst_merged, changed_to, change_of, changes_of, merged_changes, kept_by}
 use Rattle.mc_switch.proofs.NeverEnds.{told_by_chosen}
 use Rattle.mc_switch.proofs.Walking.{change_there}

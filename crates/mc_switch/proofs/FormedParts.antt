@@ -21,10 +21,10 @@ use Rattle.mc_insts.specs.Graphs.{count_of}
 use Rattle.mc_procs.specs.Procedures.{PlainProcs, source_of, insts_of}
 use Rattle.mc_procs.specs.VariableTypes.{type_in}
 use Rattle.mc_procs.proofs.Views.{plain_node-open, plain_arm-open}
-use Rattle.mc_mode_points.specs.Tables.{Entry}
+use Rattle.mc_mode_state.specs.Tables.{Entry}
 use Rattle.mc_det.proofs.Telling.{before, one_before, none_after}
 use Rattle.mc_det.proofs.MarkedParts.{arms_before, one_arm_before, no_arm_after}
-use Rattle.mc_switch.specs.declared.around.Around.{Around}
+use Rattle.mc_switch.specs.declared.context.VariableContext.{VariableContext}
 use Rattle.mc_switch.specs.declared.formed.Formed.{Formed}
 use Rattle.mc_switch.specs.declared.parts.FormedGoal.{FormedGoal}
 use Rattle.mc_switch.specs.declared.parts.FormedNodes.{FormedNodes}
@@ -236,7 +236,7 @@ module _ (q : PlainProcs) (N : List Entry) (types : List Ty) where
     call_never k xs is last t e S suits = e ∙ sym (suits.never k)
 
 -- ---- a disjunction that is switched
-pub disjunction_is : (q r : PlainProcs) (N M : List Entry) (types : List Ty) (at : Around) (gs : List GoalNode) (fs : List Formed) (changes : List (ℕ × ℕ)) (part : FormedGoal) → OnlyGrew q r → Extends N M → at.types.now ≡ types → inst_in at.after.now ≡ (λ x. change_at x changes (inst_in at.before.now x)) → EachIs q N types (inst_in at.before.now) true (map plain_node gs) fs → IsGrouped r M at (map plain_node gs) (nodes_of fs) (plain_sched part.goal) → part.never_ends ≡ list_all (λ (f : Formed). f.never_ends) fs → IsGoal r M types (inst_in at.before.now) true (λ x. change_at x changes (inst_in at.before.now x)) (Disj (nodes (map plain_node gs))) part
+pub disjunction_is : (q r : PlainProcs) (N M : List Entry) (types : List Ty) (at : VariableContext) (gs : List GoalNode) (fs : List Formed) (changes : List (ℕ × ℕ)) (part : FormedGoal) → OnlyGrew q r → Extends N M → at.types.now ≡ types → inst_in at.after.now ≡ (λ x. change_at x changes (inst_in at.before.now x)) → EachIs q N types (inst_in at.before.now) true (map plain_node gs) fs → IsGrouped r M at (map plain_node gs) (nodes_of fs) (plain_sched part.goal) → part.never_ends ≡ list_all (λ (f : Formed). f.never_ends) fs → IsGoal r M types (inst_in at.before.now) true (λ x. change_at x changes (inst_in at.before.now x)) (Disj (nodes (map plain_node gs))) part
 disjunction_is q r N M types at gs fs changes part grew more of after each is never = record {
   made = λ S L suits later.
       let b = inst_in at.before.now in

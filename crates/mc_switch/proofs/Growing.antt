@@ -10,9 +10,9 @@ use Rattle.mc_accepted.specs.Determined.{allows_name, allowed_of, allowed_in}
 use Rattle.mc_insts.specs.Graphs.{count_of}
 use Rattle.mc_insts.specs.Growing.{Grown}
 use Rattle.mc_procs.specs.Procedures.{PlainProcs, source_of, insts_of, as_system}
-use Rattle.mc_mode_points.specs.Tables.{Entry}
-use Rattle.mc_mode_points.proofs.Found.{grown-refl, grown-trans}
-use Rattle.mc_switch.specs.declared.around.Around.{Around}
+use Rattle.mc_mode_state.specs.Tables.{Entry}
+use Rattle.mc_mode_state.proofs.Found.{grown-refl, grown-trans}
+use Rattle.mc_switch.specs.declared.context.VariableContext.{VariableContext}
 use Rattle.mc_switch.specs.declared.disjunct.Opened.{Opened}
 use Rattle.mc_switch.specs.declared.groups.Group.{Group}
 use Rattle.mc_switch.specs.Types.{InstsFit}
@@ -43,7 +43,7 @@ fits_grown q r types insts g f = record {
   there = λ x. let m = g.grown.more in let t = f.there x in omega (arith, m, t);
 }
 
-pub around_grown : (q r : PlainProcs) (at : Around) → OnlyGrew q r → AroundFits q at → AroundFits r at
+pub around_grown : (q r : PlainProcs) (at : VariableContext) → OnlyGrew q r → AroundFits q at → AroundFits r at
 around_grown q r at g f = record {
   before = fits_grown q r at.types.now at.before.now g f.before;
   after = fits_grown q r at.types.now at.after.now g f.after;
@@ -55,13 +55,13 @@ end_grown q r types insts never goal g e = record {
   there = λ x. let m = g.grown.more in let t = e.there x in omega (arith, m, t);
 }
 
-pub ends_grown : (q r : PlainProcs) (at : Around) (os : List Opened) → OnlyGrew q r → All (KeepsEnd q at) os → All (KeepsEnd r at) os
+pub ends_grown : (q r : PlainProcs) (at : VariableContext) (os : List Opened) → OnlyGrew q r → All (KeepsEnd q at) os → All (KeepsEnd r at) os
 ends_grown q r at [] g h = All-nil (KeepsEnd r at)
 ends_grown q r at (o ∷ os) g h =
     All-cons (KeepsEnd r at) o os (end_grown q r at.types.now at.before.now o.never_ends o.goal g (All-head (KeepsEnd q at) o os h))
     (ends_grown q r at os g (All-tail (KeepsEnd q at) o os h))
 
-pub groups_grown : (q r : PlainProcs) (at : Around) (gs : List Group) → OnlyGrew q r → All (KeepsEnds q at) gs → All (KeepsEnds r at) gs
+pub groups_grown : (q r : PlainProcs) (at : VariableContext) (gs : List Group) → OnlyGrew q r → All (KeepsEnds q at) gs → All (KeepsEnds r at) gs
 groups_grown q r at [] grew h = All-nil (KeepsEnds r at)
 groups_grown q r at (g ∷ gs) grew h =
     All-cons (KeepsEnds r at) g gs (ends_grown q r at g.disjuncts.items grew (All-head (KeepsEnds q at) g gs h))

@@ -10,9 +10,9 @@ use Rattle.mc_insts.specs.Growing.{Grown}
 use Rattle.mc_insts.specs.Merging.{StandsForAll}
 use Rattle.mc_procs.specs.Procedures.{PlainProcs, source_of, with_insts}
 use Rattle.mc_procs.specs.VariableTypes.{type_in}
-use Rattle.mc_mode_points.specs.Nodes.{StoodFor}
-use Rattle.mc_mode_points.specs.Tables.{Entry, node_in}
-use Rattle.mc_mode_points.proofs.Found.{put-there, put-kept, put-only, grown-refl, stood-grown}
+use Rattle.mc_mode_state.specs.Nodes.{StoodFor}
+use Rattle.mc_mode_state.specs.Tables.{Entry, node_in}
+use Rattle.mc_mode_state.proofs.Found.{put-there, put-kept, put-only, grown-refl, stood-grown}
 use Rattle.mc_switch.specs.Kept.{all_are, or_none, inst_merged, Extends, AreMerged, Merges}
 
 -- all are one inst

@@ -3,7 +3,7 @@ use Rattle.std.proofs.Common.{◌≡◌, Bool, true, false, refl, sym, ap, ◌�
 use Rattle.std.proofs.lemmas.Bool.{eqb-true, eq-eqb}
 use Rattle.mc_model.specs.Scheduled.{Label, for_symbol, for_constant}
 use Rattle.mc_accepted.specs.Switched.{same_label}
-use Rattle.mc_laws.proofs.Equality.{value_same, same_of}
+use Rattle.laws_language.proofs.Equality.{value_same, same_of}
 
 pub label_same : (k l : Label) → same_label k l ≡ true → k ≡ l
 label_same (for_symbol f) (for_symbol g) q = ap for_symbol (eqb-true f g q)

@@ -17,9 +17,9 @@ use Rattle.mc_procs.specs.Named.{Named}
 use Rattle.mc_procs.specs.Fitting.{AllFit, ProcedureFits, bounds_of}
 use Rattle.mc_procs.specs.Procedures.{PlainProcs, source_of, insts_of, with_insts, with_procs}
 use Rattle.mc_procs.specs.VariableTypes.{type_in}
-use Rattle.mc_mode_points.specs.Nodes.{StoodFor}
-use Rattle.mc_mode_points.specs.Tables.{Entry}
-use Rattle.mc_mode_points.proofs.Found.{stood-grown}
+use Rattle.mc_mode_state.specs.Nodes.{StoodFor}
+use Rattle.mc_mode_state.specs.Tables.{Entry}
+use Rattle.mc_mode_state.proofs.Found.{stood-grown}
 use Rattle.mc_det.specs.code.Marks.{AllStand}
 use Rattle.mc_det.specs.code.Walks.{bounds_in}
 use Rattle.mc_det.proofs.Declaring.{procedure_is, some_inst, entered_below}

@@ -9,25 +9,25 @@ use Rattle.mc_procs.specs.Named.{Bounds, ChangesNamed, Named, EachNamed}
 use Rattle.mc_procs.specs.Procedures.{PlainProcs}
 use Rattle.mc_procs.proofs.Naming.{named_more}
 use Rattle.mc_det.specs.code.Walks.{bounds_in}
-use Rattle.mc_switch.specs.declared.forming.Forming.{Forming}
+use Rattle.mc_switch.specs.declared.forming.SwitchDetection.{SwitchDetection}
 use Rattle.mc_switch.specs.Types.{inst_in, InstsFit}
 use Rattle.mc_switch.specs.Kept.{OnlyGrew}
 use Rattle.mc_switch.specs.code.Forms.{Stands, Returns}
 use Rattle.mc_switch.proofs.Growing.{fits_grown, merges_twice, nothing_more}
 
-pub stands_again : (q r : PlainProcs) (types : List Ty) (v w : Forming) → OnlyGrew q r → Stands q types v → Returns r types v w → Stands r types w
+pub stands_again : (q r : PlainProcs) (types : List Ty) (v w : SwitchDetection) → OnlyGrew q r → Stands q types v → Returns r types v w → Stands r types w
 stands_again q r types v w grew stands back = record {
   ready = subst (InstsFit r types) (sym back.point) (fits_grown q r types v.point grew stands.ready);
   merged = let m = back.merges in m.merged;
 }
 
-pub returns_twice : (q r : PlainProcs) (types : List Ty) (u v w : Forming) → Returns q types u v → Returns r types v w → Returns r types u w
+pub returns_twice : (q r : PlainProcs) (types : List Ty) (u v w : SwitchDetection) → Returns q types u v → Returns r types v w → Returns r types u w
 returns_twice q r types u v w f g = record {
   point = g.point ∙ f.point;
   merges = let m = f.merges in merges_twice r types u.merger.found v.merger.found w.merger.found m.stays g.merges;
 }
 
-pub returns_self : (q : PlainProcs) (types : List Ty) (w : Forming) → Stands q types w → Returns q types w w
+pub returns_self : (q : PlainProcs) (types : List Ty) (w : SwitchDetection) → Stands q types w → Returns q types w w
 returns_self q types w s = record { point = refl; merges = nothing_more q types w.merger.found s.merged }
 
 module _ (q r : PlainProcs) (n : ℕ) (grew : OnlyGrew q r) where

@@ -16,8 +16,8 @@ use Rattle.mc_insts.specs.Graphs.{count_of}
 use Rattle.mc_insts.specs.Growing.{Grown}
 use Rattle.mc_procs.specs.Procedures.{PlainProcs, source_of, insts_of, with_insts}
 use Rattle.mc_procs.specs.VariableTypes.{type_in}
-use Rattle.mc_mode_points.specs.Nodes.{StoodFor}
-use Rattle.mc_mode_points.specs.Tables.{Entry, node_in}
+use Rattle.mc_mode_state.specs.Nodes.{StoodFor}
+use Rattle.mc_mode_state.specs.Tables.{Entry, node_in}
 
 -- these are all that inst
 abbrev pub all_are : ℕ → List ℕ → Bool

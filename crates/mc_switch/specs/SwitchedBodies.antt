@@ -20,7 +20,7 @@ use Rattle.mc_insts.specs.Graphs.{count_of}
 use Rattle.mc_insts.specs.Growing.{Grown}
 use Rattle.mc_procs.specs.Procedures.{PlainProcs, source_of, insts_of, with_insts, with_procs}
 use Rattle.mc_procs.specs.VariableTypes.{type_in}
-use Rattle.mc_mode_points.specs.Tables.{Entry}
+use Rattle.mc_mode_state.specs.Tables.{Entry}
 use Rattle.mc_switch.specs.Kept.{Suits, Extends, AreMerged, kept_by, has_no_answer, never_answers}
 
 -- The body is the switch form of the procedure's in each system that suits. What is kept of arms goes

@@ -13,7 +13,7 @@ ghost use Rattle.mc_switch.specs.Types.{inst_in, InstsFit};
 ghost use Rattle.mc_det.specs.code.Walks.{bounds_in};
 ghost use Rattle.mc_switch.specs.code.Forms.{Stands, Returns, Enters, IsGoal, IsNode, AreRun, EachIs, AreArms};
 
-use crate::around::Around;
+use crate::context::VariableContext;
 use crate::formed::{Formed, disjunction_of};
 use crate::grouping::switched;
 use crate::merging::Merger;
@@ -33,13 +33,13 @@ use std::alloc::Global;
 /// A walk over a body that makes its switch form: the insts at the point where it is, those that were merged, and room for
 /// what changes found.
 #[derive(Drop)]
-pub(crate) struct Forming {
+pub(crate) struct SwitchDetection {
     pub(crate) point: Point,
     pub(crate) merger: Merger,
     pub(crate) found: Vec<(u32, InstId)>,
 }
 
-impl Forming {
+impl SwitchDetection {
     /// Enters the changes of a goal; what each of them found is put behind what was found before.
     fn enter(
         &mut self,
@@ -103,7 +103,7 @@ impl Forming {
     {
         let never_ends = all_never_end(goals.as_slice());
         let after = self.insts_after(alloc, changes, procs, types)?;
-        let around = Around {
+        let around = VariableContext {
             types,
             before: self.point.as_slice(),
             after: after.as_slice(),
@@ -135,7 +135,7 @@ fn plain_disjunction(alloc: Global, goals: Vec<Formed>) -> Result<FormedGoal, Me
     Ok(FormedGoal { goal, never_ends })
 }
 
-impl Forming {
+impl SwitchDetection {
     /// A copy of a goal in switch form; as it is where it stands within a switch already.
     #[cycle(form)]
     pub(crate) fn formed(

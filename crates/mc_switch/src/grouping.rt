@@ -12,8 +12,8 @@ ghost use Rattle.mc_switch.specs.code.Groups.{plain_group, plain_groups};
 ghost use Rattle.mc_switch.specs.code.Labels.{KeepsFirst, plain_opened};
 ghost use Rattle.mc_switch.specs.code.Parts.{KeepsGroup, KeepsEnds, AreKept, IsGroupedOf, IsPartOf, IsArmOf, AreArmsOf, IsChosenIn};
 
-use crate::around::Around;
 use crate::choice::chosen;
+use crate::context::VariableContext;
 use crate::disjunct::Opened;
 use crate::formed::{Formed, disjunction_of};
 use crate::groups::{Group, split};
@@ -34,7 +34,7 @@ pub fn switched(
     alloc: Global,
     procs: &mut Procs,
     merger: &mut Merger,
-    around: &Around,
+    around: &VariableContext,
     sources: &[GoalNode],
     goals: Vec<Formed>,
 ) -> Result<Sched, Memory>
@@ -117,7 +117,7 @@ fn grouped(
     alloc: Global,
     procs: &mut Procs,
     merger: &mut Merger,
-    around: &Around,
+    around: &VariableContext,
     out: &mut VarSet,
     times: usize,
     disjuncts: Vec<Opened>,
@@ -152,7 +152,7 @@ fn grouped(
 fn chosen_around(
     alloc: Global,
     procs: &Procs,
-    around: &Around,
+    around: &VariableContext,
     out: &VarSet,
     disjuncts: &[Opened],
 ) -> Result<Option<u32>, Memory>
@@ -178,7 +178,7 @@ fn arms(
     alloc: Global,
     procs: &mut Procs,
     merger: &mut Merger,
-    around: &Around,
+    around: &VariableContext,
     out: &mut VarSet,
     times: usize,
     groups: Vec<Group>,
@@ -208,7 +208,7 @@ fn arm(
     alloc: Global,
     procs: &mut Procs,
     merger: &mut Merger,
-    around: &Around,
+    around: &VariableContext,
     out: &mut VarSet,
     times: usize,
     group: Group,
@@ -236,7 +236,7 @@ fn part(
     alloc: Global,
     procs: &mut Procs,
     merger: &mut Merger,
-    around: &Around,
+    around: &VariableContext,
     out: &mut VarSet,
     times: usize,
     mut disjuncts: Vec<Opened>,

@@ -1,8 +1,8 @@
 //! Switches: which disjunctions of procedures' bodies are switches, on which variable, and their arms.
 #![tactic(auto)]
 
-mod around;
 mod choice;
+mod context;
 mod disjunct;
 mod equations;
 mod formed;

@@ -3,17 +3,17 @@ ghost use Rattle.mc_model.specs.Good.{System};
 ghost use Rattle.mc_accepted.specs.Ordered.{change_at};
 ghost use Rattle.mc_insts.specs.Graphs.{count_of};
 ghost use Rattle.mc_procs.specs.VariableTypes.{type_in};
-ghost use Rattle.mc_mode_points.specs.Tables.{Entry};
+ghost use Rattle.mc_mode_state.specs.Tables.{Entry};
 ghost use Rattle.mc_switch.specs.code.Grouping.{AroundFits};
 ghost use Rattle.mc_switch.specs.Types.{inst_in};
 ghost use Rattle.mc_switch.specs.Kept.{all_are, inst_merged, change_of, kept_by, Extends, AreMerged, Merges, OnlyGrew, Suits};
 ghost use Rattle.mc_switch.specs.code.Labels.{plain_opened};
 ghost use Rattle.mc_switch.specs.code.Ends.{inst_at_end, insts_at_ends, one_ends, KeepsEnd, ChangesSo};
 
-use crate::around::Around;
+use crate::context::VariableContext;
 use crate::disjunct::Opened;
 use mc_base::{Memory, Row};
-use mc_mode_points::NodeTable;
+use mc_mode_state::NodeTable;
 use mc_model::inst::InstId;
 use mc_procs::Procs;
 use mc_program::ty::Ty;
@@ -72,7 +72,7 @@ impl Merger {
         &mut self,
         alloc: Global,
         procs: &mut Procs,
-        around: &Around,
+        around: &VariableContext,
         x: u32,
         disjuncts: &[Opened],
         changes: &mut Vec<(u32, InstId)>,
@@ -105,7 +105,7 @@ impl Merger {
         &mut self,
         alloc: Global,
         procs: &mut Procs,
-        around: &Around,
+        around: &VariableContext,
         disjuncts: &[Opened],
     ) -> Result<Row<(u32, InstId)>, Memory>
         requires merged { AreMerged procs.old around.now.types.now self.old.found }

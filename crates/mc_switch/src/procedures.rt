@@ -7,7 +7,7 @@ ghost use Rattle.mc_procs.specs.Fitting.{ProcedureFits};
 ghost use Rattle.mc_switch.specs.Kept.{OnlyGrew};
 ghost use Rattle.mc_switch.specs.SwitchedBodies.{IsForm, IsSwitched, Switches};
 
-use crate::forming::Forming;
+use crate::forming::SwitchDetection;
 use crate::merging::Merger;
 use mc_base::{Memory, Row};
 use mc_det::{Point, replace_all, with_body};
@@ -99,7 +99,7 @@ fn formed_body(alloc: Global, procs: &mut Procs, p: &Proc) -> Result<GoalNode, M
         p.head.as_slice(),
         p.first.as_slice(),
     )?;
-    let mut forming = Forming {
+    let mut forming = SwitchDetection {
         point,
         merger: Merger::new(alloc),
         found: Vec::new(alloc),

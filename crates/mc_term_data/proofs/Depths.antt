@@ -3,7 +3,7 @@ use Rattle.std.proofs.Common.{◌≡◌, ℕ, ◌+◌, ◌-◌, ◌≤◌, ◌<�
 use Rattle.std.proofs.lemmas.List.{take_more, map-append}
 use Rattle.mc_term_data.proofs.Lasts.{plain_front_of}
 use Rattle.mc_term_data.specs.declared.term.Term.{Term}
-use Rattle.mc_term_data.specs.Plain.{PlainTerm, at, Var, Int, Str, App, Items, Tailed, Conj, Disj, PlainTerms, no_term, more_terms, tms, depth, deepest, plain_term, plain_terms}
+use Rattle.mc_term_data.specs.Plain.{PlainTerm, at, Var, Int, Str, App, Items, Tailed, Conj, Disj, PlainTerms, no_term, more_terms, term_list, depth, deepest, plain_term, plain_terms}
 use Rattle.mc_term_data.specs.code.LastParts.{last_from, last_term, last_part}
 
 -- the depth of the deepest of some terms
@@ -33,7 +33,7 @@ last_shallower (at (Tailed ts t) l) u e =
 last_shallower (at (Conj ts) l) u e = omega (arith, last_of_terms ts u e)
 last_shallower (at (Disj ts) l) u e = omega (arith, last_of_terms ts u e)
 
-deepest_append : (ts us : List PlainTerm) → deepest (tms (ts ++ us)) ≡ max (deepest (tms ts)) (deepest (tms us))
+deepest_append : (ts us : List PlainTerm) → deepest (term_list (ts ++ us)) ≡ max (deepest (term_list ts)) (deepest (term_list us))
 deepest_append [] us = omega arith
 deepest_append (t ∷ ts) us = omega (arith, deepest_append ts us)
 
@@ -53,13 +53,13 @@ depth_item xs i x le e = subst (λ y. depth (plain_term y) ≤ deepest_of xs) (s
 pub deepest_more : (xs : List Term) (i : ℕ) (x : Term) → i < length xs → x ≡ get_or xs i x → deepest_of (take (i + 1) xs) ≡ max (deepest_of (take i xs)) (depth (plain_term x))
 deepest_more xs i x le e =
     ap deepest_of (take_more xs i x le)
-    ∙ ap (λ ts. deepest (tms ts)) (map-append plain_term (take i xs) (get_or xs i x ∷ []))
+    ∙ ap (λ ts. deepest (term_list ts)) (map-append plain_term (take i xs) (get_or xs i x ∷ []))
     ∙ deepest_append (map plain_term (take i xs)) (plain_term (get_or xs i x) ∷ [])
     ∙ subst (λ y. max (deepest_of (take i xs)) (max (depth (plain_term y)) 0) ≡ max (deepest_of (take i xs)) (depth (plain_term x))) e (omega arith)
 
 -- the front and the last of some terms
 pub deepest_front : (xs : List Term) (u : PlainTerm) → 1 ≤ length xs → last_term (plain_terms xs) ≡ Some u → deepest_of xs ≡ max (deepest_of (take (length xs - 1) xs)) (depth u)
 deepest_front xs u le last =
-    ap (λ ts. deepest (tms ts)) (plain_front_of xs u le last)
+    ap (λ ts. deepest (term_list ts)) (plain_front_of xs u le last)
     ∙ deepest_append (map plain_term (take (length xs - 1) xs)) (u ∷ [])
     ∙ omega arith

@@ -2,10 +2,10 @@
 use Rattle.std.proofs.Common.{◌≡◌, ℕ, zero, suc, ◌+◌, ◌-◌, ◌≤◌, ◌<◌, ◌↔◌, Bool, IsTrue, List, [], ◌∷◌, ◌++◌, length, map, take, get_or, Some, None, refl, ap, ap₂, sym, ◌∙◌, arith}
 use Rattle.std.proofs.lemmas.List.{take_more, take_all, map-append, take-map, length-map}
 use Rattle.mc_term_data.specs.declared.term.Term.{Term}
-use Rattle.mc_term_data.specs.Plain.{PlainTerm, no_term, tms, plain_term, plain_terms}
+use Rattle.mc_term_data.specs.Plain.{PlainTerm, no_term, term_list, plain_term, plain_terms}
 use Rattle.mc_term_data.specs.code.LastParts.{last_from, last_term}
 
-pub tms_same : (ts us : List PlainTerm) → tms ts ≡ tms us → ts ≡ us
+pub tms_same : (ts us : List PlainTerm) → term_list ts ≡ term_list us → ts ≡ us
 tms_same [] [] e = refl
 tms_same [] (u ∷ us) e = cc
 tms_same (t ∷ ts) [] e = cc
@@ -13,11 +13,11 @@ tms_same (t ∷ ts) (u ∷ us) e =
     let heads : t ≡ u = cc in
     ap₂ (λ v vs. v ∷ vs) heads (tms_same ts us cc)
 
-from_snoc : (u : PlainTerm) (us : List PlainTerm) (t : PlainTerm) → last_from u (tms (us ++ (t ∷ []))) ≡ t
+from_snoc : (u : PlainTerm) (us : List PlainTerm) (t : PlainTerm) → last_from u (term_list (us ++ (t ∷ []))) ≡ t
 from_snoc u [] t = refl
 from_snoc u (v ∷ vs) t = from_snoc v vs t
 
-last_snoc : (ts : List PlainTerm) (t : PlainTerm) → last_term (tms (ts ++ (t ∷ []))) ≡ Some t
+last_snoc : (ts : List PlainTerm) (t : PlainTerm) → last_term (term_list (ts ++ (t ∷ []))) ≡ Some t
 last_snoc [] t = refl
 last_snoc (u ∷ us) t = ap Some (from_snoc u us t)
 
@@ -34,10 +34,10 @@ plain_front_last xs front last e = ap (map plain_term) e ∙ map-append plain_te
 -- the last of the terms of a row
 pub last_of_row : (xs : List Term) (last : Term) → 1 ≤ length xs → last ≡ get_or xs (length xs - 1) last → last_term (plain_terms xs) ≡ Some (plain_term last)
 last_of_row xs last le e =
-    ap (λ ts. last_term (tms ts)) (plain_front_last xs (take (length xs - 1) xs) last (front_last xs last le e)) ∙ last_snoc (map plain_term (take (length xs - 1) xs)) (plain_term last)
+    ap (λ ts. last_term (term_list ts)) (plain_front_last xs (take (length xs - 1) xs) last (front_last xs last le e)) ∙ last_snoc (map plain_term (take (length xs - 1) xs)) (plain_term last)
 
 -- terms are the front of theirs and the last one
-front_of : (n : ℕ) (ts : List PlainTerm) (u : PlainTerm) → length ts ≡ suc n → last_term (tms ts) ≡ Some u → ts ≡ take n ts ++ (u ∷ [])
+front_of : (n : ℕ) (ts : List PlainTerm) (u : PlainTerm) → length ts ≡ suc n → last_term (term_list ts) ≡ Some u → ts ≡ take n ts ++ (u ∷ [])
 front_of zero [] u le e = cc
 front_of zero (t ∷ []) u le e = cc
 front_of zero (t ∷ v ∷ vs) u le e = absurd (omega arith)
@@ -64,7 +64,7 @@ same_rows : (xs ys : List Term) → 1 ≤ length xs → 1 ≤ length ys → last
 same_rows [] ys le me e same = absurd (omega arith)
 same_rows (x ∷ xs) ys le me e same =
     let u = last_from (plain_term x) (plain_terms xs) in
-    ap tms (plain_front_of (x ∷ xs) u le refl ∙ ap (λ ts. ts ++ (u ∷ [])) (tms_same _ _ same) ∙ sym (plain_front_of ys u me (sym e)))
+    ap term_list (plain_front_of (x ∷ xs) u le refl ∙ ap (λ ts. ts ++ (u ∷ [])) (tms_same _ _ same) ∙ sym (plain_front_of ys u me (sym e)))
 
 pub as_long : (xs ys : List Term) → plain_terms xs ≡ plain_terms ys → length xs ≡ length ys
 as_long xs ys e = sym (length-map xs plain_term) ∙ ap length (tms_same _ _ e) ∙ length-map ys plain_term
@@ -72,7 +72,7 @@ as_long xs ys e = sym (length-map xs plain_term) ∙ ap length (tms_same _ _ e) 
 same_fronts : (xs ys : List Term) → plain_terms xs ≡ plain_terms ys → plain_terms (take (length xs - 1) xs) ≡ plain_terms (take (length ys - 1) ys)
 same_fronts xs ys e =
     let same : map plain_term xs ≡ map plain_term ys = tms_same _ _ e in
-    ap tms (sym (take-map plain_term (length xs - 1) xs) ∙ ap₂ (λ n ts. take (n - 1) ts) (as_long xs ys e) same ∙ take-map plain_term (length ys - 1) ys)
+    ap term_list (sym (take-map plain_term (length xs - 1) xs) ∙ ap₂ (λ n ts. take (n - 1) ts) (as_long xs ys e) same ∙ take-map plain_term (length ys - 1) ys)
 
 -- a test of the fronts is one of the rows, where the last terms are the same
 pub rows_by_fronts : (r : Bool) (xs ys vs ws : List Term) → xs ≡ vs → ys ≡ ws → 1 ≤ length xs → 1 ≤ length ys → (IsTrue r ↔ (plain_terms (take (length xs - 1) xs) ≡ plain_terms (take (length ys - 1) ys))) → last_term (plain_terms vs) ≡ last_term (plain_terms ws) → IsTrue r ↔ (plain_terms vs ≡ plain_terms ws)

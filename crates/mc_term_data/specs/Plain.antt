@@ -29,9 +29,9 @@ mutual
     no_term : PlainTerms
     more_terms : PlainTerm → PlainTerms → PlainTerms
 
-abbrev pub tms : List PlainTerm → PlainTerms
-tms [] = no_term
-tms (t ∷ ts) = more_terms t (tms ts)
+abbrev pub term_list : List PlainTerm → PlainTerms
+term_list [] = no_term
+term_list (t ∷ ts) = more_terms t (term_list ts)
 
 abbrev pub list_node : PlainTerms → Option (Box PlainTerm Global) → PlainNode
 list_node ts None = Items ts
@@ -41,10 +41,10 @@ abbrev pub node_step : O.Node-F PlainNode PlainTerm → PlainNode
 node_step (O.Var w) = Var w
 node_step (O.Int n) = Int n
 node_step (O.Str s) = Str s
-node_step (O.App w ts) = App w (tms ts)
-node_step (O.List ts t) = list_node (tms ts) t
-node_step (O.Conj ts) = Conj (tms ts)
-node_step (O.Disj ts) = Disj (tms ts)
+node_step (O.App w ts) = App w (term_list ts)
+node_step (O.List ts t) = list_node (term_list ts) t
+node_step (O.Conj ts) = Conj (term_list ts)
+node_step (O.Disj ts) = Disj (term_list ts)
 
 abbrev pub term_step : O.Term-F PlainNode PlainTerm → PlainTerm
 term_step t = at t.node t.line
@@ -57,7 +57,7 @@ abbrev pub plain_node : Node → PlainNode
 plain_node = fold-Node PlainNode PlainTerm node_step term_step
 
 abbrev pub plain_terms : List Term → PlainTerms
-plain_terms ts = tms (map plain_term ts)
+plain_terms ts = term_list (map plain_term ts)
 
 abbrev mutual
   -- How deep a term is: a leaf has 1, and any other term one more than its deepest part; a whole

@@ -1,6 +1,6 @@
 ghost use Rattle.std.specs.Prelude.{◌≡◌, map};
 ghost use Rattle.std.specs.Option.{option_map};
-ghost use Rattle.mc_term_data.specs.Plain.{plain_term, tms};
+ghost use Rattle.mc_term_data.specs.Plain.{plain_term, term_list};
 ghost use Rattle.mc_term_data.specs.Shapes.{word, is_word, is_the_word, has_none, has_one, two, variable, constant, operands};
 
 use crate::term::{Node, Term};
@@ -36,7 +36,7 @@ pub fn is_the_word(wanted: &[u8], name: &Row<Text>) -> bool
 
 /// Whether there are no terms.
 pub fn has_none(terms: &Row<Term>) -> bool
-    ensures { result ≡ has_none (tms (map plain_term terms.now)) }
+    ensures { result ≡ has_none (term_list (map plain_term terms.now)) }
 {
     terms.is_empty()
 }
@@ -44,7 +44,7 @@ pub fn has_none(terms: &Row<Term>) -> bool
 /// Whether there is one term.
 #[tactic(auto, using(crate::proofs::Shapes::has_one_by_length))]
 pub fn has_one(terms: &Row<Term>) -> bool
-    ensures { result ≡ has_one (tms (map plain_term terms.now)) }
+    ensures { result ≡ has_one (term_list (map plain_term terms.now)) }
 {
     terms.len() == 1
 }
@@ -53,7 +53,7 @@ pub fn has_one(terms: &Row<Term>) -> bool
 #[tactic(auto, using(crate::proofs::Shapes::less_than_two, crate::proofs::Shapes::more_than_two))]
 pub fn two(terms: &Row<Term>) -> Option<(&Term, &Term)>
     ensures { option_map (λ p. (plain_term p.0.now, plain_term p.1.now)) result
-        ≡ two (tms (map plain_term terms.now)) }
+        ≡ two (term_list (map plain_term terms.now)) }
 {
     match terms.as_slice() {
         [first, second] => Some((first, second)),

@@ -3,7 +3,7 @@ use Rattle.std.proofs.Common.{◌≡◌, ℕ, ◌≤◌, ◌<◌, ◌+◌, Bool,
 use Rattle.std.specs.Prelude.{pos}
 use Rattle.std.proofs.lemmas.Bool.{leb-true, le-leb}
 use Rattle.mc_term_data.specs.Plain as S
-use Rattle.mc_term_data.specs.Plain.{PlainTerm, PlainNode, PlainTerms, at, tms, no_term, more_terms}
+use Rattle.mc_term_data.specs.Plain.{PlainTerm, PlainNode, PlainTerms, at, term_list, no_term, more_terms}
 use Rattle.mc_term_parser.specs.Tree.{Tree, Trees, Var, Int, Neg, Str, App, Items, Tailed, Conj, Disj, Inside, no_tree, more_trees, depth, deepest, or_else, too_large, first_large, moved, term, terms}
 use Rattle.mc_term_parser.specs.code.Seen.{Seen, SeenRow, node_seen, kept, leaf, seen_large, seen_int, seen_neg, seen_app, seen_items, seen_tailed, seen_conj, seen_disj, seen_inside, no_seen, seen_then}
 use Rattle.mc_term_parser.proofs.Images.{image, images}
@@ -52,7 +52,7 @@ mutual
   image_depth (App l w ts) =
       omega (
         arith,
-        kept_depth l (S.App w (tms (images no_seen ts).values)) (1 + (images no_seen ts).depth)
+        kept_depth l (S.App w (term_list (images no_seen ts).values)) (1 + (images no_seen ts).depth)
             (images no_seen ts).large,
         images_depth no_seen ts,
         none_depth,
@@ -60,7 +60,7 @@ mutual
   image_depth (Items l ts) =
       omega (
         arith,
-        kept_depth l (S.Items (tms (images no_seen ts).values)) (1 + (images no_seen ts).depth)
+        kept_depth l (S.Items (term_list (images no_seen ts).values)) (1 + (images no_seen ts).depth)
             (images no_seen ts).large,
         images_depth no_seen ts,
         none_depth,
@@ -68,7 +68,7 @@ mutual
   image_depth (Tailed l ts t) =
       omega (
         arith,
-        kept_depth l (S.Tailed (tms (images no_seen ts).values) (image t).value)
+        kept_depth l (S.Tailed (term_list (images no_seen ts).values) (image t).value)
             (1 + max (images no_seen ts).depth (image t).depth)
             (or_else (images no_seen ts).large (image t).large),
         images_depth no_seen ts,
@@ -78,7 +78,7 @@ mutual
   image_depth (Conj l ts) =
       omega (
         arith,
-        kept_depth l (S.Conj (tms (images no_seen ts).values)) (1 + (images no_seen ts).depth)
+        kept_depth l (S.Conj (term_list (images no_seen ts).values)) (1 + (images no_seen ts).depth)
             (images no_seen ts).large,
         images_depth no_seen ts,
         none_depth,
@@ -86,7 +86,7 @@ mutual
   image_depth (Disj l ts) =
       omega (
         arith,
-        kept_depth l (S.Disj (tms (images no_seen ts).values)) (1 + (images no_seen ts).depth)
+        kept_depth l (S.Disj (term_list (images no_seen ts).values)) (1 + (images no_seen ts).depth)
             (images no_seen ts).large,
         images_depth no_seen ts,
         none_depth,
@@ -202,7 +202,7 @@ behind : List PlainTerm → PlainTerms → PlainTerms
 behind [] us = us
 behind (t ∷ ts) us = more_terms t (behind ts us)
 
-behind_none : (ts : List PlainTerm) → tms ts ≡ behind ts no_term
+behind_none : (ts : List PlainTerm) → term_list ts ≡ behind ts no_term
 unfolding behind
 behind_none [] = refl
 behind_none (t ∷ ts) = ap (more_terms t) (behind_none ts)
@@ -227,8 +227,8 @@ moved_node l (at n k) = refl
 
 behind_nothing :
     (ts : Trees)
-    → tms (images no_seen ts).values ≡ behind no_seen.values (terms ts)
-    → tms (images no_seen ts).values ≡ terms ts
+    → term_list (images no_seen ts).values ≡ behind no_seen.values (terms ts)
+    → term_list (images no_seen ts).values ≡ terms ts
 unfolding behind
 behind_nothing ts e = e ∙ ap (λ us. behind us (terms ts)) none_values
 
@@ -267,7 +267,7 @@ mutual
   images_value :
       (r : SeenRow) (ts : Trees)
       → deepest ts ≤ 256 → first_large ts ≡ None
-      → tms (images r ts).values ≡ behind r.values (terms ts)
+      → term_list (images r ts).values ≡ behind r.values (terms ts)
   images_value r no_tree h e = behind_none r.values
   images_value r (more_trees t ts) h e =
       images_value (seen_then r (image t)) ts (omega arith) (second_none _ _ e)

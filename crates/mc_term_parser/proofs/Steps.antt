@@ -12,7 +12,7 @@ use Rattle.mc_term_parser.specs.declared.frame.Series.TheVariants.{Chained}
 use Rattle.mc_term_parser.specs.declared.frame.Context.{Context}
 use Rattle.mc_term_parser.specs.declared.frame.Part as D
 use Rattle.mc_term_parser.specs.declared.frame.Frame.{Frame}
-use Rattle.mc_term_parser.specs.declared.frame.Now.TheVariants as NV
+use Rattle.mc_term_parser.specs.declared.frame.ParserPhase.TheVariants as NV
 use Rattle.mc_term_parser.specs.declared.frame.ParserStack.{ParserStack}
 use Rattle.mc_term_parser.specs.declared.frame.Machine.{Machine}
 use Rattle.mc_term_parser.specs.declared.frame.Mark.TheVariants as MV

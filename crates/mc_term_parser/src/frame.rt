@@ -70,7 +70,7 @@ pub enum Frame {
 
 // What the reader does next.
 #[derive(Drop)]
-pub enum Now {
+pub enum ParserPhase {
     // A part starts.
     Start(Context),
     // A part is read.
@@ -90,7 +90,7 @@ pub struct ParserStack {
 
 #[derive(Drop)]
 pub struct Machine {
-    pub phase: Now,
+    pub phase: ParserPhase,
     pub parser: ParserStack,
 }
 

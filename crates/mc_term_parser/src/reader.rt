@@ -5,7 +5,9 @@ ghost use Rattle.mc_term_parser.specs.code.Machine as M;
 ghost use Rattle.mc_term_parser.specs.code.Seen.{seen_making, seen_app, seen_then, no_seen, line_seen};
 ghost use Rattle.mc_term_parser.specs.Part as P;
 
-use crate::frame::{Context, Frame, Machine, Mark, Now, Operator, ParserStack, Part, Series};
+use crate::frame::{
+    Context, Frame, Machine, Mark, Operator, ParserPhase, ParserStack, Part, Series,
+};
 use crate::infixes::{Chain, Infix};
 use crate::lexeme::Lexeme;
 use crate::reading::{Reading, Readings};
@@ -66,30 +68,30 @@ impl ParserStack {
 
     // The machine where a part starts.
     pub fn start(self, context: Context) -> Machine
-        ensures { result ≡ record { phase = Now.Start context; parser = self } }
+        ensures { result ≡ record { phase = ParserPhase.Start context; parser = self } }
     {
         Machine {
-            phase: Now::Start(context),
+            phase: ParserPhase::Start(context),
             parser: self,
         }
     }
 
     // The machine where a part is read.
     pub fn done(self, context: Context, part: Part) -> Machine
-        ensures { result ≡ record { phase = Now.Done context part; parser = self } }
+        ensures { result ≡ record { phase = ParserPhase.Done context part; parser = self } }
     {
         Machine {
-            phase: Now::Done(context, part),
+            phase: ParserPhase::Done(context, part),
             parser: self,
         }
     }
 
     // The machine where the tokens are no term.
     pub fn refused(self) -> Machine
-        ensures { result ≡ record { phase = Now.No; parser = self } }
+        ensures { result ≡ record { phase = ParserPhase.No; parser = self } }
     {
         Machine {
-            phase: Now::No,
+            phase: ParserPhase::No,
             parser: self,
         }
     }
@@ -487,7 +489,7 @@ fn finish(tokens: &[Lexeme], parser: ParserStack, part: Part) -> Machine
         return parser.refused();
     }
     Machine {
-        phase: Now::Yes(part),
+        phase: ParserPhase::Yes(part),
         parser,
     }
 }

@@ -12,7 +12,7 @@ ghost use Rattle.mc_term_parser.specs.Tree.{Tree};
 ghost use Rattle.mc_term_parser.specs.declared.lexeme.Lexeme.{Lexeme};
 
 use crate::arguments::start_arguments;
-use crate::frame::{Context, Frame, Machine, Mark, Now, Operator, ParserStack, Series};
+use crate::frame::{Context, Frame, Machine, Mark, Operator, ParserPhase, ParserStack, Series};
 use crate::infixes::Role;
 use crate::lexeme::Lexeme;
 use crate::reader::{closed, mark, name_row, step_done};
@@ -382,20 +382,20 @@ fn step(alloc: Global, tokens: &[Lexeme], machine: Machine) -> Result<Machine, M
     let at = at.min(tokens.len());
     let parser = ParserStack { stack, at };
     match phase {
-        Now::Start(context) => start_at(alloc, tokens, parser, context),
-        Now::Done(context, part) => step_done(alloc, tokens, parser, part, context),
-        Now::Yes(part) => Ok(Machine {
-            phase: Now::Yes(part),
+        ParserPhase::Start(context) => start_at(alloc, tokens, parser, context),
+        ParserPhase::Done(context, part) => step_done(alloc, tokens, parser, part, context),
+        ParserPhase::Yes(part) => Ok(Machine {
+            phase: ParserPhase::Yes(part),
             parser,
         }),
-        Now::No => Ok(parser.refused()),
+        ParserPhase::No => Ok(parser.refused()),
     }
 }
 
 fn is_over(machine: &Machine) -> bool
     ensures { (tokens : List Lexeme) → result ≡ is_over (state tokens machine.now) }
 {
-    matches!(machine.phase, Now::Yes(_) | Now::No)
+    matches!(machine.phase, ParserPhase::Yes(_) | ParserPhase::No)
 }
 
 fn answer(machine: Machine) -> Option<Reading>
@@ -410,7 +410,7 @@ fn answer(machine: Machine) -> Option<Reading>
 {
     let Machine { phase, .. } = machine;
     match phase {
-        Now::Yes(part) => Some(part.reading),
+        ParserPhase::Yes(part) => Some(part.reading),
         _ => None,
     }
 }

@@ -2,6 +2,7 @@
 #![tactic(auto, using(crate::proofs::Rules::ends))]
 
 pub use mc_operators::{Fix, infix, prefix};
+
 mod fault;
 mod item;
 mod position;

@@ -17,7 +17,7 @@ use Rattle.mc_names.specs.declared.names.Names.{Names}
 use Rattle.mc_names.specs.Linked.{Linked, plain_named, plain_names}
 use Rattle.mc_type_table.specs.declared.definitions.Equivalences.{Equivalences}
 use Rattle.mc_type_table.specs.Expanded.{equivalent, equivalent_of}
-use Rattle.mc_type_table.specs.Rules.{types_in_body, goes_round, definitions}
+use Rattle.mc_type_table.specs.Rules.{types_in_body, is_cyclic, definitions}
 use Rattle.mc_type_table.specs.Held.{plain_body, held}
 use Rattle.mc_type_table.specs.code.Hidden.{is_hidden, not_hidden}
 use Rattle.mc_type_table.specs.code.Kept.{AreEquivalences}
@@ -93,7 +93,7 @@ are_equivalences n os rows e same is_rows is_bodies is_graph count alike =
 round_is :
     (l : Linked) (e : Equivalences) (u : ℕ)
     → AreEquivalences l e
-    → reaches (steps e.graph) (length e.graph) u u ≡ goes_round l u
+    → reaches (steps e.graph) (length e.graph) u u ≡ is_cyclic l u
 round_is l e u are =
     ap (λ next. reaches next (length e.graph) u u) (fun_ext are.steps)
     ∙ ap (λ n. reaches (λ k. types_in_body (equivalent l k)) n u u) are.count
@@ -102,15 +102,15 @@ pub round_within :
     (l : Linked) (e : Equivalences) (u : ℕ) (b : Bool)
     → (length e.components ≡ length e.graph → NumbersComponents e.graph e.components
     → b ≡ reaches (steps e.graph) (length e.graph) u u)
-    → AreEquivalences l e → b ≡ goes_round l u
+    → AreEquivalences l e → b ≡ is_cyclic l u
 round_within l e u b is are = is are.numbered are.alike ∙ round_is l e u are
 
 pub round_past :
     (l : Linked) (e : Equivalences) (u : ℕ)
-    → length e.graph ≤ u → AreEquivalences l e → false ≡ goes_round l u
+    → length e.graph ≤ u → AreEquivalences l e → false ≡ is_cyclic l u
 round_past l e u past are =
     sym
-    (false_from_ne_true (goes_round l u)
+    (false_from_ne_true (is_cyclic l u)
     (λ r.
     let round : reaches (steps e.graph) (length e.graph) u u ≡ true = round_is l e u are ∙ r in
     let below : u < length e.graph =
@@ -120,12 +120,12 @@ round_past l e u past are =
     omega arith))
 
 pub undefined_round :
-    (l : Linked) (u : ℕ) → true ≡ goes_round l u → None ≡ definitions l u
+    (l : Linked) (u : ℕ) → true ≡ is_cyclic l u → None ≡ definitions l u
 undefined_round l u r = ap (λ b. if not b then equivalent l u else None) r
 
 pub defined_straight :
     (l : Linked) (e : Equivalences) (u : ℕ) (b : Bool)
-    → AreEquivalences l e → b ≡ goes_round l u → b ≡ false
+    → AreEquivalences l e → b ≡ is_cyclic l u → b ≡ false
     → held e.bodies.items u ≡ definitions l u
 defined_straight l e u b are is straight =
     are.bodies u ∙ ap (λ b. if not b then equivalent l u else None) (sym straight ∙ is)

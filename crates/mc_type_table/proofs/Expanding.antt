@@ -16,7 +16,7 @@ use Rattle.mc_names.specs.Linked.{Linked}
 use Rattle.mc_type_table.specs.declared.definitions.Equivalences.{Equivalences}
 use Rattle.mc_type_table.specs.declared.expansion.Known.{Known}
 use Rattle.mc_type_table.specs.Expanded.{equivalent, equivalent_of, replaced, all_replaced, defined_as, after_rounds}
-use Rattle.mc_type_table.specs.Rules.{types_in, all_types_in, types_in_body, goes_round, definitions}
+use Rattle.mc_type_table.specs.Rules.{types_in, all_types_in, types_in_body, is_cyclic, definitions}
 use Rattle.mc_type_table.specs.Held.{held}
 use Rattle.mc_type_table.specs.code.Hidden.{is_hidden, not_hidden}
 use Rattle.mc_type_table.specs.code.Kept.{AreEquivalences, is_done, all_done, IsKnown}
@@ -106,7 +106,7 @@ none_in_sight false o none = refl
 pub undefined_past :
     (l : Linked) (u : ℕ) → length l.types ≤ u → definitions l u ≡ None
 undefined_past l u past =
-    none_in_sight (not (goes_round l u)) (equivalent l u)
+    none_in_sight (not (is_cyclic l u)) (equivalent l u)
     (ap (equivalent_of l) (slice_get_past l.types u past))
 
 not_hidden_past :
@@ -253,7 +253,7 @@ written_so :
     (l : Linked) (hidden : List Bool) (u : ℕ) (b : TypeTerm)
     → not_hidden l hidden u ≡ Some b → equivalent l u ≡ Some b
 written_so l hidden u b is =
-    in_any_sight (not (goes_round l u)) (equivalent l u) b
+    in_any_sight (not (is_cyclic l u)) (equivalent l u) b
     (in_any_sight (not (is_hidden hidden u)) (definitions l u) b is)
 
 cases_before : (n r : ℕ) → r + 1 ≤ n → (m : ℕ) × ((n ≡ suc m) × (r ≤ m))

@@ -12,7 +12,7 @@ use Rattle.mc_components.proofs.Certified.{in_head, in_tail, in_cases}
 use Rattle.mc_decl_syntax.specs.Plain.{PlainDecl, UnionType}
 use Rattle.mc_names.specs.declared.names.Named.{Named}
 use Rattle.mc_names.specs.declared.names.Names.{Names}
-use Rattle.mc_names.specs.Linked.{Defined, Linked, plain_named, plain_names, home}
+use Rattle.mc_names.specs.Linked.{Defined, Linked, plain_named, plain_names, defining_module}
 use Rattle.mc_type_table.specs.declared.bodies.Bodies.{Bodies}
 use Rattle.mc_names.specs.Parameters.{parameters_of}
 use Rattle.mc_type_table.specs.Written.{written_type}
@@ -102,7 +102,7 @@ body_is :
     (l : Linked) (o : Option Defined)
     → contents (after_rounds (length l.types) (definitions l)) l o ≡ body_of l o
 body_is l None = refl
-body_is l (Some d) = same_body l (home l d) d.item
+body_is l (Some d) = same_body l (defining_module l d) d.item
 
 -- whether a test holds of one of these
 abbrev one : (ℕ → Bool) → List ℕ → Bool

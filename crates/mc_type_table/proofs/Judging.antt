@@ -8,7 +8,7 @@ use Rattle.mc_source.specs.declared.rule.Rule.TheVariants as R
 use Rattle.mc_source.specs.Rules.{broken_at, first_rules}
 use Rattle.mc_names.specs.declared.names.Named.{Named}
 use Rattle.mc_names.specs.Linked.{Defined, Linked, plain_named}
-use Rattle.mc_type_table.specs.Rules.{stray_in, goes_round, of_type, is_of_group, is_one_irregular, body, round_fault, regular_fault, type_fault, numbered}
+use Rattle.mc_type_table.specs.Rules.{stray_in, is_cyclic, of_type, is_of_group, is_one_irregular, body, cycle_fault, regular_fault, type_fault, numbered}
 
 pub variable_first :
     (l : Linked) (u : ℕ) (d : Defined) (x what : List ℕ)
@@ -21,22 +21,22 @@ variable_first l u d x what stray is =
     (λ o.
     option_or
     (option_map (λ x. (R.T3, codes "type variable " ++ (x ++ codes " is not in the head"))) o)
-    (option_or (round_fault l u d) (regular_fault l u d))) stray
+    (option_or (cycle_fault l u d) (regular_fault l u d))) stray
 
 behind_variables :
     (l : Linked) (u : ℕ) (d : Defined)
     → None ≡ stray_in d.item
-    → option_or (round_fault l u d) (regular_fault l u d) ≡ type_fault l u d
+    → option_or (cycle_fault l u d) (regular_fault l u d) ≡ type_fault l u d
 behind_variables l u d none =
     ap
     (λ o.
     option_or
     (option_map (λ x. (R.T3, codes "type variable " ++ (x ++ codes " is not in the head"))) o)
-    (option_or (round_fault l u d) (regular_fault l u d))) none
+    (option_or (cycle_fault l u d) (regular_fault l u d))) none
 
 pub round_first :
     (l : Linked) (u : ℕ) (d : Defined) (what : List ℕ)
-    → None ≡ stray_in d.item → true ≡ goes_round l u
+    → None ≡ stray_in d.item → true ≡ is_cyclic l u
     → what ≡ of_type d (codes " is its own equivalent")
     → Some (R.T4, what) ≡ type_fault l u d
 round_first l u d what none round is =
@@ -49,7 +49,7 @@ round_first l u d what none round is =
 
 behind_rounds :
     (l : Linked) (u : ℕ) (d : Defined)
-    → None ≡ stray_in d.item → false ≡ goes_round l u → regular_fault l u d ≡ type_fault l u d
+    → None ≡ stray_in d.item → false ≡ is_cyclic l u → regular_fault l u d ≡ type_fault l u d
 behind_rounds l u d none straight =
     ap
     (λ b.
@@ -59,7 +59,7 @@ behind_rounds l u d none straight =
 
 pub irregular_first :
     (l : Linked) (u : ℕ) (d : Defined) (what : List ℕ)
-    → None ≡ stray_in d.item → false ≡ goes_round l u
+    → None ≡ stray_in d.item → false ≡ is_cyclic l u
     → true ≡ is_one_irregular (λ k. is_of_group l k u) (body l u)
     → what ≡ of_type d (codes " is not regular")
     → Some (R.T5, what) ≡ type_fault l u d
@@ -70,7 +70,7 @@ irregular_first l u d what none straight grown is =
 
 pub none_broken :
     (l : Linked) (u : ℕ) (d : Defined)
-    → None ≡ stray_in d.item → false ≡ goes_round l u
+    → None ≡ stray_in d.item → false ≡ is_cyclic l u
     → false ≡ is_one_irregular (λ k. is_of_group l k u) (body l u)
     → None ≡ type_fault l u d
 none_broken l u d none straight regular =

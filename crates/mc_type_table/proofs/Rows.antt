@@ -3,7 +3,7 @@ use Rattle.std.proofs.Common.{◌≡◌, ℕ, List, [], ◌∷◌, map, length, 
 use Rattle.std.proofs.lemmas.List.{length-map}
 use Rattle.mc_term_data.specs.Names.{count}
 use Rattle.mc_names.specs.declared.names.Named.{Named}
-use Rattle.mc_term_data.specs.Plain.{tms, plain_term}
+use Rattle.mc_term_data.specs.Plain.{term_list, plain_term}
 use Rattle.mc_term_data.specs.declared.term.Term.{Term}
 use Rattle.mc_program.specs.Programs.{type_then}
 use Rattle.mc_program.specs.PlainPrograms.{plain_type, type_terms}
@@ -15,7 +15,7 @@ use Rattle.mc_names.proofs.Places.{count_is_length}
 pub written_each :
     (l : Linked) (own : ℕ) (vs : List (List ℕ)) (ts : List Term)
     → type_terms (map (λ t. written_type l own vs (plain_term t)) ts)
-    ≡ written_types l own vs (tms (map plain_term ts))
+    ≡ written_types l own vs (term_list (map plain_term ts))
 written_each l own vs [] = refl
 written_each l own vs (t ∷ ts) =
     ap (type_then (written_type l own vs (plain_term t))) (written_each l own vs ts)
@@ -24,8 +24,8 @@ pub written_over :
     (l : Linked) (own : ℕ) (vs w : List (List ℕ)) (ts : List Term) (types : List Ty)
     → map plain_type types ≡ map (λ t. written_type l own vs (plain_term t)) ts
     → named_type l own w (length types) (type_terms (map plain_type types))
-    ≡ named_type l own w (count (tms (map plain_term ts)))
-    (written_types l own vs (tms (map plain_term ts)))
+    ≡ named_type l own w (count (term_list (map plain_term ts)))
+    (written_types l own vs (term_list (map plain_term ts)))
 written_over l own vs w ts types same =
     let rows = ap type_terms same ∙ written_each l own vs ts in
     let lengths =

@@ -11,7 +11,7 @@ use Rattle.mc_names.specs.declared.names.Names.{Names}
 use Rattle.mc_names.specs.declared.names.Scope.{Scope}
 use Rattle.mc_names.specs.Linked.{Linked, plain_named, plain_names, module_from}
 use Rattle.mc_type_table.specs.Rules.{definitions}
-use Rattle.mc_type_table.specs.Sight.{sees, definitions_seen}
+use Rattle.mc_type_table.specs.Visibility.{sees, definitions_seen}
 use Rattle.mc_type_table.specs.code.Hidden.{not_hidden}
 use Rattle.mc_type_table.proofs.Expanding.{undefined_past}
 

@@ -6,7 +6,7 @@ use Rattle.std.specs.Set.{is_member}
 use Rattle.std.specs.Str.{bytes_eq}
 use Rattle.std.proofs.lemmas.List.{at_drop_more}
 use Rattle.std.proofs.lemmas.Slice.Eq.{bytes_eq-Decides}
-use Rattle.mc_term_data.specs.Plain.{PlainTerm, plain_term, tms}
+use Rattle.mc_term_data.specs.Plain.{PlainTerm, plain_term, term_list}
 use Rattle.mc_term_data.specs.declared.term.Term.{Term}
 use Rattle.mc_decl_syntax.specs.Terms.{with_name}
 use Rattle.mc_type_table.specs.Rules.{constructor_fields, union_fields, stray, first_of}
@@ -94,11 +94,11 @@ cell_later ps xs x none =
 pub union_step :
     (ps : List (List ℕ)) (ts : List Term) (i : ℕ) (t : Term) (o : Option (List ℕ))
     → i < length ts → t ≡ get_or ts i t → o ≡ first_of ps (constructor_fields (plain_term t))
-    → first_of ps (union_fields (tms (map plain_term (drop i ts))))
-    ≡ option_or o (first_of ps (union_fields (tms (map plain_term (drop (i + 1) ts)))))
+    → first_of ps (union_fields (term_list (map plain_term (drop i ts))))
+    ≡ option_or o (first_of ps (union_fields (term_list (map plain_term (drop (i + 1) ts)))))
 union_step ps ts i t o below is same =
-    let rest = union_fields (tms (map plain_term (drop (i + 1) ts))) in
-    at_drop_more (λ us. first_of ps (union_fields (tms (map plain_term us)))) ts i t below
+    let rest = union_fields (term_list (map plain_term (drop (i + 1) ts))) in
+    at_drop_more (λ us. first_of ps (union_fields (term_list (map plain_term us)))) ts i t below
     ∙ ap
     (λ (x : Term). first_of ps (constructor_fields (plain_term x) ++ rest))
     (sym is)

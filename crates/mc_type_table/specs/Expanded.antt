@@ -5,7 +5,7 @@ use Rattle.std.specs.Option.{option_map}
 use Rattle.mc_program.specs.Programs.{TypeTerm, union_type, TypeTerms, no_types, type_then}
 use Rattle.mc_model.specs.Types.{type_at, instance_of}
 use Rattle.mc_decl_syntax.specs.Plain.{PlainDecl, SameType}
-use Rattle.mc_names.specs.Linked.{Defined, Linked, home}
+use Rattle.mc_names.specs.Linked.{Defined, Linked, defining_module}
 use Rattle.mc_type_table.specs.Written.{written_type}
 use Rattle.mc_names.specs.Parameters.{parameters_of}
 
@@ -16,7 +16,7 @@ equivalent_by l own i = None
 
 abbrev pub equivalent_of : Linked → Option Defined → Option TypeTerm
 equivalent_of l None = None
-equivalent_of l (Some d) = equivalent_by l (home l d) d.item
+equivalent_of l (Some d) = equivalent_by l (defining_module l d) d.item
 
 -- what the type of a number stands for, as its own module writes it
 abbrev pub equivalent : Linked → ℕ → Option TypeTerm

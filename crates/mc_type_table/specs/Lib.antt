@@ -2,6 +2,6 @@ pub mod Written
 pub mod Expanded
 pub mod Rules
 pub mod Table
-pub mod Sight
+pub mod Visibility
 pub mod Held
 pub mod code

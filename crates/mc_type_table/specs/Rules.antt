@@ -13,7 +13,7 @@ use Rattle.mc_program.specs.Programs.{TypeTerm, variable_type, union_type, TypeT
 use Rattle.mc_decl_syntax.specs.Plain.{PlainDecl, UnionType, SameType}
 use Rattle.mc_decl_syntax.specs.Terms.{names_in}
 use Rattle.mc_names.specs.Plain.{id, shown}
-use Rattle.mc_names.specs.Linked.{Defined, Linked, home}
+use Rattle.mc_names.specs.Linked.{Defined, Linked, defining_module}
 use Rattle.mc_type_table.specs.Written.{written_type}
 use Rattle.mc_names.specs.Parameters.{parameters_of}
 use Rattle.mc_type_table.specs.Expanded.{equivalent, in_sight, expanded}
@@ -92,22 +92,22 @@ types_in_body (Some t) = types_in t
 
 -- Whether an equivalence reaches itself by equivalences, whoever sees their definitions: their
 -- bodies, arguments too.
-abbrev pub goes_round : Linked → ℕ → Bool
-goes_round l u = reaches (λ k. types_in_body (equivalent l k)) (length l.types) u u
+abbrev pub is_cyclic : Linked → ℕ → Bool
+is_cyclic l u = reaches (λ k. types_in_body (equivalent l k)) (length l.types) u u
 
 abbrev pub of_type : Defined → List ℕ → List ℕ
 of_type d words = codes "type " ++ (shown (id d.name.name d.name.arity) ++ words)
 
-abbrev pub round_fault : Linked → ℕ → Defined → Option Fault
-round_fault l u d =
-    if goes_round l u then Some (R.T4, of_type d (codes " is its own equivalent")) else None
+abbrev pub cycle_fault : Linked → ℕ → Defined → Option Fault
+cycle_fault l u d =
+    if is_cyclic l u then Some (R.T4, of_type d (codes " is its own equivalent")) else None
 
 -- REGULAR TYPES
 
 -- The equivalences of a program, whoever sees their definitions. One that goes round stands for
 -- itself.
 abbrev pub definitions : Linked → ℕ → Option TypeTerm
-definitions l u = in_sight (λ k. not (goes_round l k)) (equivalent l) u
+definitions l u = in_sight (λ k. not (is_cyclic l k)) (equivalent l) u
 
 -- the types that the body of a union writes, without equivalences
 abbrev pub body_by : Linked → (own : ℕ) → PlainDecl → List TypeTerm
@@ -117,7 +117,7 @@ body_by l own i = []
 
 abbrev pub body_of : Linked → Option Defined → List TypeTerm
 body_of l None = []
-body_of l (Some d) = body_by l (home l d) d.item
+body_of l (Some d) = body_by l (defining_module l d) d.item
 
 abbrev pub body : Linked → ℕ → List TypeTerm
 body l u = body_of l (slice_get l.types u)
@@ -179,7 +179,7 @@ regular_fault l u d =
 -- the first rule that the type of a number breaks
 abbrev pub type_fault : Linked → ℕ → Defined → Option Fault
 type_fault l u d =
-    option_or (variable_fault d.item) (option_or (round_fault l u d) (regular_fault l u d))
+    option_or (variable_fault d.item) (option_or (cycle_fault l u d) (regular_fault l u d))
 
 -- the types of a program, each with its number
 abbrev pub numbered : (first : ℕ) → List Defined → List (ℕ × Defined)

@@ -12,12 +12,12 @@ ghost use Rattle.mc_type_table.specs.code.Kept.{contents, AreBodies};
 use crate::expansion::row;
 use crate::fields::union_fields;
 use crate::mentioned::{put_grown, put_types_in};
-use crate::replaced::{Room, with_definitions};
+use crate::replaced::{SizeBudget, with_definitions};
 use crate::written::type_of_term;
 use mc_base::{Memory, Row, Text};
 use mc_components::{components, one_comes_back};
 use mc_decl_syntax::Decl;
-use mc_names::{Named, Names, home, parameters_of};
+use mc_names::{Named, Names, defining_module, parameters_of};
 use mc_program::ty::Ty;
 use mc_term_data::Term;
 use std::alloc::Global;
@@ -41,7 +41,7 @@ impl Bodies {
         alloc: Global,
         names: &Names,
         definitions: &[Option<Ty>],
-        room: &mut Room,
+        room: &mut SizeBudget,
     ) -> Result<Bodies, Memory>
         ensures { IfOk result (λ b. AreBodies (plain_names names.now) (held definitions.now) b) }
     {
@@ -121,7 +121,7 @@ fn rows_of_all(
     alloc: Global,
     names: &Names,
     definitions: &[Option<Ty>],
-    room: &mut Room,
+    room: &mut SizeBudget,
 ) -> Result<Rows, Memory>
     ensures types { IfOk result
         (λ r.
@@ -156,7 +156,7 @@ fn union_contents(
     names: &Names,
     named: &Named,
     definitions: &[Option<Ty>],
-    room: &mut Room,
+    room: &mut SizeBudget,
 ) -> Result<Contents, Memory>
     ensures types { IfOk result
         (λ c.
@@ -176,7 +176,7 @@ fn union_contents(
             contents_of_fields(
                 alloc,
                 names,
-                home(names, named),
+                defining_module(names, named),
                 variables.as_slice(),
                 fields.as_slice(),
                 definitions,
@@ -194,7 +194,7 @@ fn contents_of_fields(
     variables: &[Text],
     fields: &[&Term],
     definitions: &[Option<Ty>],
-    room: &mut Room,
+    room: &mut SizeBudget,
 ) -> Result<Contents, Memory>
     ensures types { IfOk result
         (λ c.

@@ -3,7 +3,7 @@ ghost use Rattle.std.specs.Option.{option_map};
 ghost use Rattle.mc_program.specs.PlainPrograms.{plain_type};
 ghost use Rattle.mc_names.specs.Linked.{Linked, plain_named, plain_names};
 ghost use Rattle.mc_type_table.specs.Expanded.{equivalent_of};
-ghost use Rattle.mc_type_table.specs.Rules.{types_in_body, goes_round, definitions};
+ghost use Rattle.mc_type_table.specs.Rules.{types_in_body, is_cyclic, definitions};
 ghost use Rattle.mc_type_table.specs.code.Hidden.{is_hidden, not_hidden};
 ghost use Rattle.mc_type_table.specs.code.Kept.{AreEquivalences};
 
@@ -45,8 +45,8 @@ impl Equivalences {
     }
 
     /// Whether a type reaches itself by equivalences.
-    pub fn goes_round(&self, number: u32) -> bool
-        ensures { (l : Linked) → AreEquivalences l self.now → result ≡ goes_round l number }
+    pub fn is_cyclic(&self, number: u32) -> bool
+        ensures { (l : Linked) → AreEquivalences l self.now → result ≡ is_cyclic l number }
     {
         number < self.graph.len() && reaches_itself(&self.graph, &self.components, number)
     }
@@ -67,7 +67,7 @@ impl Equivalences {
         ensures { (l : Linked) → AreEquivalences l self.now
             → option_map (λ t. plain_type t.now) result ≡ definitions l number }
     {
-        if self.goes_round(number) {
+        if self.is_cyclic(number) {
             return None;
         }
         definition_of(self.bodies.as_slice(), number)

@@ -8,7 +8,7 @@ ghost use Rattle.mc_type_table.specs.Expanded.{equivalent_by, equivalent_of};
 use crate::written::type_of_term;
 use mc_base::Memory;
 use mc_decl_syntax::Decl;
-use mc_names::{Named, Names, home, parameters_of};
+use mc_names::{Named, Names, defining_module, parameters_of};
 use mc_program::ty::Ty;
 use std::alloc::Global;
 
@@ -24,7 +24,7 @@ pub fn equivalent(alloc: Global, names: &Names, named: &Named) -> Result<Option<
         option_map plain_type t
         ≡ equivalent_of (plain_names names.now) (Some (plain_named named.now))) }
 {
-    equivalent_by(alloc, names, home(names, named), &named.decl)
+    equivalent_by(alloc, names, defining_module(names, named), &named.decl)
 }
 
 fn equivalent_by(alloc: Global, names: &Names, own: u32, decl: &Decl) -> Result<Option<Ty>, Memory>

@@ -7,7 +7,7 @@ ghost use Rattle.mc_type_table.specs.code.Hidden.{not_hidden};
 ghost use Rattle.mc_type_table.specs.code.Kept.{AreEquivalences, IsKnown, is_done, all_done};
 
 use crate::definitions::Equivalences;
-use crate::replaced::{Room, with_definitions};
+use crate::replaced::{SizeBudget, with_definitions};
 use mc_base::{Memory, Row};
 use mc_program::ty::Ty;
 use std::alloc::Global;
@@ -22,7 +22,7 @@ pub fn expanded_definitions(
     alloc: Global,
     equivalences: &Equivalences,
     hidden: &[bool],
-    room: &mut Room,
+    room: &mut SizeBudget,
 ) -> Result<Vec<Option<Ty>>, Memory>
     ensures { IfOk result
         (λ all.
@@ -88,7 +88,7 @@ impl Known {
         equivalences: &Equivalences,
         hidden: &[bool],
         number: u32,
-        room: &mut Room,
+        room: &mut SizeBudget,
     ) -> Result<(), Memory>
         ensures { OnOk result
             ((l : Linked) (rounds : ℕ) → AreEquivalences l equivalences.now

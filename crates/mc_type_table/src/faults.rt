@@ -9,7 +9,7 @@ ghost use Rattle.mc_type_table.specs.code.Kept.{AreEquivalences, AreBodies};
 use crate::bodies::Bodies;
 use crate::definitions::Equivalences;
 use crate::expansion::expanded_definitions;
-use crate::replaced::Room;
+use crate::replaced::SizeBudget;
 use crate::variables::stray_variable;
 use itoa::Buffer;
 use mc_base::{Memory, Text};
@@ -29,7 +29,7 @@ const MOST_PARTS: u32 = 4_194_304;
 pub fn broken_types(alloc: Global, names: &Names) -> Result<Vec<Broken>, Memory>
     ensures { IfOk result (λ broken. broken.items ≡ type_faults (plain_names names.now)) }
 {
-    let mut room = Room { parts: MOST_PARTS };
+    let mut room = SizeBudget { parts: MOST_PARTS };
     let equivalences = Equivalences::of(alloc, names)?;
     let definitions = expanded_definitions(alloc, &equivalences, &[], &mut room)?;
     let bodies = Bodies::of(alloc, names, definitions.as_slice(), &mut room)?;
@@ -99,7 +99,7 @@ fn type_fault(
         let what = of_variable(alloc, name)?;
         return Ok(Some((Rule::T3, what)));
     }
-    if equivalences.goes_round(number) {
+    if equivalences.is_cyclic(number) {
         let what = of_type(alloc, &named.name, b" is its own equivalent")?;
         return Ok(Some((Rule::T4, what)));
     }

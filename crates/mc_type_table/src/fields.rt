@@ -1,5 +1,5 @@
 ghost use Rattle.std.specs.Prelude.{◌≡◌, [], ◌∷◌, ◌++◌, map, IfOk, OnOk};
-ghost use Rattle.mc_term_data.specs.Plain.{plain_term, tms};
+ghost use Rattle.mc_term_data.specs.Plain.{plain_term, term_list};
 ghost use Rattle.mc_type_table.specs.Rules.{field, fields, constructor_fields, union_fields};
 
 use mc_base::Memory;
@@ -41,7 +41,7 @@ pub fn union_fields<'a>(alloc: Global, constructors: &'a [Term]) -> Result<Vec<&
     ensures { IfOk result
         (λ all.
         map (λ t. plain_term t.now) all.items
-        ≡ union_fields (tms (map plain_term constructors.now))) }
+        ≡ union_fields (term_list (map plain_term constructors.now))) }
 {
     let mut all = Vec::new(alloc);
     for constructor in constructors {
@@ -72,7 +72,7 @@ fn put_cell_fields<'a>(
     ensures { OnOk result
         (map (λ t. plain_term t.now) all.new.items
         ≡ map (λ t. plain_term t.now) all.old.items
-        ++ (fields (tms (map plain_term items.now)) ++ field (plain_term tail.now) ∷ [])) }
+        ++ (fields (term_list (map plain_term items.now)) ++ field (plain_term tail.now) ∷ [])) }
 {
     put_fields(items, all)?;
     all.push(field(tail))?;
@@ -83,7 +83,7 @@ fn put_cell_fields<'a>(
 fn put_fields<'a>(terms: &'a [Term], all: &mut Vec<&'a Term>) -> Result<(), Memory>
     ensures { OnOk result
         (map (λ t. plain_term t.now) all.new.items
-        ≡ map (λ t. plain_term t.now) all.old.items ++ fields (tms (map plain_term terms.now))) }
+        ≡ map (λ t. plain_term t.now) all.old.items ++ fields (term_list (map plain_term terms.now))) }
 {
     for term in terms {
         all.push(field(term))?;

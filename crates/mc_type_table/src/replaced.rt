@@ -15,11 +15,11 @@ const MOST_LEVELS: u32 = 4096;
 
 /// How many parts types may have that are still written out.
 #[derive(Drop)]
-pub struct Room {
+pub struct SizeBudget {
     pub parts: u32,
 }
 
-impl Room {
+impl SizeBudget {
     // One part less, at a level.
     fn take(&mut self, levels: u32) -> Result<(), Memory> {
         if self.parts == 0 || levels == 0 {
@@ -36,7 +36,7 @@ pub fn with_definitions(
     alloc: Global,
     definitions: &[Option<Ty>],
     t: &Ty,
-    room: &mut Room,
+    room: &mut SizeBudget,
 ) -> Result<Ty, Memory>
     ensures { IfOk result (λ r. plain_type r ≡ replaced (held definitions.now) (plain_type t.now)) }
 {
@@ -48,7 +48,7 @@ fn replaced(
     alloc: Global,
     definitions: &[Option<Ty>],
     t: &Ty,
-    room: &mut Room,
+    room: &mut SizeBudget,
     levels: u32,
 ) -> Result<Ty, Memory>
     ensures { IfOk result (λ r. plain_type r ≡ replaced (held definitions.now) (plain_type t.now)) }
@@ -79,7 +79,7 @@ fn union_replaced(
     definitions: &[Option<Ty>],
     number: u32,
     arguments: &[Ty],
-    room: &mut Room,
+    room: &mut SizeBudget,
     levels: u32,
 ) -> Result<Ty, Memory>
     ensures { IfOk result
@@ -97,7 +97,7 @@ fn all_replaced(
     alloc: Global,
     definitions: &[Option<Ty>],
     types: &[Ty],
-    room: &mut Room,
+    room: &mut SizeBudget,
     levels: u32,
 ) -> Result<Row<Ty>, Memory>
     ensures { IfOk result
@@ -119,7 +119,7 @@ fn defined_as(
     definitions: &[Option<Ty>],
     number: u32,
     arguments: Row<Ty>,
-    room: &mut Room,
+    room: &mut SizeBudget,
 ) -> Result<Ty, Memory>
     ensures { IfOk result
         (λ r.
@@ -149,7 +149,7 @@ fn instance(
     alloc: Global,
     arguments: &Row<Ty>,
     t: &Ty,
-    room: &mut Room,
+    room: &mut SizeBudget,
     levels: u32,
 ) -> Result<Ty, Memory>
     ensures { IfOk result
@@ -176,7 +176,7 @@ fn instances(
     alloc: Global,
     arguments: &Row<Ty>,
     types: &[Ty],
-    room: &mut Room,
+    room: &mut SizeBudget,
     levels: u32,
 ) -> Result<Row<Ty>, Memory>
     ensures { IfOk result
@@ -201,7 +201,7 @@ fn argument(
     alloc: Global,
     arguments: &[Ty],
     v: u32,
-    room: &mut Room,
+    room: &mut SizeBudget,
     levels: u32,
 ) -> Result<Ty, Memory>
     ensures { IfOk result
@@ -214,7 +214,7 @@ fn argument(
 }
 
 #[cycle(copied)]
-fn copied(alloc: Global, t: &Ty, room: &mut Room, levels: u32) -> Result<Ty, Memory>
+fn copied(alloc: Global, t: &Ty, room: &mut SizeBudget, levels: u32) -> Result<Ty, Memory>
     ensures { IfOk result (λ copy. copy ≡ t.now) }
 {
     room.take(levels)?;
@@ -232,7 +232,12 @@ fn copied(alloc: Global, t: &Ty, room: &mut Room, levels: u32) -> Result<Ty, Mem
 }
 
 #[cycle(copied)]
-fn all_copied(alloc: Global, types: &[Ty], room: &mut Room, levels: u32) -> Result<Row<Ty>, Memory>
+fn all_copied(
+    alloc: Global,
+    types: &[Ty],
+    room: &mut SizeBudget,
+    levels: u32,
+) -> Result<Row<Ty>, Memory>
     ensures { IfOk result (λ copy. copy ≡ types.now) }
 {
     let mut all = Vec::new(alloc);

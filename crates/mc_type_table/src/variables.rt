@@ -2,7 +2,7 @@ ghost use Rattle.std.specs.Prelude.{◌≡◌, ◌∷◌, ◌++◌, [], List, �
 ghost use Rattle.std.specs.Option.{option_map};
 ghost use Rattle.std.specs.Set.{is_member};
 ghost use Rattle.std.specs.Str.{bytes_eq};
-ghost use Rattle.mc_term_data.specs.Plain.{plain_term, tms};
+ghost use Rattle.mc_term_data.specs.Plain.{plain_term, term_list};
 ghost use Rattle.mc_term_data.specs.Shapes.{variable};
 ghost use Rattle.mc_decl_syntax.specs.Plain.{plain_item};
 ghost use Rattle.mc_decl_syntax.specs.Terms.{with_name, names_in};
@@ -37,7 +37,7 @@ pub fn stray_variable<'a>(alloc: Global, decl: &'a Decl) -> Result<Option<&'a [u
 
 fn stray_in_union<'a>(parameters: &[Text], constructors: &'a [Term]) -> Option<&'a [u8]>
     ensures { option_map (λ w. w.now) result
-        ≡ first_of parameters.now (union_fields (tms (map plain_term constructors.now))) }
+        ≡ first_of parameters.now (union_fields (term_list (map plain_term constructors.now))) }
 {
     for constructor in constructors {
         if let Some(name) = stray_in_constructor(parameters, constructor) {
@@ -62,7 +62,7 @@ fn stray_in_constructor<'a>(parameters: &[Text], constructor: &'a Term) -> Optio
 fn stray_in_cell<'a>(parameters: &[Text], items: &'a [Term], tail: &'a Term) -> Option<&'a [u8]>
     ensures { option_map (λ w. w.now) result
         ≡ first_of parameters.now
-        (fields (tms (map plain_term items.now)) ++ field (plain_term tail.now) ∷ []) }
+        (fields (term_list (map plain_term items.now)) ++ field (plain_term tail.now) ∷ []) }
 {
     match stray_in_fields(parameters, items) {
         Some(name) => Some(name),
@@ -75,7 +75,7 @@ fn stray_in_cell<'a>(parameters: &[Text], items: &'a [Term], tail: &'a Term) -> 
 
 fn stray_in_fields<'a>(parameters: &[Text], terms: &'a [Term]) -> Option<&'a [u8]>
     ensures { option_map (λ w. w.now) result
-        ≡ first_of parameters.now (fields (tms (map plain_term terms.now))) }
+        ≡ first_of parameters.now (fields (term_list (map plain_term terms.now))) }
 {
     for term in terms {
         if let Some(name) = stray(parameters, field(term)) {
@@ -106,7 +106,7 @@ fn stray<'a>(parameters: &[Text], term: &'a Term) -> Option<&'a [u8]>
 #[cycle(stray)]
 fn first_stray<'a>(parameters: &[Text], terms: &'a [Term]) -> Option<&'a [u8]>
     ensures { option_map (λ w. w.now) result
-        ≡ first_stray parameters.now (tms (map plain_term terms.now)) }
+        ≡ first_stray parameters.now (term_list (map plain_term terms.now)) }
 {
     for term in terms {
         if let Some(name) = stray(parameters, term) {
@@ -138,7 +138,7 @@ fn named_parameters(alloc: Global, head: &Term) -> Result<Row<Text>, Memory>
 }
 
 fn names_in(alloc: Global, terms: &[Term]) -> Result<Row<Text>, Memory>
-    ensures { IfOk result (λ names. names ≡ names_in (tms (map plain_term terms.now))) }
+    ensures { IfOk result (λ names. names ≡ names_in (term_list (map plain_term terms.now))) }
 {
     let mut names = Vec::new(alloc);
     for term in terms {

@@ -1,6 +1,6 @@
 ghost use Rattle.std.specs.Prelude.{◌≡◌, length, map, slice_get, IfOk};
 ghost use Rattle.std.specs.Option.{option_map};
-ghost use Rattle.mc_term_data.specs.Plain.{plain_term, tms};
+ghost use Rattle.mc_term_data.specs.Plain.{plain_term, term_list};
 ghost use Rattle.mc_program.specs.Programs.{union_type, no_types};
 ghost use Rattle.mc_program.specs.PlainPrograms.{plain_type, type_terms};
 ghost use Rattle.mc_term_data.specs.Names.{count, found};
@@ -62,9 +62,9 @@ fn type_over(
         (λ t.
         plain_type t
         ≡ named_type (plain_names names.now) own name.now
-        (count (tms (map plain_term arguments.now)))
+        (count (term_list (map plain_term arguments.now)))
         (written_types (plain_names names.now) own variables.now
-        (tms (map plain_term arguments.now)))) }
+        (term_list (map plain_term arguments.now)))) }
 {
     let types = types_of_terms(alloc, names, own, variables, arguments)?;
     named_type(alloc, names, own, name, types)

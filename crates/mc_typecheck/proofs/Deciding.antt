@@ -5,23 +5,23 @@ use Rattle.mc_program.specs.Programs.{TypeTerm, Source}
 use Rattle.mc_accepted.specs.ProperTypes.{Parameters}
 use Rattle.mc_accepted.specs.Resolving.{Step as WalkStep, push_variable, push_number, push_text, choose, equate, call, close_head, names_of, Before, Earlier, Live, TooMany, Unresolved_clause, steps_of, Resolves as ClauseResolves}
 use Rattle.mc_source.specs.declared.name.Candidate.{Candidate}
-use Rattle.mc_type_search.specs.declared.signature.Signature.{Signature}
-use Rattle.mc_type_search.specs.declared.steps.Step.{Step}
-use Rattle.mc_type_search.specs.declared.outcome.Outcome.{Outcome}
-use Rattle.mc_type_search.specs.declared.outcome.Outcome.TheVariants as O
-use Rattle.mc_type_search.specs.Typed.{Typed, LiveAt}
-use Rattle.mc_type_search.specs.Resolved.{Resolves, MostGeneral, Exceeds, OutcomeSays, Earlier as EarlierChoice}
+use Rattle.mc_types.specs.declared.signature.Signature.{Signature}
+use Rattle.mc_types.specs.declared.steps.Step.{Step}
+use Rattle.mc_types.specs.declared.outcome.Outcome.{Outcome}
+use Rattle.mc_types.specs.declared.outcome.Outcome.TheVariants as O
+use Rattle.mc_types.specs.Typed.{Typed, LiveAt}
+use Rattle.mc_types.specs.Resolved.{Resolves, MostGeneral, Exceeds, OutcomeSays, Earlier as EarlierChoice}
 use Rattle.mc_typecheck.specs.Ties.{Meaning, of_name, of_number, of_text, of_equation, of_head, Tie, names_term, names_atom, topmost, below, offered, sole, tied, ties_in, made_by, pick_of, picks_of}
 use Rattle.mc_typecheck.specs.Searched.{AreTies, VariablesBelow}
 use Rattle.mc_typecheck.specs.Outcomes.{ClauseSays}
 use Rattle.mc_typecheck.specs.WrittenTypes.{type_written, AreTypes}
-use Rattle.mc_type_graph.specs.Shapes.{Shape}
+use Rattle.mc_types.specs.Shapes.{Shape}
 use Rattle.mc_types.specs.Trees.{shape, type_of, applied}
 use Rattle.mc_types.proofs.TreeLaws.{exact}
-use Rattle.mc_type_search.specs.declared.written_types.Written.{Written, Free as OfFree, Rigid as OfRigid, Named as OfNamed, App' as OfApp}
-use Rattle.mc_type_search.specs.Writing.{written}
-use Rattle.mc_made_types.specs.Traced.{Traces}
-use Rattle.mc_typecheck.proofs.Walking.{types_from, types_are, types_many, written_trace}
+use Rattle.mc_types.specs.declared.written_types.Written.{Written, Free as OfFree, Rigid as OfRigid, Named as OfNamed, App' as OfApp}
+use Rattle.mc_types.specs.Writing.{written}
+use Rattle.laws_made_types.specs.Traced.{Traces}
+use Rattle.mc_typecheck.proofs.WalkingLemmas.{types_from, types_are, types_many, written_trace}
 use Rattle.mc_typecheck.proofs.Offers.{same_candidate, Offered, offered_at, offered_before, not_before_itself, sole_at}
 use Rattle.mc_typecheck.proofs.Suiting.{Suited, typed_suited, ties_length}
 use Rattle.mc_typecheck.proofs.Moments.{choices_of, traces_by, traced_long, tied_length, moment_of, live_choices, choices_live}

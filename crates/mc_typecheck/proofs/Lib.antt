@@ -1,6 +1,16 @@
+pub mod Picked
+pub mod Steps
+pub mod Bounds
+pub mod Entries
+pub mod Numbering
+pub mod Written
+pub mod WhatFits
+pub mod ProperVariables
+pub mod Checked
+pub mod Marking
 pub mod Offers
 pub mod Suiting
-pub mod Walking
+pub mod WalkingLemmas
 pub mod Moments
 pub mod Deciding
 pub mod Properness

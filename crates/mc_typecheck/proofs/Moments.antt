@@ -6,15 +6,15 @@ use Rattle.mc_accepted.specs.ProperTypes.{Parameters}
 use Rattle.mc_accepted.specs.Resolving.{Step as WalkStep, push_variable, push_number, push_text, choose, equate, call, close_head, Live, Walks, below as types_below}
 use Rattle.mc_source.specs.declared.name.Candidate.{Candidate}
 use Rattle.mc_types.specs.Trees.{shape, type_of}
-use Rattle.mc_type_search.specs.declared.signature.Signature.{Signature}
-use Rattle.mc_type_search.specs.declared.steps.Step.{Step}
-use Rattle.mc_type_search.specs.Typed.{Typed, LiveAt}
+use Rattle.mc_types.specs.declared.signature.Signature.{Signature}
+use Rattle.mc_types.specs.declared.steps.Step.{Step}
+use Rattle.mc_types.specs.Typed.{Typed, LiveAt}
 use Rattle.mc_typecheck.specs.Ties.{of_equation, of_number, of_text, of_head, Tie, tied, sole, named, ties_in, made_by, pick_of, picks_of, topmost, below, names_term, names_atom}
 use Rattle.mc_typecheck.specs.Searched.{AreTies, VariablesBelow}
-use Rattle.mc_made_types.specs.Traced.{Traces, HasTypes}
-use Rattle.mc_made_types.proofs.Tracing.{has_trace, goes_through}
+use Rattle.laws_made_types.specs.Traced.{Traces, HasTypes}
+use Rattle.laws_made_types.proofs.Tracing.{has_trace, goes_through}
 use Rattle.mc_typecheck.proofs.Suiting.{Suited, typed_suited, suited_typed}
-use Rattle.mc_typecheck.proofs.Walking.{AllSuited, types_from, traces_of, tied_by}
+use Rattle.mc_typecheck.proofs.WalkingLemmas.{AllSuited, types_from, traces_of, tied_by}
 
 pub variables_taken : (vars m : ℕ) (walk : List WalkStep) → VariablesBelow vars walk → VariablesBelow vars (take m walk)
 variables_taken vars zero walk h = tt

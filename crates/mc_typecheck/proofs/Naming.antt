@@ -8,12 +8,12 @@ use Rattle.mc_program.specs.PlainPrograms.{plain_type}
 use Rattle.mc_program.specs.declared.ty.Ty.{Ty, Int}
 use Rattle.mc_accepted.specs.ProperTypes.{Parameters}
 use Rattle.mc_source.specs.declared.name.Candidate.{Candidate}
-use Rattle.mc_type_graph.specs.declared.cells.TypeName.{TypeName}
-use Rattle.mc_type_graph.specs.declared.cells.TypeName.TheVariants as N
+use Rattle.mc_types.specs.declared.cells.TypeName.{TypeName}
+use Rattle.mc_types.specs.declared.cells.TypeName.TheVariants as N
 use Rattle.mc_types.specs.Trees.{of_name}
 use Rattle.mc_types.specs.Substitutions.{under}
-use Rattle.mc_type_search.specs.declared.signature.Signature.{Signature}
-use Rattle.mc_type_search.specs.declared.written_types.Written.{Written, Free}
+use Rattle.mc_types.specs.declared.signature.Signature.{Signature}
+use Rattle.mc_types.specs.declared.written_types.Written.{Written, Free}
 use Rattle.mc_typecheck.specs.Ties.{Meaning, of_name as of_candidate, of_equation, Declared, Tie, declared, offered, sole, named, topmost, below, pick_of}
 use Rattle.mc_typecheck.specs.Searched.{plain_signature}
 use Rattle.mc_typecheck.specs.WrittenTypes.{type_written}

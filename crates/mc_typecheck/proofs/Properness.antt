@@ -6,14 +6,14 @@ use Rattle.mc_program.specs.PlainPrograms.{plain_type}
 use Rattle.mc_accepted.specs.ProperTypes.{Parameters}
 use Rattle.mc_accepted.specs.Resolving.{Step as WalkStep, push_variable, push_number, push_text, choose, equate, call, close_head}
 use Rattle.mc_source.specs.declared.name.Candidate.{Candidate}
-use Rattle.mc_type_search.specs.declared.signature.Signature.{Signature}
-use Rattle.mc_type_search.specs.declared.steps.Step.{Step}
-use Rattle.mc_type_search.specs.Typed.{Proper, AllProper}
+use Rattle.mc_types.specs.declared.signature.Signature.{Signature}
+use Rattle.mc_types.specs.declared.steps.Step.{Step}
+use Rattle.mc_types.specs.Typed.{Proper, AllProper}
 use Rattle.mc_typecheck.specs.Ties.{Meaning, of_number, of_text, of_equation, of_head, Declared, Tie, tied, sole, named, topmost, below, declared, made_by, names_term, names_atom}
 use Rattle.mc_typecheck.specs.Searched.{AreTies, VariablesBelow, plain_step, plain_tie}
 use Rattle.mc_typecheck.proofs.Suiting.{same_places, same_candidates, found_at, as_many, first_is, others_are, ties_length}
 use Rattle.mc_typecheck.proofs.Offers.{offered_at, sole_at}
-use Rattle.mc_typecheck.proofs.Walking.{AllBelow, below_more, below_join, below_take, below_drop}
+use Rattle.mc_typecheck.proofs.WalkingLemmas.{AllBelow, below_more, below_join, below_take, below_drop}
 
 module _ (P : Source) (D : Parameters) (places : ℕ) where
   pub record ProperTie (t : Tie) : Type 0 where

@@ -6,9 +6,9 @@ use Rattle.mc_program.specs.Programs.{TypeTerm, variable_type, Source}
 use Rattle.mc_accepted.specs.ProperTypes.{Parameters}
 use Rattle.mc_accepted.specs.Resolving.{Step, Live, Unresolved_clause, steps_of}
 use Rattle.mc_source.specs.declared.name.Candidate.{Candidate}
-use Rattle.mc_type_search.specs.declared.written_types.Written.{Written, Free}
-use Rattle.mc_made_types.specs.Traced.{Traces}
-use Rattle.mc_made_types.proofs.Tracing.{has_trace, goes_through}
+use Rattle.mc_types.specs.declared.written_types.Written.{Written, Free}
+use Rattle.laws_made_types.specs.Traced.{Traces}
+use Rattle.laws_made_types.proofs.Tracing.{has_trace, goes_through}
 use Rattle.mc_typecheck.specs.Ties.{of_equation, Tie, declared, tied, ties_in, made_by, pick_of, picks_of}
 use Rattle.mc_typecheck.specs.Searched.{VariablesBelow}
 use Rattle.mc_typecheck.specs.WrittenTypes.{type_written, AreTypes}
@@ -16,7 +16,7 @@ use Rattle.mc_typecheck.specs.Outcomes.{IsOnly}
 use Rattle.mc_typecheck.specs.Walked.{after_all, start}
 use Rattle.mc_typecheck.specs.NamedWalks.{Suits, known, Solves, EachSole, first_picks, EachSuited, AreKnown, IsNamedAt}
 use Rattle.mc_typecheck.specs.declared.named.NamedWalk.{NamedWalk}
-use Rattle.mc_typecheck.proofs.Walking.{AllSuited, types_from, types_are, types_many, written_trace, traces_of, tied_by}
+use Rattle.mc_typecheck.proofs.WalkingLemmas.{AllSuited, types_from, types_are, types_many, written_trace, traces_of, tied_by}
 use Rattle.mc_typecheck.proofs.Moments.{variables_taken, traced_long, tied_taken}
 use Rattle.mc_typecheck.proofs.Stepping.{after_ties, after_next}
 

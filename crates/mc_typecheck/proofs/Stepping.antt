@@ -6,8 +6,8 @@ use Rattle.mc_program.specs.Programs.{Source}
 use Rattle.mc_accepted.specs.ProperTypes.{Parameters}
 use Rattle.mc_accepted.specs.Resolving.{Step as WalkStep, push_variable, push_number, push_text, choose, equate, call, close_head, signature}
 use Rattle.mc_source.specs.declared.name.Candidate.{Candidate}
-use Rattle.mc_type_search.specs.declared.signature.Signature.{Signature}
-use Rattle.mc_type_search.specs.declared.steps.Step.{Step}
+use Rattle.mc_types.specs.declared.signature.Signature.{Signature}
+use Rattle.mc_types.specs.declared.steps.Step.{Step}
 use Rattle.mc_typecheck.specs.Ties.{Meaning, of_name, of_number, of_text, of_equation, of_head, names_term, names_atom, tied, made_by, Declared, Tie, declared, is_same, is_among, offered, sole, named, topmost, below}
 use Rattle.mc_typecheck.specs.Searched.{AreTies, plain_step, plain_tie}
 use Rattle.mc_typecheck.specs.Walked.{Stand, after, after_all, start, IsAt, Shows, entry, place_of}

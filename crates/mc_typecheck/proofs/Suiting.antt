@@ -6,14 +6,14 @@ use Rattle.mc_program.specs.Programs.{TypeTerm, Source}
 use Rattle.mc_program.specs.PlainPrograms.{plain_type}
 use Rattle.mc_program.specs.declared.ty.Ty.{Ty}
 use Rattle.mc_accepted.specs.ProperTypes.{Parameters}
-use Rattle.mc_type_graph.specs.Shapes.{Shape}
+use Rattle.mc_types.specs.Shapes.{Shape}
 use Rattle.mc_types.specs.Trees.{shape, type_of}
 use Rattle.mc_types.specs.Substitutions.{under}
 use Rattle.mc_types.proofs.TreeLaws.{placed_under, type_of_placed}
-use Rattle.mc_type_search.specs.Fits.{instance, Fits}
-use Rattle.mc_type_search.specs.Typed.{Chosen, Typed}
-use Rattle.mc_type_search.specs.declared.signature.Signature.{Signature}
-use Rattle.mc_type_search.specs.declared.steps.Step.{Step}
+use Rattle.mc_types.specs.Fits.{instance, Fits}
+use Rattle.mc_types.specs.Typed.{Chosen, Typed}
+use Rattle.mc_types.specs.declared.signature.Signature.{Signature}
+use Rattle.mc_types.specs.declared.steps.Step.{Step}
 use Rattle.mc_typecheck.specs.Ties.{Meaning, of_equation, Declared, Tie, declared}
 use Rattle.mc_typecheck.specs.NamedWalks.{Suits}
 use Rattle.mc_typecheck.specs.Searched.{PlainStep, plain_signature, plain_step, plain_tie, AreTies}

@@ -1,7 +1,12 @@
+pub mod VariableTypes
+pub mod WellFormed
+pub mod Tables
+pub mod Fitting
+pub mod Checked
+pub mod code
 pub mod Ties
 pub mod Searched
 pub mod WrittenTypes
 pub mod Outcomes
 pub mod Walked
 pub mod NamedWalks
-pub mod code

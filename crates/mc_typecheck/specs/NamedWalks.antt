@@ -5,9 +5,9 @@ use Rattle.mc_program.specs.Programs.{TypeTerm, Source}
 use Rattle.mc_accepted.specs.ProperTypes.{Parameters}
 use Rattle.mc_accepted.specs.Resolving.{Step}
 use Rattle.mc_source.specs.declared.name.Candidate.{Candidate}
-use Rattle.mc_type_graph.specs.declared.cells.TypeName.{TypeName}
+use Rattle.mc_types.specs.declared.cells.TypeName.{TypeName}
 use Rattle.mc_types.specs.Substitutions.{under}
-use Rattle.mc_type_search.specs.declared.written_types.Written.{Written, Free, Named}
+use Rattle.mc_types.specs.declared.written_types.Written.{Written, Free, Named}
 use Rattle.mc_typecheck.specs.Ties.{Meaning, of_equation, Declared, Tie, declared, pick_of}
 use Rattle.mc_typecheck.specs.WrittenTypes.{type_written}
 use Rattle.mc_typecheck.specs.Walked.{Stand, ShowsStep, after}

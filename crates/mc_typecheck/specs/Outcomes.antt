@@ -5,13 +5,13 @@ use Rattle.mc_program.specs.Programs.{Source}
 use Rattle.mc_accepted.specs.ProperTypes.{Parameters}
 use Rattle.mc_accepted.specs.Resolving.{Step as WalkStep, Live, TooMany, steps_of, Unresolved_clause, WellTyped, FirstTwo, Resolves as ClauseResolves}
 use Rattle.mc_source.specs.declared.name.Candidate.{Candidate}
-use Rattle.mc_type_search.specs.declared.signature.Signature.{Signature}
-use Rattle.mc_type_search.specs.declared.steps.Step.{Step}
-use Rattle.mc_type_search.specs.declared.outcome.Outcome.{Outcome}
-use Rattle.mc_type_search.specs.declared.outcome.Outcome.TheVariants as O
-use Rattle.mc_type_search.specs.declared.written_types.Written.{Written}
-use Rattle.mc_type_search.specs.Typed.{LiveAt, AllProper}
-use Rattle.mc_type_search.specs.Resolved.{OutcomeSays}
+use Rattle.mc_types.specs.declared.signature.Signature.{Signature}
+use Rattle.mc_types.specs.declared.steps.Step.{Step}
+use Rattle.mc_types.specs.declared.outcome.Outcome.{Outcome}
+use Rattle.mc_types.specs.declared.outcome.Outcome.TheVariants as O
+use Rattle.mc_types.specs.declared.written_types.Written.{Written}
+use Rattle.mc_types.specs.Typed.{LiveAt, AllProper}
+use Rattle.mc_types.specs.Resolved.{OutcomeSays}
 use Rattle.mc_typecheck.specs.Ties.{tied, ties_in, made_by, picks_of}
 use Rattle.mc_typecheck.specs.Searched.{AreTies, VariablesBelow}
 use Rattle.mc_typecheck.specs.WrittenTypes.{AreTypes}

@@ -4,8 +4,8 @@ use Rattle.mc_program.specs.Programs.{Source}
 use Rattle.mc_program.specs.PlainPrograms.{plain_type}
 use Rattle.mc_accepted.specs.ProperTypes.{Parameters}
 use Rattle.mc_accepted.specs.Resolving.{Step as WalkStep, push_variable}
-use Rattle.mc_type_search.specs.declared.signature.Signature.{Signature}
-use Rattle.mc_type_search.specs.declared.steps.Step.{Step}
+use Rattle.mc_types.specs.declared.signature.Signature.{Signature}
+use Rattle.mc_types.specs.declared.steps.Step.{Step}
 use Rattle.mc_typecheck.specs.Ties.{Declared, Tie, declared}
 
 -- a step, with the signatures that its candidates are the numbers of

@@ -6,8 +6,8 @@ use Rattle.mc_accepted.specs.ProperTypes.{Parameters}
 use Rattle.mc_accepted.specs.Resolving.{Step}
 use Rattle.mc_source.specs.declared.name.Candidate.{Candidate}
 use Rattle.mc_types.specs.Trees.{of_name, applied}
-use Rattle.mc_type_search.specs.declared.written_types.Written.{Written, Free, Rigid, Named, App'}
-use Rattle.mc_made_types.specs.Traced.{Traces}
+use Rattle.mc_types.specs.declared.written_types.Written.{Written, Free, Rigid, Named, App'}
+use Rattle.laws_made_types.specs.Traced.{Traces}
 use Rattle.mc_typecheck.specs.Ties.{made_by}
 
 -- the type, with types for its free places

@@ -17,8 +17,7 @@ use crate::table::Signatures;
 use mc_base::Memory;
 use mc_program::ty::Ty;
 use mc_source::name::Candidate;
-use mc_type_graph::TypeName;
-use mc_type_search::{Signature, Written};
+use mc_types::{Signature, TypeName, Written};
 use std::alloc::Global;
 
 /// The walk of a clause so far, where each step had one meaning alone, whose types are names without arguments: what is

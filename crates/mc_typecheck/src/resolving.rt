@@ -9,7 +9,7 @@ ghost use Rattle.mc_typecheck.specs.Walked.{IsAt, WasWalked, after_all, start};
 use crate::table::Signatures;
 use crate::walk::Walk;
 use mc_base::Memory;
-use mc_type_search::{Outcome, resolve};
+use mc_types::{Outcome, resolve};
 use std::alloc::Global;
 
 /// The one resolution of a clause that was walked, with the most general types of its variables and of the occurrences

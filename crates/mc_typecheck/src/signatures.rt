@@ -10,7 +10,7 @@ ghost use Rattle.mc_typecheck.specs.code.Tables.{passes_as, listed, offer, IsSol
 use crate::table::Signatures;
 use mc_base::Memory;
 use mc_source::name::Candidate;
-use mc_type_search::Signature;
+use mc_types::Signature;
 use std::alloc::Global;
 
 /// Where a number, a text, an equation and a character stand in a table. Constructors come behind them, then functions

@@ -1,6 +1,6 @@
 ghost use Rattle.std.specs.Prelude.{◌≡◌, ◌+◌, length};
 
-use mc_type_search::Signature;
+use mc_types::Signature;
 
 /// The types that things are declared with, as a module sees them: each constructor's arguments and its own type, and
 /// the types of each function and predicate.

@@ -12,7 +12,7 @@ use crate::signatures::{EQUATION, NUMBER, TEXT};
 use crate::table::Signatures;
 use mc_base::Memory;
 use mc_source::name::Candidate;
-use mc_type_search::Step;
+use mc_types::Step;
 use std::alloc::Global;
 
 /// The walk of a clause so far: the steps that tie places, the places of the terms that are walked and not yet taken,

@@ -3,12 +3,12 @@ use Rattle.std.proofs.Common.{◌≡◌, ℕ, ◌+◌, ◌<◌, ◌≤◌, List,
 use Rattle.std.proofs.lemmas.Bool.{cases_eq, cases_lt}
 use Rattle.std.proofs.lemmas.List.{get_or_append_left, get_or_push, get_or_past}
 use Rattle.mc_program.specs.Programs.{TypeTerm, TypeTerms, no_types, type_then}
-use Rattle.mc_type_graph.specs.Shapes.{Shape, named, app}
-use Rattle.mc_type_graph.specs.Holds.{Holds, InOrder, Extends, cell_at}
-use Rattle.mc_type_graph.specs.declared.cells.Cell.{Cell}
-use Rattle.mc_type_graph.specs.declared.cells.Cell.TheVariants.{Free, Named, Rigid, App}
-use Rattle.mc_type_graph.specs.declared.cells.TypeName.{TypeName}
-use Rattle.mc_type_graph.proofs.Adding.{extends_push, extends_more, keeps_append, cell_last}
+use Rattle.mc_types.specs.Shapes.{Shape, named, app}
+use Rattle.mc_types.specs.Holds.{Holds, InOrder, Extends, cell_at}
+use Rattle.mc_types.specs.declared.cells.Cell.{Cell}
+use Rattle.mc_types.specs.declared.cells.Cell.TheVariants.{Free, Named, Rigid, App}
+use Rattle.mc_types.specs.declared.cells.TypeName.{TypeName}
+use Rattle.mc_types.proofs.Adding.{extends_push, extends_more, keeps_append, cell_last}
 use Rattle.mc_types.specs.Trees.{shaped_onto, chosen, placed}
 use Rattle.mc_types.specs.Placed.{TypeAdded, Apart}
 use Rattle.mc_types.proofs.TreeLaws.{chosen_above, chosen_below}

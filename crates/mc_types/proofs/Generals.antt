@@ -4,14 +4,14 @@ use Rattle.std.proofs.lemmas.List.{get_or-map}
 use Rattle.std.proofs.lemmas.List.FromFn.{length-map-range_with_len, get_or-map-range_with_len}
 use Rattle.mc_program.specs.Programs.{TypeTerm, int_type, variable_type}
 use Rattle.mc_program.specs.PlainPrograms.{plain_type}
-use Rattle.mc_type_graph.specs.Shapes.{Shape, rigid, app}
-use Rattle.mc_type_graph.specs.Holds.{Holds, cell_at}
-use Rattle.mc_type_graph.specs.Founded.{Founded, IsPart}
-use Rattle.mc_type_graph.specs.Solved.{value, value_of}
-use Rattle.mc_type_graph.specs.declared.cells.Cell.{Cell}
-use Rattle.mc_type_graph.specs.declared.cells.Cell.TheVariants.{Free, Same, Named, Rigid, App}
-use Rattle.mc_type_graph.proofs.Solutions.{solved, only_value}
-use Rattle.mc_type_graph.proofs.Depths.{Shallow, shallow, part_in}
+use Rattle.mc_types.specs.Shapes.{Shape, rigid, app}
+use Rattle.mc_types.specs.Holds.{Holds, cell_at}
+use Rattle.mc_types.specs.Founded.{Founded, IsPart}
+use Rattle.mc_types.specs.Solved.{value, value_of}
+use Rattle.mc_types.specs.declared.cells.Cell.{Cell}
+use Rattle.mc_types.specs.declared.cells.Cell.TheVariants.{Free, Same, Named, Rigid, App}
+use Rattle.mc_types.proofs.Solutions.{solved, only_value}
+use Rattle.mc_types.proofs.Depths.{Shallow, shallow, part_in}
 use Rattle.mc_types.specs.Substitutions.{under, image, IsBelow}
 use Rattle.mc_types.specs.Trees.{shape, type_of}
 use Rattle.mc_types.specs.Placed.{IsTypeOf}

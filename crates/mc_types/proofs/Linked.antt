@@ -3,11 +3,11 @@ use Rattle.std.proofs.Common.{◌≡◌, ℕ, ◌+◌, ◌<◌, ◌≤◌, true,
 use Rattle.mc_program.specs.Programs.{TypeTerm}
 use Rattle.mc_program.specs.PlainPrograms.{plain_type}
 use Rattle.mc_program.specs.declared.ty.Ty.{Ty}
-use Rattle.mc_type_graph.specs.Shapes.{Shape}
-use Rattle.mc_type_graph.specs.Holds.{Holds, InOrder, Unified}
-use Rattle.mc_type_graph.specs.Changes.{NothingNew}
-use Rattle.mc_type_graph.specs.Founded.{Founded}
-use Rattle.mc_type_graph.specs.declared.cells.Cell.{Cell}
+use Rattle.mc_types.specs.Shapes.{Shape}
+use Rattle.mc_types.specs.Holds.{Holds, InOrder, Unified}
+use Rattle.mc_types.specs.Changes.{NothingNew}
+use Rattle.mc_types.specs.Founded.{Founded}
+use Rattle.mc_types.specs.declared.cells.Cell.{Cell}
 use Rattle.mc_types.specs.Substitutions.{under, AreOne, Unifies}
 use Rattle.mc_types.specs.Trees.{shape, placed, type_of}
 use Rattle.mc_types.specs.Placed.{TypeAdded, Apart}

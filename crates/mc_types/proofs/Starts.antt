@@ -3,12 +3,12 @@ use Rattle.std.proofs.Common.{◌≡◌, ℕ, zero, suc, length, sym, ◌∙◌,
 use Rattle.std.specs.Prelude.{replicate}
 use Rattle.std.proofs.lemmas.Bool.{cases_lt}
 use Rattle.std.proofs.lemmas.List.{get_or-replicate, get_or_past, length-replicate}
-use Rattle.mc_type_graph.specs.Shapes.{Shape, rigid}
-use Rattle.mc_type_graph.specs.Holds.{Holds, CellHolds, InOrder, cell_at}
-use Rattle.mc_type_graph.specs.Founded.{IsPart}
-use Rattle.mc_type_graph.specs.Solved.{value, value_of}
-use Rattle.mc_type_graph.specs.declared.cells.Cell.{Cell}
-use Rattle.mc_type_graph.specs.declared.cells.Cell.TheVariants.{Free, Rigid}
+use Rattle.mc_types.specs.Shapes.{Shape, rigid}
+use Rattle.mc_types.specs.Holds.{Holds, CellHolds, InOrder, cell_at}
+use Rattle.mc_types.specs.Founded.{IsPart}
+use Rattle.mc_types.specs.Solved.{value, value_of}
+use Rattle.mc_types.specs.declared.cells.Cell.{Cell}
+use Rattle.mc_types.specs.declared.cells.Cell.TheVariants.{Free, Rigid}
 use Rattle.mc_types.specs.Substitutions.{IsIdentity}
 use Rattle.mc_types.specs.Trees.{shape, type_of}
 use Rattle.mc_types.specs.code.Systems.{IsSystem, types_of}

@@ -6,8 +6,8 @@ use Rattle.mc_program.specs.Programs.{TypeTerm, int_type, char_type, string_type
 use Rattle.mc_program.specs.PlainPrograms.{plain_type, type_terms}
 use Rattle.mc_program.specs.declared.ty.Ty.{Ty}
 use Rattle.mc_model.specs.Types.{instance_of, instances_of}
-use Rattle.mc_type_graph.specs.Shapes.{Shape, named, rigid, app}
-use Rattle.mc_type_graph.specs.declared.cells.TypeName.TheVariants as N
+use Rattle.mc_types.specs.Shapes.{Shape, named, rigid, app}
+use Rattle.mc_types.specs.declared.cells.TypeName.TheVariants as N
 use Rattle.mc_types.specs.Substitutions.{under}
 use Rattle.mc_types.specs.Trees.{shaped, shaped_onto, shape, chosen, placed, with_argument, applied, type_of}
 

@@ -1,4 +1,13 @@
+pub mod Shapes
+pub mod Holds
+pub mod Changes
+pub mod Founded
+pub mod Solved
+pub mod code
+pub mod Fits
+pub mod Writing
+pub mod Typed
+pub mod Resolved
 pub mod Substitutions
 pub mod Trees
 pub mod Placed
-pub mod code

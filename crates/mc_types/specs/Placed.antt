@@ -2,10 +2,10 @@
 -- profile: a graph's first places are the types' variables.)
 use Rattle.std.specs.Prelude.{◌≡◌, ℕ, ◌<◌, ◌≤◌, ◌+◌, List, length}
 use Rattle.mc_program.specs.Programs.{TypeTerm}
-use Rattle.mc_type_graph.specs.Shapes.{Shape, rigid}
-use Rattle.mc_type_graph.specs.Holds.{Holds, Extends, cell_at}
-use Rattle.mc_type_graph.specs.declared.cells.Cell.{Cell}
-use Rattle.mc_type_graph.specs.declared.cells.Cell.TheVariants.{Free, Rigid}
+use Rattle.mc_types.specs.Shapes.{Shape, rigid}
+use Rattle.mc_types.specs.Holds.{Holds, Extends, cell_at}
+use Rattle.mc_types.specs.declared.cells.Cell.{Cell}
+use Rattle.mc_types.specs.declared.cells.Cell.TheVariants.{Free, Rigid}
 use Rattle.mc_types.specs.Trees.{placed, type_of}
 
 -- after a type was added, a place has it, with the types at the places from a base on for its

@@ -2,9 +2,9 @@
 -- one. (Mercury Language Reference Manual: Types.)
 use Rattle.std.specs.Prelude.{ℕ, nat_lt, if◌then◌else◌}
 use Rattle.mc_program.specs.Programs.{TypeTerm, int_type, char_type, string_type, state_type, variable_type, union_type, TypeTerms, no_types, type_then}
-use Rattle.mc_type_graph.specs.Shapes.{Shape, named, rigid, app}
-use Rattle.mc_type_graph.specs.declared.cells.TypeName.{TypeName}
-use Rattle.mc_type_graph.specs.declared.cells.TypeName.TheVariants as N
+use Rattle.mc_types.specs.Shapes.{Shape, named, rigid, app}
+use Rattle.mc_types.specs.declared.cells.TypeName.{TypeName}
+use Rattle.mc_types.specs.declared.cells.TypeName.TheVariants as N
 
 -- the tree of a type, with trees for its variables
 abbrev mutual

@@ -4,9 +4,9 @@ ghost use Rattle.mc_types.specs.Substitutions.{IsIdentity, Unifies, image, under
 
 use crate::unifying::unify_types;
 use crate::written::resolve_type;
+use crate::{Graph, add_free};
 use mc_base::Memory;
 use mc_program::ty::Ty;
-use mc_type_graph::{Graph, add_free};
 use std::alloc::Global;
 use std::marker::Model;
 

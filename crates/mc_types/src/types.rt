@@ -1,12 +1,12 @@
 ghost use Rattle.std.specs.Prelude.{◌≡◌, ◌<◌, ◌≤◌, ◌+◌, length, IfOk};
-ghost use Rattle.mc_type_graph.specs.Holds.{InOrder};
-ghost use Rattle.mc_type_graph.specs.Changes.{Grown};
+ghost use Rattle.mc_types.specs.Holds.{InOrder};
+ghost use Rattle.mc_types.specs.Changes.{Grown};
 ghost use Rattle.mc_program.specs.PlainPrograms.{plain_type};
 ghost use Rattle.mc_types.specs.Placed.{TypeAdded, Apart};
 
+use crate::{Cell, Graph, TypeName, add_cell};
 use mc_base::Memory;
 use mc_program::ty::Ty;
-use mc_type_graph::{Cell, Graph, TypeName, add_cell};
 
 /// Adds a type, whose variables below a number are the cells from a place on; any other variable is rigid.
 pub fn add_type(g: &mut Graph, ty: &Ty, base: usize, count: u32) -> Result<usize, Memory>

@@ -1,15 +1,15 @@
 ghost use Rattle.std.specs.Prelude.{◌≡◌, ◌<◌, ◌≤◌, ◌+◌, ◌*◌, ◌^◌, ◌⊎◌, ◌↔◌, ℕ, [], ◌∷◌, ◌++◌, length, IfOk, OnOk, OnErr};
 ghost use Rattle.mc_program.specs.PlainPrograms.{plain_type};
-ghost use Rattle.mc_type_graph.specs.Holds.{InOrder};
-ghost use Rattle.mc_type_graph.specs.Changes.{Grown};
-ghost use Rattle.mc_type_graph.specs.Founded.{AllPast};
+ghost use Rattle.mc_types.specs.Holds.{InOrder};
+ghost use Rattle.mc_types.specs.Changes.{Grown};
+ghost use Rattle.mc_types.specs.Founded.{AllPast};
 ghost use Rattle.mc_types.specs.Substitutions.{Unifies};
 ghost use Rattle.mc_types.specs.code.Systems.{IsSystem, TypesSay, types_of};
 
 use crate::types::add_type;
+use crate::{Graph, enough_marks, founded, restore, unify};
 use mc_base::Memory;
 use mc_program::ty::Ty;
-use mc_type_graph::{Graph, enough_marks, founded, restore, unify};
 use std::alloc::Global;
 
 /// Makes two types equal in a graph whose first cells are their variables; where that fails, what was done stays.

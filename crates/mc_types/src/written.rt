@@ -1,12 +1,12 @@
 ghost use Rattle.std.specs.Prelude.{◌≡◌, ◌<◌, ◌≤◌, ◌+◌, ◌^◌, ℕ, [], ◌∷◌, ◌++◌, length, map, take, IfOk};
 ghost use Rattle.mc_program.specs.PlainPrograms.{plain_type, type_terms};
-ghost use Rattle.mc_type_graph.specs.Holds.{InOrder};
+ghost use Rattle.mc_types.specs.Holds.{InOrder};
 ghost use Rattle.mc_types.specs.Placed.{Apart, IsTypeAt, IsTypeOf};
 ghost use Rattle.mc_types.specs.Trees.{applied, of_name};
 
+use crate::{Cell, Graph, TypeName, root};
 use mc_base::{Memory, Row};
 use mc_program::ty::Ty;
-use mc_type_graph::{Cell, Graph, TypeName, root};
 use std::alloc::Global;
 
 /// A name with no arguments.

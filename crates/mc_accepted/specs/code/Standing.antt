@@ -17,7 +17,7 @@ use Rattle.mc_accepted.specs.Inclusion.{Merged}
 use Rattle.mc_accepted.specs.Ordered.{Insts, also, is_state, modes_of, modes_of_procedure, Picks, implied_places, at_inputs, at_outputs, reachable, unless_never, builtin_most, take_all, AllBound, BindsNone, NoneDead, NoneState, IsSymbolOver, Usable, After}
 use Rattle.mc_accepted.specs.Unmarked.{unmarked}
 use Rattle.mc_accepted.specs.Arranged.{fresh_at, tests_at, test_nodes, nodes_before, changing}
-use Rattle.mc_accepted.specs.Chosen.{other_node}
+use Rattle.mc_accepted.specs.NodeOracle.{other_node}
 use Rattle.mc_program.specs.declared.builtin.Builtin.{Builtin}
 
 module _ (S : System) (T : ℕ → TypeTerm) where

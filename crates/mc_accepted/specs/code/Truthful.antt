@@ -10,7 +10,7 @@ use Rattle.mc_model.specs.Good.{System}
 use Rattle.mc_source.specs.Determinism.{is_zero}
 use Rattle.mc_accepted.specs.Ordered.{modes_of_procedure, IsSymbolOver}
 use Rattle.mc_accepted.specs.Arranged.{Declared}
-use Rattle.mc_accepted.specs.Chosen.{Chosen}
+use Rattle.mc_accepted.specs.NodeOracle.{NodeOracle}
 
 -- all of the nodes are free, or none is
 abbrev pub AllAre : (t : Bool) → List ℕ → Type 0
@@ -22,7 +22,7 @@ module _ (S : System) (T : ℕ → TypeTerm) where
   IsNarrowed i s None = AllowsSymbol S.world.source (S.insts i) i s (λ js. Unit {0}) → ⊥
   IsNarrowed i s (Some is) = AllowsSymbol S.world.source (S.insts i) i s (λ js. js ≡ is)
 
-  pub record Truthful (C : Chosen) : Type 0 where
+  pub record Truthful (C : NodeOracle) : Type 0 where
     pub dies : (i : ℕ) → C.is_dead i ≡ true → S.insts i ≡ dead
     pub lives : (i : ℕ) → C.is_dead i ≡ false → S.insts i ≢ dead
     pub over : (s i : ℕ) (is : List ℕ) → C.over s is ≡ Some i → IsSymbolOver S T i s is

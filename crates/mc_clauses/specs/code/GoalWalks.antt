@@ -2,7 +2,7 @@
 use Rattle.std.specs.Prelude.{◌≡◌, ℕ, ◌<◌, List, [], ◌∷◌, map, Option, Some, None, Vec}
 use Rattle.std.specs.declared.alloc.Global.{Global}
 use denote.Param.Weighed.{most}
-use Rattle.mc_term_data.specs.Plain.{plain_term, tms}
+use Rattle.mc_term_data.specs.Plain.{plain_term, term_list}
 use Rattle.mc_term_data.specs.Names.{count}
 use Rattle.mc_term_data.specs.declared.term.Term.{Term, size-Term}
 use Rattle.mc_accepted.specs.Resolving.{Unresolved_goal, equation, atom, choice, Unresolved_goals, goal_then}
@@ -14,7 +14,7 @@ use Rattle.mc_clauses.specs.Variables.{Numbers, Met}
 use Rattle.mc_clauses.specs.Unresolved.{Walk, on_made, both, under, Goal, conjuncts, disjuncts, one_or_several, alone, in_turn, meanings, terms_of}
 use Rattle.mc_clauses.specs.declared.terms.Module.{Module}
 use Rattle.mc_clauses.specs.declared.pieces.Chosen.{Chosen}
-use Rattle.mc_clauses.specs.declared.pieces.Around.{Around}
+use Rattle.mc_clauses.specs.declared.pieces.OuterDisjunction.{OuterDisjunction}
 use Rattle.mc_clauses.specs.declared.pieces.Unclosed.{Unclosed}
 use Rattle.mc_clauses.specs.declared.variables.Variables.{Variables}
 use Rattle.mc_clauses.specs.code.Meanings.{Knows, KeepsHidden}
@@ -34,8 +34,8 @@ equation_walk at a b = both equation (term_walk at a) (term_walk at b)
 abbrev pub call_walk : Module → Path → List Term → Walk Unresolved_goal
 call_walk at w ts =
     on_made
-    (atom (meanings (plain_names at.names.now) at.own w (count (tms (map plain_term ts)))))
-    (in_turn (terms_of (plain_names at.names.now) at.own (tms (map plain_term ts))))
+    (atom (meanings (plain_names at.names.now) at.own w (count (term_list (map plain_term ts)))))
+    (in_turn (terms_of (plain_names at.names.now) at.own (term_list (map plain_term ts))))
 
 abbrev pub goal_row : List UnresolvedGoal → Unresolved_goals
 goal_row gs = unresolved_goals (map plain_unresolved_goal gs)
@@ -76,21 +76,21 @@ pub record GoalsTaken
         (conjuncts (the_goals at rest) q met).1,
       )
 
-abbrev pub one_around : Vec UnresolvedGoal Global → Option Chosen → Around
+abbrev pub one_around : Vec UnresolvedGoal Global → Option Chosen → OuterDisjunction
 one_around before chosen = record { before = before; chosen = chosen }
 
 -- what stands around a goal
-abbrev pub over_around : Around → Unresolved_goal → Unresolved_goal
+abbrev pub over_around : OuterDisjunction → Unresolved_goal → Unresolved_goal
 over_around f g =
     one_or_several (goals_before f.before.items (alone (before_else f.chosen g)))
 
 -- the whole around a goal, the outermost first
-abbrev pub enclosed : List Around → Unresolved_goal → Unresolved_goal
+abbrev pub enclosed : List OuterDisjunction → Unresolved_goal → Unresolved_goal
 enclosed [] g = g
 enclosed (f ∷ fs) g = over_around f (enclosed fs g)
 
 -- the whole disjunction, from its innermost disjuncts
-abbrev pub closed : List Around → Unresolved_goals → Unresolved_goal
+abbrev pub closed : List OuterDisjunction → Unresolved_goals → Unresolved_goal
 closed fs gs = enclosed fs (one_or_several gs)
 
 -- Some disjuncts are made, and the rest is still to be walked.

@@ -1,7 +1,7 @@
 -- What a term is as a goal, by the value that says it.
 use Rattle.std.specs.Prelude.{◌≡◌, ℕ, ◌≤◌, ◌<◌, max, List, [], ◌∷◌, map}
 use denote.Param.Weighed.{most}
-use Rattle.mc_term_data.specs.Plain.{PlainTerms, plain_term, tms}
+use Rattle.mc_term_data.specs.Plain.{PlainTerms, plain_term, term_list}
 use Rattle.mc_term_data.specs.Names.{count}
 use Rattle.mc_term_data.specs.declared.term.Term.{Term, size-Term}
 use Rattle.mc_clause_syntax.specs.declared.goal_form.GoalForm.{GoalForm}
@@ -44,7 +44,7 @@ module _ (l : Linked) (own : ℕ) where
   goal_at t = goal_of l own (plain_term t)
 
   abbrev pub goals_at : List Term → List Goal
-  goals_at ts = goals_of l own (tms (map plain_term ts))
+  goals_at ts = goals_of l own (term_list (map plain_term ts))
 
   abbrev pub viewed : GoalView → Goal
   viewed V.True = true_goal
@@ -62,8 +62,8 @@ module _ (l : Linked) (own : ℕ) where
       differs (term_of l own (plain_term a.now)) (term_of l own (plain_term b.now))
   viewed (V.Call w parts) =
       plainly
-      (on_made (atom (meanings l own w.now (count (tms (map plain_term parts.now)))))
-      (in_turn (terms_of l own (tms (map plain_term parts.now)))))
+      (on_made (atom (meanings l own w.now (count (term_list (map plain_term parts.now)))))
+      (in_turn (terms_of l own (term_list (map plain_term parts.now)))))
 
 abbrev pub IsView : Term → GoalView → Type 0
 IsView t v = (l : Linked) (own : ℕ) → goal_of l own (plain_term t) ≡ viewed l own v
@@ -71,12 +71,14 @@ IsView t v = (l : Linked) (own : ℕ) → goal_of l own (plain_term t) ≡ viewe
 abbrev pub IsViewBy : GoalForm → Path → (parts : List Term) → GoalView → Type 0
 IsViewBy form w parts v =
     (l : Linked) (own : ℕ)
-    → goal_by l own form w (tms (map plain_term parts)) (goals_at l own parts) ≡ viewed l own v
+    → goal_by l own form w (term_list (map plain_term parts)) (goals_at l own parts)
+    ≡ viewed l own v
 
 abbrev pub IsViewOver : GoalForm → (parts : List Term) → GoalView → Type 0
 IsViewOver form parts v =
     (l : Linked) (own : ℕ)
-    → goal_over l own form (tms (map plain_term parts)) (goals_at l own parts) ≡ viewed l own v
+    → goal_over l own form (term_list (map plain_term parts)) (goals_at l own parts)
+    ≡ viewed l own v
 
 abbrev pub AreAsDeep : List Term → GoalView → Type 0
 AreAsDeep parts v = view_size v ≤ most size-Term parts

@@ -1,6 +1,6 @@
 -- What is made of a part of a clause, as its walk makes it.
 use Rattle.std.specs.Prelude.{◌≡◌, ℕ, List, [], ◌∷◌, map}
-use Rattle.mc_term_data.specs.Plain.{plain_term, tms}
+use Rattle.mc_term_data.specs.Plain.{plain_term, term_list}
 use Rattle.mc_term_data.specs.declared.term.Term.{Term}
 use Rattle.mc_accepted.specs.Resolving.{Unresolved as PlainUnresolved, any_name, Unresolved_terms, no_terms, term_then}
 use Rattle.mc_unresolved.specs.declared.term.Unresolved.{Unresolved}
@@ -35,7 +35,8 @@ abbrev pub term_walk : Module → Term → Walk PlainUnresolved
 term_walk at t = term_of (plain_names at.names.now) at.own (plain_term t)
 
 abbrev pub terms_walk : Module → List Term → Walk Unresolved_terms
-terms_walk at ts = in_turn (terms_of (plain_names at.names.now) at.own (tms (map plain_term ts)))
+terms_walk at ts =
+    in_turn (terms_of (plain_names at.names.now) at.own (term_list (map plain_term ts)))
 
 -- terms in front of others
 abbrev pub in_front : List Unresolved → Unresolved_terms → Unresolved_terms

@@ -12,8 +12,8 @@ use Rattle.mc_model.specs.declared.run.Step.{Step}
 use Rattle.mc_model.specs.declared.run.Step.TheVariants as N
 use Rattle.mc_outside.specs.Meaning.{PutsFront}
 use Rattle.mc_outside.specs.declared.traits.PutFault.{PutFault}
-use Rattle.mc_cmd.specs.declared.run.Went.{Went}
-use Rattle.mc_cmd.specs.declared.run.Went.TheVariants as W
+use Rattle.mc_cmd.specs.declared.run.Progress.{Progress}
+use Rattle.mc_cmd.specs.declared.run.Progress.TheVariants as W
 use Rattle.mc_cmd.specs.Call as call
 use Rattle.mc_cmd.specs.Ends.{stop_of}
 
@@ -97,7 +97,7 @@ pub record GoesOn (text : Val → List ℕ) (variables : List (List ℕ)) (answe
 -- what was put of a step
 abbrev pub IsPut :
     (text : Val → List ℕ) → (variables : List (List ℕ)) → (answered : Bool)
-    → (xs ys : QueryItems) → (w0 w1 : Option (List ℕ)) → Result Went PutFault
+    → (xs ys : QueryItems) → (w0 w1 : Option (List ℕ)) → Result Progress PutFault
     → Type 0
 IsPut text variables answered xs ys w0 w1 (Ok (W.On now)) =
     GoesOn text variables answered now xs ys w0 w1

@@ -1,7 +1,7 @@
 -- The typed clauses of a program without its query's, which stands behind them.
 use Rattle.std.specs.Prelude.{◌≡◌, Bool, true, false, List, [], ◌∷◌, ◌++◌, Option, Some, None}
 use Rattle.mc_program.specs.declared.program.Resolved.{Resolved}
-use Rattle.mc_clause_phase.specs.declared.judged.TypedClause.{TypedClause}
+use Rattle.mc_type_phase.specs.declared.judged.TypedClause.{TypedClause}
 
 abbrev pub IsParted :
     List TypedClause → (has_query : Bool) → List TypedClause → Option Resolved → Type 0

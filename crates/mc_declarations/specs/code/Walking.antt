@@ -1,6 +1,6 @@
 -- Types that are declared, as the walk over what writes them makes them.
 use Rattle.std.specs.Prelude.{◌≡◌, List, [], ◌∷◌}
-use Rattle.mc_term_data.specs.Plain.{PlainTerm, tms}
+use Rattle.mc_term_data.specs.Plain.{PlainTerm, term_list}
 use Rattle.mc_program.specs.Programs.{TypeTerm, TypeTerms, type_then}
 use Rattle.mc_program.specs.PlainPrograms.{plain_type}
 use Rattle.mc_program.specs.declared.ty.Ty.{Ty}
@@ -29,7 +29,7 @@ abbrev pub type_walk : Module → PlainTerm → Met → TypeTerm × Met
 type_walk at t = declared_type (plain_names at.names.now) at.own t
 
 abbrev pub types_walk : Module → List PlainTerm → Met → TypeTerms × Met
-types_walk at ts = declared_types (plain_names at.names.now) at.own (tms ts)
+types_walk at ts = declared_types (plain_names at.names.now) at.own (term_list ts)
 
 -- types in front of others
 abbrev pub in_front : List Ty → TypeTerms → TypeTerms

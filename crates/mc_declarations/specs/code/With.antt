@@ -5,7 +5,7 @@ use Rattle.mc_program.specs.Programs.{TypeTerm, Constructor, Predicate}
 use Rattle.mc_program.specs.PlainPrograms.{plain_name}
 use Rattle.mc_decl_syntax.specs.Plain.{PlainDecl, UnionType}
 use Rattle.mc_names.specs.Definitions.{symbol_name}
-use Rattle.mc_names.specs.Linked.{Defined, Linked, home}
+use Rattle.mc_names.specs.Linked.{Defined, Linked, defining_module}
 use Rattle.mc_type_table.specs.Written.{written_type}
 use Rattle.mc_names.specs.Parameters.{parameters_of}
 use Rattle.mc_type_table.specs.Expanded.{replaced}
@@ -40,7 +40,7 @@ module _ (l : Linked) (H : ℕ → Option TypeTerm) where
 
   abbrev pub constructors_with : (u : ℕ) → Defined → PlainDecl → List Constructor
   constructors_with u d (UnionType h ts) =
-      constructors_of d.name.«module» u (home l d) (parameters_of h) ts
+      constructors_of d.name.«module» u (defining_module l d) (parameters_of h) ts
   constructors_with u d i = []
 
   abbrev pub all_with : (u : ℕ) → List Defined → List Constructor
@@ -50,7 +50,7 @@ module _ (l : Linked) (H : ℕ → Option TypeTerm) where
   abbrev pub types_with : Defined → List TypeTerm
   types_with d =
       map (replaced H)
-      (listed_types (declared_types l (home l d) (type_terms_of d.item) nothing_met).0)
+      (listed_types (declared_types l (defining_module l d) (type_terms_of d.item) nothing_met).0)
 
   abbrev pub predicate_with : Defined → Predicate
   predicate_with d =

@@ -10,7 +10,7 @@ use Rattle.mc_accepted.specs.Inferred.{with_determinisms, join}
 use Rattle.mc_model.specs.declared.sched.Proc.{Proc}
 use Rattle.mc_procs.specs.Fitting.{ProcedureFits}
 use Rattle.mc_procs.specs.Procedures.{PlainProcs, procedure_at}
-use Rattle.mc_skeletons.specs.Least.{assigned}
+use Rattle.mc_det_constraints.specs.Least.{assigned}
 use Rattle.mc_det.specs.Marked.{marked, marked_in}
 use Rattle.mc_det.specs.declared.walk.Walk.{Walk}
 use Rattle.mc_det.specs.code.Facts.{known_in}

@@ -13,8 +13,8 @@ use Rattle.mc_accepted.specs.Determined.{Known, allowed_in, misses}
 use Rattle.mc_insts.specs.Graphs.{count_of}
 use Rattle.mc_procs.specs.Named.{Bounds}
 use Rattle.mc_procs.specs.Procedures.{PlainProcs, as_system}
-use Rattle.mc_skeletons.specs.declared.skeleton.Step.{Step}
-use Rattle.mc_skeletons.specs.declared.skeleton.Step.TheVariants as T
+use Rattle.mc_det_constraints.specs.declared.constraint.Step.{Step}
+use Rattle.mc_det_constraints.specs.declared.constraint.Step.TheVariants as T
 use Rattle.mc_det.specs.declared.walk.Walk.{Walk}
 use Rattle.mc_det.specs.code.Facts.{known_in}
 use Rattle.mc_det.specs.code.Points.{insts_in}

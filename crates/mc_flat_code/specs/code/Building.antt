@@ -3,7 +3,7 @@ use Rattle.std.specs.Prelude.{◌≡◌, ◌⊎◌, ℕ, ◌<◌, List, ◌++◌
 use Rattle.mc_model.specs.Scheduled.{Arms}
 use Rattle.mc_flat_code.specs.Running.{IsCode}
 use Rattle.mc_flat_code.specs.Standing.{Holds, Chain, Keyed, Cased}
-use Rattle.mc_flat_code.specs.declared.code.Part.{Part}
+use Rattle.mc_flat_code.specs.declared.code.Span.{Span}
 use Rattle.mc_flat_code.specs.declared.code.Branch.{Branch}
 use Rattle.mc_flat_code.specs.declared.code.Code.{Code}
 
@@ -24,7 +24,7 @@ pub record Laid (old new : Code) (place : ℕ) : Type 0 where
   pub within : place < length new.instrs.items
 
 -- a part of the branches is for arms that stand in places
-pub record IsKeyed (code : Code) (v : ℕ) (arms : Arms) (ps : List ℕ) (part : Part) : Type 0 where
+pub record IsKeyed (code : Code) (v : ℕ) (arms : Arms) (ps : List ℕ) (part : Span) : Type 0 where
   pub branches : List Branch
   pub held : Holds code.branches.items part branches
   pub keyed : Keyed code v arms branches ps

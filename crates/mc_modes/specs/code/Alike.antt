@@ -7,9 +7,9 @@ use Rattle.mc_model.specs.PlainGoals.{plain_node}
 use Rattle.mc_model.specs.declared.sched.GoalNode.{GoalNode}
 use Rattle.mc_accepted.specs.FreshTests.{TestsAlike}
 use Rattle.mc_procs.specs.Named.{NumbersBelow}
-use Rattle.mc_mode_points.specs.Agreeing.{TypedAs}
-use Rattle.mc_mode_points.specs.Answers.{FreshAlike}
-use Rattle.mc_mode_points.specs.declared.state.State.{State}
+use Rattle.mc_mode_state.specs.Agreeing.{TypedAs}
+use Rattle.mc_mode_state.specs.Answers.{FreshAlike}
+use Rattle.mc_mode_state.specs.declared.state.State.{State}
 use Rattle.mc_modes.specs.code.Waiting.{nothing}
 use Rattle.mc_modes.specs.declared.ending.Begun.{Begun}
 use Rattle.mc_modes.specs.declared.waiting.Found.{Found}

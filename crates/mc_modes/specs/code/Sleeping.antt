@@ -10,9 +10,9 @@ use Rattle.mc_model.specs.Flat.{Flat_goal, Flat_goals, flat_then, flats, variabl
 use Rattle.mc_model.specs.Stream.{is_bound}
 use Rattle.mc_accepted.specs.Arranged.{Declared, Fault, waits, negated_binds, branches_differ, lacks, Arranged, runs, breaks, is_there}
 use Rattle.mc_accepted.specs.Ordered.{Mode, modes_of, builtin_most, times_in}
-use Rattle.mc_mode_points.specs.States.{point_of}
-use Rattle.mc_mode_points.specs.Tables.{node_in}
-use Rattle.mc_mode_points.specs.declared.state.State.{State}
+use Rattle.mc_mode_state.specs.States.{point_of}
+use Rattle.mc_mode_state.specs.Tables.{node_in}
+use Rattle.mc_mode_state.specs.declared.state.State.{State}
 use Rattle.mc_modes.specs.code.Waiting.{nothing}
 
 -- goals wait

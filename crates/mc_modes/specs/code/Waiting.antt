@@ -11,19 +11,19 @@ use Rattle.mc_model.specs.PlainGoals.{plain_flat, plain_node}
 use Rattle.mc_model.specs.declared.flat.Flat.{Flat}
 use Rattle.mc_model.specs.declared.inst.Sig.{Sig}
 use Rattle.mc_accepted.specs.Arranged.{Operations, Point, Declared, Fault, Waiting, Picked, takes, none_runs, waits, ascending, with_fresh, pick, in_turn, trial}
-use Rattle.mc_accepted.specs.Chosen.{Chosen, of_nodes}
+use Rattle.mc_accepted.specs.NodeOracle.{NodeOracle, of_nodes}
 use Rattle.mc_accepted.specs.Ordered.{times_in}
 use Rattle.mc_procs.specs.Named.{NumbersBelow}
 use Rattle.mc_procs.specs.Procedures.{PlainProcs, source_of}
-use Rattle.mc_mode_points.specs.States.{point_of, SameState}
-use Rattle.mc_mode_points.specs.Agreeing.{Moved, Stepped}
-use Rattle.mc_mode_points.specs.Answers.{plain_fault, end_of}
-use Rattle.mc_mode_points.specs.declared.state.State.{State}
-use Rattle.mc_mode_points.specs.declared.part.Part.{Part}
-use Rattle.mc_mode_points.specs.declared.fault.ModeFault.{ModeFault}
-use Rattle.mc_mode_points.specs.declared.fault.ModeFault.TheVariants as F
+use Rattle.mc_mode_state.specs.States.{point_of, SameState}
+use Rattle.mc_mode_state.specs.Agreeing.{StateExtends, LaterByTrail}
+use Rattle.mc_mode_state.specs.Answers.{plain_fault, end_of}
+use Rattle.mc_mode_state.specs.declared.state.State.{State}
+use Rattle.mc_mode_state.specs.declared.part.Part.{Part}
+use Rattle.mc_mode_state.specs.declared.fault.ModeFault.{ModeFault}
+use Rattle.mc_mode_state.specs.declared.fault.ModeFault.TheVariants as F
 use Rattle.mc_modes.specs.Signatures.{declared_in}
-use Rattle.mc_modes.specs.Tries.{Suits, Try, Told}
+use Rattle.mc_modes.specs.Tries.{AgreesOnClause, Attempt, OutsideKnown}
 use Rattle.mc_modes.specs.declared.waiting.Found.{Found}
 use Rattle.mc_modes.specs.declared.waiting.Found.TheVariants as V
 
@@ -41,7 +41,7 @@ variables_of_each (g ∷ gs) = variables_of g ++ variables_of_each gs
 
 -- These variables are the clause's own, and the list tells what occurs outside goals over them, all
 -- of which count among what occurs outside.
-abbrev pub tells_around : List ℕ → State → Told
+abbrev pub tells_around : List ℕ → State → OutsideKnown
 tells_around vs s first O =
     (first ≤ length s.insts.items)
     × NumbersBelow first vs
@@ -59,7 +59,7 @@ module _ (Op : Operations ℕ) (P : Source) (declared : ℕ → List Declared) (
 
 -- what a pass over waiting goals finds
 abbrev pub Pass : Type 0
-Pass = (outside : List ℕ) → Chosen → (ℕ → TypeTerm) → Picked ℕ
+Pass = (outside : List ℕ) → NodeOracle → (ℕ → TypeTerm) → Picked ℕ
 
 abbrev pub picking : List Sig → List Flat_goal → PlainProcs → State → Pass
 picking sigs gs q s = λ O C T.
@@ -67,7 +67,7 @@ picking sigs gs q s = λ O C T.
     (length s.insts.items) (point_of s.insts.items)
 
 -- what goals in turn do
-abbrev pub turns : List Sig → List Flat_goal → PlainProcs → State → Try
+abbrev pub turns : List Sig → List Flat_goal → PlainProcs → State → Attempt
 turns sigs gs q s = λ O C T.
     in_turn (of_nodes C) (source_of q) (declared_in sigs) T (length gs)
     (all_waiting (of_nodes C) (source_of q) (declared_in sigs) T gs) O (length s.insts.items)
@@ -95,22 +95,22 @@ IsStuck b gs None f =
 pub record IsReady (sigs : List Sig) (gs : List Flat_goal) (q r : PlainProcs) (s t : State) (k : ℕ) (p : Part) : Type 0 where
   pub place : k < length gs
   pub outcome :
-      (first : ℕ) (O : List ℕ) (C : Chosen) (T : ℕ → TypeTerm)
-      → tells_around (variables_of_each gs) s first O → Suits first r t C T
+      (first : ℕ) (O : List ℕ) (C : NodeOracle) (T : ℕ → TypeTerm)
+      → tells_around (variables_of_each gs) s first O → AgreesOnClause first r t C T
       → picking sigs gs q s O C T
       ≡ takes (with_fresh (variables_of (get_or gs k nothing)) p.freshened.items)
       (all_waiting (of_nodes C) (source_of q) (declared_in sigs) T (remove gs k))
       (nodes (map plain_node p.goals.items)) (end_of p.reachable t) (length t.insts.items)
   pub fresh : NumbersBelow (length t.insts.items) p.freshened.items
-  pub stepped : Stepped q r s t
+  pub stepped : LaterByTrail q r s t
 
 -- none runs, whatever comes later, and the state is the same
 pub record NoneIsReady (sigs : List Sig) (gs : List Flat_goal) (q r : PlainProcs) (s t : State) (f : Option ModeFault) : Type 0 where
   pub outcome :
-      (first : ℕ) (O : List ℕ) (C : Chosen) (T : ℕ → TypeTerm)
-      → tells_around (variables_of_each gs) s first O → Suits first r t C T → picking sigs gs q s O C T ≡ none_runs (plain_found f)
+      (first : ℕ) (O : List ℕ) (C : NodeOracle) (T : ℕ → TypeTerm)
+      → tells_around (variables_of_each gs) s first O → AgreesOnClause first r t C T → picking sigs gs q s O C T ≡ none_runs (plain_found f)
   pub same : SameState s t
-  pub moved : Moved q r s t
+  pub moved : StateExtends q r s t
 
 abbrev pub Finds :
     List Sig → List Flat_goal → (q r : PlainProcs) → (s t : State) → Found → Type 0

@@ -5,10 +5,10 @@ use Rattle.mc_decl_syntax.specs.Plain.{PlainDecl, AbstractType, UnionType, SameT
 use Rattle.mc_names.specs.declared.definition.Kind.TheVariants as K
 use Rattle.mc_names.specs.Plain.{definition, is_definition}
 use Rattle.mc_names.specs.Definitions.{head_name}
-use Rattle.mc_linking.specs.declared.table.Table.{Table}
-use Rattle.mc_linking.specs.declared.visibility.Visibility.{Visibility}
+use Rattle.mc_modules.specs.declared.table.Table.{Table}
+use Rattle.mc_modules.specs.declared.visibility.Visibility.{Visibility}
 use Rattle.mc_decl_syntax.specs.Entries.{File}
-use Rattle.mc_linking.specs.Files.{PlainItemInFile, has}
+use Rattle.mc_modules.specs.Files.{PlainItemInFile, has}
 use Rattle.mc_names.specs.declared.names.Named.{Named}
 use Rattle.mc_names.specs.declared.names.Scope.{Scope}
 use Rattle.mc_names.specs.Linked.{Defined, plain_named}

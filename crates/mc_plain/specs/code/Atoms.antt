@@ -7,14 +7,14 @@ use Rattle.mc_model.specs.Outcomes.{Outcome}
 use Rattle.mc_model.specs.Stream.{Bindings}
 use Rattle.mc_flat_code.specs.Ticked.{Ticked, Wrote, follow}
 use Rattle.mc_flat_code.specs.declared.code.FlatProgram.{FlatProgram}
-use Rattle.mc_frames.specs.declared.went.Went.{Went}
-use Rattle.mc_frames.specs.declared.went.Went.TheVariants as W
-use Rattle.mc_frames.specs.Atoms.{ReadsFrom}
-use Rattle.mc_plain.specs.code.Machine.{Machine, Now, at, failing, stuck, said, is_ended}
+use Rattle.mc_plain.specs.declared.results.AtomResult.{AtomResult}
+use Rattle.mc_plain.specs.declared.results.AtomResult.TheVariants as W
+use Rattle.mc_plain.specs.Atoms.{ReadsFrom}
+use Rattle.mc_plain.specs.code.Machine.{Machine, NextAction, at, failing, stuck, said, is_ended}
 use Rattle.mc_plain.specs.declared.atoms.Shown.{Shown}
 use Rattle.mc_plain.specs.declared.atoms.Shown.TheVariants as S
 
-abbrev pub now_of : Went → ℕ → Now
+abbrev pub now_of : AtomResult → ℕ → NextAction
 now_of W.On next = at next
 now_of W.Fails next = failing
 now_of W.Stuck next = stuck

@@ -4,15 +4,15 @@ use Rattle.mc_program.specs.Values.{Val}
 use Rattle.mc_flat_code.specs.Running.{fitting}
 use Rattle.mc_flat_code.specs.declared.code.Branch.{Branch}
 use Rattle.mc_flat_code.specs.declared.code.Code.{Code}
-use Rattle.mc_plain.specs.code.Machine.{Now, at, failing}
+use Rattle.mc_plain.specs.code.Machine.{NextAction, at, failing}
 
 -- the one place, or the other one where there are several
-abbrev pub only_of : ℕ → List ℕ → Now
+abbrev pub only_of : ℕ → List ℕ → NextAction
 only_of other [] = failing
 only_of other (p ∷ []) = at p
 only_of other (p ∷ r ∷ ps) = at other
 
-abbrev pub case_now : Code → ℕ → List Branch → Option Val → Now
+abbrev pub case_now : Code → ℕ → List Branch → Option Val → NextAction
 case_now code other bs None = at other
 case_now code other bs (Some w) = only_of other (fitting code w bs)
 

@@ -17,17 +17,17 @@ use Rattle.mc_flat_code.specs.declared.code.FlatProgram.{FlatProgram}
 -- what an answer of a goal that is run apart means for what is around it: a condition, with the
 -- places after its answers and where it has none; one that had an answer; a negated goal; a pruned
 -- goal; a call, by its place
-pub data Around : Type 0 where
-  condition : (then_place else_place : ℕ) → Around
-  answered : (then_place : ℕ) → Around
-  negated : (next : ℕ) → Around
-  pruned : (next : ℕ) → Around
-  called : (place : ℕ) → Around
+pub data Continuation : Type 0 where
+  condition : (then_place else_place : ℕ) → Continuation
+  answered : (then_place : ℕ) → Continuation
+  negated : (next : ℕ) → Continuation
+  pruned : (next : ℕ) → Continuation
+  called : (place : ℕ) → Continuation
 
 -- what is around a goal that is run apart: its bindings, levels, height, and where its resume points
 -- begin
 pub record Segment : Type 0 where
-  pub around : Around
+  pub around : Continuation
   pub bindings : Bindings
   pub level : ℕ
   pub height : ℕ
@@ -37,15 +37,15 @@ pub record Segment : Type 0 where
 -- around it, its own levels and height, and where its resume points begin
 pub data Point : Type 0 where
   resume : (place : ℕ) → Bindings → Point
-  held : Around → Bindings → (level height base : ℕ) → Point
+  held : Continuation → Bindings → (level height base : ℕ) → Point
 
 -- what is done next
-pub data Now : Type 0 where
-  at : (place : ℕ) → Now
-  failing : Now
-  ended : Now
-  stuck : Now
-  stopped : Halt → Now
+pub data NextAction : Type 0 where
+  at : (place : ℕ) → NextAction
+  failing : NextAction
+  ended : NextAction
+  stuck : NextAction
+  stopped : Halt → NextAction
 
 -- the list up to its call number n + 1, without it, and then the stop at the budget
 abbrev pub cut : {A : Type 0} → ℕ → Ticked A → Ticked A
@@ -98,7 +98,7 @@ module _ (outcome : Builtin → List Val → Outcome) (f : FlatProgram) where
   back m h _ e a = T.Stuck
 
   -- what the items of a goal that is run apart mean around it
-  abbrev pub answers : (m h : ℕ) → Around → Bindings → Ticked Bindings → Ticked Bindings
+  abbrev pub answers : (m h : ℕ) → Continuation → Bindings → Ticked Bindings → Ticked Bindings
   answers m h (condition t o) e xs = choose xs (go m h t) (go m h o e)
   answers m h (answered t) e xs = bind xs (go m h t)
   answers m h (negated next) e xs = bind (negate e xs) (go m h next)
@@ -133,7 +133,7 @@ module _ (outcome : Builtin → List Val → Outcome) (f : FlatProgram) where
       (append (answers s.level s.height s.around s.bindings xs) (resumed es s.level s.height s.below hi))
 
   -- an atom's items, as what is done next says them
-  abbrev pub said : (ℕ → Bindings → Ticked Bindings) → Now → Bindings → Ticked Bindings
+  abbrev pub said : (ℕ → Bindings → Ticked Bindings) → NextAction → Bindings → Ticked Bindings
   said next (at pc) e = next pc e
   said next failing e = T.End
   said next ended e = T.End
@@ -148,7 +148,8 @@ module _ (outcome : Builtin → List Val → Outcome) (f : FlatProgram) where
     -- what is left, by the parts of a state
     abbrev pub left_of :
         (budget : ℕ)
-        → List Point → List Segment → (lo m h : ℕ) → Bindings → Now → Ticked (List (Option Val))
+        → List Point → List Segment → (lo m h : ℕ) → Bindings → NextAction
+        → Ticked (List (Option Val))
     left_of b es ss lo m h e (at pc) =
         cut b (bind (close es ss lo (append (go m h pc e) (resumed es m h lo (length es)))) outputs)
     left_of b es ss lo m h e failing =
@@ -162,7 +163,7 @@ abbrev pub Ordered : List Segment → ℕ → Type 0
 Ordered [] hi = Unit {0}
 Ordered (s ∷ ss) hi = (s.below ≤ hi) × Ordered ss s.below
 
-abbrev pub is_ended : Now → Bool
+abbrev pub is_ended : NextAction → Bool
 is_ended (at pc) = false
 is_ended failing = false
 is_ended ended = true
@@ -170,7 +171,7 @@ is_ended stuck = false
 is_ended (stopped w) = false
 
 -- where it goes on after a goal that was run apart and has no more answer
-abbrev pub after : Around → Now
+abbrev pub after : Continuation → NextAction
 after (condition t o) = at o
 after (answered t) = failing
 after (negated next) = at next
@@ -178,7 +179,7 @@ after (pruned next) = failing
 after (called pc) = failing
 
 -- a goal is run apart
-abbrev pub GoesApart : Instr → ℕ → Around → Type 0
+abbrev pub GoesApart : Instr → ℕ → Continuation → Type 0
 GoesApart i g (condition t o) = i ≡ I.If g t o
 GoesApart i g (answered t) = ⊥
 GoesApart i g (negated next) = i ≡ I.Not g next
@@ -194,7 +195,7 @@ pub record Machine : Type 0 where
   pub level : ℕ
   pub height : ℕ
   pub bindings : Bindings
-  pub now : Now
+  pub now : NextAction
 
 pub record Whole (M : Machine) : Type 0 where
   pub base : M.base ≤ length M.points
@@ -219,7 +220,7 @@ module _ (outcome : Builtin → List Val → Outcome) (f : FlatProgram) (head la
 
 -- a goal that was run apart keeps its resume points, if it has any
 pub record Holding
-    (k : Around) (e : Bindings) (m h lo : ℕ) (before later : List Point) : Type 0 where
+    (k : Continuation) (e : Bindings) (m h lo : ℕ) (before later : List Point) : Type 0 where
   pub some : lo < length before → later ≡ held k e m h lo ∷ before
   pub none : length before ≤ lo → later ≡ before
 

@@ -1,27 +1,27 @@
 -- What the parts of the executor stand for over a heap.
 use Rattle.std.specs.Prelude.{map, reverse}
 use Rattle.mc_values.specs.declared.heap.Heap.{Heap}
-use Rattle.mc_frames.specs.Frames.{bindings}
+use Rattle.mc_plain.specs.Frames.{bindings}
 use Rattle.mc_plain.specs.Rest.{plain_halt}
 use Rattle.mc_plain.specs.code.Machine as M
 use Rattle.mc_plain.specs.code.Machine.{Machine}
-use Rattle.mc_plain.specs.declared.state.Around.{Around}
-use Rattle.mc_plain.specs.declared.state.Around.TheVariants as A
+use Rattle.mc_plain.specs.declared.state.Continuation.{Continuation}
+use Rattle.mc_plain.specs.declared.state.Continuation.TheVariants as A
 use Rattle.mc_plain.specs.declared.state.Segment.{Segment}
 use Rattle.mc_plain.specs.declared.state.Point.{Point}
 use Rattle.mc_plain.specs.declared.state.Point.TheVariants as P
-use Rattle.mc_plain.specs.declared.state.Now.{Now}
-use Rattle.mc_plain.specs.declared.state.Now.TheVariants as N
+use Rattle.mc_plain.specs.declared.state.NextAction.{NextAction}
+use Rattle.mc_plain.specs.declared.state.NextAction.TheVariants as N
 use Rattle.mc_plain.specs.declared.state.Control.{Control}
 
-abbrev pub plain_around : Around → M.Around
+abbrev pub plain_around : Continuation → M.Continuation
 plain_around (A.Condition t o) = M.condition t o
 plain_around (A.Answered t) = M.answered t
 plain_around (A.Negated next) = M.negated next
 plain_around (A.Pruned next) = M.pruned next
 plain_around (A.Called place) = M.called place
 
-abbrev pub plain_now : Now → M.Now
+abbrev pub plain_now : NextAction → M.NextAction
 plain_now (N.At place) = M.at place
 plain_now N.Failing = M.failing
 plain_now N.Ended = M.ended

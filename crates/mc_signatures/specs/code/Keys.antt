@@ -3,7 +3,7 @@
 use Rattle.std.specs.Prelude.{◌≡◌, ℕ, suc, ◌<◌, List, [], ◌∷◌, ◌++◌, length, get_or, map}
 use Rattle.mc_accepted.specs.InstRules.{Functor, InstTerm, inst_node, defined, bound_over, InstTerms, over}
 use Rattle.mc_inst_table.specs.Plain.{inst_terms}
-use Rattle.mc_signatures.specs.declared.keys.Named.{Named}
+use Rattle.mc_signatures.specs.declared.keys.ListedFunctor.{ListedFunctor}
 use Rattle.mc_signatures.specs.declared.keys.InstKey.{InstKey}
 use Rattle.mc_signatures.specs.declared.keys.InstKey.TheVariants as K
 
@@ -18,7 +18,7 @@ term_at ts k = get_or ts k (inst_node 0)
 abbrev pub terms_at : List InstTerm → List ℕ → InstTerms
 terms_at ts ks = inst_terms (map (term_at ts) ks)
 
-abbrev pub functor_of : Named → Functor
+abbrev pub functor_of : ListedFunctor → Functor
 functor_of f = record { name = f.name.items; arity = f.arity }
 
 -- the inst of a key, over the insts that are there

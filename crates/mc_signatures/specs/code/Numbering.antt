@@ -4,7 +4,7 @@ use Rattle.mc_program.specs.declared.builtin.Builtin.{Builtin}
 use Rattle.mc_model.specs.declared.inst.ModeDecl.{ModeDecl}
 use Rattle.mc_model.specs.declared.inst.Sig.{Sig}
 use Rattle.mc_inst_table.specs.Written.{ModeTerm}
-use Rattle.mc_declared_modes.specs.WrittenModes.{PlainMode}
+use Rattle.mc_signatures.specs.WrittenModes.{PlainMode}
 use Rattle.mc_signatures.specs.Signatures.{next_behind, AreDeclared, AreSignatures}
 
 module _ (Means : ModeTerm → (first last : ℕ) → Type 0) where

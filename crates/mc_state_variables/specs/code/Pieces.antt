@@ -1,7 +1,7 @@
 -- The disjuncts of a disjunction as they are written one after another, before they are gathered.
 use Rattle.std.specs.Prelude.{ℕ, Bool, true, false, not, ◌&&◌, ◌||◌, List, [], ◌∷◌, map, Option, Some, None, if◌then◌else◌}
 use Rattle.std.specs.Option.{option_map}
-use Rattle.mc_term_data.specs.Plain.{PlainTerm, PlainTerms, at, no_term, more_terms, Conj, Disj, tms, plain_term}
+use Rattle.mc_term_data.specs.Plain.{PlainTerm, PlainTerms, at, no_term, more_terms, Conj, Disj, term_list, plain_term}
 use Rattle.mc_state_variables.specs.declared.pieces.Piece as C
 use Rattle.mc_state_variables.specs.Versions.{Held, closings, and_then}
 use Rattle.mc_state_variables.specs.Numbered.{Written, Goal, written, on_text}
@@ -17,7 +17,7 @@ abbrev pub plain_piece : C.Piece → Piece
 plain_piece p =
     record {
       text = plain_term p.text;
-      opened = option_map (λ cs. tms (map plain_term cs.items)) p.opened;
+      opened = option_map (λ cs. term_list (map plain_term cs.items)) p.opened;
     }
 
 abbrev pub gather : (line : ℕ) → Option PlainTerms → PlainTerm → PlainTerms → PlainTerms

@@ -7,8 +7,8 @@ use Rattle.mc_accepted.specs.Switched.{goals_of}
 use Rattle.mc_accepted.specs.MergedArms.{ends}
 use Rattle.mc_procs.specs.Procedures.{PlainProcs}
 use Rattle.mc_procs.specs.VariableTypes.{type_in}
-use Rattle.mc_mode_points.specs.Tables.{Entry}
-use Rattle.mc_switch.specs.declared.around.Around.{Around}
+use Rattle.mc_mode_state.specs.Tables.{Entry}
+use Rattle.mc_switch.specs.declared.context.VariableContext.{VariableContext}
 use Rattle.mc_switch.specs.declared.disjunct.Opened.{Opened}
 use Rattle.mc_switch.specs.Kept.{Suits, Extends}
 use Rattle.mc_switch.specs.code.Grouping.{EndsSo}
@@ -28,12 +28,12 @@ abbrev pub one_ends : List Opened → Bool
 one_ends os = list_any (λ (o : Opened). not o.never_ends) os
 
 -- what is kept of a disjunct tells where its goal ends
-abbrev pub KeepsEnd : PlainProcs → Around → Opened → Type 0
+abbrev pub KeepsEnd : PlainProcs → VariableContext → Opened → Type 0
 KeepsEnd q at o = EndsSo q at.types.now at.before.now o.never_ends o.goal
 
 -- with what was found now or later, and the insts at the ends of these disjuncts
 abbrev pub ChangesSo :
-    PlainProcs → Around → List Entry → List Opened
+    PlainProcs → VariableContext → List Entry → List Opened
     → (List Entry → (before after : Insts) → List Insts → Type 0) → Type 0
 ChangesSo q at N os P =
     (S : System) (M : List Entry) → Suits q S → Extends N M

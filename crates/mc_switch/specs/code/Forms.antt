@@ -12,9 +12,9 @@ use Rattle.mc_accepted.specs.Switched.{Kept, formed, formed_in, formed_all}
 use Rattle.mc_insts.specs.Graphs.{count_of}
 use Rattle.mc_procs.specs.Procedures.{PlainProcs}
 use Rattle.mc_procs.specs.VariableTypes.{type_in}
-use Rattle.mc_mode_points.specs.Tables.{Entry}
+use Rattle.mc_mode_state.specs.Tables.{Entry}
 use Rattle.mc_switch.specs.declared.formed.Formed.{Formed}
-use Rattle.mc_switch.specs.declared.forming.Forming.{Forming}
+use Rattle.mc_switch.specs.declared.forming.SwitchDetection.{SwitchDetection}
 use Rattle.mc_switch.specs.declared.parts.FormedGoal.{FormedGoal}
 use Rattle.mc_switch.specs.declared.parts.FormedNodes.{FormedNodes}
 use Rattle.mc_switch.specs.declared.parts.FormedArms.{FormedArms}
@@ -35,17 +35,17 @@ module _ (S : System) (T : ℕ → TypeTerm) (kept : (before after : Insts) → 
   all_if false b ns = ns
 
 -- the walk stands at a point, and has found what it says
-pub record Stands (q : PlainProcs) (types : List Ty) (w : Forming) : Type 0 where
+pub record Stands (q : PlainProcs) (types : List Ty) (w : SwitchDetection) : Type 0 where
   pub ready : InstsFit q types w.point
   pub merged : AreMerged q types w.merger.found
 
 -- the walk is at the same point again, and found more
-pub record Returns (q : PlainProcs) (types : List Ty) (v w : Forming) : Type 0 where
+pub record Returns (q : PlainProcs) (types : List Ty) (v w : SwitchDetection) : Type 0 where
   pub point : w.point ≡ v.point
   pub merges : Merges q types v.merger.found w.merger.found
 
 -- the walk came to another point, and found no more
-pub record Enters (q : PlainProcs) (types : List Ty) (v w : Forming) : Type 0 where
+pub record Enters (q : PlainProcs) (types : List Ty) (v w : SwitchDetection) : Type 0 where
   pub ready : InstsFit q types w.point
   pub found : w.merger ≡ v.merger
 

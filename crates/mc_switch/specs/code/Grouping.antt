@@ -12,8 +12,8 @@ use Rattle.mc_accepted.specs.Switched.{Disjunct, Opening, openings, openings_of,
 use Rattle.mc_insts.specs.Graphs.{count_of}
 use Rattle.mc_procs.specs.Procedures.{PlainProcs}
 use Rattle.mc_procs.specs.VariableTypes.{type_in}
-use Rattle.mc_mode_points.specs.Tables.{Entry}
-use Rattle.mc_switch.specs.declared.around.Around.{Around}
+use Rattle.mc_mode_state.specs.Tables.{Entry}
+use Rattle.mc_switch.specs.declared.context.VariableContext.{VariableContext}
 use Rattle.mc_switch.specs.declared.formed.Formed.{Formed}
 use Rattle.mc_switch.specs.Types.{InstsFit, inst_in}
 use Rattle.mc_switch.specs.Kept.{Suits, Extends, kept_by}
@@ -30,7 +30,7 @@ opened_first [] = []
 opened_first (n ∷ ns) = openings n
 
 -- each variable has an inst before the whole and one after it
-pub record AroundFits (q : PlainProcs) (at : Around) : Type 0 where
+pub record AroundFits (q : PlainProcs) (at : VariableContext) : Type 0 where
   pub before : InstsFit q at.types.now at.before.now
   pub after : InstsFit q at.types.now at.after.now
 
@@ -52,7 +52,7 @@ nodes_of fs = map (λ (f : Formed). plain_node f.node) fs
 
 -- goals from these insts, grouped; what is kept of arms goes by what was found, now or later
 abbrev pub IsGrouped :
-    PlainProcs → List Entry → Around → (sources goals : List Node) → Scheduled → Type 0
+    PlainProcs → List Entry → VariableContext → (sources goals : List Node) → Scheduled → Type 0
 IsGrouped q N at ns ms s =
     (S : System) (M : List Entry) → Suits q S → Extends N M
     → s

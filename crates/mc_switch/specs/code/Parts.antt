@@ -6,8 +6,8 @@ use Rattle.mc_model.specs.Scheduled.{Label, Node, Scheduled}
 use Rattle.mc_accepted.specs.Switched.{Disjunct, Kept, arm_of, chosen, grouped}
 use Rattle.mc_procs.specs.Procedures.{PlainProcs}
 use Rattle.mc_procs.specs.VariableTypes.{type_in}
-use Rattle.mc_mode_points.specs.Tables.{Entry}
-use Rattle.mc_switch.specs.declared.around.Around.{Around}
+use Rattle.mc_mode_state.specs.Tables.{Entry}
+use Rattle.mc_switch.specs.declared.context.VariableContext.{VariableContext}
 use Rattle.mc_switch.specs.declared.disjunct.Opened.{Opened}
 use Rattle.mc_switch.specs.declared.formed.Formed.{Formed}
 use Rattle.mc_switch.specs.declared.groups.Group.{Group}
@@ -21,7 +21,7 @@ use Rattle.mc_switch.specs.code.Choices.{AreSame}
 abbrev pub KeepsGroup : Group → Type 0
 KeepsGroup g = All KeepsFirst g.disjuncts.items
 
-abbrev pub KeepsEnds : PlainProcs → Around → Group → Type 0
+abbrev pub KeepsEnds : PlainProcs → VariableContext → Group → Type 0
 KeepsEnds q at g = All (KeepsEnd q at) g.disjuncts.items
 
 -- goals are kept as they come, each with what it tells of the point after it
@@ -35,7 +35,7 @@ abbrev pub AreKept : List Formed → List Opened → Type 0
 AreKept fs os = map kept_end os ≡ map formed_end fs
 
 -- what is kept of an arm, by what was found
-abbrev pub kept_in : System → List Entry → Around → Kept
+abbrev pub kept_in : System → List Entry → VariableContext → Kept
 kept_in S M at =
     kept_by S (type_in at.types.now) M (length at.types.now) (inst_in at.before.now)
     (inst_in at.after.now)
@@ -44,7 +44,8 @@ abbrev pub arm_with :
     Kept → (again : List Disjunct → Scheduled) → Label × List Opened → Label × Node
 arm_with kept again g = (g.0, arm_of kept again (map plain_opened g.1))
 
-module _ (q : PlainProcs) (N : List Entry) (at : Around) (out : List Bool) (times : ℕ) where
+module _ (q : PlainProcs) (N : List Entry) (at : VariableContext) (out : List Bool)
+    (times : ℕ) where
   -- in each system that suits, with what was found now or later, and whichever list says what is
   -- left out
   abbrev pub EachTime :
@@ -69,7 +70,8 @@ module _ (q : PlainProcs) (N : List Entry) (at : Around) (out : List Bool) (time
   AreArmsOf gs arms = EachTime (λ kept again. map (arm_with kept again) gs) arms
 
 -- the variable that is chosen there, in each system that suits
-abbrev pub IsChosenIn : PlainProcs → Around → (out : List Bool) → List Opened → Option ℕ → Type 0
+abbrev pub IsChosenIn : PlainProcs → VariableContext → (out : List Bool) → List Opened → Option ℕ
+    → Type 0
 IsChosenIn q at set os answer =
     (S : System) (out : List ℕ) → Suits q S → AreSame out set
     → answer

@@ -2,7 +2,7 @@
 -- alone, and 257 stands for every greater depth.
 use Rattle.std.specs.Prelude.{ℕ, ◌+◌, ◌^◌, max, pos, nat_lt, nat_le, List, [], ◌∷◌, ◌++◌, Option, Some, None, if◌then◌else◌}
 use Rattle.mc_term_data.specs.Plain as P
-use Rattle.mc_term_data.specs.Plain.{PlainTerm, PlainNode, at, tms}
+use Rattle.mc_term_data.specs.Plain.{PlainTerm, PlainNode, at, term_list}
 use Rattle.mc_term_parser.specs.Tree.{or_else, minus}
 use Rattle.mc_term_parser.specs.code.Machine.{Making}
 
@@ -45,20 +45,21 @@ abbrev pub seen_over : ℕ → PlainNode → SeenRow → Seen
 seen_over l n ts = kept l n (1 + ts.depth) ts.large
 
 unfoldable pub seen_app : ℕ → List (List ℕ) → SeenRow → Seen
-seen_app l w ts = seen_over l (P.App w (tms ts.values)) ts
+seen_app l w ts = seen_over l (P.App w (term_list ts.values)) ts
 
 unfoldable pub seen_items : ℕ → SeenRow → Seen
-seen_items l ts = seen_over l (P.Items (tms ts.values)) ts
+seen_items l ts = seen_over l (P.Items (term_list ts.values)) ts
 
 unfoldable pub seen_tailed : ℕ → SeenRow → Seen → Seen
 seen_tailed l ts t =
-    kept l (P.Tailed (tms ts.values) t.value) (1 + max ts.depth t.depth) (or_else ts.large t.large)
+    kept l (P.Tailed (term_list ts.values) t.value) (1 + max ts.depth t.depth)
+    (or_else ts.large t.large)
 
 unfoldable pub seen_conj : ℕ → SeenRow → Seen
-seen_conj l ts = seen_over l (P.Conj (tms ts.values)) ts
+seen_conj l ts = seen_over l (P.Conj (term_list ts.values)) ts
 
 unfoldable pub seen_disj : ℕ → SeenRow → Seen
-seen_disj l ts = seen_over l (P.Disj (tms ts.values)) ts
+seen_disj l ts = seen_over l (P.Disj (term_list ts.values)) ts
 
 unfoldable pub seen_inside : ℕ → Seen → Seen
 seen_inside l t = kept l (node_seen t.value) (1 + t.depth) t.large

@@ -17,8 +17,8 @@ use Rattle.mc_term_parser.specs.declared.reading.Readings.{Readings}
 use Rattle.mc_term_parser.specs.declared.frame.Part.{Part}
 use Rattle.mc_term_parser.specs.declared.frame.Frame.{Frame}
 use Rattle.mc_term_parser.specs.declared.frame.Frame.TheVariants as FV
-use Rattle.mc_term_parser.specs.declared.frame.Now.{Now}
-use Rattle.mc_term_parser.specs.declared.frame.Now.TheVariants as NV
+use Rattle.mc_term_parser.specs.declared.frame.ParserPhase.{ParserPhase}
+use Rattle.mc_term_parser.specs.declared.frame.ParserPhase.TheVariants as NV
 use Rattle.mc_term_parser.specs.declared.frame.Machine.{Machine}
 use Rattle.mc_term_parser.specs.declared.frame.Mark.{Mark}
 use Rattle.mc_term_parser.specs.declared.frame.Mark.TheVariants as MV
@@ -55,7 +55,7 @@ onto below (f ∷ fs) = onto (frame f ∷ below) fs
 abbrev pub frames : List Frame → List FrameSeen
 frames fs = onto [] fs
 
-abbrev pub now : List FrameSeen → List Lexeme → Now → StateSeen
+abbrev pub now : List FrameSeen → List Lexeme → ParserPhase → StateSeen
 now stack ts (NV.Start s) = M.Start s.commas s.limit stack ts
 now stack ts (NV.Done s p) = M.Done s.commas s.limit stack (part p) ts
 now stack ts (NV.Yes p) = M.Yes (part p)

@@ -3,7 +3,7 @@ use Rattle.std.specs.Prelude.{◌≡◌, ◌≤◌, ℕ, Bool, true, ◌&&◌, L
 use Rattle.mc_program.specs.Programs.{TypeTerm}
 use Rattle.mc_components.specs.Components.{steps, NumbersComponents}
 use Rattle.mc_decl_syntax.specs.Plain.{PlainDecl, UnionType}
-use Rattle.mc_names.specs.Linked.{Defined, Linked, home}
+use Rattle.mc_names.specs.Linked.{Defined, Linked, defining_module}
 use Rattle.mc_type_table.specs.declared.bodies.Bodies.{Bodies}
 use Rattle.mc_type_table.specs.declared.definitions.Equivalences.{Equivalences}
 use Rattle.mc_type_table.specs.declared.expansion.Known.{Known}
@@ -33,7 +33,7 @@ contents_by D l own i = []
 
 abbrev pub contents : (definitions : ℕ → Option TypeTerm) → Linked → Option Defined → List TypeTerm
 contents D l None = []
-contents D l (Some d) = contents_by D l (home l d) d.item
+contents D l (Some d) = contents_by D l (defining_module l d) d.item
 
 -- These are the bodies of a program's unions, with these definitions of types, and the graph of the
 -- types that stand in them.

@@ -2,8 +2,8 @@
 use Rattle.std.specs.Prelude.{◌≡◌, ◌↔◌, ℕ, zero, suc, ◌+◌, List, [], ◌∷◌, ◌++◌, length, map, take, drop}
 use Rattle.mc_program.specs.Programs.{TypeTerm}
 use Rattle.mc_types.specs.Trees.{of_name}
-use Rattle.mc_type_graph.specs.declared.cells.TypeName.{TypeName}
-use Rattle.mc_type_search.specs.declared.written_types.Written.{Written, Free}
+use Rattle.mc_types.specs.declared.cells.TypeName.{TypeName}
+use Rattle.mc_types.specs.declared.written_types.Written.{Written, Free}
 use Rattle.mc_typecheck.specs.Ties.{Declared}
 use Rattle.mc_typecheck.specs.NamedWalks.{Suits, EachOwn, Solves}
 use Rattle.mc_typecheck.specs.declared.named.NamedWalk.{NamedWalk}

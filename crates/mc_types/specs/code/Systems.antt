@@ -5,11 +5,11 @@ use Rattle.mc_program.specs.Programs.{TypeTerm, int_type, char_type, string_type
 use Rattle.mc_program.specs.declared.ty.Ty.{Ty}
 use Rattle.mc_program.specs.declared.ty.Ty.TheOpen as T
 use Rattle.mc_program.specs.declared.ty.Ty.TheViews.{roll-Ty}
-use Rattle.mc_type_graph.specs.Shapes.{Shape, rigid}
-use Rattle.mc_type_graph.specs.Holds.{Holds, InOrder}
-use Rattle.mc_type_graph.specs.Founded.{Founded, AllPast}
-use Rattle.mc_type_graph.specs.Solved.{value}
-use Rattle.mc_type_graph.specs.declared.cells.Cell.{Cell}
+use Rattle.mc_types.specs.Shapes.{Shape, rigid}
+use Rattle.mc_types.specs.Holds.{Holds, InOrder}
+use Rattle.mc_types.specs.Founded.{Founded, AllPast}
+use Rattle.mc_types.specs.Solved.{value}
+use Rattle.mc_types.specs.declared.cells.Cell.{Cell}
 use Rattle.mc_types.specs.Trees.{shape, placed, type_of}
 use Rattle.mc_types.specs.Placed.{Apart}
 

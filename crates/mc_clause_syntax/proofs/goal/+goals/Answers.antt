@@ -1,7 +1,7 @@
 use Rattle.std.proofs.Common.{arith, length, ◌-◌, ◌∙◌, sym, ap, ◌&&◌}
 use Rattle.mc_term_data.specs.Plain.{plain_term}
 use Rattle.mc_clause_syntax.specs.Goals.{is_goal}
-use Rattle.mc_clause_syntax.specs.declared.goal_form.Stand.TheVariants.{Whole}
+use Rattle.mc_clause_syntax.specs.declared.goal_form.GoalContext.TheVariants.{Whole}
 use Rattle.mc_clause_syntax.proofs.Disjuncts.{are_disjuncts-front_last}
 use Rattle.mc_clause_syntax.proofs.Shapes.{most_take, most_rest}
 use Rattle.mc_clause_syntax.proofs.goal.+goals.Goals as goal

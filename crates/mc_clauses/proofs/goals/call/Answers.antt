@@ -1,5 +1,5 @@
 use Rattle.std.proofs.Common.{◌∙◌, map, ap, sym}
-use Rattle.mc_term_data.specs.Plain.{plain_term, tms}
+use Rattle.mc_term_data.specs.Plain.{plain_term, term_list}
 use Rattle.mc_term_data.specs.Names.{count}
 use Rattle.mc_accepted.specs.Resolving.{atom}
 use Rattle.mc_names.specs.Linked.{plain_names}
@@ -19,7 +19,7 @@ returns c =
     let args = c.args.args.now in
     let row = c.in_ok-made.made in
     walked-on (λ row. unresolved_terms (map plain_unresolved row)) plain_unresolved_goal
-    (atom (meanings names own c.args.name.now (count (tms (map plain_term args))))) (terms_walk c.args.at.now args)
+    (atom (meanings names own c.args.name.now (count (term_list (map plain_term args))))) (terms_walk c.args.at.now args)
     c.args.variables.now c.terms.new.variables row (Atom c.in_ok-candidates.candidates row)
     (rw (← c.as_slice.ensures.items) c.in_ok-made.ensures)
     (plain-Atom c.in_ok-candidates.candidates row ∙ ap (λ cs. atom cs (unresolved_terms (map plain_unresolved row)))

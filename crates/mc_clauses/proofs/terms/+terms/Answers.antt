@@ -1,6 +1,6 @@
 use Rattle.std.proofs.Common.{◌≡◌, ◌∙◌, ap, ap₂, sym, refl, map, drop, ◌∷◌, ◌++◌, [], ◌+◌, rules, List, length}
 use Rattle.std.proofs.lemmas.List.{drop_more, drop_all}
-use Rattle.mc_term_data.specs.Plain.{PlainTerm, plain_term, tms, at, Var, App}
+use Rattle.mc_term_data.specs.Plain.{PlainTerm, plain_term, term_list, at, Var, App}
 use Rattle.mc_term_data.specs.Names.{count}
 use Rattle.mc_accepted.specs.Resolving.{any_name, no_terms}
 use Rattle.mc_unresolved.specs.Unresolved.{plain_unresolved, unresolved_terms}
@@ -33,7 +33,7 @@ term-returns-in_ok-candidates-in-App t c =
     let args = c.in-App.args in
     rw (ap (λ (u : PlainTerm). term_of names own u) (plain_term-app c.args.whole.now c.in-App.name args c.in-App.is))
     (walked-on (λ row. unresolved_terms (map plain_unresolved row)) plain_unresolved
-    (any_name (meanings names own c.in-App.name (count (tms (map plain_term args))))) (terms_walk c.args.at.now args)
+    (any_name (meanings names own c.in-App.name (count (term_list (map plain_term args))))) (terms_walk c.args.at.now args)
     c.args.variables.now c.terms.new.variables c.in_ok-made-in-App.made (Name c.in_ok-candidates-in-App.candidates c.in_ok-made-in-App.made)
     (rw (← c.as_slice.ensures.items) c.in_ok-made-in-App.ensures)
     (plain-Name _ _ ∙ ap (λ cs. any_name cs (unresolved_terms (map plain_unresolved c.in_ok-made-in-App.made)))
@@ -45,7 +45,7 @@ term-returns-in_ok-list-in-None t c =
     let own = c.args.at.now.own in
     let elements = c.in-List.elements in
     rw (ap (λ (u : PlainTerm). term_of names own u) (plain_term-items c.args.whole.now elements c.in-List.tail c.in-List.is c.in-None.is))
-    (walked-elements names own (terms_of names own (tms (map plain_term elements))) (nil names own)
+    (walked-elements names own (terms_of names own (term_list (map plain_term elements))) (nil names own)
     c.args.variables.now c.terms-in-List.new.variables c.terms-in-List.new.variables
     c.in_ok-made-in-List.made c.in_ok-end-in-None.end c.in_ok-list-in-None.list
     (rw (← c.as_slice-in-List.ensures.items) c.in_ok-made-in-List.ensures)
@@ -58,7 +58,7 @@ term-returns-in_ok-list-in-Some t c =
     let own = c.args.at.now.own in
     let elements = c.in-List.elements in
     rw (ap (λ (u : PlainTerm). term_of names own u) (plain_term-tailed c.args.whole.now elements c.in-List.tail c.in-Some.tail c.in-List.is c.in-Some.is))
-    (walked-elements names own (terms_of names own (tms (map plain_term elements))) (term_of names own (plain_term c.in-Some.tail.value))
+    (walked-elements names own (terms_of names own (term_list (map plain_term elements))) (term_of names own (plain_term c.in-Some.tail.value))
     c.args.variables.now c.terms-in-List.new.variables c.term.new.variables
     c.in_ok-made-in-List.made c.in_ok-end-in-Some.end c.in_ok-list-in-Some.list
     (rw (← c.as_slice-in-List.ensures.items) c.in_ok-made-in-List.ensures)
@@ -71,7 +71,7 @@ term-returns-in_ok-joined-in-Conj t c =
     let own = c.args.at.now.own in
     let parts = c.in-Conj.parts in
     rw (ap (λ (u : PlainTerm). term_of names own u) (plain_term-conj c.args.whole.now parts c.in-Conj.is))
-    (walked-joined names own comma (terms_of names own (tms (map plain_term parts))) c.args.variables.now c.terms-in-Conj.new.variables
+    (walked-joined names own comma (terms_of names own (term_list (map plain_term parts))) c.args.variables.now c.terms-in-Conj.new.variables
     c.in_ok-made-in-Conj.made c.in_ok-joined-in-Conj.joined
     (rw (← c.as_slice-in-Conj.ensures.items) c.in_ok-made-in-Conj.ensures)
     c.in_ok-joined-in-Conj.ensures)
@@ -82,7 +82,7 @@ term-returns-in_ok-joined-in-Disj t c =
     let own = c.args.at.now.own in
     let parts = c.in-Disj.parts in
     rw (ap (λ (u : PlainTerm). term_of names own u) (plain_term-disj c.args.whole.now parts c.in-Disj.is))
-    (walked-joined names own semicolon (terms_of names own (tms (map plain_term parts))) c.args.variables.now c.terms-in-Disj.new.variables
+    (walked-joined names own semicolon (terms_of names own (term_list (map plain_term parts))) c.args.variables.now c.terms-in-Disj.new.variables
     c.in_ok-made-in-Disj.made c.in_ok-joined-in-Disj.joined
     (rw (← c.as_slice-in-Disj.ensures.items) c.in_ok-made-in-Disj.ensures)
     c.in_ok-joined-in-Disj.ensures)

@@ -3,7 +3,7 @@ use Rattle.mc_program.specs.Values.{Val}
 use Rattle.mc_program.specs.Printed.{names_of, printed}
 use Rattle.mc_model.specs.Output.{query_bytes}
 use Rattle.mc_outside.specs.Meaning.{PutsFront}
-use Rattle.mc_cmd.specs.declared.run.Went.{Went}
+use Rattle.mc_cmd.specs.declared.run.Progress.{Progress}
 use Rattle.mc_cmd.specs.code.Runs.{IsPut, rest_bytes}
 use Rattle.mc_cmd.proofs.Puts.{front_behind, passed_front, wrote_more}
 use Rattle.mc_cmd.proofs.run.put_run.Goals as goal
@@ -31,7 +31,7 @@ steps-preserved g c =
     let w2 = g.O.Sink.written c.put_next.new.out in
     let i = c.steps.invariant in
     let e = c.in_ok-now.ensures {u = tt} in
-    let went = subst (λ (z : Went). IsPut text vs c.steps.is_answered xs ys w1 w2 (Ok z)) c.in-On.is e.put in
+    let went = subst (λ (z : Progress). IsPut text vs c.steps.is_answered xs ys w1 w2 (Ok z)) c.in-On.is e.put in
     record {
       put = (
         i.put.0 ++ went.piece,

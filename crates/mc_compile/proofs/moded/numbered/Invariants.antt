@@ -1,6 +1,6 @@
 use Rattle.std.proofs.Common.{◌≡◌, ◌++◌, map}
-use Rattle.mc_whole_program.specs.Wholes.{numbered_clause}
-use Rattle.mc_clause_phase.specs.Judging.{typed_clauses}
+use Rattle.mc_core_program.specs.Wholes.{numbered_clause}
+use Rattle.mc_type_phase.specs.Judging.{typed_clauses}
 use Rattle.mc_compile.specs.Ruling.{numbered}
 use Rattle.mc_compile.proofs.moded.numbered.Given as goal
 

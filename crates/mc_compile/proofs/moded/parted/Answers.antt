@@ -1,6 +1,6 @@
 use Rattle.std.proofs.Common.{Some, subst, sym}
-use Rattle.mc_clause_phase.specs.Judging.{typed_clauses}
-use Rattle.mc_clause_phase.specs.declared.judged.TypedClause.{TypedClause}
+use Rattle.mc_type_phase.specs.Judging.{typed_clauses}
+use Rattle.mc_type_phase.specs.declared.judged.TypedClause.{TypedClause}
 use Rattle.mc_compile.specs.code.Parts.{IsParted}
 use Rattle.mc_compile.proofs.Modes.{parted_of}
 use Rattle.mc_compile.proofs.moded.parted.Goals as goal

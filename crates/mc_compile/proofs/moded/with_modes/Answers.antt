@@ -1,8 +1,8 @@
 use Rattle.std.proofs.Common.{ap, ◌∙◌}
 use Rattle.mc_decl_syntax.specs.Entries.{plain_files}
 use Rattle.mc_names.specs.Linked.{plain_names}
-use Rattle.mc_clause_phase.specs.Judging.{typed_clauses}
-use Rattle.mc_declared_modes.specs.WrittenModes.{declared_modes}
+use Rattle.mc_type_phase.specs.Judging.{typed_clauses}
+use Rattle.mc_signatures.specs.WrittenModes.{declared_modes}
 use Rattle.mc_compile.specs.declared.moded.Moded.{Moded}
 use Rattle.mc_compile.specs.Typing.{PlainTyped}
 use Rattle.mc_compile.proofs.Modes.{modes_made}

@@ -1,7 +1,7 @@
 use Rattle.std.proofs.Common.{◌≡◌, drop, map}
-use Rattle.mc_term_data.specs.Plain.{plain_term, tms}
+use Rattle.mc_term_data.specs.Plain.{plain_term, term_list}
 use Rattle.mc_decl_syntax.specs.Declarations.{are_moded}
 use Rattle.mc_decl_syntax.proofs.signature.are_moded.Given as goal
 
 abbrev pub invariant-loop-term : goal.invariant-loop-term
-invariant-loop-term l = are_moded (tms (map plain_term (drop l.term-index l.terms))) ≡ are_moded (tms (map plain_term l.terms))
+invariant-loop-term l = are_moded (term_list (map plain_term (drop l.term-index l.terms))) ≡ are_moded (term_list (map plain_term l.terms))

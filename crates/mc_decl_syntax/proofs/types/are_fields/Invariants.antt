@@ -1,7 +1,7 @@
 use Rattle.std.proofs.Common.{◌≡◌, drop, map}
-use Rattle.mc_term_data.specs.Plain.{plain_term, tms}
+use Rattle.mc_term_data.specs.Plain.{plain_term, term_list}
 use Rattle.mc_decl_syntax.specs.Types.{are_fields}
 use Rattle.mc_decl_syntax.proofs.types.are_fields.Given as goal
 
 abbrev pub invariant-loop-term : goal.invariant-loop-term
-invariant-loop-term l = are_fields (tms (map plain_term (drop l.term-index l.terms))) ≡ are_fields (tms (map plain_term l.terms))
+invariant-loop-term l = are_fields (term_list (map plain_term (drop l.term-index l.terms))) ≡ are_fields (term_list (map plain_term l.terms))

@@ -1,7 +1,7 @@
 use Rattle.std.proofs.Common.{◌≡◌, ◌∙◌, ◌∷◌, [], List, Some, Bor, map, ap, ap₂, sym}
 use Rattle.std.specs.Prelude.{codes, option_map}
 use Rattle.std.proofs.lemmas.List.{map-append}
-use Rattle.mc_term_data.specs.Plain.{PlainTerm, plain_term, tms}
+use Rattle.mc_term_data.specs.Plain.{PlainTerm, plain_term, term_list}
 use Rattle.mc_term_data.specs.Shapes.{operands}
 use Rattle.mc_term_data.specs.declared.term.Term.{Term}
 use Rattle.mc_clauses.specs.Unresolved.{and_result}
@@ -23,8 +23,8 @@ returns-in_ok-push-in-Some c =
     sym c.operands.ensures
     ∙ ap (option_map (λ p. (plain_term p.0.now, plain_term p.1.now))) c.in-Some.is
     in
-    ap (λ (ts : List (Bor Term)). tms (map seen ts)) c.in_ok-push-in-Some.ensures.items
-    ∙ ap tms (map-append seen before (last ∷ []))
+    ap (λ (ts : List (Bor Term)). term_list (map seen ts)) c.in_ok-push-in-Some.ensures.items
+    ∙ ap term_list (map-append seen before (last ∷ []))
     ∙ result_last (map seen before) (seen last)
     ∙ ap₂ and_result c.in_ok-all-in-Some.ensures c.without_mode.ensures
     ∙ sym (ap with_result is)

@@ -1,6 +1,6 @@
 use Rattle.std.proofs.Common.{◌≡◌, ◌++◌, ◌+◌, ◌*◌, drop, map}
 use denote.Param.Weighed.{most}
-use Rattle.mc_term_data.specs.Plain.{plain_term, tms}
+use Rattle.mc_term_data.specs.Plain.{plain_term, term_list}
 use Rattle.mc_term_data.specs.declared.term.Term.{size-Term}
 use Rattle.mc_names.specs.Plain.{plain_occurrence}
 use Rattle.mc_defs_uses.specs.Occurrences.{all_goals}
@@ -17,4 +17,4 @@ decreases-add_all_goals l = 3 * most size-Term l.goals.now + 1
 
 abbrev pub invariant-add_all_goals-loop-goal : goal.invariant-add_all_goals-loop-goal
 invariant-add_all_goals-loop-goal l =
-    map plain_occurrence l.uses.items ++ all_goals (tms (map plain_term (drop l.goal-index l.goals))) ≡ map plain_occurrence l.initial.uses.items ++ all_goals (tms (map plain_term l.goals))
+    map plain_occurrence l.uses.items ++ all_goals (term_list (map plain_term (drop l.goal-index l.goals))) ≡ map plain_occurrence l.initial.uses.items ++ all_goals (term_list (map plain_term l.goals))

@@ -1,6 +1,6 @@
 use Rattle.std.proofs.Common.{◌≡◌, ◌++◌, ◌+◌, ◌*◌, max, drop, map}
 use denote.Param.Weighed.{most}
-use Rattle.mc_term_data.specs.Plain.{plain_term, tms}
+use Rattle.mc_term_data.specs.Plain.{plain_term, term_list}
 use Rattle.mc_term_data.specs.declared.term.Term.{size-Term}
 use Rattle.mc_names.specs.Plain.{plain_occurrence}
 use Rattle.mc_defs_uses.specs.Occurrences.{all_insts, all_symbols}
@@ -29,8 +29,8 @@ decreases-add_all_symbols l = 4 * most size-Term l.terms.now + 2
 
 abbrev pub invariant-add_all_insts-loop-term : goal.invariant-add_all_insts-loop-term
 invariant-add_all_insts-loop-term l =
-    map plain_occurrence l.uses.items ++ all_insts (tms (map plain_term (drop l.term-index l.terms))) ≡ map plain_occurrence l.initial.uses.items ++ all_insts (tms (map plain_term l.terms))
+    map plain_occurrence l.uses.items ++ all_insts (term_list (map plain_term (drop l.term-index l.terms))) ≡ map plain_occurrence l.initial.uses.items ++ all_insts (term_list (map plain_term l.terms))
 
 abbrev pub invariant-add_all_symbols-loop-term : goal.invariant-add_all_symbols-loop-term
 invariant-add_all_symbols-loop-term l =
-    map plain_occurrence l.uses.items ++ all_symbols (tms (map plain_term (drop l.term-index l.terms))) ≡ map plain_occurrence l.initial.uses.items ++ all_symbols (tms (map plain_term l.terms))
+    map plain_occurrence l.uses.items ++ all_symbols (term_list (map plain_term (drop l.term-index l.terms))) ≡ map plain_occurrence l.initial.uses.items ++ all_symbols (term_list (map plain_term l.terms))

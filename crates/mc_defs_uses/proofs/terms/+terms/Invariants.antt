@@ -1,6 +1,6 @@
 use Rattle.std.proofs.Common.{◌≡◌, ◌∷◌, ◌++◌, [], ◌+◌, ◌*◌, max, drop, map}
 use denote.Param.Weighed.{most}
-use Rattle.mc_term_data.specs.Plain.{plain_term, tms}
+use Rattle.mc_term_data.specs.Plain.{plain_term, term_list}
 use Rattle.mc_term_data.specs.declared.term.Term.{size-Term}
 use Rattle.mc_names.specs.Plain.{plain_occurrence}
 use Rattle.mc_defs_uses.specs.Occurrences.{all_terms}
@@ -30,8 +30,8 @@ decreases-add_behind l = 4 * most size-Term l.terms.now + 1
 
 abbrev pub invariant-add_all_terms-loop-term : goal.invariant-add_all_terms-loop-term
 invariant-add_all_terms-loop-term l =
-    map plain_occurrence l.uses.items ++ all_terms (tms (map plain_term (drop l.term-index l.terms))) ≡ map plain_occurrence l.initial.uses.items ++ all_terms (tms (map plain_term l.terms))
+    map plain_occurrence l.uses.items ++ all_terms (term_list (map plain_term (drop l.term-index l.terms))) ≡ map plain_occurrence l.initial.uses.items ++ all_terms (term_list (map plain_term l.terms))
 
 abbrev pub invariant-add_behind-loop-term : goal.invariant-add_behind-loop-term
 invariant-add_behind-loop-term l =
-    map plain_occurrence l.uses.items ++ behind (l.name ∷ []) (tms (map plain_term (drop l.term-index l.terms))) ≡ map plain_occurrence l.initial.uses.items ++ behind (l.name ∷ []) (tms (map plain_term l.terms))
+    map plain_occurrence l.uses.items ++ behind (l.name ∷ []) (term_list (map plain_term (drop l.term-index l.terms))) ≡ map plain_occurrence l.initial.uses.items ++ behind (l.name ∷ []) (term_list (map plain_term l.terms))

@@ -1,6 +1,6 @@
 use Rattle.std.proofs.Common.{◌≡◌, [], ◌+◌, ◌*◌, max, drop, map}
 use denote.Param.Weighed.{most}
-use Rattle.mc_term_data.specs.Plain.{plain_term, tms}
+use Rattle.mc_term_data.specs.Plain.{plain_term, term_list}
 use Rattle.mc_term_data.specs.declared.term.Term.{size-Term}
 use Rattle.mc_defs_uses.specs.Twice.{again_in_all, again_symbols}
 use Rattle.mc_defs_uses.proofs.twice.+again.Given as goal
@@ -24,7 +24,7 @@ abbrev pub decreases-again_symbols : goal.decreases-again_symbols
 decreases-again_symbols l = 4 * most size-Term l.terms.now + 2
 
 abbrev pub invariant-again_in_all-loop-term : goal.invariant-again_in_all-loop-term
-invariant-again_in_all-loop-term l = again_in_all (tms (map plain_term (drop l.term-index l.terms))) ≡ again_in_all (tms (map plain_term l.terms))
+invariant-again_in_all-loop-term l = again_in_all (term_list (map plain_term (drop l.term-index l.terms))) ≡ again_in_all (term_list (map plain_term l.terms))
 
 abbrev pub invariant-again_symbols-loop-term : goal.invariant-again_symbols-loop-term
-invariant-again_symbols-loop-term l = again_symbols l.names (tms (map plain_term (drop l.term-index l.terms))) ≡ again_symbols [] (tms (map plain_term l.terms))
+invariant-again_symbols-loop-term l = again_symbols l.names (term_list (map plain_term (drop l.term-index l.terms))) ≡ again_symbols [] (term_list (map plain_term l.terms))

@@ -1,7 +1,7 @@
 use Rattle.std.proofs.Common.{◌≡◌, [], drop, map}
-use Rattle.mc_term_data.specs.Plain.{plain_term, tms}
+use Rattle.mc_term_data.specs.Plain.{plain_term, term_list}
 use Rattle.mc_defs_uses.specs.Twice.{again_among}
 use Rattle.mc_defs_uses.proofs.twice.again_among_many.Given as goal
 
 abbrev pub invariant-loop-term : goal.invariant-loop-term
-invariant-loop-term l = again_among l.names (tms (map plain_term (drop l.term-index l.terms))) ≡ again_among [] (tms (map plain_term l.terms))
+invariant-loop-term l = again_among l.names (term_list (map plain_term (drop l.term-index l.terms))) ≡ again_among [] (term_list (map plain_term l.terms))

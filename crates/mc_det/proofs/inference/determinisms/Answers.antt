@@ -1,7 +1,7 @@
 use Rattle.std.proofs.Common.{List, Option, subst}
 use Rattle.mc_source.specs.declared.det.Det.{Det}
-use Rattle.mc_skeletons.specs.declared.skeleton.Step.{Step}
-use Rattle.mc_skeletons.specs.Least.{assigned, Least}
+use Rattle.mc_det_constraints.specs.declared.constraint.Step.{Step}
+use Rattle.mc_det_constraints.specs.Least.{assigned, Least}
 use Rattle.mc_det.specs.Determinisms.{AreDeterminisms}
 use Rattle.mc_det.proofs.Declaring.{are_determinisms, if_ok_as}
 use Rattle.mc_det.proofs.inference.determinisms.Goals as goal

@@ -1,6 +1,6 @@
 use Rattle.std.proofs.Common.{ap, ◌∙◌}
 use Rattle.mc_source.specs.Determinism.{inferred, row_of}
-use Rattle.mc_skeletons.specs.Least.{assigned}
+use Rattle.mc_det_constraints.specs.Least.{assigned}
 use Rattle.mc_det.proofs.Telling.{call_tells}
 use Rattle.mc_det.proofs.mark.call_told.Goals as goal
 

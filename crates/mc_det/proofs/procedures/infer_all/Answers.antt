@@ -4,7 +4,7 @@ use Rattle.mc_source.specs.Determinism.{inferred, det}
 use Rattle.mc_source.specs.declared.det.Det.{Det}
 use Rattle.mc_model.specs.declared.sched.Proc.{Proc}
 use Rattle.mc_procs.specs.Procedures.{PlainProcs, with_procs}
-use Rattle.mc_skeletons.specs.Least.{assigned}
+use Rattle.mc_det_constraints.specs.Least.{assigned}
 use Rattle.mc_det.specs.MarkedProcedures.{IsMarked}
 use Rattle.mc_det.proofs.Closing.{least_so}
 use Rattle.mc_det.proofs.Depending.{inferred_so, marks_so, marked_elsewhere}

@@ -1,7 +1,7 @@
 use Rattle.std.proofs.Common.{◌≡◌, set, ap, ◌∙◌, subst, arith}
 use Rattle.mc_model.specs.declared.sched.Proc.{Proc}
 use Rattle.mc_procs.specs.Procedures.{PlainProcs}
-use Rattle.mc_skeletons.specs.Least.{assigned}
+use Rattle.mc_det_constraints.specs.Least.{assigned}
 use Rattle.mc_det.specs.MarkedProcedures.{IsMarked}
 use Rattle.mc_det.specs.code.Places.{HasNoGoals}
 use Rattle.mc_det.proofs.Depending.{marked_elsewhere}

@@ -4,7 +4,7 @@ use Rattle.mc_source.specs.declared.rule.Broken.{Broken}
 use Rattle.mc_model.specs.Lists.{from}
 use Rattle.mc_model.specs.Good.{System}
 use Rattle.mc_accepted.specs.DeterminismFaults.{procedure_fault}
-use Rattle.mc_skeletons.specs.Least.{assigned}
+use Rattle.mc_det_constraints.specs.Least.{assigned}
 use Rattle.mc_det.specs.Determinisms.{declared_procedure}
 use Rattle.mc_det.specs.MarkedProcedures.{determinisms_of}
 use Rattle.mc_det_rules.specs.code.Listed.{place_of}

@@ -1,5 +1,5 @@
 use Rattle.std.proofs.Common.{◌≡◌, ◌≢◌, map, length, codes, ap, ◌∙◌, arith}
-use Rattle.mc_term_data.specs.Plain.{plain_term, tms, more_terms, no_term}
+use Rattle.mc_term_data.specs.Plain.{plain_term, term_list, more_terms, no_term}
 use Rattle.mc_term_data.specs.Shapes.{is_the_word}
 use Rattle.mc_names.specs.Linked.{plain_names}
 use Rattle.mc_inst_table.specs.Plain.{plain_inst, plain_insts}
@@ -35,7 +35,7 @@ inst_over-returns t c =
     c.in_ok-inst-2.ensures
     in
     let elements : c.in_ok-of.field-0 ≡ c.in_ok-insts.insts.items = c.in_ok-of.ensures.elements in
-    let rows : plain_insts c.in_ok-insts.insts.items ≡ written_insts l own vs (tms (map plain_term c.as_slice.result.now)) =
+    let rows : plain_insts c.in_ok-insts.insts.items ≡ written_insts l own vs (term_list (map plain_term c.as_slice.result.now)) =
     c.in_ok-insts.ensures
     in
     let other : length ts ≢ 1 = λ e. c.if-count-eq1.false (c.len-count.ensures ∙ e) in
@@ -43,5 +43,5 @@ inst_over-returns t c =
     ∙ over_several l own vs w b ts (plain_insts c.in_ok-of.field-0) c.len-count.result other
     (ap plain_insts elements
     ∙ rows
-    ∙ ap (λ us. written_insts l own vs (tms (map plain_term us))) c.as_slice.ensures.items)
+    ∙ ap (λ us. written_insts l own vs (term_list (map plain_term us))) c.as_slice.ensures.items)
     c.len-count.ensures

@@ -1,6 +1,6 @@
 use Rattle.std.proofs.Common.{◌≡◌, ◌+◌, ◌*◌, take, map}
 use denote.Param.Weighed.{most}
-use Rattle.mc_term_data.specs.Plain.{plain_term, tms}
+use Rattle.mc_term_data.specs.Plain.{plain_term, term_list}
 use Rattle.mc_term_data.specs.declared.term.Term.{size-Term}
 use Rattle.mc_names.specs.Linked.{plain_names}
 use Rattle.mc_inst_table.specs.Plain.{plain_insts}
@@ -28,9 +28,9 @@ decreases-all_listed l = 3 * most size-Term l.terms.now + 1
 abbrev pub invariant-written-loop-term : goal.invariant-written-loop-term
 invariant-written-loop-term l =
     plain_insts l.insts.items
-    ≡ written_insts (plain_names l.names) l.own l.variables (tms (map plain_term (take l.term-index l.terms)))
+    ≡ written_insts (plain_names l.names) l.own l.variables (term_list (map plain_term (take l.term-index l.terms)))
 
 abbrev pub invariant-all_listed-loop-term : goal.invariant-all_listed-loop-term
 invariant-all_listed-loop-term l =
     plain_insts l.insts.items
-    ≡ all_listed (plain_names l.names) l.own l.variables (tms (map plain_term (take l.term-index l.terms)))
+    ≡ all_listed (plain_names l.names) l.own l.variables (term_list (map plain_term (take l.term-index l.terms)))

@@ -2,7 +2,7 @@ use Rattle.std.proofs.Common.{sym, subst}
 use Rattle.mc_model.specs.PlainGoals.{plain_flat}
 use Rattle.mc_insts.specs.Graphs.{count_of}
 use Rattle.mc_modes.specs.code.Judging.{Judges}
-use Rattle.mc_modes.proofs.Backing.{log-marked}
+use Rattle.mc_modes.proofs.Backing.{trail-marked}
 use Rattle.mc_modes.proofs.Counts.{below-more}
 use Rattle.mc_modes.proofs.Judgements.{heads-later, arranges-judged, arranges-fault}
 use Rattle.mc_modes.proofs.arranging.arrange.Goals as goal
@@ -23,7 +23,7 @@ returns-in-Ok c =
     c.in_ok-state.ensures c.requires.head c.requires.variables c.try_goal.new.procs c.ended.new.procs c.try_goal.new.state c.in-Ok.part c.ended.result
     c.in-Ok.ensures.does c.in-Ok.ensures.alike
     (subst (λ n. Judges c.args.head.now c.args.last.now c.in-Ok.part n c.try_goal.new.procs c.ended.new.procs c.try_goal.new.state c.ended.result)
-    (sym (log-marked c.in_ok-state.state c.mark-mark.result c.mark-mark.ensures)) c.ended.ensures)
+    (sym (trail-marked c.in_ok-state.state c.mark-mark.result c.mark-mark.ensures)) c.ended.ensures)
 
 pub returns-in-Err-Fault : goal.returns-in-Err-Fault
 returns-in-Err-Fault c =

@@ -5,7 +5,7 @@ use Rattle.mc_program.specs.PlainPrograms.{plain_pred, no_pred, plain_program}
 use Rattle.mc_program.specs.declared.program.Pred.{Pred}
 use Rattle.mc_program.specs.declared.program.Program.{Program}
 use Rattle.mc_model.specs.declared.inst.ModeDecl.{ModeDecl}
-use Rattle.mc_mode_points.specs.Modes.{declared_mode}
+use Rattle.mc_mode_state.specs.Modes.{declared_mode}
 use Rattle.mc_modes.specs.Signatures.{declared_in}
 use Rattle.mc_modes.proofs.atoms.call.Goals as goal
 

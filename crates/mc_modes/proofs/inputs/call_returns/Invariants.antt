@@ -1,7 +1,7 @@
 use Rattle.std.proofs.Common.{◌≡◌, true, not, drop}
 use Rattle.std.specs.List.{list_all}
 use Rattle.mc_model.specs.declared.inst.ModeDecl.{ModeDecl}
-use Rattle.mc_mode_points.specs.Modes.{never_answers}
+use Rattle.mc_mode_state.specs.Modes.{never_answers}
 use Rattle.mc_modes.proofs.inputs.call_returns.Given as goal
 
 abbrev pub invariant-loop-mode : goal.invariant-loop-mode

@@ -3,7 +3,7 @@ use Rattle.std.specs.List.{list_all}
 use Rattle.mc_program.specs.declared.program.Program.{Program}
 use Rattle.mc_model.specs.declared.inst.ModeDecl.{ModeDecl}
 use Rattle.mc_accepted.specs.Arranged.{Declared}
-use Rattle.mc_mode_points.specs.Modes.{declared_mode}
+use Rattle.mc_mode_state.specs.Modes.{declared_mode}
 use Rattle.mc_procs.specs.Procedures.{source_of}
 use Rattle.mc_modes.specs.Signatures.{declared_in}
 use Rattle.mc_modes.specs.code.Sleeping.{input_is_free, free_beside, free_now}

@@ -1,7 +1,7 @@
 use Rattle.std.proofs.Common.{◌≡◌, true, drop}
 use Rattle.std.specs.List.{list_all}
 use Rattle.mc_model.specs.declared.inst.ModeDecl.{ModeDecl}
-use Rattle.mc_mode_points.specs.Modes.{declared_mode}
+use Rattle.mc_mode_state.specs.Modes.{declared_mode}
 use Rattle.mc_modes.specs.code.Sleeping.{input_is_free, free_beside, free_now}
 use Rattle.mc_modes.proofs.inputs.call_sleeps.Given as goal
 

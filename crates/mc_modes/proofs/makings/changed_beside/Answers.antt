@@ -1,5 +1,5 @@
 use Rattle.std.proofs.Common.{◌∙◌, ◌++◌, ap}
-use Rattle.mc_modes.proofs.Sleepers.{joined, others-are}
+use Rattle.mc_modes.proofs.DelayedGoals.{joined, others-are}
 use Rattle.mc_modes.proofs.makings.changed_beside.Goals as goal
 
 pub returns : goal.returns

@@ -3,7 +3,7 @@ use Rattle.mc_model.specs.Flat.{Flat_goal}
 use Rattle.mc_model.specs.PlainGoals.{plain_flat}
 use Rattle.mc_modes.specs.code.Waiting.{nothing}
 use Rattle.mc_modes.specs.code.Sleeping.{making_is_mild}
-use Rattle.mc_modes.proofs.Sleepers.{but-one-on, below-in, goal-is}
+use Rattle.mc_modes.proofs.DelayedGoals.{but-one-on, below-in, goal-is}
 use Rattle.mc_modes.proofs.makings.makings_are_mild.Goals as goal
 use Rattle.mc_modes.proofs.makings.makings_are_mild.Goals.{else-j-place-via-then-j-place+in_ok-making_is_mild+else-not-branch, else-j-place-via-else-j-place}
 

@@ -7,21 +7,21 @@ use Rattle.mc_model.specs.PlainGoals.{plain_flat, plain_node, plain_sched}
 use Rattle.mc_model.specs.declared.flat.Flat.{Flat, size-Flat}
 use Rattle.mc_model.specs.declared.sched.GoalNode.{GoalNode}
 use Rattle.mc_accepted.specs.Arranged.{alone, ascending, changing}
-use Rattle.mc_accepted.specs.Chosen.{of_nodes, other_node}
+use Rattle.mc_accepted.specs.NodeOracle.{of_nodes, other_node}
 use Rattle.mc_procs.specs.Named.{NumbersBelow}
-use Rattle.mc_mode_points.specs.States.{point_of, is_outside}
-use Rattle.mc_mode_points.specs.Answers.{end_of, FreshAlike}
-use Rattle.mc_mode_points.specs.declared.part.Part.{Part}
-use Rattle.mc_mode_points.proofs.EndColumns.{ascending-below}
-use Rattle.mc_mode_points.proofs.Growths.{nodes_grown, only_grown_trans, stepped_then_grown}
-use Rattle.mc_mode_points.proofs.Steps.{same-refl, moved-refl, moved-trans, stepped-refl, stepped-trans}
+use Rattle.mc_mode_state.specs.States.{point_of, is_outside}
+use Rattle.mc_mode_state.specs.Answers.{end_of, FreshAlike}
+use Rattle.mc_mode_state.specs.declared.part.Part.{Part}
+use Rattle.mc_mode_state.proofs.EndColumns.{ascending-below}
+use Rattle.mc_mode_state.proofs.Growths.{nodes_grown, only_grown_trans, stepped_then_grown}
+use Rattle.mc_mode_state.proofs.Steps.{same-refl, moved-refl, moved-trans, stepped-refl, stepped-trans}
 use Rattle.mc_modes.specs.Fitting.{GoalFits}
-use Rattle.mc_modes.specs.Tries.{trying, tells_outside, Does}
+use Rattle.mc_modes.specs.Tries.{attempt_of, tells_outside, TryPost}
 use Rattle.mc_modes.specs.code.Frames.{Entered, Left}
 use Rattle.mc_modes.specs.code.Waiting.{IsReady, NoneIsReady, goals_at, variables_of_each, tells_around, Counted, nothing}
 use Rattle.mc_modes.specs.code.Parts.{alone_at, trying_beside, DoesBranch, MergedAs}
 use Rattle.mc_modes.proofs.Alike.{none_chosen, alone-alike, keeps-same, fresh-kept, settled-alike, one-alike, node-alone, fresh-around, keeps-taken}
-use Rattle.mc_modes.proofs.Backing.{backed, log-marked, bound-by, beside-same, then-nothing, then-branch}
+use Rattle.mc_modes.proofs.Backing.{backed, trail-marked, bound-by, beside-same, then-nothing, then-branch}
 use Rattle.mc_modes.proofs.Closing.{Back, back-step, around-as, negation-runs, negation-binds, branch-runs, condition-runs}
 use Rattle.mc_modes.proofs.Counts.{below-second, below-more, below-both}
 use Rattle.mc_modes.proofs.Failing.{failed-wrapped, failed-branch, failed-negation, failed-before, failed-else, failed-condition, failed-then, true-runs}
@@ -43,7 +43,7 @@ use Rattle.mc_modes.proofs.Branches.{goal-below}
 use Rattle.mc_modes.proofs.Forking.{Forked, forked-begins, forked-on, forked-fails, forked-goes, forked-alike}
 use denote.Param.Weighed.{at_most}
 use Rattle.mc_insts.specs.Graphs.{count_of}
-use Rattle.mc_mode_points.specs.Merged.{RowsFit}
+use Rattle.mc_mode_state.specs.Merged.{RowsFit}
 use Rattle.mc_model.specs.Lists.{without}
 use Rattle.mc_modes.proofs.AtomAnswers.{same-goes, made-goes, constant-goes, call-goes, same-among, made-among, constant-among, call-among, among-as}
 use Rattle.mc_modes.proofs.Choosing.{begins}
@@ -58,13 +58,13 @@ use Rattle.mc_modes.proofs.order.+order.Goals.{first_ready-then-not-branch+in-Er
 pub try_goal-settled-requires : goal.try_goal-settled-requires
 try_goal-settled-requires t c =
     let g = plain_flat c.args.goal.now in
-    goes-settles (tells_outside (variables_of g) c.args.state.now) (trying c.args.sigs.now g c.args.procs.now c.args.state.now) c.args.procs.now c.attempt-tried.new.procs c.args.state.now c.attempt-tried.new.state c.attempt-tried.result c.attempt-tried.ensures.does
+    goes-settles (tells_outside (variables_of g) c.args.state.now) (attempt_of c.args.sigs.now g c.args.procs.now c.args.state.now) c.args.procs.now c.attempt-tried.new.procs c.args.state.now c.attempt-tried.new.state c.attempt-tried.result c.attempt-tried.ensures.does
 
 pub try_goal-returns-clause-does : goal.try_goal-returns-clause-does
 try_goal-returns-clause-does t c =
     let g = plain_flat c.args.goal.now in
     let e = c.settled.ensures in
-    settled-does (tells_outside (variables_of g) c.args.state.now) (trying c.args.sigs.now g c.args.procs.now c.args.state.now) c.args.procs.now c.attempt-tried.new.procs c.args.state.now c.attempt-tried.new.state c.settled.new.state
+    settled-does (tells_outside (variables_of g) c.args.state.now) (attempt_of c.args.sigs.now g c.args.procs.now c.args.state.now) c.args.procs.now c.attempt-tried.new.procs c.args.state.now c.attempt-tried.new.state c.settled.new.state
     c.attempt-tried.result c.settled.result c.mark-mark.result (λ first O w. w.0) c.requires.stands c.attempt-tried.ensures.does e.same c.mark-mark.ensures e.kept e.undone e.nodes
 
 pub try_goal-returns-clause-alike : goal.try_goal-returns-clause-alike
@@ -105,7 +105,7 @@ conjunction-returns-in_ok-part-in-Ok-clause-does t c =
     let gs = map plain_flat c.args.goals.now in
     let d = conjunction-between c.args.sigs.now gs c.args.procs.now c.in_turn.new.procs s u v w c.in-Ok.part i j c.in-Ok.ensures.does in
     conjunction-runs c.args.sigs.now gs c.args.procs.now c.in_turn.new.procs s u v w c.in-Ok.part c.in_ok-part-in-Ok.part d
-    (o.goals s d.stepped.later.leads (log-marked s c.mark-mark.result c.mark-mark.ensures)) o.reachable
+    (o.goals s d.stepped.later.leads (trail-marked s c.mark-mark.result c.mark-mark.ensures)) o.reachable
 
 pub conjunction-returns-in_ok-part-in-Ok-clause-alike : goal.conjunction-returns-in_ok-part-in-Ok-clause-alike
 conjunction-returns-in_ok-part-in-Ok-clause-alike t c =
@@ -119,7 +119,7 @@ conjunction-returns-in_ok-part-in-Ok-clause-alike t c =
     let j : Left vs v w = c.in_ok-leave_goals-in-Ok.ensures in
     let d = conjunction-between c.args.sigs.now gs c.args.procs.now c.in_turn.new.procs s u v w c.in-Ok.part i j c.in-Ok.ensures.does in
     one-alike (And (flats gs)) w (length w.insts.items) (point_of s.insts.items) (end_of c.in-Ok.part.reachable w) (Conj (nodes (map plain_node c.in-Ok.part.goals.items))) c.in_ok-part-in-Ok.part
-    (c.in_ok-part-in-Ok.ensures.goals s d.stepped.later.leads (log-marked s c.mark-mark.result c.mark-mark.ensures))
+    (c.in_ok-part-in-Ok.ensures.goals s d.stepped.later.leads (trail-marked s c.mark-mark.result c.mark-mark.ensures))
     (λ T next h b. c.in-Ok.ensures.alike T next (keeps-same v w j.frame.types T h) b)
 
 pub conjunction-returns-in_ok-leave_goals-in-Err-Fault-clause-does : goal.conjunction-returns-in_ok-leave_goals-in-Err-Fault-clause-does
@@ -199,9 +199,9 @@ compound_among-returns-in-Ok-clause-does t c =
     let vs = variables_of g in
     let is : c.deref.result.now ≡ vs = c.deref.ensures.value ∙ c.in_ok-vars.ensures in
     let js : c.deref-in-Ok.result.now ≡ vs = c.deref-in-Ok.ensures.value ∙ c.in_ok-vars.ensures in
-    let i : Left vs s u = left-as s u c.deref.result.now vs is l.insts l.log l.types l.nodes l.len l.counts in
-    let j : Entered vs v w = entered-as v w c.deref-in-Ok.result.now vs js e.insts e.log e.types e.nodes e.len e.counts in
-    runs-between (tells_around vs s) (tells_outside vs u) (trying c.args.sigs.now g q s) (trying c.args.sigs.now g q u) (by-leaving c.args.sigs.now g vs q s u i) q c.try_goal.new.procs s u v w i.frame j.frame
+    let i : Left vs s u = left-as s u c.deref.result.now vs is l.insts l.trail l.types l.nodes l.len l.counts in
+    let j : Entered vs v w = entered-as v w c.deref-in-Ok.result.now vs js e.insts e.trail e.types e.nodes e.len e.counts in
+    runs-between (tells_around vs s) (tells_outside vs u) (attempt_of c.args.sigs.now g q s) (attempt_of c.args.sigs.now g q u) (by-leaving c.args.sigs.now g vs q s u i) q c.try_goal.new.procs s u v w i.frame j.frame
     (out-and-in vs s u v w i c.in-Ok.ensures.does.stepped.later.outside j) c.in-Ok.part c.in-Ok.ensures.does
 
 pub compound_among-returns-in-Ok-clause-alike : goal.compound_among-returns-in-Ok-clause-alike
@@ -223,10 +223,10 @@ compound_among-returns-in-Err-Fault-clause-does t c =
     let vs = variables_of g in
     let is : c.deref.result.now ≡ vs = c.deref.ensures.value ∙ c.in_ok-vars.ensures in
     let js : c.deref-in-Err-Fault.result.now ≡ vs = c.deref-in-Err-Fault.ensures.value ∙ c.in_ok-vars.ensures in
-    let i : Left vs s u = left-as s u c.deref.result.now vs is l.insts l.log l.types l.nodes l.len l.counts in
-    let j : Entered vs v w = entered-as v w c.deref-in-Err-Fault.result.now vs js e.insts e.log e.types e.nodes e.len e.counts in
+    let i : Left vs s u = left-as s u c.deref.result.now vs is l.insts l.trail l.types l.nodes l.len l.counts in
+    let j : Entered vs v w = entered-as v w c.deref-in-Err-Fault.result.now vs js e.insts e.trail e.types e.nodes e.len e.counts in
     let a = rw c.in-Err-Fault.field-0-is at c.in-Err-Fault.ensures.does in
-    breaks-between (tells_around vs s) (tells_outside vs u) (trying c.args.sigs.now g q s) (trying c.args.sigs.now g q u) (by-leaving c.args.sigs.now g vs q s u i) q c.try_goal.new.procs s u v w i.frame j.frame
+    breaks-between (tells_around vs s) (tells_outside vs u) (attempt_of c.args.sigs.now g q s) (attempt_of c.args.sigs.now g q u) (by-leaving c.args.sigs.now g vs q s u i) q c.try_goal.new.procs s u v w i.frame j.frame
     (out-and-in vs s u v w i a.same.outside j) c.in-Err-Fault.fault (j.frame.len ∙ (a.same.outsides ∙ i.frame.len)) a
 
 pub beside-leave-requires-clause-below : goal.beside-leave-requires-clause-below
@@ -251,9 +251,9 @@ beside-returns-in-Ok-clause-does t c =
     let g = plain_flat c.args.goal.now in
     let vs = c.args.vars.now in
     let us = variables_of g in
-    let i : Entered vs s u = entered-as s u vs vs refl e.insts e.log e.types e.nodes e.len e.counts in
-    let j : Left vs v w = left-as v w vs vs refl l.insts l.log l.types l.nodes l.len l.counts in
-    runs-between (tells_outside us s) (tells_outside us u) (trying_beside vs c.args.sigs.now g q s) (trying c.args.sigs.now g q u) (by-entering c.args.sigs.now g us vs q s u i) q c.try_goal.new.procs s u v w i.frame j.frame
+    let i : Entered vs s u = entered-as s u vs vs refl e.insts e.trail e.types e.nodes e.len e.counts in
+    let j : Left vs v w = left-as v w vs vs refl l.insts l.trail l.types l.nodes l.len l.counts in
+    runs-between (tells_outside us s) (tells_outside us u) (trying_beside vs c.args.sigs.now g q s) (attempt_of c.args.sigs.now g q u) (by-entering c.args.sigs.now g us vs q s u i) q c.try_goal.new.procs s u v w i.frame j.frame
     (in-and-out vs s u v w i c.in-Ok.ensures.does.stepped.later.outside j) c.in-Ok.part c.in-Ok.ensures.does
 
 pub beside-returns-in-Ok-clause-alike : goal.beside-returns-in-Ok-clause-alike
@@ -274,10 +274,10 @@ beside-returns-in-Err-Fault-clause-does t c =
     let g = plain_flat c.args.goal.now in
     let vs = c.args.vars.now in
     let us = variables_of g in
-    let i : Entered vs s u = entered-as s u vs vs refl e.insts e.log e.types e.nodes e.len e.counts in
-    let j : Left vs v w = left-as v w vs vs refl l.insts l.log l.types l.nodes l.len l.counts in
+    let i : Entered vs s u = entered-as s u vs vs refl e.insts e.trail e.types e.nodes e.len e.counts in
+    let j : Left vs v w = left-as v w vs vs refl l.insts l.trail l.types l.nodes l.len l.counts in
     let a = rw c.in-Err-Fault.field-0-is at c.in-Err-Fault.ensures.does in
-    breaks-between (tells_outside us s) (tells_outside us u) (trying_beside vs c.args.sigs.now g q s) (trying c.args.sigs.now g q u) (by-entering c.args.sigs.now g us vs q s u i) q c.try_goal.new.procs s u v w i.frame j.frame
+    breaks-between (tells_outside us s) (tells_outside us u) (trying_beside vs c.args.sigs.now g q s) (attempt_of c.args.sigs.now g q u) (by-entering c.args.sigs.now g us vs q s u i) q c.try_goal.new.procs s u v w i.frame j.frame
     (in-and-out vs s u v w i a.same.outside j) c.in-Err-Fault.fault (j.frame.len ∙ (a.same.outsides ∙ i.frame.len)) a
 
 pub quantified-returns-in_ok-part-in-Ok-clause-does : goal.quantified-returns-in_ok-part-in-Ok-clause-does
@@ -288,11 +288,11 @@ quantified-returns-in_ok-part-in-Ok-clause-does t c =
     let vs = c.args.vars.now in
     let o = c.in_ok-part-in-Ok.ensures in
     let d = c.in-Ok.ensures.does in
-    runs-wrapped (tells_outside (variables_of g) s) (trying c.args.sigs.now g q s) (point_of s.insts.items) (λ C n e gs. Exists vs (alone (of_nodes C) n (point_of s.insts.items) e gs)) q c.try_goal.new.procs s c.try_goal.new.state
+    runs-wrapped (tells_outside (variables_of g) s) (attempt_of c.args.sigs.now g q s) (point_of s.insts.items) (λ C n e gs. Exists vs (alone (of_nodes C) n (point_of s.insts.items) e gs)) q c.try_goal.new.procs s c.try_goal.new.state
     c.in-Ok.part c.in_ok-part-in-Ok.part d
     (λ C. around-as (Exists vs) s c.try_goal.new.state c.try_goal.new.state (end_of c.in-Ok.part.reachable c.try_goal.new.state) C c.in-Ok.part c.in_ok-part-in-Ok.part c.in_ok-goal-in-Ok.goal
-    (c.in_ok-goal-in-Ok.ensures s d.stepped.later.leads (log-marked s c.mark-mark.result c.mark-mark.ensures) C)
-    (o.goal s d.stepped.later.leads (log-marked s c.mark-mark.result c.mark-mark.ensures))) o.reachable
+    (c.in_ok-goal-in-Ok.ensures s d.stepped.later.leads (trail-marked s c.mark-mark.result c.mark-mark.ensures) C)
+    (o.goal s d.stepped.later.leads (trail-marked s c.mark-mark.result c.mark-mark.ensures))) o.reachable
 
 pub quantified-returns-in_ok-part-in-Ok-clause-alike : goal.quantified-returns-in_ok-part-in-Ok-clause-alike
 quantified-returns-in_ok-part-in-Ok-clause-alike t c =
@@ -305,8 +305,8 @@ quantified-returns-in_ok-part-in-Ok-clause-alike t c =
     fresh-around g (F.Exists vs g) (Exists vs) u u (length u.insts.items) (point_of s.insts.items) (end_of p.reachable u) p c.in_ok-part-in-Ok.part (alone_at none_chosen u p (point_of s.insts.items))
     (λ next b. below-second next vs (variables_of g) b) (λ T next n a. a) (keeps-same u u refl)
     (around-as (Exists vs) s u u (end_of p.reachable u) none_chosen p c.in_ok-part-in-Ok.part c.in_ok-goal-in-Ok.goal
-    (c.in_ok-goal-in-Ok.ensures s leads (log-marked s c.mark-mark.result c.mark-mark.ensures) none_chosen)
-    (c.in_ok-part-in-Ok.ensures.goal s leads (log-marked s c.mark-mark.result c.mark-mark.ensures)))
+    (c.in_ok-goal-in-Ok.ensures s leads (trail-marked s c.mark-mark.result c.mark-mark.ensures) none_chosen)
+    (c.in_ok-part-in-Ok.ensures.goal s leads (trail-marked s c.mark-mark.result c.mark-mark.ensures)))
     (λ T next a. alone-alike T next none_chosen (length u.insts.items) (point_of s.insts.items) (end_of p.reachable u) (nodes (map plain_node p.goals.items)) a) c.in-Ok.ensures.alike
 
 pub quantified-returns-in-Err-clause-does : goal.quantified-returns-in-Err-clause-does
@@ -314,10 +314,10 @@ quantified-returns-in-Err-clause-does t c =
     let q = c.args.procs.now in
     let s = c.args.state.now in
     let g = plain_flat c.args.goal.now in
-    failed-wrapped (tells_outside (variables_of g) s) (trying c.args.sigs.now g q s) (point_of s.insts.items) (λ C n e gs. Exists c.args.vars.now (alone (of_nodes C) n (point_of s.insts.items) e gs)) q c.try_goal.new.procs s c.try_goal.new.state c.in-Err.failed c.in-Err.ensures.does
+    failed-wrapped (tells_outside (variables_of g) s) (attempt_of c.args.sigs.now g q s) (point_of s.insts.items) (λ C n e gs. Exists c.args.vars.now (alone (of_nodes C) n (point_of s.insts.items) e gs)) q c.try_goal.new.procs s c.try_goal.new.state c.in-Err.failed c.in-Err.ensures.does
 
-pub branch-ended-requires-clause-log : goal.branch-ended-requires-clause-log
-branch-ended-requires-clause-log t c = c.in-Ok.ensures.does.stepped.moved.stands.log
+pub branch-ended-requires-clause-trail : goal.branch-ended-requires-clause-trail
+branch-ended-requires-clause-trail t c = c.in-Ok.ensures.does.stepped.moved.stands.trail
 
 pub branch-ended-requires-clause-seen : goal.branch-ended-requires-clause-seen
 branch-ended-requires-clause-seen t c =
@@ -338,15 +338,15 @@ branch-returns-in_ok-goal-in-Ok-clause-does t c =
     let b : Back s v w = backed s v w c.mark-mark.result c.mark-mark.ensures d.stepped.later.leads k.back k.count k.outside k.types k.nodes in
     let o = c.in_ok-goal-in-Ok.ensures in
     branch-runs (tells_outside (variables_of g) s) (trying_beside c.args.vars.now c.args.sigs.now g q s) c.args.seen.now q r s v w c.args.ends.now.items c.ended.new.ends.items c.in-Ok.part c.in_ok-goal-in-Ok.goal c.requires.stands
-    (below-more (length s.insts.items) (length v.insts.items) c.args.seen.now d.stepped.later.more c.requires.seen) d b (o.goal s d.stepped.later.leads (log-marked s c.mark-mark.result c.mark-mark.ensures)) o.ends
+    (below-more (length s.insts.items) (length v.insts.items) c.args.seen.now d.stepped.later.more c.requires.seen) d b (o.goal s d.stepped.later.leads (trail-marked s c.mark-mark.result c.mark-mark.ensures)) o.ends
 
 pub branch-returns-in_ok-goal-in-Ok-clause-alike : goal.branch-returns-in_ok-goal-in-Ok-clause-alike
 branch-returns-in_ok-goal-in-Ok-clause-alike t c =
     let s = c.args.state.now in
     let v = c.beside.new.state in
     let w = c.back.new.self in
-    node-alone (plain_flat c.args.goal.now) s v w c.mark-mark.result.log c.in-Ok.part c.in_ok-goal-in-Ok.goal (keeps-same v w c.back.ensures.types) c.in-Ok.ensures.does.stepped.later.leads
-    (log-marked s c.mark-mark.result c.mark-mark.ensures) c.in_ok-goal-in-Ok.ensures.goal c.in-Ok.ensures.alike
+    node-alone (plain_flat c.args.goal.now) s v w c.mark-mark.result.trail c.in-Ok.part c.in_ok-goal-in-Ok.goal (keeps-same v w c.back.ensures.types) c.in-Ok.ensures.does.stepped.later.leads
+    (trail-marked s c.mark-mark.result c.mark-mark.ensures) c.in_ok-goal-in-Ok.ensures.goal c.in-Ok.ensures.alike
 
 pub branch-returns-in-Err-clause-does : goal.branch-returns-in-Err-clause-does
 branch-returns-in-Err-clause-does t c =
@@ -404,7 +404,7 @@ negation-returns-in-Ok-clause-does t c =
     let k = c.back.ensures in
     let b : Back s v w = backed s v w c.mark-mark.result c.mark-mark.ensures d.stepped.later.leads k.back k.count k.outside k.types k.nodes in
     let o = c.in_ok-part-in-None.ensures in
-    let marked = log-marked s c.mark-mark.result c.mark-mark.ensures in
+    let marked = trail-marked s c.mark-mark.result c.mark-mark.ensures in
     negation-runs c.args.sigs.now g q r s v c.in-Ok.part d w c.in_ok-part-in-None.part c.requires.stands
     (bound-by s (free_in g) c.deref.result.now c.in_ok-free.free (end_of c.in-Ok.part.reachable v) None is c.in_ok-free.ensures c.in-None.ensures) b
     (λ C. around-as Not s v w (end_of true w) C c.in-Ok.part c.in_ok-part-in-None.part c.in_ok-goal-in-None.goal (c.in_ok-goal-in-None.ensures s d.stepped.later.leads marked C)
@@ -421,7 +421,7 @@ negation-returns-in-Ok-clause-alike t c =
     let d = c.in-Ok.ensures.does in
     let k = c.back.ensures in
     let b : Back s v w = backed s v w c.mark-mark.result c.mark-mark.ensures d.stepped.later.leads k.back k.count k.outside k.types k.nodes in
-    let marked = log-marked s c.mark-mark.result c.mark-mark.ensures in
+    let marked = trail-marked s c.mark-mark.result c.mark-mark.ensures in
     fresh-around g (F.Not g) Not v w (length w.insts.items) (point_of s.insts.items) (end_of true w) p c.in_ok-part-in-None.part (alone_at none_chosen v p (point_of s.insts.items))
     (λ next b. b) (λ T next n a. a) (keeps-same v w c.back.ensures.types)
     (around-as Not s v w (end_of true w) none_chosen p c.in_ok-part-in-None.part c.in_ok-goal-in-None.goal (c.in_ok-goal-in-None.ensures s d.stepped.later.leads marked none_chosen)
@@ -436,7 +436,7 @@ negation-negated-requires t c =
     let d = c.in-Ok.ensures.does in
     let k = c.back.ensures in
     let b : Back s v w = backed s v w c.mark-mark.result c.mark-mark.ensures d.stepped.later.leads k.back k.count k.outside k.types k.nodes in
-    (back-step c.args.procs.now c.beside.new.procs s v w c.requires.stands d.stepped b).moved.stands.log
+    (back-step c.args.procs.now c.beside.new.procs s v w c.requires.stands d.stepped b).moved.stands.trail
 
 pub negation-returns-clause-does : goal.negation-returns-clause-does
 negation-returns-clause-does t c =
@@ -448,7 +448,7 @@ negation-returns-clause-does t c =
     let r = c.beside.new.procs in
     let v = c.beside.new.state in
     failed-negation c.args.sigs.now g q r s v c.in-Err.failed
-    (subst (λ ws. Does (tells_outside (variables_of g) s) (trying_beside ws c.args.sigs.now g q s) q r s v (Err c.in-Err.failed)) js c.in-Err.ensures.does)
+    (subst (λ ws. TryPost (tells_outside (variables_of g) s) (trying_beside ws c.args.sigs.now g q s) q r s v (Err c.in-Err.failed)) js c.in-Err.ensures.does)
 
 pub first_ready-loop-place-init : goal.first_ready-loop-place-init
 first_ready-loop-place-init t c = record {
@@ -655,7 +655,7 @@ in_turn-returns-in-NoneReady-clause-does t c =
     let w = c.leave.new.self in
     let k = c.leave.ensures in
     let f = c.in_ok-fault-in-NoneReady.fault in
-    let l : Left c.turns.fresh.items t w = left-as t w _ c.turns.fresh.items c.deref.ensures.value k.insts k.log k.types k.nodes k.len k.counts in
+    let l : Left c.turns.fresh.items t w = left-as t w _ c.turns.fresh.items c.deref.ensures.value k.insts k.trail k.types k.nodes k.len k.counts in
     turned-breaks c.args.sigs.now gs ks c.turns.done.items c.turns.fresh.items q p s u j r t w c.in-NoneReady.found f c.requires.counted (some-wait ks (λ e. true≢false (sym (c.if-not-is_empty.ensures.1 e)))) n c.in_ok-fault-in-NoneReady.ensures l
 
 pub in_turn-returns-clause-does : goal.in_turn-returns-clause-does
@@ -670,7 +670,7 @@ in_turn-returns-clause-does t c =
     let w = c.leave-2.new.self in
     let k = c.leave-2.ensures in
     let part : Part = record { goals = c.turns.done; reachable = c.turns.reachable; freshened = c.new.result } in
-    let l : Left c.turns.fresh.items u w = left-as u w c.deref-2.result.now c.turns.fresh.items c.deref-2.ensures.value k.insts k.log k.types k.nodes k.len k.counts in
+    let l : Left c.turns.fresh.items u w = left-as u w c.deref-2.result.now c.turns.fresh.items c.deref-2.ensures.value k.insts k.trail k.types k.nodes k.len k.counts in
     let last : (c.turns.reachable ≡ true → ks ≡ []) = λ h. elim c.turns-test.branch [ in_turn-then-turns-test+else-not-is_empty b ↦ b.if-not-is_empty.ensures.0 refl | in_turn-else-turns-test b ↦ absurd (true≢false (sym h ∙ b.turns-test.false)) ] in
     turned-runs c.args.sigs.now gs ks c.turns.reachable c.turns.done.items c.turns.fresh.items q p s u w part i l refl refl c.new.ensures.items last
 
@@ -868,7 +868,7 @@ compound_among-try_goal-requires t c =
     let l = c.leave.ensures in
     let vs = variables_of (plain_flat c.args.goal.now) in
     let is : c.deref.result.now ≡ vs = c.deref.ensures.value ∙ c.in_ok-vars.ensures in
-    let i : Left vs s u = left-as s u c.deref.result.now vs is l.insts l.log l.types l.nodes l.len l.counts in
+    let i : Left vs s u = left-as s u c.deref.result.now vs is l.insts l.trail l.types l.nodes l.len l.counts in
     (omega (arith, d), ((frame-stands c.args.procs.now s u i.frame c.requires.stands), (c.requires.sigs, (record { variables = subst (λ n. NumbersBelow n vs) (sym (count-same s u i.frame)) c.requires.fits.variables; known = c.requires.fits.known }))))
 
 pub beside-try_goal-requires : goal.beside-try_goal-requires
@@ -878,7 +878,7 @@ beside-try_goal-requires t c =
     let u = c.enter.new.self in
     let e = c.in_ok-enter.ensures in
     let vs = variables_of (plain_flat c.args.goal.now) in
-    let i : Entered c.args.vars.now s u = entered-as s u c.args.vars.now c.args.vars.now refl e.insts e.log e.types e.nodes e.len e.counts in
+    let i : Entered c.args.vars.now s u = entered-as s u c.args.vars.now c.args.vars.now refl e.insts e.trail e.types e.nodes e.len e.counts in
     (omega (arith, d), ((frame-stands c.args.procs.now s u i.frame c.requires.stands), (c.requires.sigs, (record { variables = subst (λ n. NumbersBelow n vs) (sym (count-same s u i.frame)) c.requires.fits.variables; known = c.requires.fits.known }))))
 
 pub quantified-try_goal-requires : goal.quantified-try_goal-requires
@@ -972,7 +972,7 @@ test-returns-in-Ok-clause-does t c =
     let o = c.in_ok-condition-in-Ok.ensures in
     condition-runs told (trying_beside (xs ++ variables_of h) sigs g q s) xs q r s t p c.in_ok-condition-in-Ok.condition
     (beside-same told c.deref-3.result.now (xs ++ variables_of h) sigs g q r s t p is c.in-Ok.ensures.does)
-    (o.goal s c.in-Ok.ensures.does.stepped.later.leads (log-marked s c.mark-mark.result c.mark-mark.ensures)) o.reachable
+    (o.goal s c.in-Ok.ensures.does.stepped.later.leads (trail-marked s c.mark-mark.result c.mark-mark.ensures)) o.reachable
     (bound-by s xs c.deref.result.now c.in_ok-free.free (end_of p.reachable t) c.in_ok-condition-in-Ok.condition.bound (c.deref.ensures.value ∙ outer) c.in_ok-free.ensures
     (λ b ys e C P declared T. c.first_bound-bound.ensures b ys e C P declared T ∙ sym o.bound))
 
@@ -980,8 +980,8 @@ pub test-returns-in-Ok-clause-alike : goal.test-returns-in-Ok-clause-alike
 test-returns-in-Ok-clause-alike t c =
     let s = c.args.state.now in
     let t = c.beside.new.state in
-    node-alone (plain_flat c.args.condition.now) s t t c.mark-mark.result.log c.in-Ok.part c.in_ok-condition-in-Ok.condition.goal (λ T h. h) c.in-Ok.ensures.does.stepped.later.leads
-    (log-marked s c.mark-mark.result c.mark-mark.ensures) c.in_ok-condition-in-Ok.ensures.goal c.in-Ok.ensures.alike
+    node-alone (plain_flat c.args.condition.now) s t t c.mark-mark.result.trail c.in-Ok.part c.in_ok-condition-in-Ok.condition.goal (λ T h. h) c.in-Ok.ensures.does.stepped.later.leads
+    (trail-marked s c.mark-mark.result c.mark-mark.ensures) c.in_ok-condition-in-Ok.ensures.goal c.in-Ok.ensures.alike
 
 pub test-returns-clause-does : goal.test-returns-clause-does
 test-returns-clause-does t c =
@@ -1212,7 +1212,7 @@ attempt-returns-in_ok-part-in-True-clause-does t c =
     (true-runs c.args.sigs.now q s p c.requires.stands
     (record {
       goals =
-          o.goals s (stepped-refl q s c.requires.stands).later.leads (log-marked s c.mark-mark.result c.mark-mark.ensures)
+          o.goals s (stepped-refl q s c.requires.stands).later.leads (trail-marked s c.mark-mark.result c.mark-mark.ensures)
           ∙ ap (λ x. node_then (changing other_node (length s.insts.items) (point_of s.insts.items) (end_of true s) x) no_nodes)
           (plain_sched-Conj c.new.result ∙ ap (λ (gs : List GoalNode). Conj (nodes (map plain_node gs))) c.new.ensures);
       freshened = o.freshened;

@@ -2,8 +2,8 @@ use Rattle.std.proofs.Common.{◌+◌, ◌*◌, max, length, drop}
 use denote.Param.Weighed.{most}
 use Rattle.mc_model.specs.declared.flat.Flat.{size-Flat}
 use Rattle.mc_accepted.specs.Arranged.{ascending}
-use Rattle.mc_mode_points.specs.States.{is_outside, SameState}
-use Rattle.mc_mode_points.specs.Agreeing.{Moved}
+use Rattle.mc_mode_state.specs.States.{is_outside, SameState}
+use Rattle.mc_mode_state.specs.Agreeing.{StateExtends}
 use Rattle.mc_modes.specs.code.Waiting.{goals_at}
 use Rattle.mc_modes.proofs.Forking.{Forked}
 use Rattle.mc_modes.proofs.Passing.{FoundSoFar}
@@ -21,7 +21,7 @@ invariant-first_ready-loop-place l =
     let gs = goals_at l.goals l.waiting in
     record {
       same : SameState l.fn.state l.state;
-      moved : Moved l.fn.procs l.procs l.fn.state l.state;
+      moved : StateExtends l.fn.procs l.procs l.fn.state l.state;
       so : FoundSoFar l.sigs gs l.place l.found l.fn.procs l.procs l.fn.state l.state;
     }
 

@@ -1,7 +1,7 @@
 use Rattle.std.proofs.Common.{◌∙◌, length, sym, ap}
 use Rattle.mc_model.specs.declared.inst.ModeDecl.{ModeDecl}
 use Rattle.mc_insts.specs.Graphs.{count_of}
-use Rattle.mc_mode_points.specs.Modes.{ModeFits}
+use Rattle.mc_mode_state.specs.Modes.{ModeFits}
 use Rattle.mc_modes.specs.Signatures.{mode_in}
 use Rattle.mc_modes.proofs.MadeProcedures.{mode-fits, scheduled}
 use Rattle.mc_modes.proofs.scheduling.schedule.Goals as goal

@@ -11,7 +11,7 @@ use Rattle.mc_modes.specs.Signatures.{declared_in}
 use Rattle.mc_modes.specs.code.Waiting.{nothing}
 use Rattle.mc_modes.specs.code.Sleeping.{Asleep, may_be_mild, making_is_mild, atom, negated, quantified, in_condition, among, free_beside, free_now, changed_by_each}
 use Rattle.mc_modes.proofs.Halves.{condition-fits, quantified-fits}
-use Rattle.mc_modes.proofs.Sleepers.{both-true, sleeps-by, or-first, all-but, goal-is, goal-in, some-there, mild-beside}
+use Rattle.mc_modes.proofs.DelayedGoals.{both-true, sleeps-by, or-first, all-but, goal-is, goal-in, some-there, mild-beside}
 use Rattle.mc_modes.proofs.Views.{flat-not, flat-some, flat-same, flat-made, flat-call}
 use Rattle.mc_modes.proofs.sleeping.+sleeping.Goals as goal
 

@@ -2,7 +2,7 @@ use Rattle.std.proofs.Common.{length, arith, ◌<◌}
 use Rattle.mc_procs.specs.Procedures.{source_of}
 use Rattle.mc_modes.specs.Signatures.{declared_in}
 use Rattle.mc_modes.specs.code.Sleeping.{may_be_mild}
-use Rattle.mc_modes.proofs.Sleepers.{known-in, mild-on}
+use Rattle.mc_modes.proofs.DelayedGoals.{known-in, mild-on}
 use Rattle.mc_modes.proofs.sleeping.first_wild.Goals as goal
 
 pub may_be_mild-requires : goal.may_be_mild-requires

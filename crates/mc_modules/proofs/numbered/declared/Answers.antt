@@ -1,6 +1,6 @@
 use Rattle.std.proofs.Common.{◌+◌, ◌∷◌, drop, ap, sym, ◌∙◌, arith}
 use Rattle.mc_decl_syntax.specs.Entries.{plain_files}
-use Rattle.mc_linking.specs.Files.{definitions_of}
+use Rattle.mc_modules.specs.Files.{definitions_of}
 use Rattle.mc_modules.specs.Linked.{symbols_of, preds_of, before, numbered, declared_from}
 use Rattle.mc_modules.proofs.Puts.{moved}
 use Rattle.mc_modules.proofs.Places.{as_many, declared_more}

@@ -1,6 +1,6 @@
 use Rattle.std.proofs.Common.{◌≡◌, ◌++◌, drop, map}
-use Rattle.mc_linking.specs.Files.{definitions_of}
-use Rattle.mc_linking.specs.Kept.{plain_item_in_file}
+use Rattle.mc_modules.specs.Files.{definitions_of}
+use Rattle.mc_modules.specs.Kept.{plain_item_in_file}
 use Rattle.mc_modules.specs.Linked.{numbered}
 use Rattle.mc_modules.proofs.numbered.numbered_in.Given as goal
 

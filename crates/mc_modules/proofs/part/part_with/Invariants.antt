@@ -1,5 +1,5 @@
 use Rattle.std.proofs.Common.{◌≡◌, ◌++◌, drop, map}
-use Rattle.mc_linking.specs.Kept.{plain_item_in_file}
+use Rattle.mc_modules.specs.Kept.{plain_item_in_file}
 use Rattle.mc_modules.specs.Linked.{is_pred, is_inst, is_mode, symbols_in, sorted_in}
 use Rattle.mc_names.specs.Linked.{plain_named}
 use Rattle.mc_modules.specs.code.Passes.{types_pass}

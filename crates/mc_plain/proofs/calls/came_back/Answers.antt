@@ -3,7 +3,7 @@ use Rattle.mc_model.specs.Stream.{Bindings, unify, leave}
 use Rattle.mc_values.specs.declared.heap.Heap.{Heap}
 use Rattle.mc_flat_code.specs.Running.{instr_at, variables_at, body_at}
 use Rattle.mc_flat_code.specs.declared.code.Body.{Body}
-use Rattle.mc_frames.specs.Frames.{bindings, given}
+use Rattle.mc_plain.specs.Frames.{bindings, given}
 use Rattle.mc_plain.specs.code.Machine.{at, failing}
 use Rattle.mc_plain.proofs.Calling.{came}
 use Rattle.mc_plain.proofs.calls.came_back.Goals as goal

@@ -1,6 +1,6 @@
 use Rattle.std.proofs.Common.{◌∙◌, ap}
 use Rattle.mc_values.specs.Heap.{value_at}
-use Rattle.mc_frames.proofs.SameValues.{test_is}
+use Rattle.mc_plain.proofs.SameValues.{test_is}
 use Rattle.mc_flat_code.specs.Running.{fits_label, label_of}
 use Rattle.mc_flat_code.specs.declared.code.Key.{Key}
 use Rattle.mc_plain.proofs.Casing.{constant_there, no_constant_there, fits_constant, fits_no_constant}

@@ -1,7 +1,7 @@
 use Rattle.std.proofs.Common.{◌≡◌, ◌≤◌, ◌-◌, ◌+◌, ℕ, length, get_or, None}
 use Rattle.mc_program.specs.declared.program.Program.{Program}
 use Rattle.mc_values.specs.declared.heap.Heap.{Heap}
-use Rattle.mc_frames.specs.Values.{AreLive, AreHeld}
+use Rattle.mc_plain.specs.Values.{AreLive, AreHeld}
 use Rattle.mc_plain.proofs.control.widen.Given as goal
 
 abbrev pub invariant-loop-frame : goal.invariant-loop-frame

@@ -1,8 +1,8 @@
 use Rattle.std.proofs.Common.{◌≡◌, ◌<◌, ◌≤◌, ℕ, length, get_or}
 use Rattle.mc_program.specs.declared.program.Program.{Program}
 use Rattle.mc_values.specs.declared.heap.Heap.{Heap}
-use Rattle.mc_frames.specs.Values.{AreLive, AreHeld}
-use Rattle.mc_frames.specs.Frames.{bindings}
+use Rattle.mc_plain.specs.Values.{AreLive, AreHeld}
+use Rattle.mc_plain.specs.Frames.{bindings}
 use Rattle.mc_plain.proofs.control.widen_all.Given as goal
 
 abbrev pub invariant-loop-variable : goal.invariant-loop-variable

@@ -1,5 +1,5 @@
 use Rattle.std.proofs.Common.{map, take}
-use Rattle.mc_declared_modes.specs.WrittenModes.{plain_written}
+use Rattle.mc_signatures.specs.WrittenModes.{plain_written}
 use Rattle.mc_insts.proofs.Growth.{extends_on}
 use Rattle.mc_signatures.specs.code.Keys.{terms}
 use Rattle.mc_signatures.specs.code.Definitions.{GoesBetween}

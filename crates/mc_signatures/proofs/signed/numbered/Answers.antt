@@ -1,6 +1,6 @@
 use Rattle.std.proofs.Common.{◌<◌, List, length, map, take, refl, sym, subst, arith}
-use Rattle.mc_declared_modes.specs.WrittenModes.{plain_written}
-use Rattle.mc_declared_modes.specs.declared.written.WrittenMode.{WrittenMode}
+use Rattle.mc_signatures.specs.WrittenModes.{plain_written}
+use Rattle.mc_signatures.specs.declared.written.WrittenMode.{WrittenMode}
 use Rattle.mc_insts.proofs.Growth.{extends_on}
 use Rattle.mc_signatures.specs.Signatures.{builtin_of}
 use Rattle.mc_signatures.specs.code.Keys.{terms}

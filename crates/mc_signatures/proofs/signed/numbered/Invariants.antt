@@ -1,7 +1,7 @@
 use Rattle.std.proofs.Common.{map, take}
 use Rattle.mc_insts.specs.code.Lists.{Extends}
 use Rattle.mc_names.specs.Linked.{Linked}
-use Rattle.mc_declared_modes.specs.WrittenModes.{plain_written}
+use Rattle.mc_signatures.specs.WrittenModes.{plain_written}
 use Rattle.mc_signatures.specs.Signatures.{builtin_of}
 use Rattle.mc_signatures.specs.code.Keys.{terms}
 use Rattle.mc_signatures.specs.code.Definitions.{AreDefinitions, GoesBetween}

@@ -1,7 +1,7 @@
 use Rattle.mc_names.specs.Linked.{plain_names}
 use Rattle.mc_inst_table.specs.Rules.{inst_bodies}
 use Rattle.mc_insts.specs.Defining.{plain_definitions}
-use Rattle.mc_declared_modes.specs.WrittenModes.{plain_written}
+use Rattle.mc_signatures.specs.WrittenModes.{plain_written}
 use Rattle.std.proofs.Common.{map}
 use Rattle.mc_signatures.specs.Signatures.{builtin_of}
 use Rattle.mc_signatures.specs.code.Keys.{terms}

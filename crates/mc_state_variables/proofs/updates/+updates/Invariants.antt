@@ -1,6 +1,6 @@
 use Rattle.std.proofs.Common.{◌≡◌, ◌++◌, ◌+◌, ◌*◌, max, drop, map}
 use denote.Param.Weighed.{most}
-use Rattle.mc_term_data.specs.Plain.{plain_term, tms}
+use Rattle.mc_term_data.specs.Plain.{plain_term, term_list}
 use Rattle.mc_term_data.specs.declared.term.Term.{size-Term}
 use Rattle.mc_clause_syntax.specs.States.{names_of}
 use Rattle.mc_state_variables.specs.Updates.{joined, updated_each}
@@ -23,4 +23,4 @@ decreases-push_each l = 4 * most size-Term l.goals.now + 1
 
 abbrev pub invariant-push_each-loop-goal : goal.invariant-push_each-loop-goal
 invariant-push_each-loop-goal l =
-    names_of l.names.items ++ joined (updated_each (tms (map plain_term (drop l.goal-index l.goals)))) ≡ names_of l.initial.names.items ++ joined (updated_each (tms (map plain_term l.goals)))
+    names_of l.names.items ++ joined (updated_each (term_list (map plain_term (drop l.goal-index l.goals)))) ≡ names_of l.initial.names.items ++ joined (updated_each (term_list (map plain_term l.goals)))

@@ -4,7 +4,7 @@ use Rattle.mc_accepted.specs.Accepted.{entered}
 use Rattle.mc_accepted.specs.Ordered.{Insts}
 use Rattle.mc_accepted.specs.Switched.{formed}
 use Rattle.mc_procs.specs.VariableTypes.{type_in}
-use Rattle.mc_mode_points.specs.Tables.{Entry, node_in}
+use Rattle.mc_mode_state.specs.Tables.{Entry, node_in}
 use Rattle.mc_det.proofs.Declaring.{ready_first}
 use Rattle.mc_switch.specs.Types.{inst_in}
 use Rattle.mc_switch.specs.Kept.{kept_by}

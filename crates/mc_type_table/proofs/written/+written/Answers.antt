@@ -1,6 +1,6 @@
 use Rattle.std.proofs.Common.{◌≡◌, length, map, ◌∙◌}
 use Rattle.std.proofs.lemmas.Result.{IfOk-weaker}
-use Rattle.mc_term_data.specs.Plain.{plain_term, tms}
+use Rattle.mc_term_data.specs.Plain.{plain_term, term_list}
 use Rattle.mc_term_data.specs.Names.{count}
 use Rattle.mc_program.specs.PlainPrograms.{plain_type, type_terms}
 use Rattle.mc_names.specs.Linked.{plain_names}
@@ -19,9 +19,9 @@ type_over-returns t c =
     (λ r.
     plain_type r
     ≡ named_type l c.args.own c.args.name.now
-    (count (tms (map plain_term c.args.arguments.now)))
+    (count (term_list (map plain_term c.args.arguments.now)))
     (written_types l c.args.own c.args.variables.now
-    (tms (map plain_term c.args.arguments.now))))
+    (term_list (map plain_term c.args.arguments.now))))
     (λ r is.
     is
     ∙ written_over l c.args.own c.args.variables.now c.args.name.now c.args.arguments.now

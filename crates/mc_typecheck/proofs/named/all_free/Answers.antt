@@ -1,5 +1,5 @@
 use Rattle.std.proofs.Common.{◌∙◌, ◌++◌, [], ◌∷◌, ap, sym}
-use Rattle.mc_type_search.specs.declared.written_types.Written.{Free}
+use Rattle.mc_types.specs.declared.written_types.Written.{Free}
 use Rattle.mc_typecheck.proofs.Naming.{free_next}
 use Rattle.mc_typecheck.proofs.named.all_free.Goals as goal
 

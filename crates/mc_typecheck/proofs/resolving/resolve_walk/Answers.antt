@@ -1,8 +1,8 @@
 use Rattle.std.proofs.Common.{[], ◌≡◌, ℕ, ◌+◌, List, sym, subst, arith}
-use Rattle.mc_type_search.specs.declared.signature.Signature.{Signature}
-use Rattle.mc_type_search.specs.declared.steps.Step.{Step}
-use Rattle.mc_type_search.specs.Typed.{AllProper}
-use Rattle.mc_type_search.specs.Resolved.{OutcomeSays}
+use Rattle.mc_types.specs.declared.signature.Signature.{Signature}
+use Rattle.mc_types.specs.declared.steps.Step.{Step}
+use Rattle.mc_types.specs.Typed.{AllProper}
+use Rattle.mc_types.specs.Resolved.{OutcomeSays}
 use Rattle.mc_accepted.specs.Resolving.{steps_of}
 use Rattle.mc_typecheck.specs.Ties.{tied, made_by}
 use Rattle.mc_typecheck.proofs.Stepping.{walked_ties, walked_next}

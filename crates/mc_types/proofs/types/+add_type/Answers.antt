@@ -2,9 +2,9 @@ use Rattle.std.proofs.Common.{◌≡◌, ◌∷◌, List, map, drop, sym, ◌∙
 use Rattle.std.proofs.lemmas.List.{drop_more}
 use Rattle.mc_program.specs.Programs.{union_type}
 use Rattle.mc_program.specs.PlainPrograms.{plain_type, type_terms}
-use Rattle.mc_type_graph.specs.declared.cells.TypeName.TheVariants as N
+use Rattle.mc_types.specs.declared.cells.TypeName.TheVariants as N
 use Rattle.mc_program.specs.declared.ty.Ty.{Ty}
-use Rattle.mc_type_graph.proofs.Noted.{grown_more}
+use Rattle.mc_types.proofs.Noted.{grown_more}
 use Rattle.mc_types.specs.Trees.{placed}
 use Rattle.mc_types.proofs.TypeViews.{plain_type-Int, plain_type-Char, plain_type-Str, plain_type-Io, plain_type-Var, plain_type-Union}
 use Rattle.mc_types.proofs.AddedTypes.{Adding, added_variable, added_rigid, added_named, adding_first, adding_more, apart_named, apart_app}

@@ -1,7 +1,7 @@
 use Rattle.std.proofs.Common.{drop, map}
 use Rattle.mc_program.specs.PlainPrograms.{plain_type, type_terms}
-use Rattle.mc_type_graph.specs.Holds.{InOrder}
-use Rattle.mc_type_graph.specs.Changes.{Grown}
+use Rattle.mc_types.specs.Holds.{InOrder}
+use Rattle.mc_types.specs.Changes.{Grown}
 use Rattle.mc_types.specs.Placed.{Apart}
 use Rattle.mc_types.proofs.AddedTypes.{Adding}
 use Rattle.mc_types.proofs.types.+add_type.Given as goal

@@ -1,5 +1,5 @@
 use Rattle.std.proofs.Common.{arith}
-use Rattle.mc_type_graph.proofs.Noted.{grown_more}
+use Rattle.mc_types.proofs.Noted.{grown_more}
 use Rattle.mc_types.proofs.Linked.{still_apart, types_unify, types_clash, types_not_founded}
 use Rattle.mc_types.proofs.unifying.link_types.Goals as goal
 

@@ -1,5 +1,5 @@
 use Rattle.std.proofs.Common.{◌∙◌, arith}
-use Rattle.mc_type_graph.proofs.Noted.{restored}
+use Rattle.mc_types.proofs.Noted.{restored}
 use Rattle.mc_types.proofs.Linked.{system_after, unifies_yes, unifies_no}
 use Rattle.mc_types.proofs.unifying.unify_types.Goals as goal
 

@@ -1,6 +1,6 @@
 use Rattle.std.proofs.Common.{ℕ, ◌≡◌, length, map, take}
 use Rattle.mc_program.specs.PlainPrograms.{plain_type}
-use Rattle.mc_type_graph.specs.Shapes.{Shape}
+use Rattle.mc_types.specs.Shapes.{Shape}
 use Rattle.mc_types.specs.Trees.{placed, type_of}
 use Rattle.mc_types.specs.Placed.{AreGeneral}
 use Rattle.mc_types.proofs.written.+resolve_type.Given as goal

@@ -1,8 +1,8 @@
 use Rattle.std.proofs.Common.{◌≡◌, ap, ap₂, sym, ◌∙◌, subst, arith}
 use Rattle.std.proofs.lemmas.List.{get_or_read}
-use Rattle.mc_type_graph.specs.Holds.{CellHolds, cell_at}
-use Rattle.mc_type_graph.specs.declared.cells.Cell.{Cell}
-use Rattle.mc_type_graph.specs.declared.cells.Cell.TheVariants.{Free, App}
+use Rattle.mc_types.specs.Holds.{CellHolds, cell_at}
+use Rattle.mc_types.specs.declared.cells.Cell.{Cell}
+use Rattle.mc_types.specs.declared.cells.Cell.TheVariants.{Free, App}
 use Rattle.mc_types.specs.Trees.{applied, type_of}
 use Rattle.mc_types.proofs.written.+write_type.Goals as goal
 

@@ -1,6 +1,6 @@
 use Rattle.std.proofs.Common.{◌≡◌, ◌+◌, ◌*◌, drop, map}
 use denote.Param.Weighed.{most}
-use Rattle.mc_term_data.specs.Plain.{plain_term, tms}
+use Rattle.mc_term_data.specs.Plain.{plain_term, term_list}
 use Rattle.mc_term_data.specs.declared.term.Term.{size-Term}
 use Rattle.mc_clause_syntax.specs.States.{goals_placed}
 use Rattle.mc_clause_syntax.specs.code.Scopes.{all_names}
@@ -27,5 +27,5 @@ decreases-places_goals l = 4 * most size-Term l.goals.now + 1
 abbrev pub invariant-places_goals-loop-goal : goal.invariant-places_goals-loop-goal
 invariant-places_goals-loop-goal l = record {
   kept : l.self.sets.items ≡ l.initial.self.sets.items;
-  answer : goals_placed (all_names l.initial.self.sets.items) (tms (map plain_term (drop l.goal-index l.goals))) ≡ goals_placed (all_names l.initial.self.sets.items) (tms (map plain_term l.goals));
+  answer : goals_placed (all_names l.initial.self.sets.items) (term_list (map plain_term (drop l.goal-index l.goals))) ≡ goals_placed (all_names l.initial.self.sets.items) (term_list (map plain_term l.goals));
 }

@@ -3,7 +3,7 @@ use Rattle.mc_accepted.specs.Resolving.{Unresolved_goal}
 use Rattle.mc_unresolved.specs.declared.goal.UnresolvedGoal.{UnresolvedGoal}
 use Rattle.mc_unresolved.specs.Unresolved.{plain_unresolved_goal}
 use Rattle.mc_clauses.specs.Unresolved.{one_or_several, alone}
-use Rattle.mc_clauses.specs.declared.pieces.Around.{Around}
+use Rattle.mc_clauses.specs.declared.pieces.OuterDisjunction.{OuterDisjunction}
 use Rattle.mc_clauses.specs.code.GoalWalks.{goal_row, goals_before, over_around, enclosed}
 use Rattle.mc_clauses.proofs.Disjunctions.{enclosed-push, row-before}
 use Rattle.mc_clauses.proofs.pieces.Unclosed.close.Goals as goal
@@ -19,5 +19,5 @@ loop-before-preserved c =
     ∙ ap (λ (g : Unresolved_goal). one_or_several (goals_before f.before.items (alone g))) c.in_ok-last.ensures in
     ap (enclosed c.pop.new.self.items) step
     ∙ sym (enclosed-push c.pop.new.self.items f whole)
-    ∙ ap (λ (fs : List Around). enclosed fs whole) (sym c.in-Some.ensures.items)
+    ∙ ap (λ (fs : List OuterDisjunction). enclosed fs whole) (sym c.in-Some.ensures.items)
     ∙ c.loop-before.invariant

@@ -9,8 +9,8 @@ use Rattle.mc_accepted.specs.Determined.{insts_after}
 use Rattle.mc_procs.specs.Named.{Named, NamedIn}
 use Rattle.mc_procs.specs.Procedures.{as_system}
 use Rattle.mc_procs.proofs.Views.{plain_sched-Conj, plain_sched-Disj, plain_sched-Switch, plain_sched-Ite, plain_sched-Not}
-use Rattle.mc_skeletons.specs.declared.skeleton.Step.TheVariants as T
-use Rattle.mc_det.specs.Bodies.{fixed, skeleton, skeleton_in, skeleton_all, skeleton_any, skeleton_arms}
+use Rattle.mc_det_constraints.specs.declared.constraint.Step.TheVariants as T
+use Rattle.mc_det.specs.Bodies.{fixed, constraint, constraint_in, constraint_all, constraint_any, constraint_arms}
 use Rattle.mc_det.specs.declared.walk.Walk.{Walk}
 use Rattle.mc_det.specs.code.Facts.{known_in}
 use Rattle.mc_det.specs.code.Points.{insts_in, undone}
@@ -27,7 +27,7 @@ goal-returns-then-goal t c =
     let a : Walk = c.args.self.now in
     on_ok_weaker c.put.result
     (λ p.
-    then_steps q a c.sched.new.self c.put.new.self (T.Pruned ∷ []) (λ S b kn. skeleton_in S type b kn (plain_sched g.goal)) (λ S b kn. skeleton S type b kn (plain_node g)) c.in_ok-sched.ensures p
+    then_steps q a c.sched.new.self c.put.new.self (T.Pruned ∷ []) (λ S b kn. constraint_in S type b kn (plain_sched g.goal)) (λ S b kn. constraint S type b kn (plain_node g)) c.in_ok-sched.ensures p
     (λ outcome. node_seen (as_system outcome q) type (insts_in a.point) (known_in a.known.items) g (T.Pruned ∷ []) (ap (λ b. if b then T.Pruned ∷ [] else []) (sym c.if-goal.true))))
     c.put.ensures
 
@@ -46,10 +46,10 @@ sched-returns-in-Conj t c =
     let a : Walk = c.args.self.now in
     on_ok_weaker c.conj.result
     (λ p.
-    as_seen q a c.conj.new.self (λ S b kn. skeleton_all S type b kn (nodes (map plain_node c.as_slice.result.now))) (λ S b kn. skeleton_in S type b kn (plain_sched c.args.goal.now)) p
+    as_seen q a c.conj.new.self (λ S b kn. constraint_all S type b kn (nodes (map plain_node c.as_slice.result.now))) (λ S b kn. constraint_in S type b kn (plain_sched c.args.goal.now)) p
     (λ outcome.
-    ap (λ (gs : List GoalNode). skeleton_all (as_system outcome q) type (insts_in a.point) (known_in a.known.items) (nodes (map plain_node gs))) c.as_slice.ensures.items
-    ∙ ap (skeleton_in (as_system outcome q) type (insts_in a.point) (known_in a.known.items)) (sym (ap plain_sched c.in-Conj.is ∙ plain_sched-Conj c.in-Conj.goals))))
+    ap (λ (gs : List GoalNode). constraint_all (as_system outcome q) type (insts_in a.point) (known_in a.known.items) (nodes (map plain_node gs))) c.as_slice.ensures.items
+    ∙ ap (constraint_in (as_system outcome q) type (insts_in a.point) (known_in a.known.items)) (sym (ap plain_sched c.in-Conj.is ∙ plain_sched-Conj c.in-Conj.goals))))
     c.conj.ensures
 
 pub sched-returns-in-Disj : goal.sched-returns-in-Disj
@@ -59,10 +59,10 @@ sched-returns-in-Disj t c =
     let a : Walk = c.args.self.now in
     on_ok_weaker c.disj.result
     (λ p.
-    as_seen q a c.disj.new.self (λ S b kn. skeleton_any S type b kn (nodes (map plain_node c.as_slice-in-Disj.result.now))) (λ S b kn. skeleton_in S type b kn (plain_sched c.args.goal.now)) p
+    as_seen q a c.disj.new.self (λ S b kn. constraint_any S type b kn (nodes (map plain_node c.as_slice-in-Disj.result.now))) (λ S b kn. constraint_in S type b kn (plain_sched c.args.goal.now)) p
     (λ outcome.
-    ap (λ (gs : List GoalNode). skeleton_any (as_system outcome q) type (insts_in a.point) (known_in a.known.items) (nodes (map plain_node gs))) c.as_slice-in-Disj.ensures.items
-    ∙ ap (skeleton_in (as_system outcome q) type (insts_in a.point) (known_in a.known.items)) (sym (ap plain_sched c.in-Disj.is ∙ plain_sched-Disj c.in-Disj.goals))))
+    ap (λ (gs : List GoalNode). constraint_any (as_system outcome q) type (insts_in a.point) (known_in a.known.items) (nodes (map plain_node gs))) c.as_slice-in-Disj.ensures.items
+    ∙ ap (constraint_in (as_system outcome q) type (insts_in a.point) (known_in a.known.items)) (sym (ap plain_sched c.in-Disj.is ∙ plain_sched-Disj c.in-Disj.goals))))
     c.disj.ensures
 
 pub sched-returns-in_ok-arms-in-Switch : goal.sched-returns-in_ok-arms-in-Switch
@@ -73,11 +73,11 @@ sched-returns-in_ok-arms-in-Switch t c =
     let x : ℕ = c.in-Switch.x in
     on_ok_weaker c.put_misses.result
     (λ p.
-    then_puts q a c.arms.new.self c.put_misses.new.self (λ S b kn. skeleton_arms S type b kn x (arms_of (map plain_arm c.as_slice-in-Switch.result.now))) (λ S b kn. missed S type b x (arms_of (map plain_arm c.as_slice-in-Switch-2.result.now))) (λ S b kn. skeleton_in S type b kn (plain_sched c.args.goal.now)) c.in_ok-arms-in-Switch.ensures p
+    then_puts q a c.arms.new.self c.put_misses.new.self (λ S b kn. constraint_arms S type b kn x (arms_of (map plain_arm c.as_slice-in-Switch.result.now))) (λ S b kn. missed S type b x (arms_of (map plain_arm c.as_slice-in-Switch-2.result.now))) (λ S b kn. constraint_in S type b kn (plain_sched c.args.goal.now)) c.in_ok-arms-in-Switch.ensures p
     (λ outcome.
-    ap (λ (gs : List Arm). skeleton_arms (as_system outcome q) type (insts_in a.point) (known_in a.known.items) x (arms_of (map plain_arm gs)) ++ missed (as_system outcome q) type (insts_in a.point) x (arms_of (map plain_arm c.as_slice-in-Switch-2.result.now))) c.as_slice-in-Switch.ensures.items
-    ∙ ap (λ (gs : List Arm). skeleton_arms (as_system outcome q) type (insts_in a.point) (known_in a.known.items) x (arms_of (map plain_arm c.in-Switch.arms)) ++ missed (as_system outcome q) type (insts_in a.point) x (arms_of (map plain_arm gs))) c.as_slice-in-Switch-2.ensures.items
-    ∙ ap (skeleton_in (as_system outcome q) type (insts_in a.point) (known_in a.known.items)) (sym (ap plain_sched c.in-Switch.is ∙ plain_sched-Switch x c.in-Switch.arms))))
+    ap (λ (gs : List Arm). constraint_arms (as_system outcome q) type (insts_in a.point) (known_in a.known.items) x (arms_of (map plain_arm gs)) ++ missed (as_system outcome q) type (insts_in a.point) x (arms_of (map plain_arm c.as_slice-in-Switch-2.result.now))) c.as_slice-in-Switch.ensures.items
+    ∙ ap (λ (gs : List Arm). constraint_arms (as_system outcome q) type (insts_in a.point) (known_in a.known.items) x (arms_of (map plain_arm c.in-Switch.arms)) ++ missed (as_system outcome q) type (insts_in a.point) x (arms_of (map plain_arm gs))) c.as_slice-in-Switch-2.ensures.items
+    ∙ ap (constraint_in (as_system outcome q) type (insts_in a.point) (known_in a.known.items)) (sym (ap plain_sched c.in-Switch.is ∙ plain_sched-Switch x c.in-Switch.arms))))
     c.put_misses.ensures
 
 pub sched-returns-in_ok-goal-in-Ite-2 : goal.sched-returns-in_ok-goal-in-Ite-2
@@ -93,14 +93,14 @@ sched-returns-in_ok-goal-in-Ite-2 t c =
     let k : GoalNode = c.in-Ite.else_part.value in
     on_ok_weaker c.put.result
     (λ p.
-    as_seen q a c.put.new.self (λ S is kn. skeleton_in S (typed types) is kn (Ite [] (plain_node g) (plain_node h) (plain_node k))) (λ S b kn. skeleton_in S (typed types) b kn (plain_sched c.args.goal.now))
+    as_seen q a c.put.new.self (λ S is kn. constraint_in S (typed types) is kn (Ite [] (plain_node g) (plain_node h) (plain_node k))) (λ S b kn. constraint_in S (typed types) b kn (plain_sched c.args.goal.now))
     (ite_put q types a b e d c.put.new.self g h k
-    (subst (λ (g : GoalNode). Puts q a b (λ S is kn. skeleton S (typed types) is kn (plain_node g))) c.deref.ensures c.in_ok-goal-in-Ite.ensures)
-    (subst (λ (h : GoalNode). Puts q b e (λ S is kn. skeleton S (typed types) (insts_after (plain_node g) is) kn (plain_node h))) c.deref-in-Ite.ensures
-    (subst (λ (g : GoalNode). Puts q b e (λ S is kn. skeleton S (typed types) (insts_after (plain_node g) is) kn (plain_node c.deref-in-Ite.result.now))) c.deref-in-Ite-2.ensures c.in_ok-then-in-Ite.ensures))
-    (subst (λ (k : GoalNode). Puts q e d (λ S is kn. skeleton S (typed types) is kn (plain_node k))) c.deref-in-Ite-3.ensures c.in_ok-goal-in-Ite-2.ensures)
+    (subst (λ (g : GoalNode). Puts q a b (λ S is kn. constraint S (typed types) is kn (plain_node g))) c.deref.ensures c.in_ok-goal-in-Ite.ensures)
+    (subst (λ (h : GoalNode). Puts q b e (λ S is kn. constraint S (typed types) (insts_after (plain_node g) is) kn (plain_node h))) c.deref-in-Ite.ensures
+    (subst (λ (g : GoalNode). Puts q b e (λ S is kn. constraint S (typed types) (insts_after (plain_node g) is) kn (plain_node c.deref-in-Ite.result.now))) c.deref-in-Ite-2.ensures c.in_ok-then-in-Ite.ensures))
+    (subst (λ (k : GoalNode). Puts q e d (λ S is kn. constraint S (typed types) is kn (plain_node k))) c.deref-in-Ite-3.ensures c.in_ok-goal-in-Ite-2.ensures)
     p)
-    (λ outcome. ap (skeleton_in (as_system outcome q) (typed types) (insts_in a.point) (known_in a.known.items)) (sym (ap plain_sched c.in-Ite.is ∙ plain_sched-Ite c.in-Ite.field-0 c.in-Ite.condition c.in-Ite.then_part c.in-Ite.else_part))))
+    (λ outcome. ap (constraint_in (as_system outcome q) (typed types) (insts_in a.point) (known_in a.known.items)) (sym (ap plain_sched c.in-Ite.is ∙ plain_sched-Ite c.in-Ite.field-0 c.in-Ite.condition c.in-Ite.then_part c.in-Ite.else_part))))
     c.put.ensures
 
 pub sched-returns-in_ok-goal-in-Not : goal.sched-returns-in_ok-goal-in-Not
@@ -110,10 +110,10 @@ sched-returns-in_ok-goal-in-Not t c =
     let a : Walk = c.args.self.now in
     on_ok_weaker c.put-in-Not.result
     (λ p.
-    then_steps q a c.goal-in-Not.new.self c.put-in-Not.new.self (T.Not ∷ []) (λ S b kn. skeleton S type b kn (plain_node c.deref-in-Not.result.now)) (λ S b kn. skeleton_in S type b kn (plain_sched c.args.goal.now)) c.in_ok-goal-in-Not.ensures p
+    then_steps q a c.goal-in-Not.new.self c.put-in-Not.new.self (T.Not ∷ []) (λ S b kn. constraint S type b kn (plain_node c.deref-in-Not.result.now)) (λ S b kn. constraint_in S type b kn (plain_sched c.args.goal.now)) c.in_ok-goal-in-Not.ensures p
     (λ outcome.
-    ap (λ (g : GoalNode). skeleton (as_system outcome q) type (insts_in a.point) (known_in a.known.items) (plain_node g) ++ T.Not ∷ []) c.deref-in-Not.ensures
-    ∙ ap (skeleton_in (as_system outcome q) type (insts_in a.point) (known_in a.known.items)) (sym (ap plain_sched c.in-Not.is ∙ plain_sched-Not c.in-Not.inner))))
+    ap (λ (g : GoalNode). constraint (as_system outcome q) type (insts_in a.point) (known_in a.known.items) (plain_node g) ++ T.Not ∷ []) c.deref-in-Not.ensures
+    ∙ ap (constraint_in (as_system outcome q) type (insts_in a.point) (known_in a.known.items)) (sym (ap plain_sched c.in-Not.is ∙ plain_sched-Not c.in-Not.inner))))
     c.put-in-Not.ensures
 
 pub conj-loop-goal-preserved : goal.conj-loop-goal-preserved
@@ -131,7 +131,7 @@ conj-loop-goal-preserved t c =
       known = c.in_ok-enter.ensures.known ∙ c.in_ok-goal.ensures.known ∙ c.loop-goal.invariant.known;
       left =
           one_run q types a l m c.loop-goal.goal-index
-          (λ S. a.steps.items ++ skeleton_all S (typed types) (insts_in a.point) (known_in a.known.items) (nodes (map plain_node c.args.goals.now)))
+          (λ S. a.steps.items ++ constraint_all S (typed types) (insts_in a.point) (known_in a.known.items) (nodes (map plain_node c.args.goals.now)))
           c.loop-goal.invariant.known n.point c.args.goals.now g g c.loop-goal-test.true c.goal-item.is c.in_ok-goal.ensures c.in_ok-enter.ensures.insts n c.in_ok-enter.ensures.steps c.loop-goal.invariant.left;
     }
 
@@ -153,11 +153,11 @@ conj-returns t c =
     let m : Walk = record l { point = c.undo_all.new.self; found = c.undo_all.new.found } in
     on_ok_weaker c.put_times.result
     (λ p.
-    ends q a m c.put_fixed.new.self c.put_times.new.self (fixed det) (times (length gs) T.Conj) (λ S b kn. skeleton_all S (typed types) b kn (nodes (map plain_node gs)))
+    ends q a m c.put_fixed.new.self c.put_times.new.self (fixed det) (times (length gs) T.Conj) (λ S b kn. constraint_all S (typed types) b kn (nodes (map plain_node gs)))
     (c.undo_all.ensures ∙ c.loop-goal.invariant.undone) c.loop-goal.invariant.known c.in_ok-put_fixed.ensures p
     (λ outcome.
     all_done (as_system outcome q) (typed types) (insts_in l.point) (known_in a.known.items) gs c.loop-goal.goal-index l.steps.items
-    (a.steps.items ++ skeleton_all (as_system outcome q) (typed types) (insts_in a.point) (known_in a.known.items) (nodes (map plain_node gs)))
+    (a.steps.items ++ constraint_all (as_system outcome q) (typed types) (insts_in a.point) (known_in a.known.items) (nodes (map plain_node gs)))
     (omega arith) (c.loop-goal.invariant.left outcome)))
     c.put_times.ensures
 
@@ -173,7 +173,7 @@ disj-loop-goal-preserved t c =
       known = c.in_ok-goal.ensures.known ∙ c.loop-goal.invariant.known;
       left =
           one_tried q types a c.loop-goal.self c.goal.new.self c.loop-goal.goal-index
-          (λ S. a.steps.items ++ skeleton_any S (typed types) (insts_in a.point) (known_in a.known.items) (nodes (map plain_node c.args.goals.now)))
+          (λ S. a.steps.items ++ constraint_any S (typed types) (insts_in a.point) (known_in a.known.items) (nodes (map plain_node c.args.goals.now)))
           c.loop-goal.invariant.known c.args.goals.now g g c.loop-goal.invariant.point c.loop-goal-test.true c.goal-item.is c.in_ok-goal.ensures c.loop-goal.invariant.left;
     }
 
@@ -186,11 +186,11 @@ disj-returns t c =
     let l : Walk = c.loop-goal.self in
     on_ok_weaker c.put_times.result
     (λ p.
-    ends q a l c.put_fixed.new.self c.put_times.new.self (fixed failure) (times (length gs) T.Disj) (λ S b kn. skeleton_any S (typed types) b kn (nodes (map plain_node gs)))
+    ends q a l c.put_fixed.new.self c.put_times.new.self (fixed failure) (times (length gs) T.Disj) (λ S b kn. constraint_any S (typed types) b kn (nodes (map plain_node gs)))
     c.loop-goal.invariant.point c.loop-goal.invariant.known c.in_ok-put_fixed.ensures p
     (λ outcome.
     any_done (as_system outcome q) (typed types) (insts_in a.point) (known_in a.known.items) gs c.loop-goal.goal-index l.steps.items
-    (a.steps.items ++ skeleton_any (as_system outcome q) (typed types) (insts_in a.point) (known_in a.known.items) (nodes (map plain_node gs)))
+    (a.steps.items ++ constraint_any (as_system outcome q) (typed types) (insts_in a.point) (known_in a.known.items) (nodes (map plain_node gs)))
     (omega arith) (c.loop-goal.invariant.left outcome)))
     c.put_times.ensures
 
@@ -211,7 +211,7 @@ arms-loop-arm-preserved t c =
           ∙ c.loop-arm.invariant.known;
       left =
           one_chosen q types a l m c.loop-arm.arm-index
-          (λ S. a.steps.items ++ skeleton_arms S (typed types) (insts_in a.point) (known_in a.known.items) c.args.x (arms_of (map plain_arm c.args.arms.now)))
+          (λ S. a.steps.items ++ constraint_arms S (typed types) (insts_in a.point) (known_in a.known.items) c.args.x (arms_of (map plain_arm c.args.arms.now)))
           c.loop-arm.invariant.known w c.args.x _ c.args.arms.now r r refl c.in_ok-push.ensures.items refl refl c.in_ok-on.ensures c.loop-arm.invariant.point c.loop-arm-test.true c.arm-item.is c.in_ok-goal.ensures c.loop-arm.invariant.left;
     }
 
@@ -224,11 +224,11 @@ arms-returns t c =
     let l : Walk = c.loop-arm.self in
     on_ok_weaker c.put_times.result
     (λ p.
-    ends q a l c.put_fixed.new.self c.put_times.new.self (fixed erroneous) (times (length arms) T.Arms) (λ S b kn. skeleton_arms S (typed types) b kn c.args.x (arms_of (map plain_arm arms)))
+    ends q a l c.put_fixed.new.self c.put_times.new.self (fixed erroneous) (times (length arms) T.Arms) (λ S b kn. constraint_arms S (typed types) b kn c.args.x (arms_of (map plain_arm arms)))
     c.loop-arm.invariant.point c.loop-arm.invariant.known c.in_ok-put_fixed.ensures p
     (λ outcome.
     arms_done (as_system outcome q) (typed types) (insts_in a.point) (known_in a.known.items) c.args.x arms c.loop-arm.arm-index l.steps.items
-    (a.steps.items ++ skeleton_arms (as_system outcome q) (typed types) (insts_in a.point) (known_in a.known.items) c.args.x (arms_of (map plain_arm arms)))
+    (a.steps.items ++ constraint_arms (as_system outcome q) (typed types) (insts_in a.point) (known_in a.known.items) c.args.x (arms_of (map plain_arm arms)))
     (omega arith) (c.loop-arm.invariant.left outcome)))
     c.put_times.ensures
 

@@ -1,7 +1,7 @@
 use Rattle.std.proofs.Common.{[], ◌∷◌, Bool, map, refl, sym, ap, ◌∙◌, if◌then◌else◌}
 use Rattle.std.proofs.lemmas.Result.{on_ok_weaker}
 use Rattle.mc_model.specs.PlainGoals.{plain_arm, arms_of}
-use Rattle.mc_skeletons.specs.declared.skeleton.Step.TheVariants as T
+use Rattle.mc_det_constraints.specs.declared.constraint.Step.TheVariants as T
 use Rattle.mc_det.specs.declared.walk.Walk.{Walk}
 use Rattle.mc_det.specs.code.Walks.{typed, missed}
 use Rattle.mc_det.proofs.Walking.{puts_steps, no_more}

@@ -1,5 +1,5 @@
 use Rattle.std.proofs.Common.{List, [], ◌∷◌, ◌++◌, sym, ap, ◌∙◌, append_assoc}
-use Rattle.mc_skeletons.specs.declared.skeleton.Step.{Step}
+use Rattle.mc_det_constraints.specs.declared.constraint.Step.{Step}
 use Rattle.mc_det.specs.code.Walks.{times}
 use Rattle.mc_det.proofs.Walking.{more_times}
 use Rattle.mc_det.proofs.walk.Walk.put_times.Goals as goal

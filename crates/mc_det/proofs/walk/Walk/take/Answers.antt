@@ -5,8 +5,8 @@ use Rattle.mc_model.specs.Scheduled.{Take}
 use Rattle.mc_accepted.specs.Determined.{take_determinism}
 use Rattle.mc_source.specs.Determinism.{inferred}
 use Rattle.mc_procs.specs.Procedures.{as_system}
-use Rattle.mc_skeletons.specs.declared.skeleton.Step.TheVariants as T
-use Rattle.mc_det.specs.Bodies.{skeleton_in}
+use Rattle.mc_det_constraints.specs.declared.constraint.Step.TheVariants as T
+use Rattle.mc_det.specs.Bodies.{constraint_in}
 use Rattle.mc_det.specs.declared.facts.Fact.{Fact}
 use Rattle.mc_det.specs.code.Facts.{known_in}
 use Rattle.mc_det.specs.code.Points.{insts_in}
@@ -20,7 +20,7 @@ returns c =
     let types = c.args.types.now in
     on_ok_weaker c.put.result
     (λ p.
-    puts_steps c.args.procs.now w c.put.new.self (T.Fixed c.in_ok-d.d ∷ []) (λ S b known. skeleton_in S (typed types) b known (Take c.args.x c.args.symbol c.args.args.now)) p
+    puts_steps c.args.procs.now w c.put.new.self (T.Fixed c.in_ok-d.d ∷ []) (λ S b known. constraint_in S (typed types) b known (Take c.args.x c.args.symbol c.args.args.now)) p
     (λ outcome.
     ap (λ (d : Det). T.Fixed d ∷ [])
     (c.in_ok-d.ensures outcome

@@ -1,5 +1,5 @@
 use Rattle.std.proofs.Common.{◌≤◌, List, length, refl, sym, ap, ◌∙◌, subst, map}
-use Rattle.mc_insts.specs.declared.functors.Named.{Named}
+use Rattle.mc_insts.specs.declared.functors.NameArity.{NameArity}
 use Rattle.mc_insts.specs.code.Functors.{Functor, functor_named}
 use Rattle.mc_insts.specs.code.Shown.{Distinct}
 use Rattle.mc_insts.proofs.FunctorKeys.{functor_of, stored, kept_distinct, last_is}
@@ -12,7 +12,7 @@ returns-clause-functor c =
 
 pub returns-clause-distinct : goal.returns-clause-distinct
 returns-clause-distinct c = λ d.
-    subst (λ (keys : List Named). Distinct (map functor_of keys)) (sym c.in_ok-f.ensures.keys)
+    subst (λ (keys : List NameArity). Distinct (map functor_of keys)) (sym c.in_ok-f.ensures.keys)
     (kept_distinct _ c.self.inside.named.keys (record { name = c.in_ok-name.name; arity = c.args.arity }) refl (subst (λ (fs : List Functor). Distinct fs) (sym c.self.view_is) d))
 
 pub returns-clause-last : goal.returns-clause-last

@@ -1,14 +1,14 @@
 use Rattle.std.proofs.Common.{◌≡◌, ap, ◌∙◌}
 use Rattle.mc_values.specs.declared.heap.Heap.{Heap}
 use Rattle.mc_model.specs.Stream.{Bindings, ready, enter}
-use Rattle.mc_frames.specs.Frames.{bindings}
+use Rattle.mc_plain.specs.Frames.{bindings}
 use Rattle.mc_flat_code.specs.Running.{variables_at, body_at}
 use Rattle.mc_flat_code.specs.declared.code.Body.{Body}
 use Rattle.mc_plain.specs.code.Beginnings.{called_machine, first_now}
 use Rattle.mc_plain.specs.code.Views.{plain_now}
-use Rattle.mc_plain.specs.code.Work.{machine_of}
-use Rattle.mc_plain.specs.declared.state.Setting.{Setting}
-use Rattle.mc_plain.specs.declared.state.Work.{Work}
+use Rattle.mc_plain.specs.code.RunState.{machine_of}
+use Rattle.mc_plain.specs.declared.state.RunContext.{RunContext}
+use Rattle.mc_plain.specs.declared.state.RunState.{RunState}
 use Rattle.mc_plain.proofs.Opening.{called_whole, is_setting, has_constants, main_asked}
 use Rattle.mc_plain.proofs.Working.{constants_stay}
 use Rattle.mc_plain.proofs.plain.Plain.call.Goals as goal
@@ -16,10 +16,10 @@ use Rattle.mc_plain.proofs.plain.Plain.call.Goals as goal
 pub returns-clause-is_run : goal.returns-clause-is_run
 returns-clause-is_run c =
     λ whole.
-    let t : Setting = record { library = c.of-library.result; flat = c.args.flat; constants = c.in_ok-constants.constants; head = c.body-body.result.head; last = c.body-body.result.last } in
+    let t : RunContext = record { library = c.of-library.result; flat = c.args.flat; constants = c.in_ok-constants.constants; head = c.body-body.result.head; last = c.body-body.result.last } in
     let h1 : Heap = c.constants_of.new.heap in
     let h : Heap = c.first_caller.new.heap in
-    let w : Work = record { heap = h; refs = c.new-refs.result; control = c.begin_call-control.result } in
+    let w : RunState = record { heap = h; refs = c.new-refs.result; control = c.begin_call-control.result } in
     record {
       setting = is_setting t c.args.program.now c.of-library.ensures.program c.of-library.ensures.known c.requires.code c.requires.names;
       ready = record {
@@ -32,9 +32,9 @@ returns-clause-is_run c =
 pub returns-clause-run : goal.returns-clause-run
 returns-clause-run c =
     λ procs s input.
-    let t : Setting = record { library = c.of-library.result; flat = c.args.flat; constants = c.in_ok-constants.constants; head = c.body-body.result.head; last = c.body-body.result.last } in
+    let t : RunContext = record { library = c.of-library.result; flat = c.args.flat; constants = c.in_ok-constants.constants; head = c.body-body.result.head; last = c.body-body.result.last } in
     let h : Heap = c.first_caller.new.heap in
-    let w : Work = record { heap = h; refs = c.new-refs.result; control = c.begin_call-control.result } in
+    let w : RunState = record { heap = h; refs = c.new-refs.result; control = c.begin_call-control.result } in
     let e : Bindings = bindings h c.in_ok-frame.frame.items in
     let first : c.variables-first.result.now ≡ variables_at c.args.flat.code (body_at c.args.flat c.args.number).first = c.variables-first.ensures ∙ ap (λ (b : Body). variables_at c.args.flat.code b.first) c.body-body.ensures in
     let heads : c.variables-head.result.now ≡ variables_at c.args.flat.code (body_at c.args.flat c.args.number).head = c.variables-head.ensures ∙ ap (λ (b : Body). variables_at c.args.flat.code b.head) c.body-body.ensures in

@@ -1,4 +1,4 @@
-use Rattle.mc_plain.specs.code.Work.{rest_in}
+use Rattle.mc_plain.specs.code.RunState.{rest_in}
 use Rattle.mc_plain.proofs.Waiting.{wants_run, fed_run}
 use Rattle.mc_plain.proofs.plain.Plain.feed.Goals as goal
 

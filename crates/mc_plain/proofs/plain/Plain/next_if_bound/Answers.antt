@@ -1,4 +1,4 @@
-use Rattle.mc_plain.specs.code.Work.{rest_in}
+use Rattle.mc_plain.specs.code.RunState.{rest_in}
 use Rattle.mc_plain.specs.Running.{run_of}
 use Rattle.mc_plain.proofs.Opening.{follows_run}
 use Rattle.mc_plain.proofs.Waiting.{follows_wants}

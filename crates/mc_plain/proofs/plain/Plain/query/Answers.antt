@@ -1,21 +1,21 @@
 use Rattle.std.proofs.Common.{◌≡◌, ◌+◌, suc, refl, ◌∙◌, map, arith}
 use Rattle.mc_values.specs.declared.heap.Heap.{Heap}
 use Rattle.mc_model.specs.Stream.{nothing_bound, ready}
-use Rattle.mc_frames.specs.Frames.{bindings}
+use Rattle.mc_plain.specs.Frames.{bindings}
 use Rattle.mc_plain.specs.code.Beginnings.{first_machine}
 use Rattle.mc_plain.specs.code.Views.{plain_now}
-use Rattle.mc_plain.specs.code.Work.{machine_of}
-use Rattle.mc_plain.specs.declared.state.Setting.{Setting}
-use Rattle.mc_plain.specs.declared.state.Work.{Work}
+use Rattle.mc_plain.specs.code.RunState.{machine_of}
+use Rattle.mc_plain.specs.declared.state.RunContext.{RunContext}
+use Rattle.mc_plain.specs.declared.state.RunState.{RunState}
 use Rattle.mc_plain.proofs.Opening.{first_whole, is_setting, has_constants, query_asked}
 use Rattle.mc_plain.proofs.plain.Plain.query.Goals as goal
 
 pub returns-clause-is_run : goal.returns-clause-is_run
 returns-clause-is_run c =
     λ whole.
-    let t : Setting = record { library = c.of-library.result; flat = c.args.flat.program; constants = c.in_ok-constants.constants; head = c.args.flat.query.head; last = c.args.flat.query.last } in
+    let t : RunContext = record { library = c.of-library.result; flat = c.args.flat.program; constants = c.in_ok-constants.constants; head = c.args.flat.query.head; last = c.args.flat.query.last } in
     let h : Heap = c.constants_of.new.heap in
-    let w : Work = record { heap = h; refs = c.new-refs.result; control = c.begin-control.result } in
+    let w : RunState = record { heap = h; refs = c.new-refs.result; control = c.begin-control.result } in
     record {
       setting = is_setting t c.args.program.now c.of-library.ensures.program c.of-library.ensures.known c.requires.code c.requires.names;
       ready = record {
@@ -28,9 +28,9 @@ returns-clause-is_run c =
 pub returns-clause-run : goal.returns-clause-run
 returns-clause-run c =
     λ procs q s input.
-    let t : Setting = record { library = c.of-library.result; flat = c.args.flat.program; constants = c.in_ok-constants.constants; head = c.args.flat.query.head; last = c.args.flat.query.last } in
+    let t : RunContext = record { library = c.of-library.result; flat = c.args.flat.program; constants = c.in_ok-constants.constants; head = c.args.flat.query.head; last = c.args.flat.query.last } in
     let h : Heap = c.constants_of.new.heap in
-    let w : Work = record { heap = h; refs = c.new-refs.result; control = c.begin-control.result } in
+    let w : RunState = record { heap = h; refs = c.new-refs.result; control = c.begin-control.result } in
     let nothing : bindings h c.in_ok-frame.frame.items ≡ nothing_bound = c.in_ok-frame.ensures.nothing h in
     let levels : c.args.limits.budget + 1 ≡ suc c.args.limits.budget = omega arith in
     query_asked t c.args.program.now c.of-library.ensures.program c.of-library.ensures.known c.requires.code c.requires.names w c.args.limits procs

@@ -3,11 +3,11 @@ use Rattle.mc_model.specs.Stream.{Bindings}
 use Rattle.mc_values.specs.declared.heap.Heap.{Heap}
 use Rattle.mc_flat_code.specs.Ticked.{Answer, append, bind}
 use Rattle.mc_flat_code.specs.Running.{instr_at}
-use Rattle.mc_frames.specs.Frames.{bindings}
-use Rattle.mc_frames.specs.Values.{AreLive, AreHeld}
+use Rattle.mc_plain.specs.Frames.{bindings}
+use Rattle.mc_plain.specs.Values.{AreLive, AreHeld}
 use Rattle.mc_plain.specs.code.Machine.{Machine, Moved, answered, called, at, failing, answers, back, go}
 use Rattle.mc_plain.specs.code.Views.{machine, plain_around, plain_now}
-use Rattle.mc_plain.specs.declared.state.Around.{Around}
+use Rattle.mc_plain.specs.declared.state.Continuation.{Continuation}
 use Rattle.mc_plain.specs.declared.state.Control.{Control}
 use Rattle.mc_plain.proofs.Calling.{kept, cut}
 use Rattle.mc_plain.proofs.TickedLaws.{append_end}
@@ -26,7 +26,7 @@ returns-in_ok-keep-in-Condition-clause-steps c =
     subst (Moved outcome c.args.flat.now head last (machine h d)) (sym (c.in_ok-keep-in-Condition.ensures.goes_on h))
     (kept outcome c.args.flat.now o head last h c.args.self.now d s refl e a.0 a.1.0 a.1.1 w
     (answered c.in-Condition.next) (bindings h c.new-none.result.items) (at c.in-Condition.next) (machine h d).bindings refl
-    (λ xs. ap (λ (k : Around). answers outcome c.args.flat.now s.level s.height (plain_around k) (bindings h s.frame.items) (Answer (machine h d).bindings xs)) c.in-Condition.is)
+    (λ xs. ap (λ (k : Continuation). answers outcome c.args.flat.now s.level s.height (plain_around k) (bindings h s.frame.items) (Answer (machine h d).bindings xs)) c.in-Condition.is)
     refl (machine h c.keep.new.self).points (c.in_ok-keep-in-Condition.ensures.held h))
 
 pub returns-in_ok-keep-in-Condition-clause-held : goal.returns-in_ok-keep-in-Condition-clause-held
@@ -42,7 +42,7 @@ returns-in_ok-keep-in-Answered-clause-steps c =
     subst (Moved outcome c.args.flat.now head last (machine h d)) (sym (c.in_ok-keep-in-Answered.ensures.goes_on h))
     (kept outcome c.args.flat.now o head last h c.args.self.now d s refl e a.0 a.1.0 a.1.1 w
     (answered c.in-Answered.next) (bindings h c.new-none-in-Answered.result.items) (at c.in-Answered.next) (machine h d).bindings refl
-    (λ xs. ap (λ (k : Around). answers outcome c.args.flat.now s.level s.height (plain_around k) (bindings h s.frame.items) (Answer (machine h d).bindings xs)) c.in-Answered.is)
+    (λ xs. ap (λ (k : Continuation). answers outcome c.args.flat.now s.level s.height (plain_around k) (bindings h s.frame.items) (Answer (machine h d).bindings xs)) c.in-Answered.is)
     refl (machine h c.keep-in-Answered.new.self).points (c.in_ok-keep-in-Answered.ensures.held h))
 
 pub returns-in_ok-keep-in-Answered-clause-held : goal.returns-in_ok-keep-in-Answered-clause-held
@@ -59,7 +59,7 @@ returns-in-Negated-clause-steps c =
     subst (Moved outcome c.args.flat.now head last (machine h d)) (sym (c.give_up.ensures.goes_on h))
     (cut outcome c.args.flat.now o head last h c.args.self.now d s refl e a.0 a.1.0 a.1.1 w
     g.0 (machine h c.give_up.new.self).points failing g.1 (c.give_up.ensures.kept h) refl
-    (λ l. ap (λ (k : Around). answers outcome c.args.flat.now s.level s.height (plain_around k) (bindings h s.frame.items) (Answer (machine h d).bindings l)) c.in-Negated.is))
+    (λ l. ap (λ (k : Continuation). answers outcome c.args.flat.now s.level s.height (plain_around k) (bindings h s.frame.items) (Answer (machine h d).bindings l)) c.in-Negated.is))
 
 pub returns-in-Negated-clause-held : goal.returns-in-Negated-clause-held
 returns-in-Negated-clause-held c = λ p y x. c.give_up.ensures.held p c.args.heap.now x
@@ -74,7 +74,7 @@ returns-in-Pruned-clause-steps c =
     subst (Moved outcome c.args.flat.now head last (machine h d)) (sym (c.give_up-in-Pruned.ensures.goes_on h))
     (cut outcome c.args.flat.now o head last h c.args.self.now d s refl e a.0 a.1.0 a.1.1 w
     g.0 (machine h c.give_up-in-Pruned.new.self).points (at c.in-Pruned.next) g.1 (c.give_up-in-Pruned.ensures.kept h) refl
-    (λ l. ap (λ (k : Around). answers outcome c.args.flat.now s.level s.height (plain_around k) (bindings h s.frame.items) (Answer (machine h d).bindings l)) c.in-Pruned.is
+    (λ l. ap (λ (k : Continuation). answers outcome c.args.flat.now s.level s.height (plain_around k) (bindings h s.frame.items) (Answer (machine h d).bindings l)) c.in-Pruned.is
     ∙ append_end (go outcome c.args.flat.now s.level s.height c.in-Pruned.next (machine h d).bindings)))
 
 pub returns-in-Pruned-clause-held : goal.returns-in-Pruned-clause-held
@@ -94,7 +94,7 @@ returns-in_ok-keep_spare-in-Called-clause-steps c =
     (subst (λ (N : Machine). Moved outcome f head last (machine h d) (record N { bindings = e2; now = plain_now c.in_ok-now-in-Called.now })) (sym (c.in_ok-keep-in-Called.ensures.goes_on h))
     (kept outcome f o head last h c.args.self.now d s refl e a.0 a.1.0 a.1.1 w
     (called place) outer (plain_now c.in_ok-now-in-Called.now) e2 c.in_ok-now-in-Called.ensures.going
-    (λ xs. ap (λ (k : Around). answers outcome f s.level s.height (plain_around k) outer (Answer (machine h d).bindings xs)) c.in-Called.is
+    (λ xs. ap (λ (k : Continuation). answers outcome f s.level s.height (plain_around k) outer (Answer (machine h d).bindings xs)) c.in-Called.is
     ∙ ap (λ l. append l (bind xs (back outcome f s.level s.height (instr_at f.code place) outer)))
     (ap (λ (g : Vec (Option ℕ) Global). back outcome f s.level s.height (instr_at f.code place) outer (bindings h g.items)) (sym c.in_ok-keep-in-Called.ensures.frame)
     ∙ c.in_ok-now-in-Called.ensures.says outcome s.level s.height))

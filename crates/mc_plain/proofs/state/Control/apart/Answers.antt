@@ -1,5 +1,5 @@
 use Rattle.std.proofs.Common.{sym, subst}
-use Rattle.mc_frames.specs.Values.{AreHeld}
+use Rattle.mc_plain.specs.Values.{AreHeld}
 use Rattle.mc_plain.proofs.Keeping.{segments_pushed}
 use Rattle.mc_plain.proofs.state.Control.apart.Goals as goal
 

@@ -5,8 +5,8 @@ use Rattle.mc_model.specs.Builtins.{outcome}
 use Rattle.mc_model.specs.EventList.{Items}
 use Rattle.mc_model.specs.Stream.{Bindings, apply_items, gather}
 use Rattle.mc_builtins.specs.Answers.{known}
-use Rattle.mc_frames.specs.Frames.{bindings}
-use Rattle.mc_frames.specs.Atoms.{ActedItems, WaitsToRead}
+use Rattle.mc_plain.specs.Frames.{bindings}
+use Rattle.mc_plain.specs.Atoms.{ActedItems, WaitsToRead}
 use Rattle.mc_plain.proofs.Applying.{went_applied, threw_applied, wrote_applied, reads_applied}
 use Rattle.mc_plain.proofs.Growing.{atom_held}
 use Rattle.mc_plain.proofs.state.Control.apply.Goals as goal

@@ -1,6 +1,6 @@
 use Rattle.std.proofs.Common.{◌≡◌, ◌-◌, ◌∷◌, true, length, sym, ap, subst, ◌∙◌, map, arith}
 use Rattle.mc_model.specs.Stream.{Bindings, ready, enter}
-use Rattle.mc_frames.specs.Frames.{bindings}
+use Rattle.mc_plain.specs.Frames.{bindings}
 use Rattle.mc_flat_code.specs.Running.{variables_at, body_at}
 use Rattle.mc_flat_code.specs.declared.code.Body.{Body}
 use Rattle.mc_plain.specs.code.Machine.{Machine, Moved, at, called, stuck}

@@ -2,7 +2,7 @@ use Rattle.std.proofs.Common.{refl, sym, ap, ◌∙◌}
 use Rattle.mc_values.specs.Heap.{value_at}
 use Rattle.mc_model.specs.EventList.{of_option}
 use Rattle.mc_model.specs.Stream.{Bindings, meet}
-use Rattle.mc_frames.specs.Frames.{bindings}
+use Rattle.mc_plain.specs.Frames.{bindings}
 use Rattle.mc_plain.specs.code.Views.{machine}
 use Rattle.mc_plain.proofs.Going.{acted}
 use Rattle.mc_plain.proofs.state.Control.constant.Goals as goal

@@ -1,5 +1,5 @@
 use Rattle.std.proofs.Common.{sym, subst}
-use Rattle.mc_frames.specs.Values.{AreHeld}
+use Rattle.mc_plain.specs.Values.{AreHeld}
 use Rattle.mc_plain.specs.declared.state.Point.TheVariants as P
 use Rattle.mc_plain.proofs.Keeping.{points_pushed}
 use Rattle.mc_plain.proofs.state.Control.either.Goals as goal

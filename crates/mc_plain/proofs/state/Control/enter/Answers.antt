@@ -1,5 +1,5 @@
 use Rattle.std.proofs.Common.{ℕ, Option, Vec, Global, sym, subst}
-use Rattle.mc_frames.specs.Values.{AreHeld}
+use Rattle.mc_plain.specs.Values.{AreHeld}
 use Rattle.mc_plain.proofs.Keeping.{segments_pushed}
 use Rattle.mc_plain.proofs.state.Control.enter.Goals as goal
 

@@ -1,6 +1,6 @@
 use Rattle.std.proofs.Common.{refl, sym, ap, ◌∙◌}
 use Rattle.mc_model.specs.Stream.{Bindings, same_items}
-use Rattle.mc_frames.specs.Frames.{bindings}
+use Rattle.mc_plain.specs.Frames.{bindings}
 use Rattle.mc_plain.specs.code.Views.{machine}
 use Rattle.mc_plain.proofs.Going.{acted}
 use Rattle.mc_plain.proofs.state.Control.equate.Goals as goal

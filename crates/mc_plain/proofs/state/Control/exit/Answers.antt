@@ -1,4 +1,4 @@
-use Rattle.mc_frames.proofs.Growth.{live_from_held}
+use Rattle.mc_plain.proofs.Growth.{live_from_held}
 use Rattle.mc_plain.proofs.Keeping.{segments_popped}
 use Rattle.mc_plain.proofs.state.Control.exit.Goals as goal
 

@@ -6,11 +6,11 @@ use Rattle.mc_model.specs.Builtins.{outcome}
 use Rattle.mc_model.specs.EventList.{Items, Read}
 use Rattle.mc_model.specs.Stream.{Bindings, apply_items, gather}
 use Rattle.mc_builtins.specs.Answers.{known}
-use Rattle.mc_frames.specs.Frames.{bindings}
-use Rattle.mc_frames.specs.Atoms.{ReadsFrom, fed_items}
-use Rattle.mc_frames.specs.declared.went.Fed.{Fed}
+use Rattle.mc_plain.specs.Frames.{bindings}
+use Rattle.mc_plain.specs.Atoms.{ReadsFrom, fed_items}
+use Rattle.mc_plain.specs.declared.results.ReadLineResult.{ReadLineResult}
 use Rattle.mc_model.specs.declared.run.Stop.TheVariants as E
-use Rattle.mc_plain.specs.declared.state.Now.TheVariants as N
+use Rattle.mc_plain.specs.declared.state.NextAction.TheVariants as N
 use Rattle.mc_plain.proofs.Applying.{fed_went, fed_threw}
 use Rattle.mc_plain.proofs.Growing.{atom_held, atom_kept}
 use Rattle.mc_plain.proofs.state.Control.feed.Goals as goal
@@ -30,7 +30,7 @@ returns-in-Went-clause-fed c =
     let wide : List (Option ℕ) = c.widen_all-2.new.frame.items in
     let same : bindings h wide ≡ bindings h c.args.self.now.frame.items = c.in_ok-widen_all-2.ensures.same h ∙ c.in_ok-widen_all.ensures.same h in
     fed_went c.args.library.now.program.now h k c.feed.ensures.keeps c.args.self.now c.requires c.feed.new.frame items c.args.next wide same from input c.in-Went.went c.went_on.result c.went_on.ensures
-    (subst (λ (a : Fed). items (bindings h wide) input ≡ Read from (fed_items a (bindings k c.feed.new.frame.items))) c.in-Went.is
+    (subst (λ (a : ReadLineResult). items (bindings h wide) input ≡ Read from (fed_items a (bindings k c.feed.new.frame.items))) c.in-Went.is
     (c.in_ok-went.ensures.does input from (subst (λ (e : Bindings). ReadsFrom from (items e input)) (sym same) r) next))
 
 pub returns-in-Throws-clause-fed : goal.returns-in-Throws-clause-fed
@@ -42,7 +42,7 @@ returns-in-Throws-clause-fed c =
     let wide : List (Option ℕ) = c.widen_all-2.new.frame.items in
     let same : bindings h wide ≡ bindings h c.args.self.now.frame.items = c.in_ok-widen_all-2.ensures.same h ∙ c.in_ok-widen_all.ensures.same h in
     fed_threw c.args.library.now.program.now h k c.feed.ensures.keeps c.args.self.now c.requires c.feed.new.frame items c.args.next wide same from input c.in-Throws.exception
-    (subst (λ (a : Fed). items (bindings h wide) input ≡ Read from (fed_items a (bindings k c.feed.new.frame.items))) c.in-Throws.is
+    (subst (λ (a : ReadLineResult). items (bindings h wide) input ≡ Read from (fed_items a (bindings k c.feed.new.frame.items))) c.in-Throws.is
     (c.in_ok-went.ensures.does input from (subst (λ (e : Bindings). ReadsFrom from (items e input)) (sym same) r) next))
 
 pub returns-in-Went-clause-held : goal.returns-in-Went-clause-held

@@ -1,5 +1,5 @@
 use Rattle.std.proofs.Common.{sym, ap, subst, ◌∙◌, ◌++◌, length, drop, reverse, map}
-use Rattle.mc_frames.specs.Values.{AreHeld}
+use Rattle.mc_plain.specs.Values.{AreHeld}
 use Rattle.mc_plain.specs.code.Held.{SegmentsHeld, PointsHeld}
 use Rattle.mc_plain.specs.declared.state.Control.{Control}
 use Rattle.mc_plain.proofs.Keeping.{points_cut}

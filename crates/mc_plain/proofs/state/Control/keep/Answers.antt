@@ -1,5 +1,5 @@
 use Rattle.std.proofs.Common.{ap, sym, subst}
-use Rattle.mc_frames.specs.Values.{AreHeld}
+use Rattle.mc_plain.specs.Values.{AreHeld}
 use Rattle.mc_plain.specs.code.Held.{SegmentsHeld}
 use Rattle.mc_plain.specs.declared.state.Control.{Control}
 use Rattle.mc_plain.proofs.state.Control.keep.Goals as goal

@@ -1,7 +1,7 @@
 use Rattle.std.proofs.Common.{sym, ap, ◌∙◌, reverse}
 use Rattle.mc_model.specs.Stream.{Bindings, made_items}
 use Rattle.mc_values.specs.declared.heap.Heap.{Heap}
-use Rattle.mc_frames.specs.Frames.{bindings}
+use Rattle.mc_plain.specs.Frames.{bindings}
 use Rattle.mc_plain.specs.code.Machine.{Machine}
 use Rattle.mc_plain.specs.code.Views.{machine}
 use Rattle.mc_plain.proofs.Growing.{points_grow, segments_grow, points_stay, segments_stay}

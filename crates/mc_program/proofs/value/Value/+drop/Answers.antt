@@ -27,7 +27,7 @@ down-smaller t c =
     let con = (c.in-Some-into_args.ensures {u = tt}).no_other in
     let taken = ap in_value con.1 ∙ in_value-Con _ _ in
     let some = some_there c.in-Some-into_args.args (λ e. let none = c.is_empty-in-Some-into_args.ensures.1 e in let not = c.if-is_empty-2.false in cc) in
-    let less = first_less in_value c.in-Some-into_args.args c.hung.result.0 some c.hung.ensures.first in
+    let less = first_less in_value c.in-Some-into_args.args c.replace_first.result.0 some c.replace_first.ensures.first in
     omega arith
 
 pub down-preserved : goal.down-preserved
@@ -35,7 +35,7 @@ down-preserved t c =
     let con = (c.in-Some-into_args.ensures {u = tt}).no_other in
     let taken = ap in_value con.1 ∙ in_value-Con _ _ in
     let some = some_there c.in-Some-into_args.args (λ e. let none = c.is_empty-in-Some-into_args.ensures.1 e in let not = c.if-is_empty-2.false in cc) in
-    let moved = total_hung in_value _ _ _ _ some c.hung.ensures.first c.hung.ensures.others in
+    let moved = total_hung in_value _ _ _ _ some c.replace_first.ensures.first c.replace_first.ensures.others in
     let link = in_value-Con 0 c.down.left in
     let kept = c.down.invariant in
     omega arith

@@ -1,6 +1,6 @@
 use Rattle.std.proofs.Common.{◌≡◌, ℕ, ◌+◌, ◌<◌, ◌≤◌, ◌++◌, [], ◌∷◌, List, ◌&&◌, ◌||◌, not, map, drop, reverse, length, refl, ap, ap₂, sym, ◌∙◌, true, arith, codes}
 use Rattle.std.proofs.lemmas.List.{drop_all, reverse-append, reverse-reverse, map-append}
-use Rattle.mc_term_data.specs.Plain.{plain_term, tms, at, no_term, more_terms, App}
+use Rattle.mc_term_data.specs.Plain.{plain_term, term_list, at, no_term, more_terms, App}
 use Rattle.mc_term_data.specs.declared.term.Term.{Term}
 use Rattle.mc_clause_syntax.specs.States.{names_of}
 use Rattle.mc_state_variables.specs.Updates.{leave_out, updated}
@@ -25,15 +25,15 @@ pub conjunction-loop-goal-preserved : goal.conjunction-loop-goal-preserved
 conjunction-loop-goal-preserved t c =
     let i = c.loop-goal.goal-index in
     let goals = c.args.goals.now in
-    c.in_ok-conjunct.ensures {u = tt} (goal_parts (goals_of (tms (map plain_term (drop (i + 1) goals)))))
-    ∙ ap (λ ts. gone_on c.loop-goal.written (goal_parts (goals_of (tms (map plain_term ts)))) c.loop-goal.self.next)
+    c.in_ok-conjunct.ensures {u = tt} (goal_parts (goals_of (term_list (map plain_term (drop (i + 1) goals)))))
+    ∙ ap (λ ts. gone_on c.loop-goal.written (goal_parts (goals_of (term_list (map plain_term ts)))) c.loop-goal.self.next)
     (sym (item_at goals i c.goal-item.result c.loop-goal-test.true c.goal-item.is))
     ∙ c.loop-goal.invariant
 
 pub conjunction-returns : goal.conjunction-returns
 conjunction-returns t c =
     let goals = c.args.goals.now in
-    let ts = tms (map plain_term goals) in
+    let ts = term_list (map plain_term goals) in
     let l = c.args.line in
     let made = c.in_ok-written.written in
     let now = c.loop-goal.written in
@@ -47,7 +47,7 @@ conjunction-returns t c =
     (λ x e.
     ap (λ v. written v next) e
     ∙ conjunction_is l ts (map plain_term now.texts.items) (reverse now.steps.items) (plain_helds c.args.held.now) (plain_helds now.current.items) c.args.self.now.next next
-    (ap (λ us. gone_on now (goal_parts (goals_of (tms (map plain_term us)))) next) (sym none)
+    (ap (λ us. gone_on now (goal_parts (goals_of (term_list (map plain_term us)))) next) (sym none)
     ∙ c.loop-goal.invariant
     ∙ begun))
 
@@ -78,7 +78,7 @@ disjunction-returns t c =
     let l = c.args.line in
     ap (λ text. written text c.pieces.new.self.next) c.in_ok-text.ensures
     ∙ ap (on_text (λ ps. alone l (gathered l ps no_term))) (c.in_ok-pieces.ensures {u = tt})
-    ∙ disjunction_is l (tms (map plain_term c.args.goals.now)) (plain_helds c.args.held.now) c.args.self.now.next
+    ∙ disjunction_is l (term_list (map plain_term c.args.goals.now)) (plain_helds c.args.held.now) c.args.self.now.next
 
 pub pieces-loop-goal-preserved : goal.pieces-loop-goal-preserved
 pieces-loop-goal-preserved t c =
@@ -87,7 +87,7 @@ pieces-loop-goal-preserved t c =
     let goals = c.args.goals.now in
     let item = c.goal-item.result in
     let g = goal_of (plain_term item) in
-    let behind = goals_of (tms (map plain_term (drop (i + 1) goals))) in
+    let behind = goals_of (term_list (map plain_term (drop (i + 1) goals))) in
     let held = plain_helds c.args.held.now in
     let pieces = c.loop-goal.pieces.items in
     let left = c.pop.new.self.items in
@@ -101,7 +101,7 @@ pieces-loop-goal-preserved t c =
     ∙ pieced l (map plain_piece pieces) (plain_piece piece) whole (reverse left) c.loop-goal.wanted opening.wanted c.loop-goal.fresh c.begins-begins.result g behind held from next
     (c.begins-begins.ensures ∙ ap₂ (λ k xs. (c.loop-goal.fresh || k) && not (is_last (reverse xs))) c.is_conditional-conditional.ensures c.deref.ensures.value)
     c.in_ok-around.ensures.wanted c.in_ok-around.ensures.closings (c.in_ok-text.ensures {u = tt})
-    ∙ ap₂ (λ ws ts. on_text (λ ps. map plain_piece pieces ++ ps) (pieces_of l ws c.loop-goal.wanted c.loop-goal.fresh (goals_of (tms (map plain_term ts))) held from))
+    ∙ ap₂ (λ ws ts. on_text (λ ps. map plain_piece pieces ++ ps) (pieces_of l ws c.loop-goal.wanted c.loop-goal.fresh (goals_of (term_list (map plain_term ts))) held from))
     (sym (ap reverse c.in-Some.ensures.items ∙ reverse-append left (whole ∷ [])))
     (sym (item_at goals i item c.loop-goal-test.true c.goal-item.is))
     ∙ c.loop-goal.invariant
@@ -114,7 +114,7 @@ pieces-returns t c =
     let held = plain_helds c.args.held.now in
     let pieces = map plain_piece c.loop-goal.pieces.items in
     pieces_are l pieces (reverse c.loop-goal.wholes.items) c.loop-goal.wanted c.loop-goal.fresh held c.loop-goal.self.next _
-    (ap (λ ts. on_text (λ ps. pieces ++ ps) (pieces_of l (reverse c.loop-goal.wholes.items) c.loop-goal.wanted c.loop-goal.fresh (goals_of (tms (map plain_term ts))) held c.loop-goal.self.next)) (sym none)
+    (ap (λ ts. on_text (λ ps. pieces ++ ps) (pieces_of l (reverse c.loop-goal.wholes.items) c.loop-goal.wanted c.loop-goal.fresh (goals_of (term_list (map plain_term ts))) held c.loop-goal.self.next)) (sym none)
     ∙ c.loop-goal.invariant)
 
 pub closed-returns : goal.closed-returns

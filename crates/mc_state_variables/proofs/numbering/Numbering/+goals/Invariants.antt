@@ -1,6 +1,6 @@
 use Rattle.std.proofs.Common.{◌≡◌, ◌++◌, ◌+◌, ◌*◌, [], true, max, drop, map, reverse}
 use denote.Param.Weighed.{most}
-use Rattle.mc_term_data.specs.Plain.{plain_term, tms}
+use Rattle.mc_term_data.specs.Plain.{plain_term, term_list}
 use Rattle.mc_term_data.specs.declared.term.Term.{size-Term}
 use Rattle.mc_state_variables.specs.Numbered.{on_text, goals_of, goal_parts}
 use Rattle.mc_state_variables.specs.code.Helds.{plain_helds}
@@ -67,11 +67,11 @@ decreases-then_part l = 16 * size-Term l.then.now + 1
 
 abbrev pub invariant-conjunction-loop-goal : goal.invariant-conjunction-loop-goal
 invariant-conjunction-loop-goal l =
-    gone_on l.written (goal_parts (goals_of (tms (map plain_term (drop l.goal-index l.goals))))) l.self.next
-    ≡ gone_on l.initial.written (goal_parts (goals_of (tms (map plain_term l.goals)))) l.initial.self.next
+    gone_on l.written (goal_parts (goals_of (term_list (map plain_term (drop l.goal-index l.goals))))) l.self.next
+    ≡ gone_on l.initial.written (goal_parts (goals_of (term_list (map plain_term l.goals)))) l.initial.self.next
 
 abbrev pub invariant-pieces-loop-goal : goal.invariant-pieces-loop-goal
 invariant-pieces-loop-goal l =
     on_text (λ ps. map plain_piece l.pieces.items ++ ps)
-    (pieces_of l.line (reverse l.wholes.items) l.wanted l.fresh (goals_of (tms (map plain_term (drop l.goal-index l.goals)))) (plain_helds l.held) l.self.next)
-    ≡ pieces_of l.line (wholes_of (tms (map plain_term l.goals))) [] true (goals_of (tms (map plain_term l.goals))) (plain_helds l.held) l.initial.self.next
+    (pieces_of l.line (reverse l.wholes.items) l.wanted l.fresh (goals_of (term_list (map plain_term (drop l.goal-index l.goals)))) (plain_helds l.held) l.self.next)
+    ≡ pieces_of l.line (wholes_of (term_list (map plain_term l.goals))) [] true (goals_of (term_list (map plain_term l.goals))) (plain_helds l.held) l.initial.self.next

@@ -4,7 +4,7 @@ use Rattle.mc_model.specs.Good.{System}
 use Rattle.mc_accepted.specs.MergedArms.{ends}
 use Rattle.mc_accepted.specs.Switched.{goals_of}
 use Rattle.mc_procs.specs.VariableTypes.{type_in}
-use Rattle.mc_mode_points.specs.Tables.{Entry}
+use Rattle.mc_mode_state.specs.Tables.{Entry}
 use Rattle.mc_switch.specs.Types.{inst_in}
 use Rattle.mc_switch.specs.Kept.{Suits, Extends, changes_of, kept_by}
 use Rattle.mc_switch.specs.code.Labels.{plain_opened}

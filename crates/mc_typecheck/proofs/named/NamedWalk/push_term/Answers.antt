@@ -1,6 +1,6 @@
 use Rattle.std.proofs.Common.{◌≡◌, ℕ, List, [], ◌∷◌, ◌++◌, length, take, drop, ap, ap₂, subst, ◌∙◌, arith, length-append}
 use Rattle.std.proofs.lemmas.List.{drop-append-le, take-append-le}
-use Rattle.mc_type_search.specs.declared.written_types.Written.{Written, Free}
+use Rattle.mc_types.specs.declared.written_types.Written.{Written, Free}
 use Rattle.mc_typecheck.specs.Searched.{plain_signature}
 use Rattle.mc_typecheck.specs.code.Named.{AreNamed}
 use Rattle.mc_typecheck.proofs.Naming.{named_with_free}

@@ -1,9 +1,9 @@
 use Rattle.std.proofs.Common.{◌≡◌, ◌++◌, List, sym, ◌∙◌, ap, subst, arith}
 use Rattle.std.specs.Prelude.{replicate}
-use Rattle.mc_type_graph.specs.Holds.{InOrder}
-use Rattle.mc_type_graph.specs.Founded.{mark_at}
-use Rattle.mc_type_graph.specs.declared.cells.Cell.{Cell}
-use Rattle.mc_type_graph.specs.declared.cells.Cell.TheVariants.{Free}
+use Rattle.mc_types.specs.Holds.{InOrder}
+use Rattle.mc_types.specs.Founded.{mark_at}
+use Rattle.mc_types.specs.declared.cells.Cell.{Cell}
+use Rattle.mc_types.specs.declared.cells.Cell.TheVariants.{Free}
 use Rattle.mc_types.specs.Substitutions.{IsIdentity}
 use Rattle.mc_types.specs.code.Systems.{IsSystem, types_of}
 use Rattle.mc_types.proofs.Starts.{free_system, free_identity}

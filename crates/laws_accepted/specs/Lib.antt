@@ -1,0 +1,9 @@
+pub mod AcceptedLaws
+pub mod FormLaws
+pub mod GroupLaws
+pub mod KeptLaws
+pub mod Told
+pub mod code
+pub mod FaultLaws
+pub mod SwitchLaws
+pub mod TableLaws

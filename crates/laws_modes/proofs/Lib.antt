@@ -1,0 +1,13 @@
+pub mod OrdersNamed
+pub mod SameTypes
+pub mod MergedThere
+pub mod ChosenNodes
+pub mod Declared
+pub mod Finite
+pub mod MetTypes
+pub mod Parts
+pub mod Ranks
+pub mod SmallPrograms
+pub mod Under
+pub mod Alike
+pub mod Remaining

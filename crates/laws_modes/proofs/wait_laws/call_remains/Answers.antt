@@ -1,0 +1,5 @@
+use Rattle.laws_modes.proofs.Remaining
+use Rattle.laws_modes.proofs.wait_laws.call_remains.Goals as goal
+
+pub returns : goal.returns
+returns c = λ Op P declared T own first O b y below. Remaining.call-remains Op P declared T own first below O b y

@@ -1,0 +1,5 @@
+use Rattle.std.proofs.Common.{refl}
+use Rattle.laws_order.proofs.examples.changes.Goals as goal
+
+pub returns : goal.returns
+returns c = (refl, refl, refl, refl, refl, (λ e. cc))

@@ -1,0 +1,14 @@
+pub mod Bodies
+pub mod BodyOrders
+pub mod Closed
+pub mod Ends
+pub mod Forms
+pub mod LastGraph
+pub mod Listed
+pub mod Marks
+pub mod OfModes
+pub mod Retold
+pub mod Told
+pub mod Truth
+pub mod Changes
+pub mod GroupMerges

@@ -1,0 +1,2 @@
+pub mod TruthOfRules
+pub mod FormsMerge

@@ -1,0 +1,17 @@
+pub mod Forms
+pub mod Given
+pub mod Homes
+pub mod Meanings
+pub mod Meant
+pub mod Written
+pub mod Library
+pub mod Matters
+pub mod Sources
+pub mod Tested
+pub mod Numbered
+pub mod Texts
+pub mod Values
+pub mod Declared
+pub mod Read
+pub mod Typed
+pub mod ReadingSources

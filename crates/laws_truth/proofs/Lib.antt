@@ -1,0 +1,12 @@
+pub mod Mentioned
+pub mod ResolvedNames
+pub mod Wholes
+pub mod Regular
+pub mod OwnNames
+pub mod NamedApart
+pub mod Clauses
+pub mod Phases
+pub mod Modes
+pub mod Queries
+pub mod Mains
+pub mod ProgramTruth

@@ -1,0 +1,14 @@
+pub mod Mentioned
+pub mod ClauseLaws
+pub mod FitLaws
+pub mod WalkLaws
+pub mod GoalTypes
+pub mod QueryGoals
+pub mod ProcedureTypes
+pub mod code
+pub mod SeenTypes
+pub mod WholeTypes
+pub mod ResolvedClauses
+pub mod KnownCandidates
+pub mod JudgedClauses
+pub mod JudgedPrograms

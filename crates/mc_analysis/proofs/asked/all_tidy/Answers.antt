@@ -1,0 +1,17 @@
+use Rattle.std.proofs.Common.{ℕ, map, sym, subst, arith}
+use Rattle.mc_program.specs.PlainPrograms.{plain_program, plain_type}
+use Rattle.mc_insts.specs.Graphs.{graph_of}
+use Rattle.mc_mode_state.specs.Modes.{ModeFits}
+use Rattle.mc_analysis.proofs.Asking.{past_modes}
+use Rattle.mc_analysis.proofs.Untidying.{mode_fits_at}
+use Rattle.mc_analysis.proofs.asked.all_tidy.Goals as goal
+
+pub mode_is_tidy-requires-clause-mode : goal.mode_is_tidy-requires-clause-mode
+mode_is_tidy-requires-clause-mode c =
+    let m = c.mode-item.result in
+    subst (λ (n : ℕ). ModeFits n m) (sym c.loop-mode.invariant.count)
+    (mode_fits_at _ c.args.modes.now c.loop-mode.mode-index m (omega arith) c.mode-item.is c.requires.modes)
+
+pub returns-clause-tidy : goal.returns-clause-tidy
+returns-clause-tidy c =
+    past_modes (plain_program c.args.program.now) (graph_of c.args.insts.now) (map plain_type c.args.types.now) c.args.modes.now c.loop-mode.mode-index (omega arith) c.loop-mode.invariant.rest

@@ -1,0 +1,6 @@
+use Rattle.std.proofs.Common.{◌↔◌, drop}
+use Rattle.mc_procs.specs.Named.{NumbersBelow}
+use Rattle.mc_analysis.proofs.signatures.numbers_below.Given as goal
+
+abbrev pub invariant-loop-number : goal.invariant-loop-number
+invariant-loop-number l = NumbersBelow l.top (drop l.number-index l.numbers) ↔ NumbersBelow l.top l.numbers

@@ -1,9 +1,0 @@
-pub mod Choices
-pub mod Picking
-pub mod Bounds
-pub mod Entries
-pub mod Numbering
-pub mod WrittenOut
-pub mod Made
-pub mod Shown
-pub mod Marking

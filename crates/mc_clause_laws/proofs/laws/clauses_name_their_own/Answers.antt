@@ -1,8 +1,0 @@
-use Rattle.mc_clause_laws.proofs.Clauses.{clauses_name_their_own, queries_name_their_own}
-use Rattle.mc_clause_laws.proofs.laws.clauses_name_their_own.Goals as goal
-
-pub returns-clause-clauses : goal.returns-clause-clauses
-returns-clause-clauses c = clauses_name_their_own
-
-pub returns-clause-queries : goal.returns-clause-queries
-returns-clause-queries c = queries_name_their_own

@@ -1,6 +1,0 @@
-ghost use Rattle.mc_clause_phase.specs.Laws.{AtMostOneList};
-
-/// Items break one list of rules at most: a law, and nothing to run.
-pub fn at_most_one_list()
-    ensures { AtMostOneList }
-{}

@@ -1,0 +1,5 @@
+pub mod Pushing
+pub mod NumberLemmas
+pub mod GoalLemmas
+pub mod Queries
+pub mod Wholes

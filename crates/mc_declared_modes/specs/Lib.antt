@@ -1,2 +1,0 @@
-pub mod WrittenModes
-pub mod code

@@ -1,5 +1,0 @@
-use Rattle.mc_determinism_laws.proofs.Places.{by_place_is_in_places}
-use Rattle.mc_determinism_laws.proofs.laws.rules_are_in_places.Goals as goal
-
-pub returns : goal.returns
-returns c = by_place_is_in_places

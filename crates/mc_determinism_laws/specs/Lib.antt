@@ -1,4 +1,0 @@
-pub mod FaultLaws
-pub mod SwitchLaws
-pub mod TableLaws
-pub mod code

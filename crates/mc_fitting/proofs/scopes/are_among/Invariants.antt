@@ -1,6 +1,0 @@
-use Rattle.std.proofs.Common.{◌↔◌, drop}
-use Rattle.mc_fitting.specs.code.WrittenScopes.{AllIn}
-use Rattle.mc_fitting.proofs.scopes.are_among.Given as goal
-
-abbrev pub invariant-loop-variable : goal.invariant-loop-variable
-invariant-loop-variable l = AllIn (drop l.variable-index l.variables) l.others ↔ AllIn l.variables l.others

@@ -1,6 +1,0 @@
-use Rattle.std.proofs.Common.{◌↔◌, drop}
-use Rattle.mc_fitting.specs.code.WrittenScopes.{NoneIn}
-use Rattle.mc_fitting.proofs.scopes.are_apart.Given as goal
-
-abbrev pub invariant-loop-variable : goal.invariant-loop-variable
-invariant-loop-variable l = NoneIn (drop l.variable-index l.variables) l.others ↔ NoneIn l.variables l.others

@@ -1,3 +1,0 @@
-pub mod ProcedureGoal
-pub mod TypedGoals
-pub mod code

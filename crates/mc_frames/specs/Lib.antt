@@ -1,4 +1,0 @@
-pub mod Atoms
-pub mod Frames
-pub mod Values
-pub mod code

@@ -1,4 +1,0 @@
-use Rattle.mc_insts_tests.proofs.paths.+allows_either.Given as goal
-
-abbrev pub decreases-allows_either : goal.decreases-allows_either
-decreases-allows_either l = l.steps

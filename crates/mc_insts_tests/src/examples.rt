@@ -1,9 +1,0 @@
-ghost use Rattle.mc_insts_tests.specs.Definitions.{Forward, Ring, Inside, Both};
-
-/// What definitions are, and which rules they break.
-pub fn definitions()
-    ensures forward { Forward }
-    ensures ring { Ring }
-    ensures inside { Inside }
-    ensures both { Both }
-{}

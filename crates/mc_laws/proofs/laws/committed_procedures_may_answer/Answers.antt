@@ -1,5 +1,0 @@
-use Rattle.mc_laws.proofs.Switches.{committed_may_answer}
-use Rattle.mc_laws.proofs.laws.committed_procedures_may_answer.Goals as goal
-
-pub returns : goal.returns
-returns c = committed_may_answer

@@ -1,5 +1,0 @@
-use Rattle.mc_laws.proofs.Switches.{accepted_switches_open}
-use Rattle.mc_laws.proofs.laws.switches_look_past_equations.Goals as goal
-
-pub returns : goal.returns
-returns c = accepted_switches_open

@@ -1,6 +1,0 @@
-use Rattle.std.proofs.Common.{◌↔◌, drop}
-use Rattle.mc_model.specs.Lists.{In}
-use Rattle.mc_library_fit.proofs.constructors.is_among.Given as goal
-
-abbrev pub invariant-loop-other : goal.invariant-loop-other
-invariant-loop-other l = In l.number l.numbers ↔ In l.number (drop l.other-index l.numbers)

@@ -1,3 +1,0 @@
-pub mod HasLibrary
-pub mod MadeTypes
-pub mod code

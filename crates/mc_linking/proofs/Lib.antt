@@ -1,8 +1,0 @@
-mod Blamed
-mod Counts
-mod Found
-mod ItemLists
-mod Kept
-mod ModulesSeen
-pub mod Numbers
-pub mod Tables

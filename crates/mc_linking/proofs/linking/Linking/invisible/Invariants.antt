@@ -1,9 +1,0 @@
-use Rattle.std.proofs.Common.{◌≡◌, map, drop}
-use Rattle.mc_names.specs.Plain.{plain_occurrence}
-use Rattle.mc_decl_syntax.specs.Entries.{plain_files}
-use Rattle.mc_linking.specs.Faults.{invisible}
-use Rattle.mc_linking.proofs.linking.Linking.invisible.Given as goal
-
-abbrev pub invariant-loop-used : goal.invariant-loop-used
-invariant-loop-used l =
-    invisible (plain_files l.self) l.own (map plain_occurrence (drop l.used-index l.uses)) ≡ invisible (plain_files l.self) l.own (map plain_occurrence l.uses)

@@ -1,9 +1,0 @@
-use Rattle.std.proofs.Common.{◌≡◌, drop}
-use Rattle.mc_names.specs.Plain.{plain_name_arity}
-use Rattle.mc_decl_syntax.specs.Entries.{plain_files}
-use Rattle.mc_linking.specs.Visible.{how_many}
-use Rattle.mc_linking.proofs.linking.Linking.is_in_any.Given as goal
-
-abbrev pub invariant-loop-number : goal.invariant-loop-number
-invariant-loop-number l =
-    how_many (plain_files l.self) l.own l.kind (plain_name_arity l.id) (drop l.number-index l.numbers) ≡ how_many (plain_files l.self) l.own l.kind (plain_name_arity l.id) l.numbers

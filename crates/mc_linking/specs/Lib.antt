@@ -1,6 +1,0 @@
-pub mod Files
-pub mod Visible
-pub mod Faults
-pub mod Visibilities
-pub mod Kept
-pub mod code

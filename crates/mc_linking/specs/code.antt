@@ -1,4 +1,0 @@
-pub mod Examples
-pub mod Steps
-pub mod Tables
-pub mod Visibilities

@@ -1,4 +1,0 @@
-pub mod WellWritten
-pub mod Tested
-pub mod Sources
-pub mod code

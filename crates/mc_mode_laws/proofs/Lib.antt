@@ -1,4 +1,0 @@
-pub mod OrdersNamed
-pub mod SameTypes
-pub mod MergedThere
-pub mod ChosenNodes

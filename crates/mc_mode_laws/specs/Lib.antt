@@ -1,2 +1,0 @@
-pub mod OrdersNamed
-pub mod ChosenNodes

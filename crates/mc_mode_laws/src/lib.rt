@@ -1,4 +1,0 @@
-//! Laws of what mode analysis answers.
-#![tactic(auto)]
-
-pub mod laws;

@@ -1,5 +1,0 @@
-use Rattle.mc_mode_points.proofs.InOrder.{InOrderBelow}
-use Rattle.mc_mode_points.proofs.changes.are_in_order.Given as goal
-
-abbrev pub invariant-loop-e : goal.invariant-loop-e
-invariant-loop-e l = InOrderBelow l.last l.e-index l.replaced

@@ -1,9 +1,0 @@
-use Rattle.std.proofs.Common.{◌≡◌, drop, not}
-use Rattle.std.specs.List.{list_any}
-use Rattle.mc_model.specs.Stream.{is_bound}
-use Rattle.mc_mode_points.proofs.joining.one_is_free.Given as goal
-
-abbrev pub invariant-loop-inst : goal.invariant-loop-inst
-invariant-loop-inst l =
-    list_any (λ i. not (is_bound i)) (drop l.inst-index l.insts)
-    ≡ list_any (λ i. not (is_bound i)) l.insts

@@ -1,7 +1,0 @@
-use Rattle.mc_mode_points.proofs.Steps.{stepped-set}
-use Rattle.mc_mode_points.proofs.state.State.take_one.Goals as goal
-
-pub returns-clause-stepped : goal.returns-clause-stepped
-returns-clause-stepped c = λ q st k.
-    let e = c.in_ok-set.ensures in
-    stepped-set q c.args.self.now c.set.new.self c.args.y c.args.inst st c.requires k e.point e.log e.count e.outside e.types e.nodes

@@ -1,5 +1,0 @@
-use Rattle.mc_one_answer.proofs.ModesMeanOne.{defined-mean-one}
-use Rattle.mc_one_answer.proofs.laws.defined_insts_mean_one.Goals as goal
-
-pub returns : goal.returns
-returns c = defined-mean-one

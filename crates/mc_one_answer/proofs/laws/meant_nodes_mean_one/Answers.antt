@@ -1,5 +1,0 @@
-use Rattle.mc_one_answer.proofs.MeantNodes.{meant-nodes-mean-one}
-use Rattle.mc_one_answer.proofs.laws.meant_nodes_mean_one.Goals as goal
-
-pub returns : goal.returns
-returns c = meant-nodes-mean-one

@@ -1,5 +1,0 @@
-use Rattle.mc_one_answer.proofs.ModesMeanOne.{modes-mean-one}
-use Rattle.mc_one_answer.proofs.laws.modes_mean_one.Goals as goal
-
-pub returns : goal.returns
-returns c = modes-mean-one

@@ -1,5 +1,0 @@
-use Rattle.mc_one_answer.proofs.OneProgram.{one-comes}
-use Rattle.mc_one_answer.proofs.laws.one_comes.Goals as goal
-
-pub returns : goal.returns
-returns c = one-comes

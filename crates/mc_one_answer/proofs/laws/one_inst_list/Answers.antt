@@ -1,5 +1,0 @@
-use Rattle.mc_one_answer.proofs.OneCompiled.{one-inst-list}
-use Rattle.mc_one_answer.proofs.laws.one_inst_list.Goals as goal
-
-pub returns : goal.returns
-returns c = one-inst-list

@@ -1,5 +1,0 @@
-use Rattle.mc_one_answer.proofs.OneRule.{one-list-of-rules}
-use Rattle.mc_one_answer.proofs.laws.one_list_of_rules.Goals as goal
-
-pub returns : goal.returns
-returns c = one-list-of-rules c.found_nodes.ensures

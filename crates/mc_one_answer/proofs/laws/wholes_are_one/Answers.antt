@@ -1,5 +1,0 @@
-use Rattle.mc_one_answer.proofs.OneWhole.{wholes-are-one}
-use Rattle.mc_one_answer.proofs.laws.wholes_are_one.Goals as goal
-
-pub returns : goal.returns
-returns c = wholes-are-one c.typed_are_one.ensures

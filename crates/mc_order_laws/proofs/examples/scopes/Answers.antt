@@ -1,8 +1,0 @@
-use Rattle.mc_order_laws.proofs.OneName.{scopes_alone, scopes_apart}
-use Rattle.mc_order_laws.proofs.examples.scopes.Goals as goal
-
-pub returns-clause-scopes_alone : goal.returns-clause-scopes_alone
-returns-clause-scopes_alone c = scopes_alone
-
-pub returns-clause-scopes_apart : goal.returns-clause-scopes_apart
-returns-clause-scopes_apart c = scopes_apart

@@ -1,5 +1,0 @@
-use Rattle.mc_order_laws.proofs.ScopedNames.{scoped_named_apart}
-use Rattle.mc_order_laws.proofs.laws.scopes_are_named_apart.Goals as goal
-
-pub returns : goal.returns
-returns c = scoped_named_apart

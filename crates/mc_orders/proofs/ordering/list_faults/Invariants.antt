@@ -1,7 +1,0 @@
-use Rattle.std.proofs.Common.{take}
-use Rattle.mc_orders.specs.Outcomes.{ListsBehind}
-use Rattle.mc_orders.proofs.ordering.list_faults.Given as goal
-
-abbrev pub invariant-loop-id : goal.invariant-loop-id
-invariant-loop-id l =
-    ListsBehind l.sigs l.goals l.fn.procs l.procs (take l.id-index l.ids) l.fn.faults.items l.faults.items

@@ -1,8 +1,0 @@
-use Rattle.mc_phase_laws.proofs.ResolvedNames.{resolved_name_their_own, resolved_scopes_fit}
-use Rattle.mc_phase_laws.proofs.laws.resolved_scopes_fit.Goals as goal
-
-pub returns-clause-own : goal.returns-clause-own
-returns-clause-own c = resolved_name_their_own
-
-pub returns-clause-scopes : goal.returns-clause-scopes
-returns-clause-scopes c = resolved_scopes_fit

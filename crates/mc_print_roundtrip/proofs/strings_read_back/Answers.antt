@@ -1,5 +1,0 @@
-use Rattle.mc_print_roundtrip.proofs.Tokens.{string_token, string_says}
-use Rattle.mc_print_roundtrip.proofs.strings_read_back.Goals as goal
-
-pub returns : goal.returns
-returns c before start bytes rest utf8 n = (string_token before start bytes rest utf8 n, string_says bytes utf8)

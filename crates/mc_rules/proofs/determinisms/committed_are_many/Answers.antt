@@ -1,5 +1,0 @@
-use Rattle.mc_rules.proofs.Committing.{committed_by}
-use Rattle.mc_rules.proofs.determinisms.committed_are_many.Goals as goal
-
-pub returns : goal.returns
-returns c = committed_by c.args.sigs.now c.each_has_many.result c.each_has_many.ensures

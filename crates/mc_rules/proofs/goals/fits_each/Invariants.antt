@@ -1,6 +1,0 @@
-use Rattle.std.proofs.Common.{◌↔◌, drop}
-use Rattle.mc_rules.specs.code.Tests.{FitsEach}
-use Rattle.mc_rules.proofs.goals.fits_each.Given as goal
-
-abbrev pub invariant-loop-mode : goal.invariant-loop-mode
-invariant-loop-mode l = FitsEach l.procs l.goal (drop l.mode-index l.modes) ↔ FitsEach l.procs l.goal l.modes

@@ -1,5 +1,0 @@
-use Rattle.mc_rules.proofs.Parts.{normal_by}
-use Rattle.mc_rules.proofs.goals.normal_fits.Goals as goal
-
-pub returns : goal.returns
-returns c = normal_by c.args.procs.now c.args.mode.now c.args.goal.now c.has_parts.result c.has_parts.ensures

@@ -1,6 +1,0 @@
-use Rattle.std.proofs.Common.{◌≡◌, length, All}
-use Rattle.mc_values.specs.Heap.{IsLive}
-use Rattle.mc_running_tests.proofs.values_tests.all_live.Given as goal
-
-abbrev pub invariant-loop-r : goal.invariant-loop-r
-invariant-loop-r g l = (length l.row ≡ l.r-index) × All (IsLive l.heap) l.row

@@ -1,0 +1,14 @@
+pub mod Agreeing
+pub mod Assembling
+pub mod Distinct
+pub mod Instances
+pub mod Listing
+pub mod PredicateLemmas
+pub mod SameTypes
+pub mod Scoping
+pub mod Tidying
+pub mod TypeViews
+pub mod TypedAtoms
+pub mod Choosing
+pub mod Constructing
+pub mod OneArgument

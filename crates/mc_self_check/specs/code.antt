@@ -1,0 +1,9 @@
+pub mod Bindings
+pub mod Constructors
+pub mod Names
+pub mod Parts
+pub mod Symbols
+pub mod WrittenScopes
+pub mod LibraryFitNames
+pub mod Predicates
+pub mod Types

@@ -1,8 +1,0 @@
-use Rattle.std.proofs.Common.{◌≡◌, ℕ, [], length, get_or, map}
-use Rattle.mc_skeletons.proofs.callers.Callers.none.Given as goal
-
-abbrev pub invariant-loop : goal.invariant-loop
-invariant-loop l = record {
-  many : length l.lists.items ≡ l.counter;
-  none : (q : ℕ) → get_or (map (λ v. v.items) l.lists.items) q [] ≡ [];
-}

@@ -1,5 +1,0 @@
-use Rattle.mc_skeletons.specs.code.Callers.{AreCallersOf}
-use Rattle.mc_skeletons.proofs.callers.Callers.of.Given as goal
-
-abbrev pub invariant-loop-p : goal.invariant-loop-p
-invariant-loop-p l = AreCallersOf l.bodies l.p l.callers

@@ -1,7 +1,0 @@
-use Rattle.std.proofs.Common.{◌≡◌, [], take}
-use Rattle.mc_skeletons.specs.Skeletons.{after_steps}
-use Rattle.mc_skeletons.specs.Least.{assigned}
-use Rattle.mc_skeletons.proofs.skeleton.value.Given as goal
-
-abbrev pub invariant-loop-step : goal.invariant-loop-step
-invariant-loop-step l = l.stack ≡ after_steps (assigned l.dets) (take l.step-index l.steps) []

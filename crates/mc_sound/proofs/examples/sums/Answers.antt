@@ -1,5 +1,0 @@
-use Rattle.mc_sound.proofs.SumsExample.{sums_fit}
-use Rattle.mc_sound.proofs.examples.sums.Goals as goal
-
-pub returns : goal.returns
-returns c = sums_fit

@@ -1,5 +1,0 @@
-use Rattle.mc_sound.proofs.BuiltinIo.{builtins_do_io}
-use Rattle.mc_sound.proofs.laws.builtins_do_io.Goals as goal
-
-pub returns : goal.returns
-returns c = builtins_do_io

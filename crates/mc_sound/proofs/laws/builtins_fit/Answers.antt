@@ -1,5 +1,0 @@
-use Rattle.mc_sound.proofs.BuiltinTypings.{builtins_fit}
-use Rattle.mc_sound.proofs.laws.builtins_fit.Goals as goal
-
-pub returns : goal.returns
-returns c = builtins_fit

@@ -1,7 +1,0 @@
-//! The laws of switches. Each is the contract of a function that does nothing.
-ghost use Rattle.mc_switch_laws.specs.FormsMerge.{FormsMerge};
-
-/// The arms of a body in switch form merge their disjuncts.
-pub fn forms_merge()
-    ensures { FormsMerge }
-{}

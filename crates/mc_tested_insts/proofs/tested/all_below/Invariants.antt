@@ -1,5 +1,0 @@
-use Rattle.std.proofs.Common.{ℕ, ◌<◌, get_or}
-use Rattle.mc_tested_insts.proofs.tested.all_below.Given as goal
-
-abbrev pub invariant-loop-inst : goal.invariant-loop-inst
-invariant-loop-inst l = (n : ℕ) → n < l.inst-index → get_or l.insts n 0 < l.count

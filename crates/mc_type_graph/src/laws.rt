@@ -1,7 +1,0 @@
-ghost use Rattle.mc_type_graph.specs.Solved.{FoundedIsSolved};
-
-/// A graph in which no type has itself in it stands for exactly one type at each place, for each choice of its free
-/// cells.
-pub fn founded_is_solved()
-    ensures { FoundedIsSolved }
-{}

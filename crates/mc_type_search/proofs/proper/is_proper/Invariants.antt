@@ -1,7 +1,0 @@
-use Rattle.std.proofs.Common.{ℕ, ◌<◌, get_or}
-use Rattle.mc_type_search.specs.declared.steps.Step.{Step}
-use Rattle.mc_type_search.specs.Typed.{Proper}
-use Rattle.mc_type_search.proofs.proper.is_proper.Given as goal
-
-abbrev pub invariant-loop-step : goal.invariant-loop-step
-invariant-loop-step l = (k : ℕ) (d : Step) → k < l.step-index → Proper l.signatures l.places (get_or l.steps k d)

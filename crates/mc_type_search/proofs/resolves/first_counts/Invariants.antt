@@ -1,6 +1,0 @@
-use Rattle.std.proofs.Common.{◌≡◌, ◌∷◌}
-use Rattle.std.specs.Prelude.{replicate}
-use Rattle.mc_type_search.proofs.resolves.first_counts.Given as goal
-
-abbrev pub invariant-loop-k : goal.invariant-loop-k
-invariant-loop-k l = l.counts.items ≡ 1 ∷ replicate l._k 0

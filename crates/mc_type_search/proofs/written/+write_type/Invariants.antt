@@ -1,4 +1,0 @@
-use Rattle.mc_type_search.proofs.written.+write_type.Given as goal
-
-abbrev pub decreases-write_type : goal.decreases-write_type
-decreases-write_type l = l.depth

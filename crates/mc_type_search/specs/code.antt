@@ -1,4 +1,0 @@
-pub mod Passed
-pub mod Standing
-pub mod Found
-pub mod RootTable

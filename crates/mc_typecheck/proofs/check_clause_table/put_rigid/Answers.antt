@@ -1,0 +1,18 @@
+use Rattle.std.proofs.Common.{List, map, ap, ◌∙◌}
+use Rattle.std.proofs.lemmas.List.{map_push}
+use Rattle.mc_program.specs.PlainPrograms.{plain_type}
+use Rattle.mc_program.specs.declared.program.Pred.{Pred}
+use Rattle.mc_program.specs.declared.ty.Ty.{Ty}
+use Rattle.mc_types.specs.declared.signature.Signature.{Signature}
+use Rattle.mc_typecheck.specs.Searched.{plain_signature}
+use Rattle.mc_typecheck.specs.code.Entries.{rigid}
+use Rattle.mc_typecheck.proofs.Entries.{mapped_more}
+use Rattle.mc_typecheck.proofs.check_clause_table.put_rigid.Goals as goal
+
+pub loop-pred-preserved : goal.loop-pred-preserved
+loop-pred-preserved c =
+    let p = c.pred-item.result in
+    let made : Signature = record { vars = 0; types = c.in_ok-types.types } in
+    mapped_more (λ (q : Pred). rigid (map plain_type q.types)) c.args.preds.now c.loop-pred.pred-index p (map plain_signature c.args.all.now.items) (map plain_signature c.loop-pred.all.items) (map plain_signature c.push.new.self.items) (plain_signature made) c.loop-pred-test.true c.loop-pred.invariant
+    (ap (map plain_signature) c.in_ok-push.ensures.items ∙ map_push plain_signature c.loop-pred.all.items made)
+    (ap (λ (ts : List Ty). rigid (map plain_type ts)) c.in_ok-types.ensures ∙ ap (λ (q : Pred). rigid (map plain_type q.types)) c.pred-item.is)

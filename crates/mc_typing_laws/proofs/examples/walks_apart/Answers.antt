@@ -1,8 +1,0 @@
-use Rattle.mc_typing_laws.proofs.WalksAndGoals.{characters_are_bare, constructors_are_listed}
-use Rattle.mc_typing_laws.proofs.examples.walks_apart.Goals as goal
-
-pub returns-clause-characters : goal.returns-clause-characters
-returns-clause-characters c = characters_are_bare
-
-pub returns-clause-constructors : goal.returns-clause-constructors
-returns-clause-constructors c = constructors_are_listed

@@ -1,8 +1,0 @@
-use Rattle.mc_typing_laws.proofs.Procedures.{typed_clauses_fit, typed_goals_fit}
-use Rattle.mc_typing_laws.proofs.laws.typed_clauses_fit.Goals as goal
-
-pub returns-clause-clauses : goal.returns-clause-clauses
-returns-clause-clauses c = typed_clauses_fit
-
-pub returns-clause-goals : goal.returns-clause-goals
-returns-clause-goals c = typed_goals_fit

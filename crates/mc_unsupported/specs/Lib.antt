@@ -1,4 +1,0 @@
-pub mod Roles
-pub mod Declarations
-pub mod Reasons
-pub mod Words

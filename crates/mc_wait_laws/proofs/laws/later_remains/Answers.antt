@@ -1,6 +1,0 @@
-use Rattle.mc_accepted.specs.Arranged.{trial}
-use Rattle.mc_wait_laws.proofs.Remaining
-use Rattle.mc_wait_laws.proofs.laws.later_remains.Goals as goal
-
-pub returns : goal.returns
-returns c = λ Op P declared T own first O b y below g U c s h r. Remaining.later-remains Op own first (trial Op P declared T g) O U b c y s h r

@@ -1,6 +1,0 @@
-use Rattle.mc_accepted.specs.Arranged.{trial}
-use Rattle.mc_wait_laws.proofs.Remaining
-use Rattle.mc_wait_laws.proofs.laws.wider_remains.Goals as goal
-
-pub returns : goal.returns
-returns c = λ Op P declared T own first O b y below fewer g z a w r. Remaining.wider-remains Op own fewer first (trial Op P declared T g) O b y z a w r

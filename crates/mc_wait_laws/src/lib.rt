@@ -1,4 +1,0 @@
-//! Laws of goals that wait.
-#![tactic(auto)]
-
-pub mod laws;

@@ -1,4 +1,0 @@
-pub mod Numbered
-pub mod Goals
-pub mod Queries
-pub mod Wholes
